@@ -1,24 +1,24 @@
-"""Explanations of verdicts, worked out from the page docs/PROTOCOL.md in another way than the program's.
+"""Explanations of verdicts, worked out from the page docs/PROTOCOL.md by another method than the program's.
 
-What is expected after a prefix is read from the chart of an Earley recogniser: the tokens and kinds that its states
+The items expected after a prefix are read from the chart of an Earley recogniser: the tokens and kinds that its states
 continue with, and whether the message may end. The program, by contrast, reads the prefix once more for each class.
-`second-explanation` and `second-machine` hold the program against these lines.
+`second-explanation` and `second-machine` compare the program with these lines.
 """
 
 import collections
 
 from page_grammar import BRA, GREATEST_DEPTH, KET, LEVELS, Grammar, Recogniser, heights_of, messages_of, tokens_of_page
 
-# A word of press that an operator adds, as docs/FORMATS.md has it.
+# A word of press that an operator adds, as docs/FORMATS.md defines it.
 Word = collections.namedtuple("Word", "name code slot level operand")
 
-# The classes of many tokens, and the brackets, each with one of its tokens, in the order in which they are printed.
+# The classes of many tokens and the brackets, each with one of its tokens, in printing order.
 KINDS = (
     ("<number>", 0), ("(", BRA), (")", KET), ("<power>", 0x4100), ("<note>", 0x4400), ("<result>", 0x4500),
     ("<coast>", 0x4600), ("<season>", 0x4700), ("<text>", 0x4B61), ("<province>", 0x5000), ("<parameter>", 0x4900),
 )
 UNLISTED, ALIEN = 0x4002, 0x5800
-# The parameters that are alone in their class, and the categories whose listed tokens are.
+# The parameters that are alone in their class, and the categories whose listed tokens are alone in their class.
 PARAMETERS = ("LVL", "MRT", "UNO")
 ALONE = (0x42, 0x43, 0x48, 0x4A)
 
@@ -39,7 +39,7 @@ class Explainer:
         self.recogniser = Recogniser(self.grammar, self.codes)
 
     def item(self, token):
-        """The printed text of a token that is no text."""
+        """Returns the printed text of a token that is not text."""
         if token in (BRA, KET):
             return "(" if token == BRA else ")"
         if token < 0x4000:
@@ -47,7 +47,7 @@ class Explainer:
         return self.names_of_codes.get(token, f"#{token:04x}")
 
     def text(self, tokens):
-        """The text form of docs/FORMATS.md."""
+        """Returns the text form of docs/FORMATS.md."""
         items, is_open = [], False
         for token in tokens:
             is_quotable = token >> 8 == 0x4B and 0x20 <= token & 0xFF <= 0x7E and token & 0xFF != 0x27
@@ -59,7 +59,7 @@ class Explainer:
         return " ".join(item + "'" if item.startswith("'") else item for item in items)
 
     def tokens(self, text):
-        """The tokens of a text in which no quoted part has a blank or a quote."""
+        """Returns the tokens of a text whose quoted parts have no blank and no quote."""
         found = []
         for item in text.split():
             if item in ("(", ")"):
@@ -73,11 +73,11 @@ class Explainer:
         return found
 
     def verdict(self, side, level, tokens):
-        """The verdict as a report has it: relay, prn, or huh with its place."""
+        """Returns the verdict as in a report: relay, prn, or huh with its place."""
         return self.recogniser.verdict(self.names[side, level], tokens, self.max_depth)
 
     def expected(self, side, level, before):
-        """What is expected after a prefix of a message: each item that is printed, in order; none if nothing is."""
+        """Returns the printed items that are expected after a prefix of a message, in order."""
         symbol, recogniser = self.names[side, level], self.recogniser
         states = recogniser.chart(symbol, before)
         if len(states) <= len(before):
@@ -99,7 +99,7 @@ class Explainer:
         return items + ["<end>"] * recogniser.may_end(symbol, states[-1])
 
     def cause(self, side, level, tokens, place):
-        """The line on an error place."""
+        """Returns the line for an error place."""
         height = heights_of(tokens[:place])[-1]
         if tokens[place : place + 1] == [BRA] and height == self.max_depth:
             return f"too deep: ( at {place}"
@@ -107,7 +107,7 @@ class Explainer:
         return f"expected: {' '.join(items)}" if items else f"too deep: {height} brackets are open"
 
     def explained(self, side, level, tokens):
-        """The further lines on a message, by its verdict."""
+        """Returns the further lines for a message, by its verdict."""
         verdict = self.verdict(side, level, tokens)
         if verdict == "relay":
             return []
@@ -120,7 +120,7 @@ class Explainer:
         return lines + [f"relayed with --side {other}"] * (self.verdict(other, level, tokens) == "relay")
 
     def unpaired(self, tokens):
-        """The line on a message that is not paired."""
+        """Returns the line for a message that is not paired."""
         if tokens[:1] == [self.codes["PRN"]]:
             return "unpaired: PRN"
         opened = []
@@ -134,14 +134,14 @@ class Explainer:
         return f"unpaired: ( at {opened[0]}"
 
     def answer(self, verdict, tokens):
-        """The text of the answer to a message that is refused."""
+        """Returns the text of the answer to a refused message."""
         if verdict == "prn":
             return self.text([self.codes["PRN"], BRA, *tokens, KET])
         place = int(verdict[4:])
         return self.text([self.codes["HUH"], BRA, *tokens[:place], self.codes["ERR"], *tokens[place:], KET])
 
     def shown(self, side, level, tokens):
-        """The lines of `show --explain`."""
+        """Returns the lines of `show --explain`."""
         verdict = self.verdict(side, level, tokens)
         lines = [f"DM {2 * len(tokens)}", self.text(tokens)]
         if verdict == "relay":
@@ -150,7 +150,7 @@ class Explainer:
         return [*lines, said, self.answer(verdict, tokens), *self.explained(side, level, tokens)]
 
     def reported(self, side, level, tokens):
-        """The lines of `check --explain` after the report's line on a message, without their four spaces."""
+        """Returns the lines of `check --explain` after the report's line on a message, without their four spaces."""
         verdict = self.verdict(side, level, tokens)
         if verdict == "relay":
             return [self.text(tokens)]

@@ -1,8 +1,8 @@
 """The grammar that docs/PROTOCOL.md gives its readers, and a recogniser of it.
 
-The tokens, kinds, messages and levels are read from the page itself, not from any source. The recogniser works in
-another way than the gateway's: it is Earley's, which keeps everything that a prefix may still become side by side.
-`second-grammar`, `second-machine` and `second-explanation` are the scripts that use this module.
+The tokens, kinds, messages and levels are read from the page itself, not from any source. The recogniser uses another
+method than the gateway: it is Earley's, which follows all derivations of a prefix in parallel. `second-grammar`,
+`second-machine` and `second-explanation` use this module.
 """
 
 import pathlib
@@ -17,7 +17,7 @@ BRA, KET = 0x4000, 0x4001
 GREATEST_DEPTH = 254
 SPAN = re.compile(r"`([^`]*)`")
 
-# What the page says in prose: the kinds that are one token or a list of tokens, each row as it stands there.
+# The kinds that the page describes in prose: one token or a list of tokens, each with its text in the page.
 PROSE = {
     "power, province, coast, season, number, note": "one token of that class",
     "text": "text tokens, none or more",
@@ -32,14 +32,14 @@ CATEGORIES = {
 
 
 def part(after, before):
-    """What the page has between these words and those, in one line."""
+    """Returns the text of the page between two strings, in one line."""
     text = " ".join(PAGE.split())
     start = text.index(after) + len(after)
     return text[start : text.index(before, start)]
 
 
 def tokens_of_page():
-    """Each name's code, and the categories that are known."""
+    """Returns each name's code, and the known categories."""
     codes, known = {}, set()
     for category, names in re.findall(r"^\| ([0-9A-F]{2}) [a-z ]+\| (.*) \|$", PAGE, re.M):
         known.add(int(category, 16))
@@ -54,26 +54,27 @@ def tokens_of_page():
 
 
 class Grammar:
-    """ReaderLimits by the names of what they make. A rule is a row of symbols: names as `<name`, tokens and kinds as such."""
+    """Rules by the names of their nonterminals. A rule is a list of symbols: nonterminals as `<name`, tokens and kinds
+    as such."""
 
     def __init__(self):
         self.rules, self.count = {}, 0
 
     def fresh(self, *rules):
-        """A name of its own for these rules."""
+        """Returns a new name for these rules."""
         self.count += 1
         name = f"{self.count}"
         self.rules[name] = [tuple(rule) for rule in rules]
         return f"<{name}"
 
     def many(self, body, least):
-        """The body again and again, at least `least` times, which is none or one."""
+        """Returns the body repeated at least `least` times, which is 0 or 1."""
         name = self.fresh()
         self.rules[name[1:]] = [(), (*body, name)]
         return [name] if least == 0 else [*body, name]
 
     def read(self, text, own):
-        """The symbols of a form in the page's notation; `own` has what some kinds stand for here."""
+        """Returns the symbols of a form in the page's notation; `own` maps kinds to their symbols."""
         words = re.findall(r"[A-Z]{3}|[a-z]+|[][()*+]", text)
         symbols, rest = self.read_row(words, own, None)
         if rest:
@@ -81,7 +82,7 @@ class Grammar:
         return symbols
 
     def read_row(self, words, own, end):
-        """The symbols up to a closing bracket, and the words behind it."""
+        """Returns the symbols up to a closing bracket, and the words after it."""
         row = []
         while words and words[0] != end:
             word, words = words[0], words[1:]
@@ -99,7 +100,7 @@ class Grammar:
         return row, words[1:] if end else words
 
     def reached(self, symbols):
-        """All rules that these symbols come to, each with its symbol."""
+        """Returns all rules that can be reached from these symbols, each with its symbol."""
         found, todo = set(), list(symbols)
         while todo:
             symbol = todo.pop()
@@ -110,12 +111,12 @@ class Grammar:
         return found
 
     def forms(self, text, own):
-        """The rules of all forms that stand between back quotes in a text."""
+        """Returns the rules of all forms between back quotes in a text."""
         return [self.read(form, own) for form in SPAN.findall(text)]
 
 
 def kinds_of(grammar):
-    """What each kind of the page stands for."""
+    """Returns the symbol of each kind of the page."""
     own = {"text": grammar.many(["character"], 0)[0]}
     balanced = grammar.fresh()
     grammar.rules[balanced[1:]] = [(), ("word", balanced), ("(", balanced, ")", balanced)]
@@ -133,7 +134,7 @@ def kinds_of(grammar):
 
 
 def forms_of_words(words, slot, level):
-    """The form of each operator's word of a slot that a level has."""
+    """Returns the form of each operator's word of a slot up to a level."""
     many = {"powers": "power+", "provinces": "province+"}
     return [
         f"{word.name} ( {many.get(word.operand, word.operand)} )"
@@ -142,7 +143,7 @@ def forms_of_words(words, slot, level):
 
 
 def press_of(grammar, kinds, words):
-    """Press, arrangements, flat ones and facts of each level, added to what the kinds are."""
+    """Adds the press, arrangements, flat arrangements and facts of each level to the kinds."""
     names = ("press", "arrangement", "flat", "fact")
     by_level = {level: {name: grammar.fresh() for name in names} for level in LEVELS[1:]}
     section = PAGE[PAGE.index("### Press, by level") :]
@@ -168,7 +169,7 @@ def press_of(grammar, kinds, words):
 
 
 def messages_of(grammar, words=()):
-    """The name of the messages of each side at each level, but for those that begin with PRN."""
+    """Returns the symbol of the messages of each side at each level, without those that begin with PRN."""
     kinds = kinds_of(grammar)
     press = press_of(grammar, kinds, words)
     requests, later = part("A **request**:", "Or a").split("and from level 10")
@@ -195,7 +196,7 @@ def messages_of(grammar, words=()):
 
 
 def heights_of(tokens):
-    """The excess of BRA over KET after each prefix of the tokens."""
+    """Returns the excess of BRA over KET after each prefix of the tokens."""
     heights = [0]
     for token in tokens:
         heights.append(heights[-1] + (token == BRA) - (token == KET))
@@ -203,7 +204,7 @@ def heights_of(tokens):
 
 
 class Recogniser:
-    """Recognises the lists of tokens of a symbol, and finds the first token that none of them continues."""
+    """Recognises the token lists of a symbol, and finds the first token that continues none of them."""
 
     def __init__(self, grammar, codes):
         self.rules, self.codes = grammar.rules, codes
@@ -215,11 +216,11 @@ class Recogniser:
             self.empty = more
 
     def may_be_empty(self, rule):
-        """Whether all symbols of a rule may be empty, by what is known so far."""
+        """Returns whether all symbols of a rule are nullable, as far as it is known."""
         return all(symbol[0] == "<" and symbol[1:] in self.empty for symbol in rule)
 
     def is_token(self, symbol, token):
-        """Whether a token is one of a symbol's."""
+        """Returns whether a token matches a symbol."""
         if symbol in "()":
             return token == (BRA if symbol == "(" else KET)
         if symbol == "word":
@@ -231,7 +232,7 @@ class Recogniser:
         return token == self.codes[symbol]
 
     def grow(self, states, place):
-        """Adds to the states at a place all that they may begin with or end."""
+        """Completes the set of states at an index by prediction and completion."""
         here = states[place]
         todo = list(here)
 
@@ -254,7 +255,8 @@ class Recogniser:
                     add((name, rule, dot + 1, start))
 
     def chart(self, symbol, tokens):
-        """The states after each prefix of the tokens, up to the first that none of the symbol's lists begins with."""
+        """Returns the states after each prefix of the tokens, up to the first prefix that begins none of the symbol's
+        lists."""
         name = symbol[1:]
         states = [{(name, rule, 0, 0) for rule in self.rules[name]}]
         self.grow(states, 0)
@@ -270,22 +272,23 @@ class Recogniser:
         return states
 
     def may_end(self, symbol, states):
-        """Whether the prefix after which these are the states is one of the symbol's lists."""
+        """Returns whether the prefix with these states is one of the symbol's lists."""
         return any(of == symbol[1:] and dot == len(rule) and start == 0 for of, rule, dot, start in states)
 
     def next_symbols(self, states):
-        """The tokens and kinds that continue the prefix after which these are the states."""
+        """Returns the tokens and kinds that continue the prefix with these states."""
         return {rule[dot] for _, rule, dot, _ in states if dot < len(rule) and rule[dot][0] != "<"}
 
     def error_place(self, symbol, tokens):
-        """None for one of the symbol's lists, else the first token that none of them continues, or their number."""
+        """Returns none for one of the symbol's lists, else the index of the first token that continues none of them, or
+        the number of tokens."""
         states = self.chart(symbol, tokens)
         if len(states) <= len(tokens):
             return len(states) - 1
         return None if self.may_end(symbol, states[-1]) else len(tokens)
 
     def verdict(self, symbol, tokens, max_depth=GREATEST_DEPTH):
-        """What a report says of a message, by the rules of the page's section "Verdicts"."""
+        """Returns the verdict on a message as in a report, by the rules of the page's section "Verdicts"."""
         if tokens[:1] == [self.codes["PRN"]]:
             is_paired = len(tokens) >= 3 and tokens[1] == BRA and tokens[-1] == KET
             return "relay" if is_paired else "prn"
@@ -299,7 +302,7 @@ class Recogniser:
 
 
 class Drawer:
-    """Draws messages, by a seed."""
+    """Draws random messages, from a seed."""
 
     def __init__(self, recogniser, known, seed):
         self.recogniser, self.random = recogniser, random.Random(seed)
@@ -309,11 +312,11 @@ class Drawer:
         self.drawn = set()
 
     def token(self, symbol):
-        """One of a symbol's tokens."""
+        """Returns a random token of a symbol."""
         return self.random.choice([token for token in self.all if self.recogniser.is_token(symbol, token)])
 
     def grown(self, symbol, depth=0):
-        """One of a symbol's lists, which is not too long."""
+        """Returns a random list of a symbol, of limited length."""
         if symbol[0] != "<":
             return [self.token(symbol)]
         rules = self.recogniser.rules[symbol[1:]]
@@ -328,7 +331,7 @@ class Drawer:
         return found
 
     def changed(self, tokens):
-        """The same with none, one or two tokens more, less, exchanged or replaced."""
+        """Returns the message with up to two tokens added, removed, exchanged or replaced."""
         for _ in range(self.random.choice((0, 1, 1, 1, 2))):
             place, way = self.random.randrange(len(tokens) + 1), self.random.randrange(5)
             if way == 0 or not tokens:
@@ -348,7 +351,7 @@ class Drawer:
         return tokens
 
     def cut(self, tokens):
-        """A prefix of the tokens, mostly with a further token, and then the KETs that it lacks."""
+        """Returns a prefix of the tokens, mostly followed by another token, and then by the missing KETs."""
         tokens = tokens[: self.random.randrange(len(tokens) + 1)]
         if self.random.random() < 0.8:
             tokens.append(self.random.choice(self.all))
@@ -356,14 +359,15 @@ class Drawer:
 
 
 def lines_of(side, tokens):
-    """The lines of a log by which a message of these tokens comes from a side."""
+    """Returns the lines of a log with a message of these tokens from a side."""
     body = b"".join(token.to_bytes(2, "big") for token in tokens)
     digits = (b"\x02\x00" + len(body).to_bytes(2, "big") + body).hex()
     return [f"{side} {digits[at : at + 2048]}" for at in range(0, len(digits), 2048)]
 
 
 def heading_of(max_depth, words):
-    """The lines of a log before its events, and what each event begins with: version 2 if there are words."""
+    """Returns the lines of a log before its events, and the beginning of each event line: version 2 if there are
+    words."""
     if not words:
         return ["daide-log 1", f"config 60 65526 {max_depth}"], ""
     lines = ["daide-log 2", f"config 60 65526 {max_depth} 1 {len(words)}"]
@@ -371,7 +375,8 @@ def heading_of(max_depth, words):
 
 
 def drawn_log(drawer, count, draw, max_depth=GREATEST_DEPTH, words=()):
-    """A log of `count` messages, each drawn for a side and a level, and by its last line's number what each is."""
+    """Returns a log of `count` messages, each drawn for a side and a level, and each message by the number of its last
+    line."""
     codes = drawer.recogniser.codes
     lines, start = heading_of(max_depth, words)
     lines += [f"{start}bot 000000040001DA10", f"{start}server 01000000"]

@@ -1,6 +1,6 @@
-"""What a scene is made of: acts of the bots and of the server, played one after another on a stage.
+"""The acts of a scene: what the bots and the server do, played one after another on a stage.
 
-An act is played again and again until it is done; it is wrong once it can't be done any more.
+An act is played repeatedly until it is done. It fails once it can no longer succeed.
 """
 
 import resource
@@ -16,7 +16,7 @@ from held import Wrong, brief
 
 @dataclass(frozen=True)
 class Bot:
-    """A bot, numbered as they come."""
+    """A bot, numbered in the order of connecting."""
 
     number: int
 
@@ -26,7 +26,7 @@ class Bot:
 
 @dataclass(frozen=True)
 class Server:
-    """The server's end of a connection, numbered as it accepts them."""
+    """The server's end of a connection, numbered in the order of accepting."""
 
     number: int
 
@@ -35,10 +35,10 @@ class Server:
 
 
 class Act:
-    """What is done, or waited for."""
+    """An action, or an event to wait for."""
 
     def play(self, stage):
-        """Whether it is done; where not, the stage knows what it waits for."""
+        """Returns whether the act is done. If not, the stage knows what it waits for."""
         raise NotImplementedError
 
     def __str__(self):
@@ -48,7 +48,7 @@ class Act:
 
 @dataclass(frozen=True)
 class Listens(Act):
-    """The program says that bots may come."""
+    """The program prints that bots may connect."""
 
     def play(self, stage):
         printed, wanted = stage.run.printed, b"listening\n"
@@ -76,7 +76,7 @@ class FinishesConnect(Act):
 
 @dataclass(frozen=True)
 class MeetsNobody(Act):
-    """Nobody connects to the server, nor does within a twentieth of a second."""
+    """Nobody connects to the server within a twentieth of a second."""
 
     def play(self, stage):
         came, _, _ = select.select([stage.listener], [], [], 0.05)
@@ -87,7 +87,7 @@ class MeetsNobody(Act):
 
 @dataclass(frozen=True)
 class Empties(Act):
-    """The server accepts all connections that wait, and lets them go."""
+    """The server accepts all waiting connections, and closes them."""
 
     def play(self, stage):
         try:
@@ -99,7 +99,7 @@ class Empties(Act):
 
 @dataclass(frozen=True)
 class Hoards(Act):
-    """The program may take so many descriptors more, and no others."""
+    """The program may open this many more descriptors."""
 
     left: int
 
@@ -117,7 +117,7 @@ class Hoards(Act):
 
 @dataclass(frozen=True)
 class Frees(Act):
-    """It may take as many again as before."""
+    """The program may open as many descriptors as before."""
 
     def play(self, stage):
         resource.prlimit(stage.run.process.pid, resource.RLIMIT_NOFILE, stage.hoard)
@@ -146,7 +146,7 @@ class Says(Act):
 
 @dataclass(frozen=True)
 class Hears(Act):
-    """Has heard these bytes, and no more, since it last did."""
+    """Received these bytes, and no more, since the last such act."""
 
     who: object
     wanted: bytes
@@ -164,7 +164,7 @@ class Hears(Act):
 
 @dataclass(frozen=True)
 class HearsEnd(Act):
-    """Hears the end of the other's stream, and nothing before it."""
+    """Receives the end of the peer's stream, and nothing before it."""
 
     who: object
 
@@ -178,7 +178,7 @@ class HearsEnd(Act):
 
 @dataclass(frozen=True)
 class HearsEndAlone(Act):
-    """The same, and no reset in place of it."""
+    """The same, and no reset instead of it."""
 
     who: object
 
@@ -193,7 +193,7 @@ class HearsEndAlone(Act):
 
 @dataclass(frozen=True)
 class Ends(Act):
-    """Ends its stream, and hears further."""
+    """Ends its stream, and still receives."""
 
     who: object
 
@@ -207,7 +207,7 @@ class Ends(Act):
 
 @dataclass(frozen=True)
 class FindsOpen(Act):
-    """Sends, and finds the other end's socket open still."""
+    """Sends, and finds that the peer's socket is still open."""
 
     who: object
 
@@ -219,7 +219,7 @@ class FindsOpen(Act):
 
 @dataclass(frozen=True)
 class FindsClosed(Act):
-    """Sends, and finds it closed."""
+    """Sends, and finds that the peer's socket is closed."""
 
     who: object
 
@@ -231,7 +231,7 @@ class FindsClosed(Act):
 
 @dataclass(frozen=True)
 class Passes(Act):
-    """So many milliseconds pass."""
+    """This many milliseconds pass."""
 
     millis: int
 
@@ -241,7 +241,7 @@ class Passes(Act):
 
 @dataclass(frozen=True)
 class Pours(Act):
-    """Begins to send these bytes so many times, as they are taken, beside the acts that follow."""
+    """Starts to send these bytes this many times, as fast as they are accepted, during the acts that follow."""
 
     who: object
     data: bytes
@@ -254,7 +254,7 @@ class Pours(Act):
 
 @dataclass(frozen=True)
 class Floods(Act):
-    """A bot begins to send messages without end whose bracket never closes, and drops what it hears."""
+    """A bot starts to send an endless sequence of messages with an unclosed bracket, and discards what it receives."""
 
     number: int
 
@@ -266,7 +266,7 @@ class Floods(Act):
 
 @dataclass(frozen=True)
 class Flooded(Act):
-    """It has done so for a second."""
+    """The bot has done so for a second."""
 
     def play(self, stage):
         return stage.awaits_moment(stage.flood_began + 1)
@@ -274,7 +274,7 @@ class Flooded(Act):
 
 @dataclass(frozen=True)
 class Leave(Act):
-    """All bots go, and leave unread what was sent to them."""
+    """All bots close their connections, with unread bytes."""
 
     def play(self, stage):
         stage.flows.clear()
@@ -286,7 +286,7 @@ class Leave(Act):
 
 @dataclass(frozen=True)
 class Goes(Act):
-    """Closes its connection, and leaves unread what was sent to it."""
+    """Closes its connection, with unread bytes."""
 
     who: object
 
@@ -314,7 +314,7 @@ class Peer:
         self.has_ended, self.fault, self.is_gone = False, None, False
 
     def listen(self):
-        """Takes what is there."""
+        """Reads the available bytes."""
         try:
             while not self.has_ended:
                 piece = self.stream.recv(65_536)
@@ -326,12 +326,13 @@ class Peer:
             self.has_ended, self.fault = True, fault
 
     def told(self):
-        """What it heard, for who reads of a test that failed."""
+        """Describes the bytes received, for the message of a failed test."""
         end = f", then {self.fault or 'the end'}" if self.has_ended else ""
         return brief(self.heard) + end
 
     def finds_open(self):
-        """Sends a byte thrice: where the other end's socket is closed, the first is answered by a reset."""
+        """Sends a byte three times, and returns whether the peer's socket is open. If it is closed, a reset follows the
+        first byte."""
         try:
             for _ in range(3):
                 self.stream.send(b"\0")
@@ -342,23 +343,23 @@ class Peer:
 
 
 class Flow:
-    """Bytes that an end sends beside the acts, as its socket takes them; without an end, again and again, and it drops
-    what it hears."""
+    """Bytes that an end sends during the acts, as its socket accepts them. An endless flow repeats them, and discards
+    what the end receives."""
 
     def __init__(self, peer, data, has_final_frame=True):
         self.peer, self.data, self.has_final_frame = peer, memoryview(data), has_final_frame
         self.sent = 0
 
     def is_done(self):
-        """Whether all of it went out."""
+        """Returns whether all bytes were sent."""
         return self.has_final_frame and self.sent == len(self.data)
 
     def events(self):
-        """What it waits for."""
+        """Returns the events that the flow waits for."""
         return selectors.EVENT_WRITE if self.has_final_frame else selectors.EVENT_WRITE | selectors.EVENT_READ
 
     def go_on(self):
-        """Sends what the socket takes."""
+        """Sends the bytes that the socket accepts."""
         if not self.has_final_frame:
             self.peer.listen()
             self.peer.heard.clear()

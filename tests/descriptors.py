@@ -1,4 +1,4 @@
-"""Scenes of many sockets that close, and of few descriptors."""
+"""Scenes of many closing sockets, and of few descriptors."""
 
 import time
 
@@ -11,10 +11,10 @@ from gateway import asks, joins
 from held import NotPlayed, Wrong
 from stage import Scene, begun
 
-# How many sessions end. With four descriptors each they are fewer than 1,024.
+# The number of sessions that end. With four descriptors each, they use fewer than 1,024.
 SESSIONS = 150
 
-# Each session is served and ends, and both peers stay and say nothing.
+# Each session is served and ends, while both peers stay and send nothing.
 END_SILENTLY = [
     act
     for number in range(SESSIONS)
@@ -28,7 +28,7 @@ END_SILENTLY = [
     )
 ]
 
-# Of 300 sockets the 44 that began to close first are closed, which are those of 22 sessions.
+# Of 300 sockets the first 44 that began to close are closed. These are the sockets of 22 sessions.
 OLDEST_ARE_CLOSED = [
     FindsClosed(Bot(0)),
     FindsClosed(Server(0)),
@@ -40,22 +40,22 @@ OLDEST_ARE_CLOSED = [
     FindsOpen(Server(149)),
 ]
 
-# A silent peer's socket is closed a second after its session. All is to be acted within less, or nothing is seen.
+# A silent peer's socket is closed a second after its session. All acts must take less, or the test shows nothing.
 QUICK = 0.9
 
-# How often it is tried.
+# The number of attempts.
 TIMES = 10
 
-# Where one act alone waits for so many seconds, a bot was kept out, and the machine was not slow.
+# If a single act takes this many seconds, a bot was kept out, and the machine was not slow.
 KEPT_OUT = 0.4
 
 
 class Many(Scene):
-    """Of the sockets that wait for silent peers the gateway keeps the last 256, so that there is a row for each bot
-    that comes. The program's clock can't be stopped, so where the machine was too slow it is played again."""
+    """Of the sockets that wait for silent peers, the gateway keeps the last 256, so that the table has an entry for
+    each new bot. The program's clock can't be stopped, so the scene is repeated if the machine was too slow."""
 
     def play(self, program):
-        """Plays it until the machine was quick enough; if it never was, nothing is seen."""
+        """Plays the scene until the machine is fast enough. If it never is, the test shows nothing."""
         plays = []
         for _ in range(TIMES):
             with begun(program, self.settings, self.server) as stage:
@@ -67,8 +67,8 @@ class Many(Scene):
         raise NotPlayed(f"all took {min(plays)[0]:.1f} s and more, and a silent peer's socket is closed after one")
 
     def play_once(self, stage):
-        """Plays it once, and tells how many seconds all took, and the longest act; what is found of the sockets counts
-        where all was quick."""
+        """Plays the scene once, and returns the seconds of all acts and of the longest one. The checks of the sockets
+        count only if the acts were fast enough."""
         began = time.monotonic()
         stage.play(self.acts)
         longest = stage.longest
@@ -83,8 +83,8 @@ class Many(Scene):
         return seconds, longest
 
 
-# One descriptor is left when a bot comes, and its session wants two. The bot waits in the queue, and is served once
-# there are two. The program accepts as soon as it can, so they are taken before the bot comes.
+# One descriptor is left when a bot connects, and its session needs two. The bot waits in the queue, and is served once
+# there are two. The program accepts as soon as it can, so the others are taken before the bot connects.
 ONE_IS_LEFT = [
     Hoards(1),
     Comes(),

@@ -1,7 +1,7 @@
-"""Runs with `--explain`: rows of messages and of logs, with texts that were worked out apart from the program.
+"""Runs with `--explain`: rows of messages and of logs, with expected texts from another source than the program.
 
-The rows of messages are printed by `scripts/second-explanation --table`, which reads docs/PROTOCOL.md; those of logs were
-worked out by hand from docs/FORMATS.md.
+`scripts/second-explanation --table` prints the rows of messages, from docs/PROTOCOL.md. The rows of logs are worked out
+from docs/FORMATS.md.
 """
 
 from held import Wrong
@@ -9,7 +9,7 @@ from runs import Folder, check_ran, rows_of
 
 
 def judged_by(text):
-    """The sides and levels of a text as `bot 0, server 10 to 40 60`, in pairs."""
+    """Yields the pairs of side and level of a text such as `bot 0, server 10 to 40 60`."""
     for part in text.split(","):
         side, *words = part.replace(" to ", "-").split()
         for low, _, high in (word.partition("-") for word in words):
@@ -18,7 +18,7 @@ def judged_by(text):
 
 
 def explained_frames(program):
-    """What `show --explain` prints of the worked examples and their neighbours, of each side and at each level."""
+    """Checks `show --explain` for the worked examples and similar messages, of each side and at each level."""
     with Folder(program) as folder:
         frame = ""
         for row in rows_of("explained"):
@@ -30,7 +30,7 @@ def explained_frames(program):
 
 
 def one_bracket_too_deep_is_explained(program):
-    """A BRA beyond 254 open brackets is too deep; so is a message that goes on with nothing but such a BRA."""
+    """A BRA after 254 open brackets is too deep. So is a message that can continue only with such a BRA."""
     chain = "481740004102400140004A134000" + "4A014000480140014000" * 252 + "4A014801" + "4001" * 254
     with Folder(program) as folder:
         for body, line in (
@@ -44,7 +44,8 @@ def one_bracket_too_deep_is_explained(program):
 
 
 def explained_logs(program):
-    """Reports of logs with explanations; without them, the lines at the margin that are no comments."""
+    """Checks reports of logs with explanations. Without explanations a report has the lines that are not indented and
+    not comments."""
     with Folder(program) as folder:
         for row in rows_of("explained-logs"):
             log, output, fault, status = row.split("|")

@@ -1,16 +1,16 @@
-"""The frames that the scenes send and hear, each by its bytes as docs/PROTOCOL.md has them."""
+"""The frames that the scenes send and expect, byte by byte as docs/PROTOCOL.md defines them."""
 
-# The initial message, the answer to it, and the final message.
+# The initial message, the representation message, and the final message.
 IM = b"\x00\x00\x00\x04\x00\x01\xda\x10"
 RM = b"\x01\x00\x00\x00"
 FM = b"\x03\x00\x00\x00"
 IM_FM = IM + FM
 
-# The initial message came too late; a length above the cap, or a type that there is none of.
+# The IM did not come in time; a length above the cap, or an unknown type.
 EM_01 = b"\x04\x00\x00\x02\x00\x01"
 EM_08 = b"\x04\x00\x00\x02\x00\x08"
 
-# `OBS`, that and the final message behind it, and `YES ( OBS )`.
+# `OBS`; the same followed by the final message; and `YES ( OBS )`.
 OBS = b"\x02\x00\x00\x02\x48\x0f"
 OBS_FM = OBS + FM
 YES = b"\x02\x00\x00\x08\x48\x1c\x40\x00\x48\x0f\x40\x01"
@@ -22,7 +22,7 @@ ITS_PRN = b"\x02\x00\x00\x0a\x48\x13\x40\x00\x48\x03\x40\x00\x40\x01"
 # `HLO ( ENG ) ( 1234 ) ( ( LVL 20 ) )`.
 HLO_20 = bytes.fromhex("02 00 001a 4804 4000 4101 4001 4000 04d2 4001 4000 4000 4903 0014 4001 4001")
 
-# `SND ( FRA ) ( XYZ ( ENG ) )`, XYZ being 4A40, and `HUH ( SND ( FRA ) ( ERR XYZ ( ENG ) ) )`.
+# `SND ( FRA ) ( XYZ ( ENG ) )` with XYZ as 4A40, and `HUH ( SND ( FRA ) ( ERR XYZ ( ENG ) ) )`.
 XYZ = bytes.fromhex("02 00 0014 4817 4000 4102 4001 4000 4a40 4000 4101 4001 4001")
 ITS_HUH = bytes.fromhex("02 00 001c 4806 4000 4817 4000 4102 4001 4000 4902 4a40 4000 4101 4001 4001 4001")
 
@@ -32,29 +32,31 @@ LONG_NAME = b"\x02\x00\x03\xcc\x48\x0c\x40\x00" + b"Ka" * 480 + b"\x40\x01\x40\x
 # The same with a name of 10,000 letters: 20,016 bytes.
 LONGER_NAME = b"\x02\x00\x4e\x2c\x48\x0c\x40\x00" + b"Ka" * 10_000 + b"\x40\x01\x40\x00Ka\x40\x01"
 
-# That with `GOF` behind it, which no message has there: 20,018 bytes.
+# The same followed by `GOF`, which no message allows there: 20,018 bytes.
 MISNAMED = b"\x02\x00\x4e\x2e" + LONGER_NAME[4:] + b"\x48\x03"
 
 # `OBS GOF`, and `HUH ( OBS ERR GOF )`.
 OBS_GOF = b"\x02\x00\x00\x04\x48\x0f\x48\x03"
 ITS_ERR = b"\x02\x00\x00\x0c\x48\x06\x40\x00\x48\x0f\x49\x02\x48\x03\x40\x01"
 
-# Bytes of a type that there is none of, which nobody reads behind the first four.
+# Bytes of an unknown type. Nothing after the first four is read.
 UNKNOWN = b"\x05" * 1024
 
 
 def message(body):
-    """The frame of a message with this body."""
+    """Returns the frame of a message with this body."""
     return b"\x02\x00" + len(body).to_bytes(2, "big") + body
 
 
 def unclosed_name(letters):
-    """`NME ( 'a..'` with this number of letters, and `PRN ( NME ( 'a..' )`: 14 bytes and two a letter."""
+    """Returns `NME ( 'a..'` with this number of letters, and `PRN ( NME ( 'a..' )`, of 14 bytes and two for each
+    letter."""
     name = b"\x48\x0c\x40\x00" + b"Ka" * letters
     return message(name), message(b"\x48\x13\x40\x00" + name + b"\x40\x01")
 
 
 def misnamed(letters):
-    """`NME ( 'a..' ) ( 'a' ) GOF`, and `HUH ( NME ( 'a..' ) ( 'a' ) ERR GOF )`: 26 bytes and two a letter."""
+    """Returns `NME ( 'a..' ) ( 'a' ) GOF`, and `HUH ( NME ( 'a..' ) ( 'a' ) ERR GOF )`, of 26 bytes and two for each
+    letter."""
     name = b"\x48\x0c\x40\x00" + b"Ka" * letters + b"\x40\x01\x40\x00Ka\x40\x01"
     return message(name + b"\x48\x03"), message(b"\x48\x06\x40\x00" + name + b"\x49\x02\x48\x03\x40\x01")

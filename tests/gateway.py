@@ -1,4 +1,4 @@
-"""Scenes of the gateway at work, each by its acts; what is heard is worked out from docs/PROTOCOL.md."""
+"""Scenes of the gateway at work, as lists of acts. The expected bytes are worked out from docs/PROTOCOL.md."""
 
 from acts import (
     Bot, Comes, Ends, FinishesConnect, Flooded, Floods, Hears, HearsEnd, HearsEndAlone, Leave, MeetsNobody, Pours,
@@ -13,17 +13,17 @@ UNREACHED = "daide-gate: cannot reach the server\n"
 
 
 def joins():
-    """A bot comes, and is joined with the server."""
+    """A bot connects, and is joined to the server."""
     return [Comes(), FinishesConnect()]
 
 
 def asks(number):
-    """A bot says its IM, which the server hears."""
+    """A bot sends its IM, which the server receives."""
     return [Says(Bot(number), IM), Hears(Server(number), IM)]
 
 
 def greets(number):
-    """The server's answer to it."""
+    """The server sends its RM, which the bot receives."""
     return [Says(Server(number), RM), Hears(Bot(number), RM)]
 
 
@@ -54,7 +54,7 @@ GETS_PRN = [
     HearsEnd(Bot(0)),
 ]
 
-# The settings of a press of a power from level 20 on.
+# Settings with XYZ, a press of a power from level 20 on.
 WITH_XYZ = 'words = [ { name = "XYZ", code = 0x4A40, slot = "press", level = 20, operand = "power" } ]'
 
 WORD_GOES_ON = [
@@ -79,13 +79,13 @@ WORD_IS_UNKNOWN = [
     Hears(Server(0), FM),
 ]
 
-# A bot that no server is there for counts as a served one.
+# A bot without a server counts as served.
 NOBODY_SERVES = [Comes(), HearsEnd(Bot(0)), Comes(), HearsEnd(Bot(1))]
 
-# A server that lets its queue run full doesn't answer at all; it is given up after its time, and the run goes on.
+# A server with a full queue does not answer at all. The connect is given up after its timeout, and the run goes on.
 NEVER_ANSWERS = [Comes(), HearsEnd(Bot(0))]
 
-# An end that comes together with the last bytes is heard behind them, though the system tells it but once.
+# An end that arrives with the last bytes is received after them, although the system reports it only once.
 ENDS_WITH_ITS_LAST = [
     *joins(),
     *opens(0),
@@ -155,17 +155,18 @@ SECOND_WAITS = [
     Hears(Server(1), FM),
 ]
 
-# How many bots are idle at once.
+# The number of idle bots at the same time.
 IDLE = 60
 
-# Each bot is greeted at once, though all before it are idle: a wait that missed it would last for the whole scene.
+# Each bot is served at once, although all bots before it are idle. A wait that missed its events would last for the
+# whole scene.
 ALL_ARE_GREETED = [
     *(act for number in range(IDLE) for act in joins() + opens(number)),
     Leave(),
     *(Hears(Server(number), FM) for number in range(IDLE)),
 ]
 
-# The timer runs out while nothing comes, and the run waits.
+# The IM timer expires while nothing is received, and the run waits.
 STAYS_SILENT = [
     *joins(),
     Rests(),
@@ -176,10 +177,11 @@ STAYS_SILENT = [
 
 HEARS_THE_END = [*joins(), HearsEnd(Bot(0)), HearsEnd(Server(0))]
 
-# A bot that opens and ends its session at once, and a server that accepts it once the run has ended.
+# A bot that sends its IM and ends its session at once, and a server that accepts the connection after the run has
+# ended.
 COMES_AND_GOES = [Comes(), Says(Bot(0), IM_FM), Rests(), FinishesConnect(), Hears(Server(0), IM_FM)]
 
-# The run ends once the last socket is closed in its stages: what its last bot sent and nobody read resets nothing.
+# The run ends once the last socket has closed in its stages. Unread bytes of the last bot cause no reset.
 IS_NOT_RESET = [Comes(), Pours(Bot(0), UNKNOWN, 20), Rests(), Hears(Bot(0), EM_08), HearsEndAlone(Bot(0))]
 
 SCENES = [

@@ -1,7 +1,7 @@
-"""Runs whose growths of memory are refused one after the other, by a library that is preloaded to the program.
+"""Runs in which each allocation is refused in turn, by a library that is preloaded into the program.
 
-`read_settings` takes the one global allocator, so no test of a crate can refuse its growths. What is wanted comes from
-docs/FORMATS.md.
+`read_settings` uses the global allocator, so no test of a crate can refuse its allocations. The expected output comes
+from docs/FORMATS.md.
 """
 
 import os
@@ -16,10 +16,10 @@ from runs import SECONDS
 SOURCE = pathlib.Path(__file__).resolve().parent / "refusing.c"
 COMPILERS = ("cc", "gcc", "clang")
 
-# No run has as many growths.
+# More allocations than any run makes.
 MOST_GROWTHS = 1_000
 
-# Settings with a value for each key, and two words; nothing can listen at an address without a port.
+# Settings with a value for each key, and two words. Nothing can listen at an address without a port.
 SETTINGS = """\
 listen = 'a host without a port'
 server = '127.0.0.1:16714'
@@ -38,10 +38,11 @@ words = [
 ]
 """
 
-# `SND ( FRA ) ( XYZ ( ENG ) )`, as `show` prints it with its verdict.
+# `SND ( FRA ) ( XYZ ( ENG ) )`, as `show` prints it, with its verdict.
 SHOWN = b"DM 20\nSND ( FRA ) ( XYZ ( ENG ) )\nrelay\n"
 
-# The words of a run that reads the file `settings`, that file, and what is printed and told of it, and the status.
+# The arguments of a run that reads the file `settings`, that file, its standard output and standard error, and its
+# status.
 RUNS = [
     (
         ["show", "--level", "60", "--words", "settings", "02000014481740004102400140004A40400041014001", "4001"],
@@ -55,12 +56,12 @@ RUNS = [
 
 REFUSED = (b"", b"daide-gate: out of memory\n", 1)
 
-# The growths of a run are more than this: its settings alone have as many members.
+# A run makes more allocations than this: its settings alone have as many members.
 FEWEST_GROWTHS = 20
 
 
 def compiled(room):
-    """The path of the library, compiled into this folder."""
+    """Compiles the library into this folder, and returns its path."""
     compiler = next(filter(None, map(shutil.which, COMPILERS)), None)
     if not compiler:
         raise NotPlayed("there is no compiler of C")
@@ -73,7 +74,8 @@ def compiled(room):
 
 
 def run_refusing(program, room, words, growth):
-    """What a run prints and tells, and its status, with this growth refused; and whether it was."""
+    """Runs with this allocation refused. Returns both outputs and the status, and whether the allocation was
+    refused."""
     reader, writer = os.pipe()
     names = {"LD_PRELOAD": f"{room}/refusing.so", "REFUSED": str(growth), "REFUSED_TO": str(writer)}
     try:
@@ -89,8 +91,9 @@ def run_refusing(program, room, words, growth):
 
 
 def play(program, room, words, wanted):
-    """Refuses each growth of a run in turn: nothing is printed and want of memory is reported, or the run can do without
-    that growth and is as wanted. All of them were refused once none is, and the run is as wanted."""
+    """Refuses each allocation of a run in turn. Nothing is printed and the lack of memory is reported, or the run does
+    without that allocation and has the expected output. Ends at the first run without a refusal, which has the expected
+    output."""
     fatal = 0
     for growth in range(1, MOST_GROWTHS):
         seen, was_refused = run_refusing(program, room, words, growth)
@@ -106,7 +109,7 @@ def play(program, room, words, wanted):
 
 
 def each_growth_of_settings_is_refused_in_turn(program):
-    """Runs that read settings, right ones and wrong ones."""
+    """Runs that read settings, valid and wrong ones."""
     with tempfile.TemporaryDirectory() as room:
         compiled(room)
         for words, settings, wanted in RUNS:

@@ -1,21 +1,21 @@
-"""What a test is held by: what was seen is what was wanted."""
+"""The comparisons of the tests."""
 
 import re
 
 
 class Wrong(Exception):
-    """Something else was seen than was wanted."""
+    """The result is not the expected one."""
 
 
 class NotPlayed(Exception):
-    """This machine doesn't show what is wanted, so the test has neither passed nor failed."""
+    """This machine can't show the result, so the test neither passes nor fails."""
 
 
 MOST = 160
 
 
 def brief(value):
-    """A value in one line of a length that a person reads; bytes as hexadecimal digits."""
+    """Returns a value in one short line, with bytes as hexadecimal digits."""
     is_bytes = isinstance(value, (bytes, bytearray))
     text = value.hex() if is_bytes else str(value) if not isinstance(value, str) else repr(value)
     if len(text) <= MOST:
@@ -24,12 +24,12 @@ def brief(value):
 
 
 def same(seen, wanted, where):
-    """What was seen there is what was wanted."""
+    """Fails if the result is not the expected one."""
     if seen != wanted:
         raise Wrong(f"{where}: saw {brief(seen)}, wanted {brief(wanted)}")
 
 
 def same_but_counts(seen, wanted, where):
-    """The same of a text, in which `*` is any number."""
+    """The same for a text in which `*` matches any number."""
     if not re.fullmatch(re.escape(wanted).replace(r"\*", r"\d+"), seen):
         same(seen, wanted, where)

@@ -1,12 +1,13 @@
-"""Scenes of a server that accepts late. A bot's connect has 5 seconds, the program's own, as docs/OPERATING.md says."""
+"""Scenes of a server that accepts late. A bot's connect has 5 seconds, a constant of the program, as docs/OPERATING.md
+says."""
 
 from acts import Bot, Comes, Empties, FinishesConnect, Hears, HearsEnd, MeetsNobody, Passes, Says, Server
 from frames import EM_01, FM, IM, OBS
 from gateway import UNREACHED, joins, opens
 from stage import Scene, full_listener
 
-# The server is there only when the second that a bot has for its IM is over since it came: that time runs from the
-# accept of the bot, and not from when the server accepts.
+# The server accepts only after the second for the bot's IM is over. That time runs from the accept of the bot, and not
+# from the server's accept.
 IS_MET_LATE = [
     Comes(),
     Passes(1_100),
@@ -18,8 +19,8 @@ IS_MET_LATE = [
     HearsEnd(Server(0)),
 ]
 
-# The server's queue is full until the first of two bots was told that it is given up, and then takes the second. Each
-# bot's connect has its own time: one that is given up doesn't wait for those that came later.
+# The server's queue is full until the first of two bots is given up, and then has room for the second. Each bot's
+# connect has a timeout of its own: the first is given up without regard to later ones.
 FIRST_IS_GIVEN_UP = [
     Comes(),
     Passes(3_000),
@@ -33,8 +34,8 @@ FIRST_IS_GIVEN_UP = [
     Hears(Server(0), FM),
 ]
 
-# While the first of two bots is on its way to the server, whose queue was full when it came, the second is joined at
-# once. The first is met when the system tries it once more, a second later or two.
+# While the connect of the first of two bots is pending, because the queue was full, the second is joined at once. The
+# first is joined when the system tries its connect again, a second or two later.
 SECOND_IS_MET_FIRST = [
     Comes(),
     Passes(1_100),
@@ -53,7 +54,7 @@ SECOND_IS_MET_FIRST = [
     Hears(Server(0), FM),
 ]
 
-# The time of a connect is over once it is done: a session that is idle for longer goes on, and the run waits.
+# The timeout of a connect ends with the connect: a session that is idle for longer goes on, and the run waits.
 OUTLASTS_ITS_CONNECT = [
     *joins(),
     *opens(0),

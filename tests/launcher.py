@@ -1,7 +1,7 @@
-"""The script `daide-gate` at the top, in a clone where nothing is built: what it prints is what the program prints.
+"""The script `daide-gate` at the top, in a clone without a build: it prints what the program prints.
 
-A stand-in for `rt` runs the program that is tested in place of the sources, in a folder of its own, with copies of the
-files that it is handed, as `rt try` does.
+A stand-in for `rt` runs the tested program instead of the sources, in a folder of its own, with copies of the files
+that it is given, as `rt try` does.
 """
 
 import os
@@ -14,7 +14,7 @@ import tempfile
 from held import same
 from runs import FILES, SECONDS, TOP, rows_of
 
-# The line that says that nothing is proved.
+# The line about a missing proof.
 UNPROVED = b"daide-gate: this is the program compiled without its proof"
 
 STAND_IN = """\
@@ -38,7 +38,7 @@ exit "$status"
 
 
 class Clone:
-    """A folder with the script, its judge and the stand-in, and one with the files of rows."""
+    """A folder with the script, its judge and the stand-in, and a folder with the files of rows."""
 
     def __init__(self, program):
         self.program = program
@@ -64,8 +64,8 @@ class Clone:
         self.room.cleanup()
 
     def run(self, command, words, given):
-        """What a command with these words and this input prints on both streams, and its status; without the line that
-        says that nothing is proved."""
+        """Runs a command with these arguments and this input. Returns both outputs and the status, without the line
+        about a missing proof."""
         path = f"{self.tools}:{os.environ['PATH']}"
         done = subprocess.run([str(command), *words], input=given, capture_output=True, timeout=SECONDS, check=False,
                               cwd=self.files, env={**os.environ, "PATH": path})
@@ -74,7 +74,7 @@ class Clone:
 
 
 def check_launched(program, name):
-    """Each row of this file is launched as it is run."""
+    """Checks that each row of this file has the same results through the script as from the program."""
     with Clone(program) as clone:
         for row in rows_of(name):
             words, given, *_ = row.split("|")
@@ -84,18 +84,18 @@ def check_launched(program, name):
 
 
 def frames_are_launched_as_they_are_run(program):
-    """`show` and `frame`, with words, settings and standard input."""
+    """`show` and `frame`, with arguments, settings and standard input."""
     for name in ("words", "framed"):
         check_launched(program, name)
 
 
 def logs_are_launched_as_they_are_run(program):
-    """`check` of files and of standard input."""
+    """`check` with files and with standard input."""
     check_launched(program, "checked")
 
 
 def usages_are_launched_as_they_are_run(program):
-    """Words with a fault of usage, of which most never reach the program."""
+    """Arguments with a fault of usage, most of which never reach the program."""
     with Clone(program) as clone:
         for row in rows_of("usages"):
             words, _, status = row.split("|")
@@ -105,7 +105,7 @@ def usages_are_launched_as_they_are_run(program):
 
 
 def launched_words_wait_for_no_input(program):
-    """With the input in words or in a file, standard input is not read, though it stays open."""
+    """With the input in arguments or in a file, standard input is not read, although it stays open."""
     with Clone(program) as clone:
         environment = {**os.environ, "PATH": f"{clone.tools}:{os.environ['PATH']}"}
         for words, status in (("show 02000002480F", 0), ("frame GOF", 0), ("check clean.log", 0), ("chek", 2), ("run", 2)):

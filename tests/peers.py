@@ -1,4 +1,4 @@
-"""Scenes of peers that are slow, silent or gone: what docs/OPERATING.md says of them."""
+"""Scenes of slow, silent or closed peers, as docs/OPERATING.md describes them."""
 
 from acts import (
     Bot, Comes, Ends, FindsClosed, Flooded, Floods, Hears, HearsEnd, HearsEndAlone, Leave, Passes, Pours, Rests, Says,
@@ -8,13 +8,13 @@ from frames import EM_08, FM, IM, LONG_NAME, LONGER_NAME, OBS, UNKNOWN
 from gateway import UNREACHED, asks, joins, opens
 from stage import Scene, silent_door
 
-# The frames of a megabyte and more.
+# The number of frames in more than a megabyte.
 MEGABYTE = 1_100
 
-# How many frames of 20,016 bytes there are.
+# The number of frames of 20,016 bytes.
 MANY_LONGER = 400
 
-# What a peer doesn't read yet waits for it, and nothing of it is lost.
+# Bytes that a peer has not read yet are kept, and none is lost.
 READS_LATE = [
     *joins(),
     *opens(0),
@@ -26,8 +26,7 @@ READS_LATE = [
     HearsEnd(Server(0)),
 ]
 
-# Nor of frames that are longer than what is held of a socket: each is handed over in many parts, the first behind its
-# header.
+# The same for frames longer than the buffers of a socket: each is sent in many parts, the first after its header.
 LONGER_READ_LATE = [
     *joins(),
     *opens(0),
@@ -39,7 +38,7 @@ LONGER_READ_LATE = [
     HearsEnd(Server(0)),
 ]
 
-# The time for the IM runs out while the session is open: nothing is told, and the run waits on.
+# The IM timer expires while the session is open. Nothing is logged, and the run still waits.
 STAYS_QUIET = [
     *joins(),
     *opens(0),
@@ -50,8 +49,8 @@ STAYS_QUIET = [
     Hears(Server(0), FM),
 ]
 
-# What a bot sent and nobody read destroys neither its EM nor the end behind it, at the run's last session too, and no
-# reset comes once the socket is closed.
+# A bot's unread bytes destroy neither its EM nor the end after it, even in the run's last session, and no reset follows
+# once the socket is closed.
 IS_FLOODED = [
     *joins(),
     Pours(Bot(0), UNKNOWN, 100),
@@ -63,7 +62,7 @@ IS_FLOODED = [
     HearsEndAlone(Bot(0)),
 ]
 
-# While a socket closes whose peer is silent, the run waits.
+# While the socket of a silent peer closes, the run waits.
 CLOSES_SLOWLY = [
     *joins(),
     *asks(0),
@@ -78,7 +77,7 @@ CLOSES_SLOWLY = [
     Rests(),
 ]
 
-# Where nothing moves, the round behind each wait goes on with the sockets that close.
+# If nothing moves, the round after each wait advances the closing sockets.
 CLOSES_BESIDE = [
     *joins(),
     *joins(),
@@ -93,8 +92,8 @@ CLOSES_BESIDE = [
     Hears(Server(1), FM),
 ]
 
-# Each round goes on with the sockets that close, though no bot more is let in and another one floods, so that nothing
-# is ever waited for: those of silent peers are closed a second after their session.
+# Each round advances the closing sockets, although no more bots are accepted and another bot floods, so that the run
+# never waits. The sockets of silent peers are closed a second after their session.
 CLOSES_BESIDE_A_FLOOD = [
     *joins(),
     *joins(),
@@ -111,19 +110,19 @@ CLOSES_BESIDE_A_FLOOD = [
     Hears(Server(0), FM),
 ]
 
-# A bot that said something before its connect failed hears the end, and no reset.
+# A bot that sent bytes before its connect failed receives the end, and no reset.
 SPEAKS_TO_NOBODY = [Comes(), Says(Bot(0), IM), HearsEndAlone(Bot(0))]
 
-# How many connects are refused.
+# The number of connects that are refused.
 REFUSED = 40
 
-# A connect that is refused is told at once: the time for a connect, for each of these, is more than the scene has.
+# A refused connect is reported at once: the scene is shorter than the connect timeouts of all bots together.
 ARE_REFUSED = [act for number in range(REFUSED) for act in (Comes(), HearsEnd(Bot(number)))]
 
-# How many bots come, one after another.
+# The number of bots, one after another.
 MANY = 150
 
-# They have one place: what each took of the run is given back.
+# They share one slot: each session releases what it took of the run.
 ONE_AFTER_ANOTHER = [
     act
     for number in range(MANY)

@@ -1,10 +1,10 @@
-"""Scenes of a run that is recorded: what it does is what it does without, and each session has its file; and of one that
-tells where its sessions begin and end, with the texts of docs/FORMATS.md."""
+"""Scenes of a recorded run, which behaves as one that is not recorded and has a file for each session; and of a run
+that logs the beginning and the end of its sessions, with the texts of docs/FORMATS.md."""
 
 from gateway import GETS_PRN, IS_NOT_RESET, NOBODY_SERVES, ONE_FLOODS, STAYS_SILENT, UNREACHED
 from stage import Scene, silent_door
 
-# What a run tells of `GETS_PRN`: an IM, an RM and an OBS were passed on, and a message got a PRN.
+# The log of a run of `GETS_PRN`: an IM, an RM and an OBS were relayed, and a message got a PRN.
 TELLS_BOTH = """\
 daide-gate: session 1 began: bot at 127.0.0.1:{0}
 daide-gate: session 1 ended: bot ended; relayed 3 prn 1 huh 0 faults 0

@@ -1,7 +1,7 @@
-"""Runs of the command line, a row each: words, input, what is printed and told, and the status.
+"""Runs of the command line, in rows: the arguments, the input, both outputs, and the status.
 
-The rows lie in files below `rows`, each of which says in its first lines how its rows are read. What they want comes
-from docs/FORMATS.md and docs/PROTOCOL.md, never from output of the program.
+The rows are in files below `rows`. The first lines of each file describe its rows. The expected results come from
+docs/FORMATS.md and docs/PROTOCOL.md, never from output of the program.
 """
 
 import pathlib
@@ -15,10 +15,10 @@ from held import Wrong, same
 TOP = pathlib.Path(__file__).resolve().parent.parent
 ROWS = TOP / "tests" / "rows"
 
-# The judge of the script at the top, which refuses words before anything is compiled.
+# The judge of the script at the top, which refuses arguments before anything is compiled.
 JUDGE = ["awk", "-f", str(TOP / "scripts" / "usage"), "--"]
 
-# How long one run may take, in seconds.
+# The time limit of one run, in seconds.
 SECONDS = 30
 
 # Settings with XYZ, a press of a power from level 20 on.
@@ -28,7 +28,7 @@ server = "127.0.0.1:16714"
 words = [ { name = "XYZ", code = 0x4A40, slot = "press", level = 20, operand = "power" } ]
 """
 
-# A log of one session whose bot gets PRN, one that is clean, and one that ends within a frame.
+# A log of one session whose bot gets PRN, a log without faults, and a log that ends within a frame.
 PRN_LOG = """\
 daide-log 1
 config 60 1024 16
@@ -46,7 +46,7 @@ server 01000000
 bot 0200000448
 """
 
-# The files that rows name, which lie in the folder where they run.
+# The files that rows name. They are in the folder of the run.
 FILES = {
     "prn.log": PRN_LOG,
     "clean.log": CLEAN_LOG,
@@ -76,8 +76,8 @@ class Folder:
         self.room.cleanup()
 
     def run(self, words, given=b"", limit=None):
-        """What a run with these words and this input prints and tells, as bytes, and its status; with a limit, as `ulimit`
-        takes it."""
+        """Runs with these arguments and this input, and a limit as `ulimit` takes it. Returns both outputs as bytes,
+        and the status."""
         limited = ["sh", "-c", f'ulimit {limit} && exec "$@"', "sh"] if limit else []
         done = subprocess.run(
             [*limited, str(self.program), *words], input=given, capture_output=True, timeout=SECONDS, check=False,
@@ -87,19 +87,19 @@ class Folder:
 
 
 def rows_of(name):
-    """The rows of a file, each with its tabs and carriage returns, without the lines that say how it is read."""
+    """Returns the rows of a file, with their tabs and carriage returns, without the lines that describe them."""
     lines = (ROWS / f"{name}.txt").read_text(encoding="utf-8").splitlines()
     return [line.replace("\\t", "\t").replace("\\r", "\r") for line in lines if not line.startswith("#")]
 
 
 def error_text(field):
-    """The lines on standard error, each after the program's name, but for a tip."""
+    """Returns the lines on standard error, each after the program's name except for a tip."""
     lines = field.split("/") if field else []
     return "".join(f"  {line}\n" if line.startswith("tip: ") else f"daide-gate: {line}\n" for line in lines)
 
 
 def check_ran(ran, wanted, row):
-    """The output, with `/` for the end of a line, the lines on standard error and the status are those of the row."""
+    """Checks the output, with `/` for each line feed, the lines on standard error, and the status of a row."""
     printed, told, status = ran
     output, fault, number = (field.strip() for field in wanted)
     same(printed.replace(b"\n", b"/").decode(), output, f"printed by '{row}'")
@@ -108,7 +108,7 @@ def check_ran(ran, wanted, row):
 
 
 def check_rows(program, name, has_lines=False):
-    """Each row of this file holds; with lines, `/` is the end of a line in the input too."""
+    """Checks each row of this file. With `has_lines`, `/` is a line feed in the input too."""
     with Folder(program, FILES) as folder:
         (pathlib.Path(folder.room.name) / "a-folder").mkdir()
         for row in rows_of(name):
@@ -119,32 +119,32 @@ def check_rows(program, name, has_lines=False):
 
 
 def shown_frames(program):
-    """What is shown of one frame, and each fault of the input and of the words."""
+    """The output for one frame, and each fault of the input and of the arguments."""
     check_rows(program, "shown")
 
 
 def shown_with_the_words_of_settings(program):
-    """`show` with the words of a file of settings."""
+    """`show` with the words of a settings file."""
     check_rows(program, "words")
 
 
 def run_that_cannot_begin_has_status_1(program):
-    """Settings, a folder of records and an address that are no use each have their text."""
+    """Invalid settings, folders of records and addresses each have their text."""
     check_rows(program, "unbegun")
 
 
 def checked_logs(program):
-    """Reports of logs, from standard input and from files."""
+    """Reports of logs from standard input and from files."""
     check_rows(program, "checked", has_lines=True)
 
 
 def framed_messages(program):
-    """The frames of messages, from standard input and from words."""
+    """The frames of messages from standard input and from arguments."""
     check_rows(program, "framed", has_lines=True)
 
 
 def typed_input_is_not_waited_for(program):
-    """With the input in words or in a file nothing is read of standard input, which stays open and silent."""
+    """With the input in arguments or in a file, standard input is not read; it stays open and silent."""
     runs = (("show 02000002480F", 0), ("show GOF", 1), ("frame GOF", 0), ("frame zzz", 1), ("check clean.log", 0),
             ("check no-such-file", 1), ("run no-such-file", 1), ("show --help", 0), ("chek", 2))
     with Folder(program, FILES) as folder:
@@ -155,7 +155,7 @@ def typed_input_is_not_waited_for(program):
 
 
 def words_of_a_frame_are_joined(program):
-    """The words of a frame are its text with a space between each two, also empty ones and ones with blanks."""
+    """The arguments of a frame are joined with single spaces, even empty ones and ones with blanks."""
     with Folder(program) as folder:
         runs = ((["show", "0200", "0002", "480F"], "DM 2/OBS/relay/", "", 0),
                 (["show", "02 00\t00\n02", "", "480F"], "DM 2/OBS/relay/", "", 0),
@@ -170,7 +170,7 @@ def words_of_a_frame_are_joined(program):
 
 
 def each_usage_is_a_row(program):
-    """A text of help or usage stands in one stream, and the other is empty."""
+    """A help text or a usage is on one stream, and the other is empty."""
     with Folder(program) as folder:
         for row in rows_of("usages"):
             words, part, wanted = row.split("|")
@@ -183,7 +183,7 @@ def each_usage_is_a_row(program):
 
 
 def check_judged(folder, words):
-    """The judge refuses these words with the program's text and status, or leaves them to it."""
+    """The judge refuses these arguments with the program's text and status, or leaves them to the program."""
     printed, told, status = folder.run(words)
     judged = subprocess.run([*JUDGE, *words], capture_output=True, timeout=SECONDS, check=False)
     wanted = (told, 2) if status == 2 else (b"", 0)
@@ -191,7 +191,7 @@ def check_judged(folder, words):
 
 
 def usages_are_judged_alike(program):
-    """Each row with words that are not understood gets from `scripts/usage` what it gets from the program."""
+    """Each row with a fault of usage gets the same result from `scripts/usage` as from the program."""
     with Folder(program, FILES) as folder:
         for name in ("usages", "shown", "framed", "checked"):
             for row in rows_of(name):
@@ -200,7 +200,7 @@ def usages_are_judged_alike(program):
 
 
 def examples_of_the_help_work(program):
-    """Each help of a command has two examples, which do what they should, as they are, at the top of a clone."""
+    """The help of each command has two examples, which work as they are at the top of a clone."""
     for command, statuses in (("show", [3, 0]), ("check", [3, 3]), ("frame", [0, 0])):
         text = subprocess.run([str(program), command, "--help"], capture_output=True, check=True).stdout.decode()
         lines = [line.strip() for line in text.partition("Examples:\n")[2].splitlines()]
@@ -211,12 +211,12 @@ def examples_of_the_help_work(program):
             same((done.returncode, done.stderr), (status, b""), f"the status of '{line}', and standard error")
 
 
-# A frame of the longest body, `GOF` again and again.
+# A frame of the longest body: `GOF`, repeated.
 LONGEST = b"0200FFF6" + b"4803" * 32_763
 
 
 def check_longest(folder, digits):
-    """It is shown whatever blanks come after it, and is no message."""
+    """Checks that the longest frame is shown whatever blanks follow it, and is not a message."""
     printed, told, status = folder.run([], digits)
     wanted = "DM 65526\n" + "GOF " * 32_762 + "GOF\nHUH at 1\nHUH ( GOF ERR" + " GOF" * 32_762 + " )\n"
     same(printed.decode(), wanted, f"printed of {len(digits)} bytes")
@@ -224,13 +224,13 @@ def check_longest(folder, digits):
 
 
 def longest_frame_is_shown(program):
-    """A frame of the longest body is shown as a whole."""
+    """A frame of the longest body is shown completely."""
     with Folder(program) as folder:
         check_longest(folder, LONGEST)
 
 
 def longest_input_is_read(program):
-    """200,000 bytes are read; one more is one too many."""
+    """200,000 bytes are read; one more is too many."""
     with Folder(program) as folder:
         digits = LONGEST.ljust(200_000)
         check_longest(folder, digits)
@@ -248,7 +248,7 @@ def one_bracket_too_deep_gets_huh(program):
 
 
 def cannot_listen(program, address, limit=None):
-    """Nothing can be listened on there, and nothing is printed."""
+    """Checks that the program can't listen at this address, and prints nothing."""
     settings = f"listen = '{address}'\nserver = '127.0.0.1:1'\n"
     with Folder(program, {"settings": settings}) as folder:
         ran = folder.run(["run", "settings"], limit=limit)
@@ -256,18 +256,18 @@ def cannot_listen(program, address, limit=None):
 
 
 def address_that_is_taken_cannot_be_listened_on(program):
-    """Another listens there already."""
+    """The port is in use."""
     with socket.create_server(("127.0.0.1", 0)) as taken:
         cannot_listen(program, f"127.0.0.1:{taken.getsockname()[1]}")
 
 
 def address_with_no_port_cannot_be_listened_on(program):
-    """An address without a port is none to listen on."""
+    """The program can't listen at an address without a port."""
     cannot_listen(program, "127.0.0.1")
 
 
 def without_a_descriptor_for_its_table_it_cannot_listen(program):
-    """One descriptor beside the three streams is enough to listen, and not for the table of the sockets."""
+    """One descriptor beside the three streams is enough to listen, but not for the table of the sockets."""
     cannot_listen(program, "127.0.0.1:0", limit="-n 4")
 
 

@@ -1,11 +1,11 @@
-"""Scenes of peers of which nothing comes for as long as the settings allow."""
+"""Scenes of peers that send nothing until the timeout of the settings."""
 
 from acts import Bot, Hears, HearsEnd, Passes, Says, Server
 from frames import FM, OBS, YES
 from gateway import asks, joins, opens
 from stage import Scene
 
-# Silence begins with the session: a server that never says a word is taken as ended.
+# Silence begins with the session: a server that never sends anything is treated as ended.
 SAYS_NOTHING = [
     *joins(),
     Passes(100),
@@ -15,13 +15,13 @@ SAYS_NOTHING = [
     HearsEnd(Server(0)),
 ]
 
-# So is a bot that never says a word, long before the thirty seconds for its IM are over; the server, which heard no IM,
-# hears no FM either.
+# So is a bot that never sends anything, long before the thirty seconds for its IM are over. The server, which got no
+# IM, gets no FM either.
 COMES_AND_SAYS_NOTHING = [*joins(), HearsEnd(Server(0)), HearsEnd(Bot(0))]
 
-# In the first session the server falls silent, and in the second the bot; in the third both speak now and then. A side
-# of which nothing comes for a second is taken as ended, and the other side hears an FM; one that speaks now and then
-# stays. The run waits between.
+# In the first session the server becomes silent, in the second the bot; in the third both send now and then. A side
+# that sends nothing for a second is treated as ended, and the other side gets an FM; a side that sends now and then is
+# not. The run waits meanwhile.
 FALL_SILENT = [
     *joins(),
     *joins(),

@@ -1,8 +1,7 @@
-"""A stage: bots and a server over loopback, beside the program at work, in one thread.
+"""A stage: bots and a server over loopback, beside the program, in one thread.
 
-A scene is a list of acts and what is wanted at its end: the program's lines, its status, and that every end of a
-connection has heard what the acts say, and no more. Where no act can go on it waits, until bytes come or a moment is
-over.
+A scene is a list of acts and an expected end: the program's lines, its status, and that every end of a connection
+received the bytes of the acts, and no more. If an act can't go on, the scene waits for bytes or for a deadline.
 """
 
 import contextlib
@@ -18,13 +17,13 @@ from dataclasses import dataclass, field
 from acts import Bot, HearsEnd, Listens, Peer, Rests, Server
 from held import Wrong, same, same_but_counts
 
-# The most seconds that a scene lasts.
+# The time limit of a scene, in seconds.
 SECONDS = 30
 
-# The most seconds of a processor that a run takes which mostly waits. One that spins for half a second takes more.
+# The CPU time limit, in seconds, of a run that mostly waits. One that spins for half a second uses more.
 WAITING = 0.3
 
-# How many connections fill the queue of a listener, and how many fit into it.
+# The number of connections that fill the queue of a listener, and the size of the queue.
 MORE_THAN_WAIT = 160
 QUEUE = 128
 
@@ -32,8 +31,8 @@ HOST = "127.0.0.1"
 
 
 class Run:
-    """A run of the program in this folder at a port that was free, towards this address, with these lines of settings
-    after both, and with these words before the settings; a watcher's words come before the program."""
+    """A run of the program in this folder, at a free port, with a server at this address. These lines of settings
+    follow both addresses, and these arguments precede the settings. A watcher's words precede the program."""
 
     def __init__(self, program, room, settings, server, words, watcher=()):
         self.port, self.room = free_port(), pathlib.Path(room)
@@ -48,13 +47,13 @@ class Run:
         os.set_blocking(self.process.stdout.fileno(), False)
 
     def listen(self):
-        """Takes what was printed, and tells whether more may come."""
+        """Reads the printed bytes, and returns whether more may follow."""
         piece = self.process.stdout.read(4096)
         self.printed += piece or b""
         return piece != b""
 
     def has_ended(self):
-        """Whether it has ended; what it took of a processor is known then."""
+        """Returns whether the run has ended. Its CPU time is known then."""
         if self.status is None:
             pid, status, usage = os.wait4(self.process.pid, os.WNOHANG)
             if pid:
@@ -66,24 +65,24 @@ class Run:
         return self.status is not None
 
     def records(self):
-        """The names of the files with its records."""
+        """Returns the names of the files with its records."""
         return sorted(path.name for path in self.room.glob("*.log"))
 
     def size(self, name):
-        """How many bytes there are in this file."""
+        """Returns the size of this file, in bytes."""
         return (self.room / name).stat().st_size
 
     def told(self):
-        """What it told on standard error."""
+        """Returns its text on standard error."""
         self.errors.seek(0)
         return self.errors.read().decode(errors="replace")
 
     def descriptors(self):
-        """The numbers of its descriptors."""
+        """Returns the numbers of its descriptors."""
         return {int(name) for name in os.listdir(f"/proc/{self.process.pid}/fd")}
 
     def close(self):
-        """Ends it, where it goes on still."""
+        """Ends the run, if it has not ended yet."""
         if not self.has_ended():
             self.process.kill()
             self.process.wait()
@@ -91,8 +90,8 @@ class Run:
         self.errors.close()
 
 
-class ProtocolState:
-    """The bots and the server, and what they do."""
+class Stage:
+    """The bots and the server, and their acts."""
 
     def __init__(self, run, listener):
         listener.setblocking(False)
@@ -104,7 +103,7 @@ class ProtocolState:
         self.longest, self.may_print = 0.0, True
 
     def peer(self, who):
-        """The end of this number."""
+        """Returns the end with this number."""
         return (self.bots if isinstance(who, Bot) else self.servers)[who.number]
 
     def add_bot(self):
@@ -115,7 +114,7 @@ class ProtocolState:
         self.ports.append(stream.getsockname()[1])
 
     def meets(self):
-        """Whether the server accepted a connection."""
+        """Returns whether the server accepted a connection."""
         try:
             self.servers.append(Peer(self.listener.accept()[0]))
         except BlockingIOError:
@@ -123,17 +122,17 @@ class ProtocolState:
         return True
 
     def awaits(self, stream, to_write=False):
-        """The act isn't done, and goes on once this has bytes, or room."""
+        """Returns false: the act is not done, and goes on once this stream is readable, or writable."""
         self.awaited = {stream: selectors.EVENT_WRITE if to_write else selectors.EVENT_READ}
         return False
 
     def awaits_moment(self, moment):
-        """The act is done once this moment is over; whether it is."""
+        """Returns whether this deadline is past. The act is done then."""
         self.moment = moment
         return time.monotonic() >= moment
 
     def wait(self):
-        """Waits until what the act awaits came, a flow can go on, or the program printed something or ended."""
+        """Waits until the act can go on, a flow can go on, or the program printed something or ended."""
         now = time.monotonic()
         events = dict(self.awaited)
         for flow in self.flows:
@@ -147,7 +146,7 @@ class ProtocolState:
             selector.select(max(until - now, 0))
 
     def go_on(self):
-        """Goes on with what isn't acted: what the program prints, and what flows."""
+        """Reads what the program prints, and advances the flows."""
         if self.may_print:
             self.may_print = self.run.listen()
         for flow in self.flows:
@@ -172,12 +171,12 @@ class ProtocolState:
         self.longest = max(self.longest, time.monotonic() - self.act_began)
 
     def seen(self, act):
-        """What the end that acts heard so far, for who reads of a test that failed."""
+        """Describes the bytes received by the end that acts, for the message of a failed test."""
         who = getattr(act, "who", None)
         return f"saw {self.peer(who).told()}, and " if who else ""
 
     def play(self, acts):
-        """Plays these acts, one after another; how long the longest took is known then."""
+        """Plays these acts, one after another, and records the time of the longest one."""
         self.longest = 0.0
         for number, act in enumerate(acts):
             try:
@@ -186,50 +185,50 @@ class ProtocolState:
                 raise Wrong(f"act {number}, {act}: {wrong}") from None
 
     def leave(self):
-        """All ends that are there end their streams, and hear nothing but the other's end."""
+        """All ends that are left end their streams, and receive only the peer's end."""
         everyone = [(Bot(number), peer) for number, peer in enumerate(self.bots)]
         everyone += [(Server(number), peer) for number, peer in enumerate(self.servers)]
         left = [(who, peer) for who, peer in everyone if not peer.is_gone]
         for _, peer in left:
-            # One that was reset has ended.
+            # A stream that was reset has ended.
             with contextlib.suppress(OSError):
                 peer.stream.shutdown(socket.SHUT_WR)
         for who, _ in left:
             self.play_beside(HearsEnd(who), "behind all acts")
 
     def play_beside(self, act, place):
-        """Plays an act that isn't one of the scene's."""
+        """Plays an act that is not one of the scene's."""
         try:
             self.finish(act)
         except Wrong as wrong:
             raise Wrong(f"{place}, {act}: {wrong}") from None
 
     def close(self):
-        """Lets go of all sockets."""
+        """Closes all sockets."""
         for peer in self.bots + self.servers:
             peer.stream.close()
         self.listener.close()
 
 
 def free_port():
-    """A port at which nobody listens."""
+    """Returns a port without a listener."""
     with socket.socket() as taken:
         taken.bind((HOST, 0))
         return taken.getsockname()[1]
 
 
 def record_names(count):
-    """The names of so many records, from the first session on."""
+    """Returns the names of this many records, from the first session on."""
     return [f"session-{number:06}.log" for number in range(1, count + 1)]
 
 
 def open_listener():
-    """The listener of a server."""
+    """Returns the listener of a server."""
     return socket.create_server((HOST, 0), backlog=QUEUE)
 
 
 def full_listener():
-    """The same, whose queue is full of connections whose other ends are gone."""
+    """The same with a queue full of connections that were closed by their peers."""
     listener = open_listener()
     queue = [socket.socket() for _ in range(MORE_THAN_WAIT)]
     for stream in queue:
@@ -241,7 +240,7 @@ def full_listener():
 
 
 def silent_door():
-    """A port that is kept, and at which nobody listens: it refuses each connect."""
+    """Returns a socket that keeps a port without listening, so that each connect is refused."""
     door = socket.socket()
     door.bind((HOST, 0))
     return door
@@ -249,14 +248,14 @@ def silent_door():
 
 @contextlib.contextmanager
 def begun(program, settings, server, words=(), files=(), watcher=()):
-    """A stage beside a run that listens, towards this server, in a folder with these empty files; all are released
-    after it."""
+    """Creates a stage beside a run that listens, with this server, in a folder with these empty files. Releases all of
+    them afterwards."""
     listener = server()
     with tempfile.TemporaryDirectory() as room:
         for name in files:
             (pathlib.Path(room) / name).touch()
         run = Run(program, room, settings, listener.getsockname()[1], words, watcher)
-        stage = ProtocolState(run, listener)
+        stage = Stage(run, listener)
         try:
             stage.play_beside(Listens(), "before all acts")
             yield stage
@@ -267,35 +266,35 @@ def begun(program, settings, server, words=(), files=(), watcher=()):
 
 @dataclass
 class Scene:
-    """Acts beside a run, and what is wanted of it."""
+    """Acts beside a run, and the expected results."""
 
     name: str
     acts: list
     settings: str = ""
-    # What is told, `{0}` standing for the port of the first bot.
+    # The expected text on standard error, with `{0}` for the port of the first bot.
     told: str = ""
-    # What stands at the server's address.
+    # The socket at the server's address.
     server: object = field(default=open_listener)
-    # Whether the run takes nearly nothing of a processor, since it waits.
+    # Whether the run uses almost no CPU time, because it waits.
     waits: bool = False
-    # Whether the run tells where sessions begin and end.
+    # Whether the run logs the beginning and the end of sessions.
     verbose: bool = False
-    # How many sessions are recorded; none where the run isn't. How many records are there before the run, empty.
+    # The number of recorded sessions, or none if the run is not recorded. The number of empty records before the run.
     recorded: int | None = None
     there: int = 0
 
     def words(self):
-        """The words before the settings."""
+        """Returns the arguments before the settings."""
         return (["--verbose"] if self.verbose else []) + (["--record", "."] if self.recorded is not None else [])
 
     def play(self, program):
-        """Plays it."""
+        """Plays the scene."""
         with begun(program, self.settings, self.server, self.words(), record_names(self.there)) as stage:
             stage.play(self.acts)
             self.end(stage)
 
     def end(self, stage):
-        """All was served: the run ends by itself, and has printed and told what is wanted."""
+        """Checks that the run ends by itself after all bots were served, with the expected outputs."""
         stage.leave()
         stage.play_beside(Rests(), "behind all acts")
         run = stage.run

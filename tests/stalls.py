@@ -1,15 +1,15 @@
-"""Scenes of peers that read nothing of what waits for them."""
+"""Scenes of peers that do not read the bytes queued for them."""
 
 from acts import Bot, Ends, Goes, Hears, HearsEnd, Leave, Passes, Pours, Rests, Says, Server
 from frames import FM, LONGER_NAME, MISNAMED
 from gateway import joins, opens
 from stage import Scene
 
-# Frames of 20 KB: more than a connection holds at both its ends.
+# The number of frames of 20 KB that exceeds the buffers at both ends of a connection.
 MORE_THAN_FITS = 1_500
 
-# A bot sends messages that are answered with HUH and reads no answer; its server says FM and is gone. The session is over,
-# and the bot takes nothing of what waits for it.
+# A bot sends messages that get HUH, and reads no answer; its server sends an FM and closes. The session is over, and
+# the bot accepts none of its queued bytes.
 STOPS_READING = [
     *joins(),
     *opens(0),
@@ -22,7 +22,7 @@ STOPS_READING = [
     Leave(),
 ]
 
-# The server stays: it hears the end of the session.
+# The server stays, and receives the end of the session.
 STOPS_READING_ALONE = [
     *joins(),
     *opens(0),
@@ -34,7 +34,7 @@ STOPS_READING_ALONE = [
     Leave(),
 ]
 
-# A server takes nothing of what its bot says.
+# A server accepts no byte from its bot.
 SERVER_STOPS_READING = [
     *joins(),
     *opens(0),

@@ -1,7 +1,7 @@
-"""A scene under strace: each answer of the gateway's own that fits into 4,096 bytes is one call of the system.
+"""A scene under strace: each answer of the gateway that fits into 4,096 bytes is one system call, as docs/OPERATING.md
+says.
 
-docs/OPERATING.md says so. The calls are those with which a program writes to a socket; a call that took nothing counts
-as well.
+The calls are those that write to a socket. A call that accepted nothing counts as well.
 """
 
 import os
@@ -19,11 +19,11 @@ from gateway import joins, opens
 from held import NotPlayed, Wrong, same
 from stage import Scene, begun
 
-# What a socket holds to be written.
+# The capacity of a socket's write buffer.
 MOST_IN_ONE = 4_096
 
-# What a bot says, and the answer that it gets: short ones, the longest that fit, the shortest that don't, and one that is
-# far longer.
+# The messages of a bot and their answers: short ones, the longest that fit, the shortest that do not fit, and one that
+# is far longer.
 ANSWERS = [
     (UNCLOSED, ITS_PRN),
     (OBS_GOF, ITS_ERR),
@@ -44,30 +44,30 @@ ACTS = [
     HearsEnd(Bot(0)),
 ]
 
-# The seconds within which strace writes the end of a program that has ended.
+# The time in seconds within which strace writes the end of a program that has ended.
 SECONDS = 5
 
-# A call: its name, its descriptor, what it was handed, and what it returned.
+# A call: its name, its descriptor, its bytes, and its result.
 CALL = re.compile(r"(?:\d+ +)?(?:write|writev|sendto|sendmsg)\((\d+), (.*)\) += (-?\d+)")
 
 
 @dataclass(frozen=True)
 class Call:
-    """A call that writes: its descriptor, and the bytes that it took."""
+    """A call that writes: its descriptor, and the bytes that it accepted."""
 
     descriptor: int
     taken: bytes
 
 
 def watcher(trace):
-    """The words before those of a program whose calls go to this file. The program stays the child of who starts it, and
-    strace ends with it."""
+    """Returns the words before those of a program whose calls are written to this file. The program stays the child of
+    its parent, and strace ends with it."""
     calls = "trace=write,writev,sendto,sendmsg"
     return ["strace", "-D", "-f", "-xx", "-s", "100000", "-e", "signal=none", "-e", calls, "-o", str(trace)]
 
 
 def ended(trace):
-    """The lines about a program that has ended."""
+    """Returns the lines of the trace of a program that has ended."""
     until = time.monotonic() + SECONDS
     while time.monotonic() < until:
         text = trace.read_text(encoding="ascii") if trace.exists() else ""
@@ -78,7 +78,7 @@ def ended(trace):
 
 
 def need_strace(room):
-    """Tries it on a program that does nothing."""
+    """Tries strace on a program that does nothing."""
     if not shutil.which("strace"):
         raise NotPlayed("there is no strace")
     trace = pathlib.Path(room) / "trial"
@@ -91,7 +91,7 @@ def need_strace(room):
 
 
 def calls_in(lines):
-    """The calls of these lines, in their order."""
+    """Returns the calls of these lines, in order."""
     calls = []
     for line in lines:
         if found := CALL.fullmatch(line):
@@ -101,7 +101,7 @@ def calls_in(lines):
 
 
 def same_writes(calls, wanted):
-    """The calls took these frames: each that fits in one, the others in more than one."""
+    """Checks that the calls wrote these frames: each that fits into one call by one, and each other one by more."""
     for number, frame in enumerate(wanted):
         where = f"frame {number} of the bot, {len(frame)} bytes"
         if len(frame) <= MOST_IN_ONE:
@@ -119,10 +119,11 @@ def same_writes(calls, wanted):
 
 
 class Traced(Scene):
-    """A scene whose program is traced."""
+    """A scene with a traced program."""
 
     def play(self, program):
-        """Plays it, and looks at the calls that wrote to the bot: its descriptor is the one that took the RM."""
+        """Plays the scene, and checks the calls that wrote to the bot. Its descriptor is the one that accepted the
+        RM."""
         with tempfile.TemporaryDirectory() as room:
             need_strace(room)
             trace = pathlib.Path(room) / "trace"

@@ -44,7 +44,7 @@ none_taken Bot bytes (Took n) = refl
 none_taken Server bytes (Took n) = refl
 none_taken side bytes Failed = refl
 
--- a fact of one side and of the other is a fact of both
+-- a fact that holds for this side and for its peer holds for both
 of_both : (Holds : Side → Type 0) (side : Side) → Holds side → Holds (other side) → (one : Side) → Holds one
 of_both Holds Bot own rest Bot = own
 of_both Holds Bot own rest Server = rest

@@ -1,4 +1,4 @@
--- The calls of a non-blocking stream, and what a pull and a put make of their results. (own)
+-- The calls of a non-blocking stream, and the results of a pull and a put by those of the calls. (own)
 use Rattle.std.specs.Prelude.{◌≡◌, ℕ, zero, suc, ◌<◌, ◌⊎◌, ◌==◌, ◌&&◌, not, nat_lt, if◌then◌else◌, Bool, true, false, List, [], ◌∷◌, ◌++◌, length, Option}
 use Rattle.std.specs.Prelude.{Result, Ok, Err, replicate}
 use Rattle.std.specs.IoError.{error_kind}
@@ -20,7 +20,7 @@ outcome_of_kind Kinds.Interrupted = Interrupted
 outcome_of_kind Kinds.WouldBlock = NotNow
 outcome_of_kind kind = Failed
 
--- the outcome of a call, by what it returned
+-- the outcome of a call, by its result
 abbrev pub outcome_by : Result ℕ Error → IoResult
 outcome_by (Ok count) = Moved count
 outcome_by (Err error) = outcome_of_kind (error_kind error)

@@ -1,4 +1,4 @@
--- What the calls of a session's ports do to its two streams. (own)
+-- The effect of the calls of a session's ports on its two streams. (own)
 use Rattle.std.specs.Prelude.{◌≡◌, ℕ, Bool, true, false, List, [], ◌∷◌, ◌++◌, Option, if◌then◌else◌}
 use Rattle.daide_frame.specs.declared.side.Side.{Side}
 use Rattle.daide_frame.specs.declared.side.Side.TheVariants.{Bot, Server}
@@ -9,12 +9,12 @@ use Rattle.daide_buffered_io.specs.Buffers.{Buffer, Passes, ReadsNothing}
 
 -- ---- the effect of one call on the streams
 
--- the stream of one side, from the pair of both
+-- a side's stream, from the pair of both
 abbrev pub stream_of : {S : Type 0} → S × S → Side → S
 stream_of streams Bot = streams.0
 stream_of streams Server = streams.1
 
--- the bytes that a call returned from a side's stream
+-- the bytes that a call returned from this side's stream
 abbrev pub gave : Side → PortCall → List ℕ
 gave side TurnBegins = []
 gave side (Clock im_timer_expired) = []
@@ -23,12 +23,12 @@ gave side (Pulled from buffer Idle bytes) = []
 gave side (Pulled from buffer Ended bytes) = []
 gave side (Offered to bytes put) = []
 
--- the bytes that a list of calls returned from it, in order
+-- the bytes that a trace of calls returned from it, in order
 abbrev pub given : Side → List PortCall → List ℕ
 given side [] = []
 given side (answer ∷ answers) = gave side answer ++ given side answers
 
--- whether a call concerns a side's stream
+-- whether a call concerns this side's stream
 abbrev pub is_of : Side → PortCall → Bool
 is_of side TurnBegins = false
 is_of side (Clock im_timer_expired) = false
@@ -42,10 +42,9 @@ is_question (Clock im_timer_expired) = true
 is_question (Pulled from buffer pull bytes) = false
 is_question (Offered to bytes put) = false
 
--- The effect of one call on the buffered streams of bot and server: each returned the bytes that the call returned from
+-- The effect of one call on the buffered streams of bot and server. Each returned the bytes that the call returned from
 -- it, and accepted those that the call put to it. From a stream that the call does not concern nothing is read, and
--- only its write buffer is written. A question changes
--- neither.
+-- only its write buffer is written. A question changes neither.
 pub record Transfers {S : Type 0} (to_give got : S → Option (List ℕ)) (old : Buffer S × Buffer S) (answer : PortCall)
     (new : Buffer S × Buffer S) : Type 0 where
   pub passes : (side : Side) →

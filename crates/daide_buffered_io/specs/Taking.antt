@@ -1,4 +1,4 @@
--- Which of the bytes that it was handed a stream accepted. (own)
+-- The bytes of a put that a stream accepted. (own)
 use Rattle.std.specs.Prelude.{ℕ, Bool, true, false, List, take, Option}
 use Rattle.std.specs.Io.KnownBytes.{Appends, Keeps}
 use Rattle.daide_protocol.specs.declared.ports.Put.{Put}
@@ -19,6 +19,6 @@ abbrev pub taken_len : Put → ℕ
 taken_len (Took n) = n
 taken_len Failed = 0
 
--- the bytes that a put accepted: a prefix of those that it was handed
+-- the bytes that a put accepted: a prefix of those offered
 abbrev pub bytes_taken : Put → List ℕ → List ℕ
 bytes_taken put bytes = take (taken_len put) bytes

@@ -1,4 +1,4 @@
--- A side's answer waits exactly where the side has one; and what a session sees of a side is what its fields say.
+-- An answer is queued exactly if its side has one. The abstract value has the contents of the fields.
 use Rattle.std.proofs.Common.{◌≡◌, ℕ, zero, suc, ◌+◌, ◌<◌, ◌≤◌, false, List, [], ◌∷◌, length, map, Option, Some, None}
 use Rattle.std.proofs.Common.{refl, sym, ap, ◌∙◌, arith}
 use Rattle.std.specs.Prelude.{is_some, ◌||◌, nat_lt}
@@ -16,7 +16,7 @@ use Rattle.daide_channels.proofs.FrontLemmas.{waits_at}
 use Rattle.daide_channels.proofs.MarksLemmas.{answers_wait, least, length_marks}
 use Rattle.daide_channels.proofs.PartsLemmas.{below, not_below}
 
--- no frame answers a side that has no answer
+-- without a verdict at a side, neither queue holds an answer to it
 pub silent : (f : Fields) (side to : Side) → IsSound f → (at f.sides side).verdict ≡ None →
     count_of (answer_mark side) (at f.wires to).items ≡ 0
 silent f side Bot i free = omega (arith, i.once side ∙ ap presence free)
@@ -39,7 +39,7 @@ none_of : (o : Option Verdict) → is_some o ≡ false → o ≡ None
 none_of None e = refl
 none_of (Some verdict) e = absurd (cc)
 
--- The fields stand for the value t, and a side is known: what t shows of that side, and of the limits.
+-- The fields have the abstract value t, and a side is known: the contents of t for that side, and the limits.
 pub record IsSeen (f : Fields) (t : Channels) (side one : Side) : Type 0 where
   pub is : channels_of f ≡ t
   pub sound : IsSound f
@@ -73,7 +73,7 @@ seen {f} {t} {side} {one} i is s = record {
     shown Bot = refl
     shown Server = refl
 
--- What a side that was picked by its name shows of it, and of the limits.
+-- The contents of the abstract value for a side that was selected by its name, and the limits.
 pub record IsPicked (own : Receiver) (t : Channels) (side : Side) : Type 0 where
   pub cap : t.cap ≡ own.cap
   pub rules : t.rules ≡ own.rules
@@ -91,7 +91,7 @@ picked {f} {t} {side} {own} i is e =
       awaited = h.awaited ∙ ap (λ (x : Receiver). is_some x.verdict) (sym e);
     }
 
--- as many frames wait as the wire holds
+-- the queue holds as many frames as the abstract value shows
 pub waits_len : {f : Fields} {t : Channels} {side one : Side} → IsSeen f t side one →
     length (at f.wires one).items ≡ length (at t.queued side)
 waits_len {f} {t} {side} {one} h =
@@ -108,7 +108,7 @@ waits_len {f} {t} {side} {one} h =
     counted n [] = refl
     counted n (x ∷ items) = ap suc (mapped items)
 
--- The same where no answer to the side's frame waits: the bytes since its last whole frame are those that are held.
+-- The same if no answer to the side's frame is queued: the held bytes are those since the last whole frame.
 pub record IsSeenFree (f : Fields) (t : Channels) (side one : Side) : Type 0 where
   pub seen : IsSeen f t side one
   pub free : (at f.sides one).verdict ≡ None
@@ -126,14 +126,14 @@ seen_free {f} {t} {side} {one} i is s none =
           ∙ ap (λ (o : Option Verdict). pending_by o (at f.sides one).held) free;
     }
 
--- where no answer waits, the bytes that are held are those since the last whole frame
+-- if no answer is queued, the held bytes are those since the last whole frame
 pub tied : {f : Fields} {t : Channels} {side one : Side} → IsSound f → channels_of f ≡ t → side ≡ one →
     is_awaited (at t.queued) side ≡ false → (side_holding t side).held ≡ pending t side
 tied {f} {t} {side} {one} i is s none =
     let h : IsSeenFree f t side one = seen_free i is s none in
     ap (λ (a : ReceiveState). a.holding.held) h.seen.arrival ∙ sym h.pending
 
--- a side without an answer leaves room for one frame more on each wire
+-- a side without an answer leaves a free entry in each queue
 pub reply_room : {f : Fields} {t : Channels} {side one : Side} → IsSeenFree f t side one → (to : Side) →
     length (at f.wires to).items < 3
 reply_room {f} {t} {side} {one} h to = go one (silent f one to i h.free) (most to)

@@ -1,4 +1,4 @@
--- The first frame that waits for a wire is gone, and with it the frame that it answered.
+-- The first frame queued for a wire is removed. If it was an answer, the frame of that answer is cleared.
 use Rattle.std.proofs.Common.{◌≡◌, ℕ, ◌+◌, ◌<◌, ◌≤◌, Bool, true, false, List, [], ◌∷◌, length, map, Option, Some, None}
 use Rattle.std.proofs.Common.{refl, sym, ap, ◌∙◌, subst, arith, drop}
 use Rattle.std.specs.Prelude.{is_some, if◌then◌else◌}
@@ -24,9 +24,9 @@ use Rattle.daide_channels.proofs.FrontsKept.{answer_fresh}
 use Rattle.daide_channels.proofs.MarksLemmas.{Agree, both_frames, least, mark_is, same_begun, same_frames}
 use Rattle.daide_channels.proofs.SidesLemmas.{IsSameSide}
 
--- ---- what is left of what waits
+-- ---- the rest of the queue
 
--- how often the first frame answers a side
+-- 1 if the first frame is an answer to this side's frame, else 0
 abbrev first_mark : Side → List QueuedFrame → ℕ
 first_mark one items = if is_answer one (answered_by (first_of items)) then 1 else 0
 
@@ -49,7 +49,7 @@ tail_frames to a b n (x ∷ items) h = behind_none (map (frame_of_queued to b) i
     behind_none [] = refl
     behind_none (frame ∷ frames) = refl
 
--- a wire without its first frame, of which nothing is gone
+-- a queue without its first frame; nothing of the next frame was sent
 abbrev tail : Queue → Queue
 tail q = record { written = 0; items = tail_of q.items }
 
@@ -63,7 +63,7 @@ both_tail a b w Server here there =
     both_same _ _ (ap (drop_sent w.bot.written) (same_frames Bot a b w.bot.items there))
     (tail_frames Server a b w.server.written w.server.items here)
 
--- counts on both wires, from either
+-- counts over both wires, taken from either of them
 two_ways : (w : PerSide Queue) (to : Side) (mark : QueuedFrame → ℕ) →
     count_of mark w.bot.items + count_of mark w.server.items
     ≡ count_of mark (at w to).items + count_of mark (at w (other to)).items
@@ -76,7 +76,7 @@ put_ways : (w : PerSide Queue) (to : Side) (q : Queue) (mark : QueuedFrame → �
 put_ways w Bot q mark = refl
 put_ways w Server q mark = omega arith
 
--- a frame of which nothing is gone is begun
+-- a frame of which nothing was sent is partly sent
 fresh : (a : Side → List ℕ) (items : List QueuedFrame) →
     ((side : Side) → 0 < count_of (answer_mark side) items → 0 < length (a side)) → IsPartlySent a 0 items
 fresh a [] full = refl
@@ -85,7 +85,7 @@ fresh a (Answer Server ∷ items) full = full Server (omega arith)
 fresh a (Fm ∷ items) full = omega arith
 fresh a (Em code ∷ items) full = omega arith
 
--- parts are of the first frame alone
+-- only the first frame has parts
 same_parts : (a b : PerSide Receiver) (gone : ℕ) (items : List QueuedFrame) →
     ((side : Side) → 0 < count_of (answer_mark side) items → at b side ≡ at a side) →
     parts_left b gone items ≡ parts_left a gone items
@@ -97,9 +97,9 @@ same_parts a b gone (Answer Server ∷ items) h =
 same_parts a b gone (Fm ∷ items) h = refl
 same_parts a b gone (Em code ∷ items) h = refl
 
--- ---- what a side is after the first frame is gone
+-- ---- a side after the first frame is removed
 
--- either its answer was that frame, and nothing is held of it any more, or it is as it was
+-- either the frame was this side's answer, and the side then holds nothing, or the side is unchanged
 record IsSideAfter (old new : Receiver) (its : Bool) : Type 0 where
   same : IsSameSide old new
   coming : (arrival_of new).coming ≡ (arrival_of old).coming
@@ -159,9 +159,9 @@ after old new gone one r some = go (is_answer one gone) refl
     go true e = released_after old new (r.its e) (some e)
     go false e = subst (λ (y : Receiver). IsSideAfter old y false) (sym (r.kept e)) (same_after old)
 
--- ---- what is left
+-- ---- the rest
 
--- an answer that waits is fresh where nothing of it is gone
+-- a queued answer of which nothing was sent is fresh
 waits_fresh : (x : Receiver) (side to : Side) → presence x.verdict ≡ 1 → length x.header ≡ 4 →
     ((verdict : Verdict) → x.verdict ≡ Some verdict → to ≡ destination side verdict) →
     AreAnswerParts side (parts_after 0 (answer_parts x))
@@ -173,7 +173,7 @@ waits_fresh x side to some four aim = by_verdict x.verdict refl some
     by_verdict None e h = absurd (omega (arith, h))
     by_verdict (Some verdict) e h = answer_fresh x side to verdict e four (aim verdict e)
 
--- the next frame waits as one of which nothing is gone
+-- the next frame in the queue is one of which nothing was sent
 next_first : (b : PerSide Receiver) (to : Side) (items : List QueuedFrame) →
     ((side : Side) → 0 < count_of (answer_mark side) items → presence (at b side).verdict ≡ 1) →
     ((side : Side) → presence (at b side).verdict ≡ 1 → length (at b side).header ≡ 4) →
@@ -203,7 +203,7 @@ after_drop f b to = record { sides = b; wires = put f.wires to (tail (at f.wires
 module _ (f : Fields) (b : PerSide Receiver) (to : Side) (i : IsSound f)
     (released : (one : Side) → IsReleased (answered_by (first_of (at f.wires to).items)) one (at f.sides one) (at b one))
   where
-    -- a side's answers before: the first frame, those behind it, and those for the other wire
+    -- the count for a side before: in the first frame, in those after it, and in those for the other wire
     before : (one : Side) → first_mark one (at f.wires to).items
         + (count_of (answer_mark one) (tail_of (at f.wires to).items)
         + count_of (answer_mark one) (at f.wires (other to)).items) ≡ presence (at f.sides one).verdict
@@ -236,7 +236,7 @@ module _ (f : Fields) (b : PerSide Receiver) (to : Side) (i : IsSound f)
         let count = (side one).count in
         rw ((side one).stays h) (i.headed one (omega (arith, count, h, least (at f.sides one).verdict)))
 
-    -- an answer that waits still is that of a side that is as it was
+    -- an answer that is still queued belongs to an unchanged side
     aimed : (one wire : Side) (verdict : Verdict) → (at b one).verdict ≡ Some verdict →
         0 < count_of (answer_mark one) (at (put f.wires to (tail (at f.wires to))) wire).items →
         wire ≡ destination one verdict
@@ -297,7 +297,7 @@ module _ (f : Fields) (b : PerSide Receiver) (to : Side) (i : IsSound f)
         ∙ same_parts f.sides b (at f.wires (other to)).written (at f.wires (other to)).items there
         ∙ sym (parts_at f (other to))
 
-    -- the next frame is handed over as one that waits only now
+    -- the parts of the next frame are those of a fresh frame
     own_front : AreFresh (at (channels_of (after_drop f b to)).parts to) (at (channels_of (after_drop f b to)).queued to)
     own_front =
         let q : at (put f.wires to (tail (at f.wires to))) to ≡ tail (at f.wires to) =
@@ -321,7 +321,7 @@ module _ (f : Fields) (b : PerSide Receiver) (to : Side) (i : IsSound f)
       other_front = left_front;
     }
 
--- what a call leaves that drops the first frame, where t is the value that the fields stand for
+-- the effect of a call that removes the first frame; t is the abstract value of the fields
 pub dropped_first : (f n : Fields) (t : Channels) (to : Side) (gone : Option QueuedFrame) → channels_of f ≡ t → IsSound f →
     gone ≡ first_of (at f.wires to).items →
     n.wires ≡ put f.wires to (record { written = 0; items = tail_of (at f.wires to).items }) →
@@ -331,7 +331,7 @@ dropped_first f n t to gone is i e wires sides =
     (subst (λ (w : PerSide Queue). IsLeft (channels_of f) (record { sides = n.sides; wires = w }) to) (sym wires)
     (left f n.sides to i (rw e at sides)))
 
--- a side whose answer is gone begins its next frame, and the other is as it was
+-- the side whose answer was removed begins its next frame, and the other side is unchanged
 pub released : (b : PerSide Receiver) (side one : Side) (x : Receiver) → StartsFrame (at b side) (at b side).level [] x →
     IsReleased (Some side) one (at b one) (at (put b side x) one)
 released b Bot Bot x begins = record { its = λ _. begins; kept = λ its. absurd (cc) }

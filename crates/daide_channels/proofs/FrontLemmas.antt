@@ -1,4 +1,4 @@
--- What is handed to a wire next is a front of the first frame that waits for it.
+-- The next chunk of a wire is a front of the first frame queued for it.
 use Rattle.std.proofs.Common.{◌≡◌, ℕ, ◌-◌, ◌<◌, ◌≤◌, Bool, true, false, List, [], ◌∷◌, length, drop, Some, None}
 use Rattle.std.proofs.Common.{refl, sym, ap, ◌∙◌, subst, arith, length-drop, append-nil}
 use Rattle.std.specs.Prelude.{nat_lt}
@@ -47,14 +47,14 @@ none_in : (to : Side) (a : Side → List ℕ) (gone : ℕ) (items : List QueuedF
 none_in to a gone [] h e = refl
 none_in to a gone (item ∷ items) h e = absurd (omega (arith, h, e))
 
--- a frame that waits has a byte left
+-- a queued frame has at least one unsent byte
 pub none_left : (f : Fields) (to : Side) → IsSound f →
     size_of_first (answer_at f.sides) (at f.wires to).items - (at f.wires to).written ≡ 0 → queued_frames_to f to ≡ []
 none_left f to i e = none_in to (answer_at f.sides) (at f.wires to).written (at f.wires to).items (i.begun to) e
 
 -- ---- fronts
 
--- what is left of the first frame, or of the part of an answer that is sent now
+-- the rest of the first frame, or of the part of an answer that is being sent
 abbrev pub front_of : PerSide Receiver → ℕ → List QueuedFrame → List ℕ
 front_of sides gone [] = []
 front_of sides gone (Answer side ∷ items) = front_after (at sides side) gone
@@ -73,7 +73,7 @@ next_none : (part : List ℕ) (parts : List (List ℕ)) → length part ≡ 0 �
 next_none [] parts h = refl
 next_none (x ∷ part) parts h = absurd (omega (arith, h))
 
--- the part in which a place falls is the next of those that are left
+-- the part that contains an offset is the first of the parts that are left after it
 front_is_next : (parts : List (List ℕ)) (gone : ℕ) → front_in parts gone ≡ next_part (parts_after gone parts)
 front_is_next [] gone = refl
 front_is_next (part ∷ parts) gone =
@@ -110,7 +110,7 @@ front_is sides to gone (Fm ∷ items) h =
 front_is sides to gone (Em code ∷ items) h =
     (omega (arith, length-drop gone (em_bytes code), h), ([], sym (append-nil (drop gone (em_bytes code)))))
 
--- the first of the frames alone tells it
+-- only the first frame decides it
 pub front_some : (sides : PerSide Receiver) (gone : ℕ) (items : List QueuedFrame) (item : QueuedFrame) → first_of items
     ≡ Some item →
     front_of sides gone (item ∷ []) ≡ front_of sides gone items
@@ -129,7 +129,7 @@ pub front_none : (sides : PerSide Receiver) (gone : ℕ) (items : List QueuedFra
 front_none sides gone [] e = refl
 front_none sides gone (one ∷ items) e = absurd (cc)
 
--- what `front` says of the bytes that it hands out, where t is the value that the fields stand for
+-- the contract of `front` for the returned bytes; t is the abstract value of the fields
 pub record IsFrontFor (t : Channels) (to : Side) (xs : List ℕ) : Type 0 where
   pub value : xs ≡ next_part (at t.parts to)
   pub front : IsFrontOf xs (at t.queued to)

@@ -1,4 +1,4 @@
--- What a wire is handed next stays, where nothing is handed to it.
+-- The next chunk of a wire stays the same if nothing is sent to the wire.
 use Rattle.std.proofs.Common.{◌≡◌, ℕ, ◌+◌, ◌-◌, List, [], ◌∷◌, ◌++◌, Option, Some, None}
 use Rattle.std.proofs.Common.{refl, sym, ap, ◌∙◌, subst, drop, length, arith, length-drop}
 use Rattle.std.proofs.lemmas.List.{drop-drop}
@@ -36,7 +36,7 @@ parts_stay parts frames = record {
 pub fronts_stay : (t : Channels) → KeepsFronts t t
 fronts_stay t = λ to. parts_stay (at t.parts to) (at t.queued to)
 
--- ---- an end waits behind the others
+-- ---- a final frame is appended
 
 ended_here : (sides : PerSide Receiver) (to : Side) (gone : ℕ) (items : List QueuedFrame) (code : Option Code) →
     ArePartsKept (parts_left sides gone items)
@@ -72,7 +72,7 @@ end_fronts f t to code w is wires = λ one.
     go Server Bot = fronts_stay (channels_of f) Bot
     go Server Server = ended_here f.sides Server f.wires.server.written f.wires.server.items code
 
--- ---- a side of which no answer waits is another
+-- ---- a side without a queued answer is replaced
 
 parts_put : (sides : PerSide Receiver) (one : Side) (x : Receiver) (gone : ℕ) (items : List QueuedFrame) →
     count_of (answer_mark one) items ≡ 0 → parts_left (put sides one x) gone items ≡ parts_left sides gone items
@@ -100,9 +100,9 @@ fronts_side {f} {t} {side} {one} x h =
         ◌≡◌ {A = PerSide (List (List ℕ))} (record { bot = a; server = c }) (record { bot = b; server = d })
     both_same {a} {b} {c} {d} e k = rw (e, k) refl
 
--- ---- an answer waits behind the others
+-- ---- an answer is appended
 
--- an answered side has a header
+-- a side with an answer has a header of four bytes
 pub answered_header : (i x : Receiver) (head : Head) (verdict : Verdict) → Answers i head verdict x →
     length x.header ≡ 4
 unfolding head_bytes
@@ -115,7 +115,7 @@ none_gone (part ∷ parts) = rw (no_less (length part)) (ap (λ (ps : List (List
     no_less : (n : ℕ) → 0 - n ≡ 0
     no_less n = omega arith
 
--- the parts of an answer of which nothing is gone
+-- the parts of an answer of which nothing was sent
 pub answer_fresh : (x : Receiver) (side to : Side) (verdict : Verdict) → x.verdict ≡ Some verdict →
     length x.header ≡ 4 → to ≡ destination side verdict → AreAnswerParts side (parts_after 0 (answer_parts x))
     (record { to = to; answers = Some side; bytes = drop 0 (whole_answer x) })
@@ -129,7 +129,7 @@ answer_fresh x side to verdict given four aim = record {
   cut = none_gone (answer_parts x) ∙ ap (parts_by x.header (drop 4 x.held)) given;
 }
 
--- an answered side
+-- a side with an answer
 record IsAnswer (x : Receiver) (verdict : Verdict) : Type 0 where
   given : x.verdict ≡ Some verdict
   four : length x.header ≡ 4
@@ -210,9 +210,9 @@ post_fronts {f} {t} {side} {one} to {head} {verdict} {x} {w} h a wires aim = λ 
         replied_here f.sides one Server x verdict f.wires.server.written f.wires.server.items (none Server)
         (h.seen.sound.begun Server) its aim
 
--- ---- bytes of what is handed over are taken
+-- ---- bytes of the front are sent
 
--- more bytes are gone
+-- more bytes are sent
 more_gone : (parts : List (List ℕ)) (gone n : ℕ) → parts_after (gone + n) parts ≡ parts_after n (parts_after gone parts)
 more_gone [] gone n = refl
 more_gone (part ∷ parts) gone n = go (more_gone parts (gone - length part) (n - length (drop gone part)))
@@ -252,7 +252,7 @@ advanced_front f t to one n q is its wire =
     go Bot = parts_more f.sides f.wires.bot.written n f.wires.bot.items
     go Server = parts_more f.sides f.wires.server.written n f.wires.server.items
 
--- what the other wire is handed stays
+-- the parts of the other wire stay
 pub advanced_other : (f : Fields) (t : Channels) (to : Side) (q : Queue) → channels_of f ≡ t →
     at (channels_of (record { sides = f.sides; wires = put f.wires to q })).parts (other to) ≡ at t.parts (other to)
 advanced_other f t to q is = go to ∙ ap (λ (v : Channels). at v.parts (other to)) is

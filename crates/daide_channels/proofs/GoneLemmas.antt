@@ -1,4 +1,4 @@
--- Frames that waited are gone: bytes of the first, the first, or all of them.
+-- Queued frames are removed: bytes of the first, the first, or all of them.
 use Rattle.std.proofs.Common.{◌≡◌, ℕ, ◌+◌, ◌<◌, ◌≤◌, Bool, true, false, List, [], ◌∷◌, length, drop, map}
 use Rattle.std.proofs.Common.{refl, sym, ap, ◌∙◌, subst, arith, length-drop, zero, suc}
 use Rattle.std.proofs.lemmas.List.{drop_all, drop-append-le, drop-drop}
@@ -23,7 +23,7 @@ use Rattle.daide_channels.proofs.PartsLemmas.{below}
 abbrev with_wire : Fields → Side → Queue → Fields
 with_wire f to q = record { sides = f.sides; wires = put f.wires to q }
 
--- more bytes of the first frame are gone
+-- more bytes of the first frame are sent
 abbrev pub further : Queue → ℕ → Queue
 further q n = record { written = q.written + n; items = q.items }
 
@@ -90,7 +90,7 @@ advanced_waiting f t to n q is e =
     go Bot = ap (put (channels_of f).queued Bot) (further_frames Bot (answer_at f.sides) f.wires.bot n)
     go Server = ap (put (channels_of f).queued Server) (further_frames Server (answer_at f.sides) f.wires.server n)
 
--- nothing is let go where the same answers wait
+-- no frame is released while the same answer is queued
 behind_awaited : (w : PerSide (List Sent)) (to : Side) (n : ℕ) (side : Side) →
     (has_answer side (put w to (drop_sent n (at w to))).bot || has_answer side (put w to (drop_sent n (at w to))).server)
     ≡ (has_answer side w.bot || has_answer side w.server)
@@ -122,7 +122,7 @@ pub lets_none_go : (old new : Channels) (to : Side) (n : ℕ) → new.cap ≡ ol
 lets_none_go old new to n cap rules sides queued =
     lets_nothing old new cap rules sides (behind_same old new to n queued)
 
--- ---- bytes that a wire took, which are not all of the first frame
+-- ---- the bytes that a wire accepted are fewer than the first frame has
 
 without_less : (n : ℕ) (frames : List Sent) → n < first_len frames → drop_sent n frames ≡ without n frames
 without_less n [] l = refl
@@ -171,7 +171,7 @@ lets_more old mid new a b = record {
     kept_by side e true m false o = let bad = sym (a.fewer side o) ∙ m in absurd (cc)
     kept_by side e false m false o = b.kept side (e ∙ o ∙ sym m) ∙ a.kept side (m ∙ sym o)
 
--- as many first frames are gone as were counted
+-- as many first frames are removed as were counted
 pub record IsLosing (old now : Channels) (to : Side) (count : ℕ) : Type 0 where
   pub goes : ReleasesFrames old now
   pub left : now.queued ≡ put old.queued to (drop count (at old.queued to))

@@ -1,4 +1,4 @@
--- What a whole header says of lengths.
+-- Facts about lengths that follow from a whole header.
 use Rattle.std.proofs.Common.{◌≡◌, ℕ, ◌≤◌, Bool, true, false, List, [], ◌∷◌, length, Option, Some, None, Result, Ok}
 use Rattle.std.proofs.Common.{Err, refl, ap, arith}
 use Rattle.std.specs.Prelude.{nat_lt, ◌&&◌, ◌==◌, slice_index}

@@ -1,4 +1,4 @@
--- The frames that wait, by what they answer: counted, put behind others, and seen with other answers.
+-- The queued frames, by the side of their answer: counted, appended, and with other answer bytes.
 use Rattle.std.proofs.Common.{◌≡◌, ℕ, ◌+◌, ◌<◌, ◌≤◌, Bool, true, false, List, [], ◌∷◌, ◌++◌, length, map, Option, Some}
 use Rattle.std.proofs.Common.{None}
 use Rattle.std.proofs.Common.{refl, sym, ap, ◌∙◌, arith}
@@ -33,7 +33,7 @@ marks (Answer Server) = refl
 marks Fm = refl
 marks (Em code) = refl
 
--- each frame is an answer of one side, or no answer
+-- each frame is the answer to a side, or a final frame
 pub length_marks : (items : List QueuedFrame) →
     length items ≡ count_of (answer_mark Bot) items + count_of (answer_mark Server) items + count_of final_frame_mark items
 length_marks [] = refl
@@ -55,7 +55,7 @@ pub count_pushed : (w : PerSide Queue) (to : Side) (mark : QueuedFrame → ℕ) 
 count_pushed w Bot mark item = omega (arith, count_push mark w.bot.items item)
 count_pushed w Server mark item = omega (arith, count_push mark w.server.items item)
 
--- a mark that the frame has not is counted as before; one that none had, at most once
+-- appending a frame leaves the count of a mark that it does not have; a mark that was absent occurs at most once
 pub unmarked_pushed : (w : PerSide Queue) (to one : Side) (mark : QueuedFrame → ℕ) (item : QueuedFrame) → mark item ≡ 0 →
     count_of mark (at (put w to (pushed (at w to) item)) one).items ≡ count_of mark (at w one).items
 unmarked_pushed w to one mark item e =
@@ -69,7 +69,7 @@ first_pushed w to one mark item l z few =
     put_all (λ (s : Side) (q : Queue). count_of mark q.items ≤ 1) w to (pushed (at w to) item)
     (omega (arith, l, z, count_push mark (at w to).items item)) few one
 
--- ---- a frame behind the others
+-- ---- a frame is appended
 
 begun_push : (a : Side → List ℕ) (n : ℕ) (items : List QueuedFrame) (item : QueuedFrame) → 0 < length (queued_bytes a item) →
     IsPartlySent a n items → IsPartlySent a n (items ++ item ∷ [])
@@ -90,7 +90,7 @@ frames_push : (to : Side) (a : Side → List ℕ) (n : ℕ) (items : List Queued
 frames_push to a n [] item h = rw h refl
 frames_push to a n (x ∷ items) item h = ap (drop_sent n) (map-append (frame_of_queued to a) (x ∷ items) (item ∷ []))
 
--- what waits for both wires
+-- the queued frames of both wires
 abbrev pub both_frames : (Side → List ℕ) → PerSide Queue → PerSide (List Sent)
 both_frames a w = record { bot = frames_of Bot a w.bot; server = frames_of Server a w.server }
 
@@ -104,13 +104,13 @@ frames_pushed a w Server item h =
     ap (λ (frames : List Sent). record { bot = frames_of Bot a w.bot; server = frames })
     (frames_push Server a w.server.written w.server.items item (h Server))
 
--- ---- other answers
+-- ---- other answer bytes
 
--- the answers among these frames are the same
+-- each answer among these frames is the same
 abbrev pub Agree : (Side → List ℕ) → (Side → List ℕ) → List QueuedFrame → Type 0
 Agree a b items = (side : Side) → 0 < count_of (answer_mark side) items → b side ≡ a side
 
--- an answer that isn't among them may be any
+-- an answer that is not among them may change
 pub agree_put : (sides : PerSide Receiver) (side : Side) (x : Receiver) (items : List QueuedFrame) →
     count_of (answer_mark side) items ≡ 0 → Agree (answer_at sides) (answer_at (put sides side x)) items
 agree_put sides Bot x items none Bot some = absurd (omega arith)
@@ -144,9 +144,9 @@ pub same_both : (a b : Side → List ℕ) (w : PerSide Queue) → ((wire : Side)
 same_both a b w h =
     rw (same_frames Bot a b w.bot.items (h Bot), same_frames Server a b w.server.items (h Server)) refl
 
--- ---- whether an answer waits
+-- ---- whether an answer is queued
 
--- whether one is above 0, as a test
+-- whether a count is above 0, as a test
 has_answers : (side to : Side) (a : Side → List ℕ) (items : List QueuedFrame) →
     has_answer side (map (frame_of_queued to a) items) ≡ nat_lt 0 (count_of (answer_mark side) items)
 has_answers side to a [] = refl

@@ -1,4 +1,4 @@
--- Both sides as they are at first: nothing came of them, and nothing waits.
+-- Both sides in their initial state: nothing received, and nothing queued.
 use Rattle.std.proofs.Common.{◌≡◌, ℕ, ◌+◌, ◌≤◌, [], None, refl, sym, ap, ◌∙◌, subst, arith}
 use Rattle.daide_frame.specs.declared.side.Side.{Side}
 use Rattle.daide_frame.specs.declared.side.Side.TheVariants.{Bot, Server}
@@ -9,7 +9,7 @@ use Rattle.daide_channels.specs.Channels.{Fields, IsPartlySent, IsQuiet, IsSound
 use Rattle.daide_channels.specs.Channels.{final_frame_mark, frames_of, presence, channels_of}
 use Rattle.daide_channels.specs.SendQueue.{Queue}
 
--- a side of which nothing came
+-- a side in its initial state
 pub record IsNewSide (cap : ℕ) (rules : ReaderLimits) (side : Side) (i : Receiver) : Type 0 where
   pub its_side : i.side ≡ side
   pub its_cap : i.cap ≡ cap
@@ -20,7 +20,7 @@ pub record IsNewSide (cap : ℕ) (rules : ReaderLimits) (side : Side) (i : Recei
   pub unasked : i.total ≡ 0
   pub unlooked : i.looked_at ≡ 0
 
--- both are so
+-- both sides are in their initial state
 pub record AreNew (cap : ℕ) (rules : ReaderLimits) (f : Fields) : Type 0 where
   pub each : (side : Side) → IsNewSide cap rules side (at f.sides side)
   pub none : (to : Side) → at f.wires to ≡ record { written = 0; items = [] }

@@ -1,4 +1,4 @@
--- What is sent next of an answer is a front of what is left of it.
+-- The next chunk of an answer is a front of its unsent bytes.
 use Rattle.std.proofs.Common.{◌≡◌, ℕ, ◌-◌, ◌*◌, ◌<◌, ◌≤◌, Bool, true, false, List, [], ◌∷◌, ◌++◌, length, take, drop}
 use Rattle.std.proofs.Common.{Option, Some, None, refl, sym, ap, ◌∙◌, subst, arith, length-append, length-drop}
 use Rattle.std.proofs.Common.{append_assoc}
@@ -24,7 +24,7 @@ is_below m n e = grind (arith, nat_tests)
 pub is_not_below : (m n : ℕ) → nat_lt m n ≡ false → n ≤ m
 is_not_below m n e = grind (arith, nat_tests)
 
--- all that is left of a part
+-- the whole rest of a part
 pub rest_of : (part : List ℕ) (place : ℕ) → take (length part - place) (drop place part) ≡ drop place part
 rest_of part place = take_all (length part - place) (drop place part) (omega (arith, length-drop place part))
 
@@ -34,7 +34,7 @@ pub record IsFront (xs ys : List ℕ) : Type 0 where
   pub rest : List ℕ
   pub front : ys ≡ xs ++ rest
 
--- parts as one
+-- the parts joined
 abbrev joined : List (List ℕ) → List ℕ
 joined [] = []
 joined (part ∷ parts) = part ++ joined parts
@@ -64,7 +64,7 @@ front_joined (part ∷ parts) place l =
         (omega arith) (drop-append-add part (joined parts) (place - length part)) in
         rw e (record { some = f.some; rest = f.rest; front = same ∙ f.front })
 
--- the parts are the whole answer
+-- the parts join to the whole answer
 parts_joined : (header body : List ℕ) (verdict : Option Verdict) →
     joined (parts_by header body verdict) ≡ bytes_by header body verdict
 parts_joined header body None = refl

@@ -1,4 +1,4 @@
--- What is said of a side holds of either.
+-- Properties of pairs with one value for each side.
 use Rattle.std.proofs.Common.{◌≡◌, refl, ap, ◌∙◌}
 use Rattle.daide_frame.specs.declared.side.Side.{Side}
 use Rattle.daide_frame.specs.declared.side.Side.TheVariants.{Bot, Server}
@@ -13,7 +13,7 @@ pub put_there : {A : Type 0} (b : PerSide A) (side : Side) (x : A) → at (put b
 put_there b Bot x = refl
 put_there b Server x = refl
 
--- what holds of something new at a side, and of each side before, holds of each side after
+-- if a property holds for the new value at a side, and held for each side before, it holds for each side after
 pub put_all : {A : Type 0} (P : Side → A → Type 0) (b : PerSide A) (side : Side) (x : A) → P side x →
     ((one : Side) → P one (at b one)) → (one : Side) → P one (at (put b side x) one)
 put_all P b Bot x here there Bot = here
@@ -21,7 +21,7 @@ put_all P b Bot x here there Server = there Server
 put_all P b Server x here there Bot = there Bot
 put_all P b Server x here there Server = here
 
--- the same where it held of the other side before
+-- the same if it held for the other side before
 pub put_each : {A : Type 0} (P : Side → A → Type 0) (b : PerSide A) (side : Side) (x : A) → P side x →
     P (other side) (at b (other side)) → (one : Side) → P one (at (put b side x) one)
 put_each P b Bot x here there Bot = here

@@ -1,4 +1,4 @@
--- A frame comes to wait for a wire: an answer, an FM or an EM.
+-- A frame is queued for a wire: an answer, an FM or an EM.
 use Rattle.std.proofs.Common.{◌≡◌, ℕ, ◌+◌, ◌<◌, ◌≤◌, false, List, length, drop, Option, Some, None}
 use Rattle.std.proofs.Common.{refl, sym, ap, ◌∙◌, subst, arith}
 use Rattle.daide_frame.specs.declared.side.Side.{Side}
@@ -27,7 +27,7 @@ use Rattle.daide_channels.proofs.SidesLemmas.{IsSameSide, caps, rules_alike, its
 
 -- ---- an answer
 
--- what an answered side sends
+-- the bytes that a side's answer sends
 answer_is : (i x : Receiver) (head : Head) (verdict : Verdict) → Answers i head verdict x →
     whole_answer x ≡ answer_bytes head (drop 4 i.held) verdict
 unfolding answer_bytes
@@ -45,14 +45,14 @@ presence_put sides Bot Server x e h = omega arith
 presence_put sides Server Bot x e h = omega arith
 presence_put sides Server Server x e h = rw (e, h) refl
 
--- what waits is begun as it was
+-- the first frames stay partly sent
 replied_begun : (f : Fields) (side : Side) (x : Receiver) → IsSound f → (at f.sides side).verdict ≡ None →
     (wire : Side) → IsPartlySent (answer_at (put f.sides side x)) (at f.wires wire).written (at f.wires wire).items
 replied_begun f side x i free wire =
     same_begun (answer_at f.sides) (answer_at (put f.sides side x)) (at f.wires wire).written (at f.wires wire).items
     (agree_put f.sides side x (at f.wires wire).items (silent f side wire i free)) (i.begun wire)
 
--- the other side's answer waits where it waited
+-- the other side's answer stays in its queue
 still_aimed : (f : Fields) (side one to wire : Side) (verdict : Verdict) → IsSound f →
     (at f.sides side).verdict ≡ None → (at f.sides one).verdict ≡ Some verdict →
     0 < count_of (answer_mark one) (at (put f.wires to (pushed (at f.wires to) (Answer side))) wire).items →
@@ -68,7 +68,7 @@ same_verdict : (side : Side) (o : Option Verdict) (v w : Verdict) → o ≡ Some
     destination side v ≡ destination side w
 same_verdict side o v w e h = ap (destination side) (let same = sym e ∙ h in cc)
 
--- the answer that comes waits for the wire toward which its verdict sends it
+-- the new answer is queued for the wire that its verdict selects
 now_aimed : (f : Fields) (side to wire : Side) (x : Receiver) (verdict given : Verdict) → IsSound f →
     (at f.sides side).verdict ≡ None → x.verdict ≡ Some verdict → to ≡ destination side verdict →
     x.verdict ≡ Some given →
@@ -124,14 +124,14 @@ replied_waiting f side to x i free =
     after : Side → List ℕ
     after = answer_at (put f.sides side x)
 
--- the answer is behind the others on the wire toward which it goes
+-- the answer is the last frame in the queue of the wire that it is sent on
 pub answer_waits : (w : PerSide Queue) (side to aim : Side) (own queue : Queue) → queue ≡ pushed own (Answer side) →
     own ≡ at w to → to ≡ aim → put w to queue ≡ put w aim (pushed (at w aim) (Answer side))
 answer_waits w side to aim own queue e here is =
     ap (put w to) (e ∙ ap (λ (q : Queue). pushed q (Answer side)) here)
     ∙ ap (λ (s : Side). put w s (pushed (at w s) (Answer side))) is
 
--- the side's frame is answered, and the wires are as they were but for the answer
+-- the side's frame has its answer, and the queues change only by this answer
 pub post_sound : {f : Fields} {t : Channels} {side one : Side} (to : Side) {head : Head} {verdict : Verdict} {x : Receiver}
     {w : PerSide Queue} → IsSeenFree f t side one → Answers (at f.sides one) head verdict x →
     w ≡ put f.wires to (pushed (at f.wires to) (Answer side)) → to ≡ destination side verdict →
@@ -164,7 +164,7 @@ post_waiting {f} {t} {side} {one} to {head} {verdict} {x} h a wires =
     ∙ ap (λ (s : Side). posted t.queued (record { to = to; answers = Some s; bytes = whole_answer x })) (sym its)
     ∙ ap (λ (b : List ℕ). posted t.queued (record { to = to; answers = Some side; bytes = b })) bytes
 
--- the verdict is the grammar's of what the value t shows
+-- the verdict is the grammar's verdict on the frame in the value t
 pub post_right : {f : Fields} {t : Channels} {side one : Side} (head : Head) (verdict : Verdict) →
     IsSeenFree f t side one → IsCorrectVerdict (at f.sides one).rules.words (at f.sides one).rules.max_depth
     (question_of (at f.sides one).side (at f.sides one).level head (drop 4 (at f.sides one).held)) verdict →
@@ -173,9 +173,9 @@ post_right {f} {t} {side} {one} head verdict h right =
     let level : noted t side ≡ (at f.sides one).level = ap (λ (a : ReceiveState). a.coming.noted) h.seen.arrival in
     rw (h.seen.rules, level, h.pending, h.seen.its ∙ sym (h.seen.sound.its_side one)) right
 
--- ---- an end
+-- ---- a final frame
 
--- no end waits for the wire
+-- the queue holds no final frame
 unended_field : (f : Fields) (t : Channels) (to : Side) → channels_of f ≡ t → has_final_frame (at t.queued to) ≡ false →
     count_of final_frame_mark (at f.wires to).items ≡ 0
 unended_field f t to is none =

@@ -1,4 +1,4 @@
--- What more bytes of a frame are to its reader.
+-- How a side's reader follows as more bytes of a frame arrive.
 use Rattle.std.proofs.Common.{◌≡◌, ℕ, ◌+◌, ◌-◌, ◌*◌, ◌/◌, ◌%◌, ◌^◌, ◌<◌, ◌≤◌, Bool, true, false, List, [], ◌∷◌, ◌++◌}
 use Rattle.std.proofs.Common.{length, take, drop}
 use Rattle.std.proofs.Common.{Option, None, refl, sym, ap, ◌∙◌, subst, arith, length-append, length-drop, append_assoc}
@@ -30,7 +30,7 @@ use Rattle.daide_channels.specs.Receiver.{StartsFrame, Receiver, ReaderLimits, I
 use Rattle.daide_channels.specs.Receiver.{tokens_ended}
 use Rattle.daide_reader.proofs.BodyLemmas.{tokens_of-length, tokens_of-all}
 
--- a piece makes the bytes longer, by no more than itself
+-- a piece lengthens the bytes by at most its own length
 pub record Grows (b piece after : List ℕ) : Type 0 where
   pub more : List ℕ
   pub longer : after ≡ b ++ more
@@ -52,7 +52,7 @@ fed_grows limit b (x ∷ piece) = go (is_nothing (last_items limit (b ++ x ∷ [
         })
     go false e h = rw e (record { more = x ∷ []; longer = refl; few = omega arith })
 
--- a header stays the same when more bytes come
+-- a header stays the same when more bytes follow
 pub head_in-more : (limit : ℕ) (b more : List ℕ) → 4 ≤ length b → head_in limit (b ++ more) ≡ head_in limit b
 head_in-more limit [] more l = absurd (omega arith)
 head_in-more limit (p ∷ []) more l = absurd (omega arith)
@@ -69,13 +69,13 @@ below_four n e = grind (arith, nat_tests)
 pub not_below_four : (n : ℕ) → nat_lt n 4 ≡ false → 4 ≤ n
 not_below_four n e = grind (arith, nat_tests)
 
--- of these bytes a reader has read the message that the first of them hold
+-- the reader has read those tokens of the message that lie in the first of these bytes
 pub record IsReadFurther (limit : ℕ) (b more : List ℕ) : Type 0 where
   pub within : 2 * length (tokens_held limit b) ≤ length (drop 4 (b ++ more))
   pub front : tokens_of (take (2 * length (tokens_held limit b)) (drop 4 (b ++ more))) ≡ tokens_held limit b
   pub few : length (drop 4 (b ++ more)) / 2 - length (tokens_held limit b) ≤ length more / 2 + 1
 
--- the tokens of a front, where the rest may begin in the midst of a token
+-- the tokens of a front, even if the rest begins inside a token
 tokens_front : (w more : List ℕ) → tokens_of (take (2 * (length w / 2)) (w ++ more)) ≡ tokens_of w
 tokens_front w more = rw (take-append-le (2 * (length w / 2)) w more (omega arith)) (tokens_of-all w)
 
@@ -108,7 +108,7 @@ read_on limit b more dm = by_test (nat_lt (length b) 4) refl
     by_test true e = early (below_four (length b) e)
     by_test false e = later (not_below_four (length b) e)
 
--- the bytes of a frame that is no message hold none
+-- the bytes of a frame that is no message hold no token
 pub none_held : (limit : ℕ) (b : List ℕ) → is_dm_head (head_in limit b) ≡ false → tokens_held limit b ≡ []
 none_held limit b e = ap (λ (k : Bool). if k then tokens_of (drop 4 b) else []) e
 
@@ -116,7 +116,7 @@ pub all_held : (limit : ℕ) (b : List ℕ) → is_dm_head (head_in limit b) ≡
     ≡ tokens_of (drop 4 b)
 all_held limit b e = ap (λ (k : Bool). if k then tokens_of (drop 4 b) else []) e
 
--- a frame that is no message was none before
+-- a frame that is no message was no message with fewer bytes either
 pub no_dm_before : (limit : ℕ) (b more : List ℕ) → is_dm_head (head_in limit (b ++ more)) ≡ false →
     is_dm_head (head_in limit b) ≡ false
 no_dm_before limit b more e = by_test (nat_lt (length b) 4) refl
@@ -125,7 +125,7 @@ no_dm_before limit b more e = by_test (nat_lt (length b) 4) refl
     by_test true t = ap is_dm_head (head_in-short limit b (below_four (length b) t))
     by_test false t = ap is_dm_head (sym (head_in-more limit b more (not_below_four (length b) t))) ∙ e
 
--- a cutter took a piece of a message, of which a reader has read what it held before
+-- a cutter consumed a piece of a message, and the reader has read the tokens that the cutter held before
 pub record IsFedOn (limit : ℕ) (b piece : List ℕ) (cut : Cut) : Type 0 where
   pub within : 2 * length (tokens_held limit b) ≤ length (drop 4 cut.bytes)
   pub front : tokens_of (take (2 * length (tokens_held limit b)) (drop 4 cut.bytes)) ≡ tokens_held limit b
@@ -151,14 +151,14 @@ fed_on limit b piece cut same bytes dm =
       all = all;
     }
 
--- where no byte of a body is held, none was before
+-- if no byte of a body is held now, none was held before
 pub bodiless_before : (limit : ℕ) (b piece : List ℕ) → drop 4 (fed limit b piece) ≡ [] → drop 4 b ≡ []
 bodiless_before limit b piece none =
     let g = fed_grows limit b piece in
     let empty : length (drop 4 (b ++ g.more)) ≡ 0 = ap length (ap (drop 4) (sym g.longer) ∙ none) in
     drop_all 4 b (omega (arith, empty, length-drop 4 (b ++ g.more), length-append b g.more))
 
--- a piece ends few tokens: those that lie in it, and one that began before it
+-- a piece completes few tokens: those that lie in it, and one that began before it
 pub few_ended : (limit : ℕ) (b piece : List ℕ) → tokens_ended limit b piece ≤ length piece / 2 + 1
 few_ended limit b piece = by_test (is_dm_head (head_in limit (b ++ g.more))) refl
   where
@@ -180,7 +180,7 @@ few_ended limit b piece = by_test (is_dm_head (head_in limit (b ++ g.more))) ref
         ap (λ (x : List ℕ). length (tokens_held limit x)) g.longer ∙ ap length (none_held limit (b ++ g.more) e) in
         omega (arith, none)
 
--- it took a piece of no message
+-- the cutter consumed a piece of a frame that is no message
 pub fed_past : (limit : ℕ) (b piece : List ℕ) (cut : Cut) → cut.cap ≡ limit → cut.bytes ≡ fed limit b piece →
     is_dm_head (head_in cut.cap cut.bytes) ≡ false → is_dm_head (head_in limit b) ≡ false
 fed_past limit b piece cut same bytes dm =
@@ -204,7 +204,7 @@ stands_deep table side level v w cut depth words stands =
     (tokens_held cut.cap cut.bytes))
     (sym words) stands)
 
--- what is read stays read where the frame has other bytes and no answer
+-- the tokens read stay read when the frame gets other bytes and no answer
 pub read_along : {T : Type 0} (table : Ghosts T) (asked : T → ℕ) (side : Side) (level : Level) (old new : Cut)
     (v w : Reading T) (hlo now : HloScan) (header : List ℕ) (verdict : Option Verdict) →
     IsReadOn table asked side level old v hlo header verdict → verdict ≡ None → new.cap ≡ old.cap →
@@ -226,12 +226,12 @@ read_along table asked side level old new v w hlo now header verdict h none same
       uncounted = uncounted;
     }
 
--- where neither the depth nor the words change, a reader judges as before
+-- a reader with the same depth limit and the same words has the same limits
 pub rules_kept : {T : Type 0} (words : T → Words) (v w : Reading T) → w.max_depth ≡ v.max_depth →
     words w.table ≡ words v.table → rules_of words w ≡ rules_of words v
 rules_kept words v w depth same = rw (depth, same) refl
 
--- nothing changed of a side but its bytes, and how far its message is read
+-- only a side's bytes and the progress of its parse changed
 pub reads_of : {T : Type 0} (table : Ghosts T) (words : T → Words) (asked : T → ℕ) (side : Side) (level : Level)
     (old new : Cut) (v w : Reading T) (hlo now : HloScan) (header : List ℕ) (verdict : Option Verdict)
     (bytes : List ℕ) → IsReadOn table asked side level old v hlo header verdict → verdict ≡ None →
@@ -274,7 +274,7 @@ raised_most a b old new le h = record { by = h.by; few = (let few = h.few in ome
 pub raised_none : (most n : ℕ) → IsRaised most n n
 raised_none most n = record { by = 0; few = omega arith; sum = ap (λ (k : ℕ). k % 2 ^ 64) (omega arith) }
 
--- a frame was judged: how far its message is read then, and what becomes of the frame
+-- a frame was judged: the progress of its parse, and the answer that the frame turns into
 pub record IsJudged {T : Type 0} (table : Ghosts T) (words : T → Words) (asked : T → ℕ) (old : Receiver) (side : Side)
     (level : Level) (cut : Cut) (v : Reading T) (hlo : HloScan) (head : Head) (verdict : Verdict) : Type 0 where
   pub capped : cut.cap ≤ 65526
@@ -294,9 +294,9 @@ pub record IsJudged {T : Type 0} (table : Ghosts T) (words : T → Words) (asked
   pub no_message : is_dm head.kind ≡ false → asked v.table ≡ old.total
   pub looked_at : hlo.looked_at ≡ old.looked_at
 
--- ---- a message begins anew
+-- ---- a message starts anew
 
--- where no byte of a body is held, no token is
+-- if no byte of a body is held, no token is held
 pub none_begun : (limit : ℕ) (b : List ℕ) → drop 4 b ≡ [] → tokens_held limit b ≡ []
 none_begun limit b e =
     ap (λ (x : List ℕ). if is_dm_head (head_in limit b) then tokens_of x else []) e ∙ go (is_dm_head (head_in limit b))
@@ -305,7 +305,7 @@ none_begun limit b e =
     go true = refl
     go false = refl
 
--- a reader stands at the start of a message of which no token is held
+-- a reader is at the start of a message if no token of it is held
 pub fresh_on : {T : Type 0} (table : Ghosts T) (asked : T → ℕ) (side : Side) (level : Level) (cut : Cut)
     (v w : Reading T) (hlo : HloScan) (header : List ℕ) (now : Option Verdict) → length header ≡ 4 → cut.cap ≤ 65526 →
     drop 4 cut.bytes ≡ [] → HasHuhIndex cut.bytes now → w.table ≡ v.table → w.asked_before ≡ asked v.table →

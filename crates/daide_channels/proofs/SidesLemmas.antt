@@ -1,4 +1,4 @@
--- A side's frame changes, and no answer to it waits before or after.
+-- A side's frame changes, and no answer to it is queued before or after.
 use Rattle.std.proofs.Common.{◌≡◌, ℕ, ◌*◌, ◌<◌, ◌≤◌, List, [], ◌++◌, length, drop, Option, None, Some}
 use Rattle.std.proofs.Common.{refl, sym, ap, ◌∙◌, subst, arith, ◌⊎◌}
 use Rattle.daide_frame.specs.declared.side.Side.{Side}
@@ -25,13 +25,13 @@ use Rattle.daide_channels.proofs.MarksLemmas.{agree_put, same_begun, same_both}
 abbrev pub with_side : Fields → Side → Receiver → Fields
 with_side f side x = record { sides = put f.sides side x; wires = f.wires }
 
--- the side is still the side that it was
+-- the receiver belongs to the same side as before
 pub record IsSameSide (old new : Receiver) : Type 0 where
   pub side : new.side ≡ old.side
   pub cap : new.cap ≡ old.cap
   pub rules : new.rules ≡ old.rules
 
--- it is after each call
+-- each call keeps the side
 pub same_if_begun : {old new : Receiver} {level : Level} {bytes : List ℕ} → StartsFrame old level bytes new →
     IsSameSide old new
 same_if_begun b = record { side = b.side; cap = b.cap; rules = b.rules }
@@ -84,7 +84,7 @@ sound_side {f} {t} {given} {side} x h e none = record {
     none_there : {A : Type 0} → (o : Option Verdict) → o ≡ None → presence o ≡ 1 → A
     none_there o e h = let bad = rw e at h in absurd (omega arith)
 
--- after a frame began anew, and after its message was read on
+-- the fields stay sound after a frame starts anew, and after more of its message was read
 pub begun_sound : {f : Fields} {t : Channels} {given side : Side} {x : Receiver} {level : Level} {bytes : List ℕ} →
     IsSeenFree f t given side → StartsFrame (at f.sides side) level bytes x → IsSound (with_side f side x)
 begun_sound {x = x} h b = sound_side x h (same_if_begun b) b.unanswered
@@ -93,12 +93,12 @@ pub read_sound : {f : Fields} {t : Channels} {given side : Side} {x : Receiver} 
     IsSeenFree f t given side → ReadsMessageBytes (at f.sides side) bytes x → IsSound (with_side f side x)
 read_sound {x = x} h r = sound_side x h (same_if_read r) r.unanswered
 
--- what there is room for
+-- a side's room
 pub fits_side : {f : Fields} {t : Channels} {side one : Side} (n : ℕ) → IsSeenFree f t side one →
     n ≤ missing t.cap (pending t side) → n ≤ missing (at f.sides one).cap (at f.sides one).held
 fits_side {f} {t} {side} {one} n h l = rw (h.seen.cap, h.pending) at l
 
--- what waits is the same
+-- the queues stay the same
 pub waiting_side : {f : Fields} {t : Channels} {side one : Side} (x : Receiver) → IsSeenFree f t side one →
     (channels_of (with_side f one x)).queued ≡ t.queued
 waiting_side {f} {t} {side} {one} x h =
@@ -106,9 +106,9 @@ waiting_side {f} {t} {side} {one} x h =
     (λ to. agree_put f.sides one x (at f.wires to).items (silent f one to h.seen.sound h.free))
     ∙ ap (λ (v : Channels). v.queued) h.seen.is
 
--- ---- a value t that the fields stand for, and a side that is known
+-- ---- with an abstract value t of the fields, and a known side
 
--- the same with other wires too
+-- the same with other queues too
 abbrev pub with_both : Fields → Side → Receiver → PerSide Queue → Fields
 with_both f side x w = record { sides = put f.sides side x; wires = w }
 
@@ -130,7 +130,7 @@ pub cap_kept : (f : Fields) (t : Channels) (side : Side) (x : Receiver) → chan
 cap_kept f t Bot x is e = e ∙ ap (λ (v : Channels). v.cap) is
 cap_kept f t Server x is e = ap (λ (v : Channels). v.cap) is
 
--- the limits stay, and what came of the other side
+-- the limits and the other side's receive state are unchanged
 pub keeps_side : {f : Fields} {t : Channels} {side one : Side} (x : Receiver) (w : PerSide Queue) → IsSeen f t side one →
     IsSameSide (at f.sides one) x → Keeps side t (channels_of (with_both f one x w))
 keeps_side {f} {t} {side} {one} x w h e = record {
@@ -151,7 +151,7 @@ keeps_side {f} {t} {side} {one} x w h e = record {
     there Bot = refl
     there Server = refl
 
--- how often the side's table was asked
+-- the look-up count in a side's table
 total_side : {f : Fields} {t : Channels} {side one : Side} → IsSeen f t side one →
     (at f.sides one).total ≡ (side_holding t side).total
 total_side h = sym (ap (λ (a : ReceiveState). a.holding.total) h.arrival)
@@ -168,7 +168,7 @@ raised_side {f} {t} {side} {one} n x w h r =
     subst (λ (m : ℕ). IsRaised n m (side_holding (channels_of (with_both f one x w)) side).total) (total_side h)
     (subst (λ (m : ℕ). IsRaised n (at f.sides one).total m) (total_both x w h) r)
 
--- it was asked for the tokens alone that a piece ended
+-- the count rises only by the look-ups for the tokens that a piece completes
 pub raised_ended : {f : Fields} {t : Channels} {side one : Side} (piece : List ℕ) (x : Receiver) (w : PerSide Queue) →
     IsSeenFree f t side one →
     IsRaised (4 * tokens_ended (at f.sides one).cap (at f.sides one).held piece) (at f.sides one).total x.total →
@@ -182,7 +182,7 @@ pub unasked_side : {f : Fields} {t : Channels} {side one : Side} (x : Receiver) 
     (side_holding (channels_of (with_both f one x w)) side).total ≡ (side_holding t side).total
 unasked_side x w h e = sym (total_both x w h) ∙ e ∙ total_side h
 
--- how many tokens were looked at of the side
+-- how many of the side's tokens the HLO scan has read
 pub looked_side : {f : Fields} {t : Channels} {side one : Side} (n : ℕ) (x : Receiver) (w : PerSide Queue) →
     IsSeen f t side one → IsRaised n (at f.sides one).looked_at x.looked_at →
     IsRaised n (side_holding t side).looked_at (side_holding (channels_of (with_both f one x w)) side).looked_at
@@ -198,7 +198,7 @@ pending_arrived f side one x s none =
     ap (λ (a : ReceiveState). a.coming.pending) (arrived f side one x s)
     ∙ ap (λ (o : Option Verdict). pending_by o x.held) none
 
--- the frame began anew
+-- the frame starts anew
 pub started_of : (old new : Receiver) (level : Level) → old.verdict ≡ None → StartsFrame old level old.held new →
     IsStarted (arrival_of old) level (arrival_of new)
 started_of old new level free b = record {
@@ -235,7 +235,7 @@ grown {f} {t} {side} {one} x piece h r =
     rw (h.pending, h.seen.arrival, arrived f side one x h.seen.its, h.seen.cap)
     (grown_of (at f.sides one) x (fed (at f.sides one).cap (at f.sides one).held piece) h.free r)
 
--- what was told of the piece
+-- the step returned for the piece
 pub record IsReportedOf (cap : ℕ) (bytes piece : List ℕ) (step : Step) (new_cap : ℕ) (new_bytes : List ℕ) : Type 0 where
   pub items : fed_items cap bytes piece ≡ items_of_step step (head_in new_cap new_bytes) (drop 4 new_bytes)
   pub whole : IsFault step ⊎ (new_bytes ≡ bytes ++ piece)
@@ -250,7 +250,7 @@ told_of {f} {t} {side} {one} x piece step h r items_of_step =
     (r.cap ∙ sym h.seen.cap ∙ sym (cap_kept f t one x h.seen.is r.cap))
     (rw (pending_arrived f side one x h.seen.its r.unanswered, h.pending, h.seen.cap) items_of_step)
 
--- a body is told when it is whole
+-- `Bodied` is returned when the body is whole
 pub whole_side : {f : Fields} {t : Channels} {side one : Side} {x : Receiver} {bytes : List ℕ} → IsSeenFree f t side one →
     ReadsMessageBytes (at f.sides one) bytes x → IsWholeBody (head_in x.cap x.held) (drop 4 x.held) →
     IsWholeBody (head_in (channels_of (with_side f one x)).cap (pending (channels_of (with_side f one x)) side))
@@ -277,7 +277,7 @@ pub cleared : {f : Fields} {t : Channels} {side one : Side} {x : Receiver} → I
 cleared {f} {t} {side} {one} {x} h b =
     rw (h.arrival, arrived f side one x h.its) (cleared_of (at f.sides one) x b)
 
--- the frame was answered
+-- the frame has its answer
 answered_of : (old new : Receiver) (head : Head) (verdict : Verdict) → Answers old head verdict new →
     IsAnswered (arrival_of old) (arrival_of new)
 answered_of old new head verdict a = record {

@@ -1,4 +1,4 @@
--- Both sides' frames, and the frames that wait for the two wires.
+-- The receive state of both sides, and the send queues of both wires.
 use Rattle.std.specs.Prelude.{◌≡◌, ℕ, ◌+◌, ◌<◌, ◌≤◌, Bool, true, false, ◌||◌, List, [], ◌∷◌, ◌++◌, length, drop}
 use Rattle.std.specs.Prelude.{map, Option, Some, None, if◌then◌else◌}
 use Rattle.daide_frame.specs.declared.side.Side.{Side}
@@ -17,8 +17,8 @@ use Rattle.daide_channels.specs.PerSide.{PerSide, at, put}
 use Rattle.daide_channels.specs.Receiver.{Receiver, ReaderLimits, StartsFrame, whole_answer, answer_parts}
 use Rattle.daide_channels.specs.SendQueue.{Queue}
 
--- what came of a side: the bytes since its last whole frame with the level noted at its last header, and what is
--- held, also while the answer to its last frame waits
+-- A side's receive state: the bytes since its last whole frame, with the level noted at its last header, and the held
+-- bytes. These include a frame whose answer is queued.
 pub record ReceiveState : Type 0 where
   pub coming : Coming
   pub holding : Holding
@@ -27,9 +27,9 @@ pub record Channels : Type 0 where
   pub cap : ℕ
   pub rules : ReaderLimits
   pub sides : PerSide ReceiveState
-  -- the frames that wait for each wire, the first perhaps in part
+  -- the frames queued for each wire, the first perhaps in part
   pub queued : PerSide (List Sent)
-  -- what is left of the first frame for each wire, in the parts in which it is handed over
+  -- the rest of the first frame for each wire, split into the parts in which it is sent
   pub parts : PerSide (List (List ℕ))
 
 abbrev pub pending : Channels → Side → List ℕ
@@ -43,7 +43,7 @@ side_holding t side = (at t.sides side).holding
 
 -- ---- what the calls do
 
--- nothing came, and nothing waits
+-- nothing received, and nothing queued
 pub record IsQuiet (cap : ℕ) (rules : ReaderLimits) (t : Channels) : Type 0 where
   pub cap_set : t.cap ≡ cap
   pub rules_set : t.rules ≡ rules
@@ -53,13 +53,13 @@ pub record IsQuiet (cap : ℕ) (rules : ReaderLimits) (t : Channels) : Type 0 wh
   pub unlooked : (side : Side) → (side_holding t side).looked_at ≡ 0
   pub queued : (to : Side) → at t.queued to ≡ []
 
--- the limits stay, and what came of the other side
+-- the limits and the other side's receive state are unchanged
 pub record Keeps (side : Side) (old new : Channels) : Type 0 where
   pub cap : new.cap ≡ old.cap
   pub rules : new.rules ≡ old.rules
   pub other_side : at new.sides (other side) ≡ at old.sides (other side)
 
--- a side's frame has these bytes now, and its message was read on. A table is asked for the tokens of a message alone.
+-- A side's frame now has these bytes, and its message was read up to them. Only tokens of a message are looked up.
 pub record IsGrown (cap : ℕ) (old : ReceiveState) (bytes : List ℕ) (new : ReceiveState) : Type 0 where
   pub coming : new.coming ≡ record { pending = bytes; noted = old.coming.noted }
   pub held : new.holding.held ≡ bytes
@@ -69,7 +69,7 @@ pub record IsGrown (cap : ℕ) (old : ReceiveState) (bytes : List ℕ) (new : Re
   pub bodiless : drop 4 bytes ≡ [] → new.holding.total ≡ old.holding.total
   pub uncounted : is_dm_head (head_in cap old.coming.pending) ≡ false → old.holding.total_before ≡ old.holding.total
 
--- a side's message begins at a level
+-- a side's message starts at a level
 pub record IsStarted (old : ReceiveState) (level : Level) (new : ReceiveState) : Type 0 where
   pub coming : new.coming ≡ record { pending = old.coming.pending; noted = level }
   pub held : new.holding.held ≡ old.holding.held
@@ -77,7 +77,7 @@ pub record IsStarted (old : ReceiveState) (level : Level) (new : ReceiveState) :
   pub base : new.holding.total_before ≡ old.holding.total
   pub looked_at : new.holding.looked_at ≡ old.holding.looked_at
 
--- a side's frame was answered
+-- a side's frame has its answer
 pub record IsAnswered (old new : ReceiveState) : Type 0 where
   pub coming : new.coming ≡ record { pending = []; noted = old.coming.noted }
   pub held : new.holding.held ≡ old.holding.held
@@ -92,8 +92,8 @@ pub record IsCleared (old new : ReceiveState) : Type 0 where
   pub base : new.holding.total_before ≡ old.holding.total
   pub looked_at : new.holding.looked_at ≡ old.holding.looked_at
 
--- Frames that waited are gone: nothing is held of a side whose answer was among them, and of any other what was held.
--- No table was asked, and no token looked at.
+-- Queued frames are removed. If a side's answer is among them, nothing is held of that side; otherwise the held bytes
+-- stay. No table look-up is made, and the HLO scan reads no token.
 pub record ReleasesFrames (old new : Channels) : Type 0 where
   pub cap : new.cap ≡ old.cap
   pub rules : new.rules ≡ old.rules
@@ -106,7 +106,7 @@ pub record ReleasesFrames (old new : Channels) : Type 0 where
   pub kept : (side : Side) → is_awaited (at new.queued) side ≡ is_awaited (at old.queued) side →
       side_holding new side ≡ side_holding old side
 
--- a frame waits behind the others for its wire
+-- a frame is appended to the queue of its wire
 abbrev pub posted : PerSide (List Sent) → Sent → PerSide (List Sent)
 posted queued frame = put queued frame.to (at queued frame.to ++ frame ∷ [])
 
@@ -114,7 +114,7 @@ abbrev pub is_final_frame : Option Side → Bool
 is_final_frame None = true
 is_final_frame (Some one) = false
 
--- whether one of them ends the session
+-- whether one of the frames ends the session
 abbrev pub has_final_frame : List Sent → Bool
 has_final_frame [] = false
 has_final_frame (frame ∷ frames) = is_final_frame frame.answers || has_final_frame frames
@@ -127,7 +127,7 @@ ending_bytes (Some code) = em_bytes code
 abbrev pub final_frame_to : Side → Option Code → Sent
 final_frame_to to code = record { to = to; answers = None; bytes = ending_bytes code }
 
--- ---- what the fields stand for
+-- ---- the abstraction function
 
 pub record Fields : Type 0 where
   pub sides : PerSide Receiver
@@ -136,7 +136,7 @@ pub record Fields : Type 0 where
 abbrev pub fields : PerSide Receiver → PerSide Queue → Fields
 fields sides wires = record { sides = sides; wires = wires }
 
--- the bytes of a side's answer
+-- the bytes in a side's answer
 abbrev pub answer_at : PerSide Receiver → Side → List ℕ
 answer_at sides side = whole_answer (at sides side)
 
@@ -164,13 +164,13 @@ frames_of to answers queue = drop_sent queue.written (map (frame_of_queued to an
 abbrev pub queued_frames_to : Fields → Side → List Sent
 queued_frames_to f to = frames_of to (answer_at f.sides) (at f.wires to)
 
--- a frame in the parts in which it is handed over: an answer in its own, an FM or an EM whole
+-- a frame as the parts in which it is sent: an answer in its own parts, an FM or an EM whole
 abbrev pub parts_in : PerSide Receiver → QueuedFrame → List (List ℕ)
 parts_in sides (Answer side) = answer_parts (at sides side)
 parts_in sides Fm = fm_bytes ∷ []
 parts_in sides (Em code) = em_bytes code ∷ []
 
--- what is left of the first frame
+-- the rest of the first frame, in parts
 abbrev pub parts_left : PerSide Receiver → ℕ → List QueuedFrame → List (List ℕ)
 parts_left sides gone [] = []
 parts_left sides gone (item ∷ items) = parts_after gone (parts_in sides item)
@@ -178,7 +178,7 @@ parts_left sides gone (item ∷ items) = parts_after gone (parts_in sides item)
 abbrev pub parts_to : Fields → Side → List (List ℕ)
 parts_to f to = parts_left f.sides (at f.wires to).written (at f.wires to).items
 
--- while an answer waits, no byte of the next frame came
+-- while an answer is queued, no byte of the next frame has been received
 abbrev pub pending_by : Option Verdict → List ℕ → List ℕ
 pending_by None bytes = bytes
 pending_by (Some verdict) bytes = []
@@ -204,7 +204,7 @@ channels_of f = record {
   parts = record { bot = parts_to f Bot; server = parts_to f Server };
 }
 
--- how often a side's answer waits, and how many frames that are no answers
+-- how often a side's answer is queued, and how many queued frames are final
 abbrev pub answer_mark : Side → QueuedFrame → ℕ
 answer_mark side (Answer one) = if same_side one side then 1 else 0
 answer_mark side Fm = 0
@@ -223,13 +223,13 @@ abbrev pub presence : Option Verdict → ℕ
 presence None = 0
 presence (Some verdict) = 1
 
--- less than the whole first frame is gone
+-- the first frame is not completely sent
 abbrev pub IsPartlySent : (Side → List ℕ) → ℕ → List QueuedFrame → Type 0
 IsPartlySent answers n [] = n ≡ 0
 IsPartlySent answers n (item ∷ items) = n < length (queued_bytes answers item)
 
--- A side's answer waits once, where the side has one, and nowhere else: for the wire toward which its verdict sends it.
--- At most one frame ends the session on each wire; so at most three wait for a wire.
+-- If a side has an answer, it is queued once, for the wire that its verdict selects; otherwise it is not queued. Each
+-- wire has at most one final frame, so at most three frames are queued for it.
 pub record IsSound (f : Fields) : Type 0 where
   pub its_side : (side : Side) → (at f.sides side).side ≡ side
   pub same_cap : f.sides.server.cap ≡ f.sides.bot.cap
@@ -243,7 +243,7 @@ pub record IsSound (f : Fields) : Type 0 where
   pub headed : (side : Side) → presence (at f.sides side).verdict ≡ 1 → length (at f.sides side).header ≡ 4
   pub begun : (to : Side) → IsPartlySent (answer_at f.sides) (at f.wires to).written (at f.wires to).items
 
--- how many bytes the first frame has in all
+-- the length of the first frame in bytes, with the bytes already sent
 abbrev pub size_of_first : (Side → List ℕ) → List QueuedFrame → ℕ
 size_of_first answers [] = 0
 size_of_first answers (item ∷ items) = length (queued_bytes answers item)
@@ -252,17 +252,17 @@ abbrev pub others : List Sent → List Sent
 others [] = []
 others (frame ∷ frames) = frames
 
--- whose frame is held no longer, where this one is gone
+-- the side whose frame is released when this frame is removed
 abbrev pub answered_by : Option QueuedFrame → Option Side
 answered_by None = None
 answered_by (Some item) = answers_of item
 
--- the side whose answer is gone begins its next frame, and the other is the same
+-- the side whose answer was removed begins its next frame, and the other side is unchanged
 pub record IsReleased (gone : Option Side) (one : Side) (old new : Receiver) : Type 0 where
   pub its : is_answer one gone ≡ true → StartsFrame old old.level [] new
   pub kept : is_answer one gone ≡ false → new ≡ old
 
--- how an FM waits, or an EM with a code
+-- the queue entry of an FM, or of an EM with a code
 abbrev pub ending_of : Option Code → QueuedFrame
 ending_of None = Fm
 ending_of (Some code) = Em code

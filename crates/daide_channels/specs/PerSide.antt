@@ -1,4 +1,4 @@
--- Something of each side. What is said by a side is said, and proved, once.
+-- One value for each side. A statement about a side is made and proved once.
 use Rattle.daide_frame.specs.declared.side.Side.{Side}
 use Rattle.daide_frame.specs.declared.side.Side.TheVariants.{Bot, Server}
 
@@ -13,7 +13,7 @@ abbrev pub at : {A : Type 0} → PerSide A → Side → A
 at b Bot = b.bot
 at b Server = b.server
 
--- the same with something else of one side
+-- the same pair with another value for one side
 abbrev pub put : {A : Type 0} → PerSide A → Side → A → PerSide A
 put b Bot x = record { bot = x; server = b.server }
 put b Server x = record { bot = b.bot; server = x }

@@ -1,4 +1,4 @@
--- One side: the frame that comes, how far its message is read, and the answer that it becomes.
+-- One side: the frame being received, the progress of its parse, and its answer.
 use Rattle.std.specs.Prelude.{◌≡◌, ℕ, ◌+◌, ◌-◌, ◌*◌, ◌%◌, ◌^◌, ◌≤◌, false, nat_lt, List, [], ◌∷◌, ◌++◌, length, take}
 use Rattle.std.specs.Prelude.{drop}
 use Rattle.std.specs.Prelude.{Option, Some, None, if◌then◌else◌}
@@ -24,7 +24,7 @@ use Rattle.daide_protocol.specs.Machine.{side2_of}
 use Rattle.daide_protocol.specs.Weight.{tokens_held}
 use Rattle.daide_protocol.specs.Wires.{is_dm_head}
 
--- by what a message is judged: how many of its brackets may be open at once, and the operator's words
+-- the limits of a parse: the most brackets open at once, and the operator's words
 pub record ReaderLimits : Type 0 where
   pub max_depth : ℕ
   pub words : Words
@@ -35,30 +35,30 @@ pub record Receiver : Type 0 where
   pub rules : ReaderLimits
   -- the level at which the message is read
   pub level : Level
-  -- the frame's bytes so far, also while the answer to it waits
+  -- the frame's bytes so far, also while its answer is queued
   pub held : List ℕ
-  -- the header of the answer, and the verdict by which the frame is answered, once it is
+  -- the header of the answer, and the verdict; none before the frame is judged
   pub header : List ℕ
   pub verdict : Option Verdict
   pub entries : ℕ
-  -- the table's answers in all, and those before the message, both modulo 2^64
+  -- the table look-ups so far, and those before the present message, both modulo 2^64
   pub total : ℕ
   pub total_before : ℕ
-  -- the tokens that were looked at for the level of an HLO, modulo 2^64
+  -- the tokens that the HLO scan has read, modulo 2^64
   pub looked_at : ℕ
 
--- how many tokens of a message a piece ends, where these bytes of its frame came before
+-- how many tokens of a message a piece completes, after these bytes of its frame
 abbrev pub tokens_ended : ℕ → List ℕ → List ℕ → ℕ
 tokens_ended cap held piece = length (tokens_held cap (fed cap held piece)) - length (tokens_held cap held)
 
 -- ---- the answer in place
 
--- the whole answer to a body; nothing where there is none
+-- the bytes of the whole answer; empty if there is no answer
 abbrev pub bytes_by : List ℕ → List ℕ → Option Verdict → List ℕ
 bytes_by header body None = []
 bytes_by header body (Some verdict) = header ++ answer_body body verdict
 
--- the same in its parts: its header, the frame's body, and the words round that body
+-- the answer in its parts: its header, the frame's body, and the fixed words round that body
 abbrev pub parts_by : List ℕ → List ℕ → Option Verdict → List (List ℕ)
 parts_by header body None = []
 parts_by header body (Some Relay) = header ∷ body ∷ [] ∷ [] ∷ [] ∷ [] ∷ []
@@ -66,7 +66,7 @@ parts_by header body (Some Prn) = header ∷ prn_open ∷ body ∷ close_bytes �
 parts_by header body (Some (Huh place)) =
     header ∷ huh_open ∷ take (2 * place) body ∷ err_bytes ∷ drop (2 * place) body ∷ close_bytes ∷ []
 
--- what is left of the part in which a place falls
+-- the rest, from offset `place` on, of the part that contains this offset
 abbrev pub front_in : List (List ℕ) → ℕ → List ℕ
 front_in [] place = []
 front_in (part ∷ parts) place =
@@ -78,17 +78,17 @@ whole_answer i = bytes_by i.header (drop 4 i.held) i.verdict
 abbrev pub answer_parts : Receiver → List (List ℕ)
 answer_parts i = parts_by i.header (drop 4 i.held) i.verdict
 
--- what is sent next of the answer, where so many of its bytes are gone
+-- the next chunk of the answer, after its first `gone` bytes
 abbrev pub front_after : Receiver → ℕ → List ℕ
 front_after i gone = front_in (answer_parts i) gone
 
--- ---- what the fields stand for
+-- ---- the abstraction function
 
--- the words by which a table answers
+-- the words that a table takes into account
 abbrev pub words_in : Extended → Words
 words_in table = spoken (spoken_words table)
 
--- by what a reader judges, over a table with these words
+-- the limits of a reader over a table with these words
 abbrev pub rules_of : {T : Type 0} → (T → Words) → Reading T → ReaderLimits
 rules_of words v = record { max_depth = v.max_depth; words = words v.table }
 
@@ -112,8 +112,8 @@ abbrev pub HasHuhIndex : List ℕ → Option Verdict → Type 0
 HasHuhIndex held None = Unit {0}
 HasHuhIndex held (Some verdict) = IsPlaceIn (drop 4 held) verdict
 
--- The reader stands after the whole tokens of the message that is held, and so does what is found of an HLO: at a
--- header, in the midst of a body, at its end, and while the answer waits.
+-- The reader and the HLO scan have read exactly the whole tokens of the held message. This holds at a header, inside a
+-- body, at its end, and while the answer is queued.
 pub record IsReadOn {T : Type 0} (table : Ghosts T) (asked : T → ℕ) (side : Side) (level : Level) (cut : Cut)
     (v : Reading T) (hlo : HloScan) (header : List ℕ) (verdict : Option Verdict) : Type 0 where
   pub four : length header ≡ 4
@@ -123,12 +123,12 @@ pub record IsReadOn {T : Type 0} (table : Ghosts T) (asked : T → ℕ) (side : 
       (tokens_held cut.cap cut.bytes)
   pub found : hlo.found ≡ lvl_scan_of (tokens_held cut.cap cut.bytes)
   pub unfinished : verdict ≡ None → v.finished ≡ false
-  -- the table was asked for a message alone
+  -- look-ups are made for a message only
   pub uncounted : is_dm_head (head_in cut.cap cut.bytes) ≡ false → v.asked_before ≡ asked v.table
 
 -- ---- what the calls do
 
--- a frame begins anew at a level, with these bytes: no message of it was read
+-- the frame starts at a level, with these bytes; none of its message was read
 pub record StartsFrame (old : Receiver) (level : Level) (bytes : List ℕ) (new : Receiver) : Type 0 where
   pub side : new.side ≡ old.side
   pub cap : new.cap ≡ old.cap
@@ -140,7 +140,7 @@ pub record StartsFrame (old : Receiver) (level : Level) (bytes : List ℕ) (new 
   pub base : new.total_before ≡ old.total
   pub looked_at : new.looked_at ≡ old.looked_at
 
--- the frame has these bytes now, and its message was read on: the table is asked for tokens of a message alone
+-- the frame now has these bytes, and its message was read up to them; only tokens of a message are looked up
 pub record ReadsMessageBytes (old : Receiver) (bytes : List ℕ) (new : Receiver) : Type 0 where
   pub side : new.side ≡ old.side
   pub cap : new.cap ≡ old.cap
@@ -153,7 +153,7 @@ pub record ReadsMessageBytes (old : Receiver) (bytes : List ℕ) (new : Receiver
   pub bodiless : drop 4 bytes ≡ [] → new.total ≡ old.total
   pub uncounted : is_dm_head (head_in old.cap old.held) ≡ false → old.total_before ≡ old.total
 
--- the frame is answered by a verdict
+-- the frame has the answer that a verdict selects
 pub record Answers (old : Receiver) (head : Head) (verdict : Verdict) (new : Receiver) : Type 0 where
   pub side : new.side ≡ old.side
   pub cap : new.cap ≡ old.cap
@@ -165,6 +165,6 @@ pub record Answers (old : Receiver) (head : Head) (verdict : Verdict) (new : Rec
   pub base : new.total_before ≡ old.total_before
   pub looked_at : new.looked_at ≡ old.looked_at
 
--- the table's answers for the present message, modulo 2^64
+-- the table look-ups for the present message, modulo 2^64
 abbrev pub steps_in : Receiver → ℕ
 steps_in i = (i.total + (2 ^ 64 - i.total_before)) % 2 ^ 64

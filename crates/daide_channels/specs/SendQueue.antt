@@ -1,8 +1,8 @@
--- What waits for a wire, as a wire stores it.
+-- The send queue of a wire, as it is stored.
 use Rattle.std.specs.Prelude.{ℕ, List, [], ◌∷◌, ◌++◌, Option, Some, None}
 use Rattle.daide_channels.specs.declared.send_queue.QueuedFrame.{QueuedFrame}
 
--- the frames that wait, and how much of the first is gone
+-- the queued frames, and how many bytes of the first were sent
 pub record Queue : Type 0 where
   pub written : ℕ
   pub items : List QueuedFrame

@@ -1,8 +1,8 @@
-//! Both sides' frames, and the frames that wait for the two wires.
+//! The receive state of both sides, and the send queues of both wires.
 //!
-//! An answer waits as the side whose frame it answers, and is sent from that frame. So that frame is held
-//! until the last byte of its answer is gone, and its side is not read meanwhile: at most one answer of
-//! each side waits, and with the frame that ends the session at most three a wire.
+//! A queued answer refers to a side's held frame, and its bytes are read from that frame. So the frame is held until
+//! the last byte of its answer is sent, and the side is not read until then. A wire therefore queues at most three
+//! frames: one answer to each side and one final frame.
 
 ghost use Rattle.std.specs.Prelude.{◌≡◌, ℕ, ◌*◌, ◌/◌, ◌+◌, ◌<◌, ◌≤◌, ◌⊎◌, [], ◌∷◌, ◌++◌, length, take, drop, Some, None};
 ghost use Rattle.std.specs.Prelude.{false, is_some, IfOk, OnErr, if◌then◌else◌};
@@ -46,7 +46,7 @@ use daide_words::words::Words;
 use std::alloc::{AllocError, Allocator, Global};
 use std::marker::Model;
 
-/// Both sides' frames, and what waits for the two wires.
+/// The receive state of both sides, and the send queues of both wires.
 #[derive(Drop)]
 pub struct Channels<A: Allocator = Global> {
     receivers: PerSide<Receiver<A>>,
@@ -63,7 +63,7 @@ impl<A: Allocator> Model for Channels<A> {
     ghost invariant = { λ t. IsSound (fields t.receivers t.wires) };
 }
 
-/// A final message, or the error message with a code.
+/// Returns a final message, or the error message with the code.
 fn ending(code: Option<Code>) -> QueuedFrame
     ensures { result ≡ ending_of code }
 {
@@ -73,7 +73,7 @@ fn ending(code: Option<Code>) -> QueuedFrame
     }
 }
 
-/// What is left of some bytes after the first `gone`.
+/// Returns the bytes after the first `gone`.
 fn rest_of(bytes: &[u8], gone: usize) -> &[u8]
     ensures { result.now ≡ drop gone bytes.now }
 {
@@ -83,7 +83,7 @@ fn rest_of(bytes: &[u8], gone: usize) -> &[u8]
     &[]
 }
 
-/// How many bytes the first frame for a wire has in all; 0 where none waits.
+/// Returns the length in bytes of the first frame queued for a wire, with the bytes already sent; 0 if none is queued.
 fn first_frame_len<A: Allocator>(wire: &SendQueue, receivers: &PerSide<Receiver<A>>) -> usize
     ensures { result ≡ size_of_first (answer_at receivers.now) wire.now.items }
 {
@@ -95,7 +95,7 @@ fn first_frame_len<A: Allocator>(wire: &SendQueue, receivers: &PerSide<Receiver<
     }
 }
 
-/// Lets go of the frame that a frame which is gone answered.
+/// Clears the frame of the answer `gone`; without effect if `gone` is not an answer.
 fn release<A: Allocator>(gone: Option<QueuedFrame>, receivers: &mut PerSide<Receiver<A>>)
     ensures { (side : Side) → IsReleased (answered_by gone) side (at receivers.old side) (at receivers.new side) }
 {
@@ -105,8 +105,10 @@ fn release<A: Allocator>(gone: Option<QueuedFrame>, receivers: &mut PerSide<Rece
 }
 
 impl<A: Memory + Copy> Channels<A> {
-    /// Nothing came, and nothing waits. The bodies of both sides are reserved here, of `cap` bytes each; these
-    /// are the only two growths, and nothing but a refusal of one is an error.
+    /// Creates idle channels: nothing received, nothing queued. Reserves a body of `cap` bytes for each side; these are
+    /// the only two growths.
+    ///
+    /// Fails only if the allocator refuses one of them.
     pub fn new(alloc: A, cap: u16, max_depth: u16, words: Words) -> Result<Channels<A>, AllocError>
         requires cap { cap ≤ longest_body }
         requires low { 4 ≤ max_depth }
@@ -126,8 +128,8 @@ impl<A: Memory + Copy> Channels<A> {
 }
 
 impl<A: Allocator> Channels<A> {
-    /// Whether an answer to a side's last frame waits. Where none does, the bytes that are held are those since
-    /// the last whole frame.
+    /// Returns true if an answer to a side's last frame is queued. If none is, the held bytes are those since the last
+    /// whole frame.
     pub fn is_awaited(&self, side: Side) -> bool
         ensures value { result ≡ is_awaited (at self.now.queued) side }
         ensures tied { is_awaited (at self.now.queued) side ≡ false
@@ -136,22 +138,22 @@ impl<A: Allocator> Channels<A> {
         self.receivers.at(side).is_awaited()
     }
 
-    /// How many bytes are missing of a side's header or, once that is whole, of its body.
+    /// Returns how many bytes a side's header still lacks or, once it is whole, its body.
     pub fn room(&self, side: Side) -> usize
         ensures { result ≡ missing self.now.cap (side_holding self.now side).held }
     {
         self.receivers.at(side).room()
     }
 
-    /// A side's header, once it is whole and good.
+    /// Returns a side's header, once it is whole and valid.
     pub fn head(&self, side: Side) -> Option<Head>
         ensures { result ≡ head_in self.now.cap (side_holding self.now side).held }
     {
         self.receivers.at(side).head()
     }
 
-    /// The bytes that are held of a side's body, also while the answer to it waits. Where none does, the bytes
-    /// that are held are those since the last whole frame.
+    /// Returns a side's body as far as it is received, also while its answer is queued. If no answer is queued, the
+    /// held bytes are those since the last whole frame.
     pub fn body(&self, side: Side) -> &[u8]
         ensures value { result.now ≡ drop 4 (side_holding self.now side).held }
         ensures within { length result.now ≤ announced self.now.cap (side_holding self.now side).held }
@@ -163,7 +165,7 @@ impl<A: Allocator> Channels<A> {
         self.receivers.at(side).body()
     }
 
-    /// Returns the bytes that are held of a side's header, good or not, also while the answer to it waits.
+    /// Returns a side's header as far as it is received, valid or not, also while its answer is queued.
     pub fn header(&self, side: Side) -> &[u8]
         ensures { result.now ≡ take 4 (side_holding self.now side).held }
     {
@@ -177,21 +179,21 @@ impl<A: Allocator> Channels<A> {
         self.receivers.at(side).level()
     }
 
-    /// What is found of an HLO in a side's message that is held, also while the answer to it waits.
+    /// Returns the state of the HLO scan in a side's message, also while its answer is queued.
     pub fn found(&self, side: Side) -> LvlScan
         ensures { result ≡ lvl_scan_of (tokens_held self.now.cap (side_holding self.now side).held) }
     {
         self.receivers.at(side).found()
     }
 
-    /// How many tokens of a side were looked at for the level of an HLO, modulo 2^64.
+    /// Returns how many tokens the HLO scan of this side has read, modulo 2^64.
     pub fn looked_at(&self, side: Side) -> u64
         ensures { result ≡ (side_holding self.now side).looked_at }
     {
         self.receivers.at(side).looked_at()
     }
 
-    /// How many frames wait for a wire.
+    /// Returns how many frames are queued for a wire.
     pub fn count(&self, to: Side) -> usize
         ensures value { result ≡ length (at self.now.queued to) }
         ensures at_most_three { result ≤ 3 }
@@ -199,7 +201,7 @@ impl<A: Allocator> Channels<A> {
         self.wires.at(to).len()
     }
 
-    /// How many entries the stack of a side's reader has.
+    /// Returns the height of the reader's stack for a side.
     pub fn entries(&self, side: Side) -> usize
         ensures value { result ≡ (side_holding self.now side).entries }
         ensures few { result ≤ 8 * open_brackets (tokens_held self.now.cap (side_holding self.now side).held) + 16 }
@@ -208,14 +210,14 @@ impl<A: Allocator> Channels<A> {
         self.receivers.at(side).entries()
     }
 
-    /// The answers of a side's table so far, modulo 2^64.
+    /// Returns the number of look-ups in a side's table so far, modulo 2^64.
     pub fn total(&self, side: Side) -> u64
         ensures { result ≡ (side_holding self.now side).total }
     {
         self.receivers.at(side).total()
     }
 
-    /// The answers of a side's table for the present message, modulo 2^64.
+    /// Returns the number of look-ups in a side's table for the present message, modulo 2^64.
     pub fn steps(&self, side: Side) -> u64
         ensures value { result ≡ steps_of (side_holding self.now side) }
         ensures few { result ≤ 4 * length (tokens_held self.now.cap (side_holding self.now side).held)
@@ -224,7 +226,7 @@ impl<A: Allocator> Channels<A> {
         self.receivers.at(side).steps()
     }
 
-    /// Takes a side's next bytes, at most as many as there is room for, and reads the tokens that they end.
+    /// Receives a side's next bytes, at most `room` of them, and reads the tokens that they complete.
     pub fn feed(&mut self, side: Side, piece: &[u8]) -> Step
         requires free { is_awaited (at self.old.queued) side ≡ false }
         requires room { length piece.now ≤ missing self.old.cap (pending self.old side) }
@@ -240,17 +242,17 @@ impl<A: Allocator> Channels<A> {
         ensures items { fed_items self.old.cap (pending self.old side) piece.now
             ≡ items_of_step result (head_in self.new.cap (pending self.new side)) (drop 4 (pending self.new side)) }
 
-        // Without a fault the whole piece is taken.
+        // Without a fault the whole piece is consumed.
         ensures whole { IsFault result ⊎ (pending self.new side ≡ pending self.old side ++ piece.now) }
 
-        // A body is told when it has just the length that the header announces.
+        // `Bodied` is returned when the body has exactly the length that the header announces.
         ensures full { result ≡ Bodied →
             IsWholeBody (head_in self.new.cap (pending self.new side)) (drop 4 (pending self.new side)) }
     {
         self.receivers.at_mut(side).feed(piece)
     }
 
-    /// At a side's header, of whose body nothing came: its message is read at this level.
+    /// Starts a side's message at this level. The side's header is whole and its body is still empty.
     pub fn begin(&mut self, side: Side, level: Level)
         requires free { is_awaited (at self.old.queued) side ≡ false }
         requires bodiless { drop 4 (pending self.old side) ≡ [] }
@@ -262,8 +264,8 @@ impl<A: Allocator> Channels<A> {
         self.receivers.at_mut(side).begin(level);
     }
 
-    /// Judges a side's frame, which is whole, and lets the answer wait for the wire toward which it goes. `head`
-    /// is the frame's header.
+    /// Judges a side's whole frame, and queues its answer for the wire that the verdict selects. `head` is the frame's
+    /// header.
     #[inline(always)]
     pub fn reply(&mut self, side: Side, head: Head) -> Verdict
         requires free { is_awaited (at self.old.queued) side ≡ false }
@@ -295,7 +297,7 @@ impl<A: Allocator> Channels<A> {
         self.receivers.at_mut(side).clear();
     }
 
-    /// Lets a final message wait for a wire, or the error message with a code.
+    /// Queues a final message for a wire, or the error message with the code.
     pub fn queue_final(&mut self, to: Side, code: Option<Code>)
         requires { has_final_frame (at self.old.queued to) ≡ false }
         ensures limits { (self.new.cap ≡ self.old.cap) × (self.new.rules ≡ self.old.rules) }
@@ -306,8 +308,8 @@ impl<A: Allocator> Channels<A> {
         self.wires.at_mut(to).push(ending(code));
     }
 
-    /// A front of what waits for a wire, within its first frame; empty exactly where nothing waits.
-    /// It is a slice of the header, of the body that came, or of a fixed word: nothing is copied.
+    /// Returns the next chunk of the first frame queued for a wire; empty exactly if none is queued. The chunk is a
+    /// slice of the header, of the received body, or of a fixed word: nothing is copied.
     pub fn front(&self, to: Side) -> &[u8]
         ensures value { result.now ≡ next_part (at self.now.parts to) }
         ensures front { IsFrontOf result.now (at self.now.queued to) }
@@ -321,7 +323,7 @@ impl<A: Allocator> Channels<A> {
         }
     }
 
-    /// How many bytes are left of the first frame that waits for a wire; none exactly where nothing waits.
+    /// Returns how many bytes of the first queued frame are unsent; 0 exactly if no frame is queued.
     pub fn first_len(&self, to: Side) -> usize
         ensures value { result ≡ first_len (at self.now.queued to) }
         ensures none { result ≡ 0 → at self.now.queued to ≡ [] }
@@ -330,7 +332,7 @@ impl<A: Allocator> Channels<A> {
         first_frame_len(wire, &self.receivers) - wire.written()
     }
 
-    /// Notes that the next `n` bytes of the first frame for a wire are gone, which is not all of it.
+    /// Advances the first frame of a wire by `n` bytes, which are fewer than it has left.
     fn advance(&mut self, to: Side, n: usize)
         requires { n < first_len (at self.old.queued to) }
         ensures limits { (self.new.cap ≡ self.old.cap) × (self.new.rules ≡ self.old.rules) }
@@ -343,8 +345,8 @@ impl<A: Allocator> Channels<A> {
         self.wires.at_mut(to).advance(n, len);
     }
 
-    /// Takes the first frame off what waits for a wire, if one does, and lets go of the frame that it
-    /// answered.
+    /// Removes the first frame queued for a wire, if there is one. If it was an answer, clears the frame of that
+    /// answer.
     fn drop_first(&mut self, to: Side)
         ensures lets_go { ReleasesFrames self.old self.new }
         ensures queued { self.new.queued ≡ put self.old.queued to (others (at self.old.queued to)) }
@@ -355,8 +357,8 @@ impl<A: Allocator> Channels<A> {
         release(gone, &mut self.receivers);
     }
 
-    /// Takes `n` bytes off what waits for a wire, which the wire took of its `front`. Where the
-    /// last byte of an answer is gone, the frame that it answered is held no longer.
+    /// Removes the `n` bytes of `front` that a wire accepted from its queue. With the last byte of an answer, clears
+    /// the frame of that answer.
     pub fn wrote(&mut self, to: Side, n: usize)
         requires { n ≤ first_len (at self.old.queued to) }
         ensures lets_go { ReleasesFrames self.old self.new }
@@ -375,7 +377,7 @@ impl<A: Allocator> Channels<A> {
         }
     }
 
-    /// Drops what waits for a wire, and lets go of the frames that it answered.
+    /// Empties the queue of a wire, and clears the frame of each answer in it.
     #[inline(always)]
     pub fn lose(&mut self, to: Side)
         ensures lets_go { ReleasesFrames self.old self.new }

@@ -1,10 +1,10 @@
-//! What came of a bot and of a server, and what waits for their wires: all of a session but its phase and its
-//! levels.
+//! The bytes received from a bot and a server, and the frames queued for their wires: a session without its phase and
+//! its levels.
 //!
-//! Each message is cut and read as its bytes come, and is answered from where it lies. `receiver` is one side: its
-//! frame, the reader of its messages, and its answer in place. `channels` is both sides (`per_side`), with the frames
-//! that wait for the two wires (`send_queue`). Which frames come to wait, and at which level a message is read, its
-//! caller decides.
+//! Each message is framed and parsed as its bytes arrive, and its answer is sent from the same buffer. `receiver` is
+//! one side: its frame, the reader of its messages, and its answer in place. `channels` has both sides (`per_side`) and
+//! the send queues of both wires (`send_queue`). The caller decides which frames are queued, and at which level a
+//! message is read.
 #![tactic(auto)]
 
 pub mod channels;

@@ -1,4 +1,4 @@
-//! Something of each side, picked by the side: where to look, and where to change something, is said here alone.
+//! One value for each side. Only this module selects by side, for reading and for writing.
 
 ghost use Rattle.std.specs.Prelude.{◌≡◌};
 ghost use Rattle.std.specs.Borrow.{sem};
@@ -8,7 +8,7 @@ ghost use Rattle.daide_channels.specs.Lends.{LendsSide};
 use daide_frame::side::Side;
 use std::marker::Model;
 
-/// Something of each side, or of the wire toward it.
+/// One value for each side, or for the wire to each side.
 #[derive(Drop)]
 pub struct PerSide<T> {
     bot: T,
@@ -24,14 +24,14 @@ impl<T> Model for PerSide<T> {
 }
 
 impl<T> PerSide<T> {
-    /// The bot's first, then the server's.
+    /// Creates the pair: the bot's value, then the server's.
     pub fn new(bot: T, server: T) -> PerSide<T>
         ensures { result ≡ both bot server }
     {
         PerSide { bot, server }
     }
 
-    /// What is a side's.
+    /// Returns a side's value.
     pub fn at(&self, side: Side) -> &T
         ensures { result.now ≡ at self.now side }
     {
@@ -41,7 +41,7 @@ impl<T> PerSide<T> {
         }
     }
 
-    /// What is a side's, to be changed; the other's stays.
+    /// Lends a side's value for writing; the other side's value stays.
     pub fn at_mut(&mut self, side: Side) -> &mut T
         ensures* writes_back { sem 𝓛 (LendsSide T.row self.entry side result) }
         ensures value { result.now ≡ at self.old side }

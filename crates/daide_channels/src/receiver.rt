@@ -1,10 +1,10 @@
-//! One side of a session: the frame that is coming, the reader of its message, and the answer to the last
-//! frame, in place.
+//! One side of a session: the frame being received, the reader of its message, and the answer to the last frame, in
+//! place.
 //!
-//! A message is read as its bytes come: each piece is cut, and then the reader takes the tokens that the
-//! piece ends, and they are looked at for the level that an HLO sets. An answer is sent from the frame that
-//! it answers: only its header is written anew, `PRN (`, `HUH (`, `ERR` and `)` are fixed words, and the body
-//! stays where it came. So a side holds one body, and a frame takes no more memory when it is answered.
+//! A message is parsed as its bytes arrive. The cutter takes each piece; then the reader, and the scan for an HLO's
+//! level, read the tokens that the piece completes. An answer is sent from its frame's buffer. Only its header is new.
+//! `PRN (`, `HUH (`, `ERR` and `)` are fixed words, and the body stays in its buffer. So a side holds one body, and an
+//! answer needs no more memory.
 
 ghost use Rattle.std.specs.Prelude.{◌≡◌, ℕ, ◌+◌, ◌-◌, ◌*◌, ◌/◌, ◌<◌, ◌≤◌, List, [], ◌∷◌, ◌++◌, length, take, drop, ◌⊎◌};
 ghost use Rattle.std.specs.Prelude.{true, false, is_some, Some, None, IfOk, OnErr, if◌then◌else◌};
@@ -41,7 +41,7 @@ use daide_words::words::Words;
 use std::alloc::{AllocError, Allocator, Global};
 use std::marker::Model;
 
-/// One side's frame, how far its message is read, and the answer that the frame becomes.
+/// One side's frame, the progress of its parse, and its answer in place.
 #[derive(Drop)]
 pub struct Receiver<A: Allocator = Global> {
     cutter: Cutter<A>,
@@ -65,7 +65,7 @@ impl<A: Allocator> Model for Receiver<A> {
         i.reader i.hlo i.header i.verdict };
 }
 
-/// Whether a header is whole, good and a message's.
+/// Returns true if the header is whole, valid, and of a DM.
 fn is_message(head: Option<Head>) -> bool
     ensures { result ≡ is_dm_head head }
 {
@@ -75,7 +75,7 @@ fn is_message(head: Option<Head>) -> bool
     }
 }
 
-/// What is left of that one of six parts in a row in which a place falls.
+/// Returns the rest, from offset `place` on, of the part among six consecutive parts that contains this offset.
 fn front_of_parts<'a>(
     a: &'a [u8],
     b: &'a [u8],
@@ -114,8 +114,9 @@ fn front_of_parts<'a>(
 }
 
 impl<A: Memory> Receiver<A> {
-    /// A side that nothing came of, at level 0. The room of the longest body is taken here, once, and nothing but its
-    /// refusal is an error.
+    /// Creates a side's receiver, with nothing received, at level 0. Reserves the longest body once.
+    ///
+    /// Fails only if the allocator refuses it.
     pub fn new(
         alloc: A,
         side: Side,
@@ -135,7 +136,7 @@ impl<A: Memory> Receiver<A> {
         ensures unlooked { IfOk result (λ i. i.looked_at ≡ 0) }
         ensures refused { OnErr result (A.Refuses cap) }
     {
-        // Where a reader is made over words, the prover wants their codes' type among the function's own.
+        // A reader is built over words: the prover needs the type of their codes among the types of this function.
         let _names = words.names();
         let cutter = Cutter::new(alloc, cap)?;
         let mut reader = Reader::new(Extended::new(words), max_depth);
@@ -153,28 +154,28 @@ impl<A: Memory> Receiver<A> {
 }
 
 impl<A: Allocator> Receiver<A> {
-    /// Whether an answer to the last frame waits.
+    /// Returns true if an answer to the last frame is queued.
     pub fn is_awaited(&self) -> bool
         ensures { result ≡ is_some self.now.verdict }
     {
         self.verdict.is_some()
     }
 
-    /// How many bytes are missing of the header or, once that is whole, of the body.
+    /// Returns how many bytes the header still lacks or, once it is whole, the body.
     pub fn room(&self) -> usize
         ensures { result ≡ missing self.now.cap self.now.held }
     {
         self.cutter.room()
     }
 
-    /// The header, once it is whole and good.
+    /// Returns the header, once it is whole and valid.
     pub fn head(&self) -> Option<Head>
         ensures { result ≡ head_in self.now.cap self.now.held }
     {
         self.cutter.head()
     }
 
-    /// The bytes that are held of the body, also while its answer waits.
+    /// Returns the bytes held of the body, also while its answer is queued.
     pub fn body(&self) -> &[u8]
         ensures value { result.now ≡ drop 4 self.now.held }
         ensures within { length result.now ≤ announced self.now.cap self.now.held }
@@ -184,7 +185,7 @@ impl<A: Allocator> Receiver<A> {
         self.cutter.body()
     }
 
-    /// Returns the header's bytes that are held, good or not, also while its answer waits.
+    /// Returns the bytes held of the header, valid or not, also while its answer is queued.
     pub fn header(&self) -> &[u8]
         ensures { result.now ≡ take 4 self.now.held }
     {
@@ -198,7 +199,7 @@ impl<A: Allocator> Receiver<A> {
         self.level
     }
 
-    /// At a header, of whose body nothing came: its message is read at this level.
+    /// Starts the message at this level. The header is whole and the body is still empty.
     pub fn begin(&mut self, level: Level)
         requires free { self.old.verdict ≡ None }
         requires bodiless { drop 4 self.old.held ≡ [] }
@@ -209,8 +210,8 @@ impl<A: Allocator> Receiver<A> {
         self.hlo.start();
     }
 
-    /// Takes the next bytes, at most as many as there is room for, and reads the tokens that they end, each of
-    /// which is looked at for the level of an HLO at most once.
+    /// Receives the next bytes, at most `room` of them, and reads the tokens that they complete. The HLO scan reads
+    /// each of these tokens at most once.
     pub fn feed(&mut self, piece: &[u8]) -> Step
         requires free { self.old.verdict ≡ None }
         requires room { length piece.now ≤ missing self.old.cap self.old.held }
@@ -235,9 +236,9 @@ impl<A: Allocator> Receiver<A> {
         step
     }
 
-    /// Judges the frame that is held, a message by the grammar and any other frame as one to be relayed, and
-    /// makes it into its answer: the frame itself, `PRN ( message )`, or `HUH ( message )` with ERR before
-    /// the token of that place. `head` is the frame's header.
+    /// Judges the held frame: a message by the grammar, any other frame as relayed. Turns the frame into its answer:
+    /// itself, `PRN ( message )`, or `HUH ( message )` with ERR before the token at the error place. `head` is the
+    /// frame's header.
     pub fn answer(&mut self, head: Head) -> Verdict
         requires free { self.old.verdict ≡ None }
         requires head { head_in self.old.cap self.old.held ≡ Some head }
@@ -257,7 +258,7 @@ impl<A: Allocator> Receiver<A> {
         verdict
     }
 
-    /// How many bytes the answer has; 0 where there is none.
+    /// Returns the length of the answer in bytes, with its header; 0 if there is no answer.
     pub fn answer_len(&self) -> usize
         ensures { result ≡ length (whole_answer self.now) }
     {
@@ -270,8 +271,8 @@ impl<A: Allocator> Receiver<A> {
         }
     }
 
-    /// What is sent next of the answer after its first `gone` bytes: the rest of its header, of the body
-    /// that came, or of a fixed word.
+    /// Returns the next chunk of the answer after its first `gone` bytes: the rest of its header, of the received body,
+    /// or of a fixed word.
     pub fn part(&self, gone: usize) -> &[u8]
         ensures { result.now ≡ front_after self.now gone }
     {
@@ -303,7 +304,7 @@ impl<A: Allocator> Receiver<A> {
         }
     }
 
-    /// Forgets the frame, its answer and what was read of it, so that the next frame can come.
+    /// Discards the frame, its answer and the parse state, so that the next frame can be received.
     pub fn clear(&mut self)
         ensures { StartsFrame self.old self.old.level [] self.new }
     {
@@ -313,21 +314,21 @@ impl<A: Allocator> Receiver<A> {
         self.hlo.start();
     }
 
-    /// What is found of an HLO in the message that is held, also while its answer waits.
+    /// Returns the state of the HLO scan of the held message, also while its answer is queued.
     pub fn found(&self) -> LvlScan
         ensures { result ≡ lvl_scan_of (tokens_held self.now.cap self.now.held) }
     {
         self.hlo.found()
     }
 
-    /// How many tokens were looked at for the level of an HLO, modulo 2^64.
+    /// Returns how many tokens the HLO scan has read, modulo 2^64.
     pub fn looked_at(&self) -> u64
         ensures { result ≡ self.now.looked_at }
     {
         self.hlo.looked_at()
     }
 
-    /// How many entries the reader's stack has.
+    /// Returns the height of the reader's stack.
     pub fn entries(&self) -> usize
         ensures value { result ≡ self.now.entries }
         ensures few { result ≤ 8 * open_brackets (tokens_held self.now.cap self.now.held) + 16 }
@@ -336,14 +337,15 @@ impl<A: Allocator> Receiver<A> {
         self.reader.entries()
     }
 
-    /// The table's answers so far, modulo 2^64.
+    /// Returns the number of table look-ups so far, modulo 2^64.
     pub fn total(&self) -> u64
         ensures { result ≡ self.now.total }
     {
         self.reader.total()
     }
 
-    /// The table's answers for the present message, modulo 2^64: four for each token, and four at its end.
+    /// Returns the number of table look-ups for the present message, modulo 2^64: at most four a token, and four at its
+    /// end.
     pub fn steps(&self) -> u64
         ensures value { result ≡ steps_in self.now }
         ensures few { result ≤ 4 * length (tokens_held self.now.cap self.now.held)

@@ -1,4 +1,4 @@
-//! What waits for one wire.
+//! The send queue of one wire.
 
 ghost use Rattle.std.specs.Prelude.{◌≡◌, ◌+◌, ◌<◌, ◌≤◌, [], length};
 ghost use Rattle.daide_channels.specs.SendQueue.{pushed, first_of, tail_of};
@@ -9,18 +9,16 @@ use daide_frame::code::Code;
 use daide_frame::side::Side;
 use std::marker::Model;
 
-/// A frame that waits for a wire.
+/// A frame queued for a wire.
 #[derive(Clone, Copy, Debug, PartialEq, Eq)]
 pub enum QueuedFrame {
-    /// The answer to a side's last frame, which is held until the answer is written.
+    /// The answer to a side's last frame. The frame is held until its answer is sent.
     Answer(Side),
-    /// A final message.
     Fm,
-    /// An error message.
     Em(Code),
 }
 
-// The list of waiting frames is an array, which is filled with these at first.
+// The array of queued frames is initialised with this value.
 impl Default for QueuedFrame {
     fn default() -> QueuedFrame
         ensures { result ≡ Fm }
@@ -29,7 +27,7 @@ impl Default for QueuedFrame {
     }
 }
 
-/// The frames that wait for one wire, in order, and how much of the first one is gone.
+/// The frames queued for one wire, in order, and how many bytes of the first one were sent.
 #[derive(Drop)]
 pub struct SendQueue {
     queued: ArrayVec<QueuedFrame, 3>,
@@ -45,7 +43,7 @@ impl Model for SendQueue {
 }
 
 impl SendQueue {
-    /// A wire that nothing waits for.
+    /// Creates an empty queue.
     pub fn new() -> SendQueue
         ensures { result ≡ record { written = 0; items = [] } }
     {
@@ -55,7 +53,7 @@ impl SendQueue {
         }
     }
 
-    /// How many frames wait.
+    /// Returns the number of queued frames.
     pub fn len(&self) -> usize
         ensures value { result ≡ length self.now.items }
         ensures at_most_three { result ≤ 3 }
@@ -63,7 +61,7 @@ impl SendQueue {
         self.queued.len()
     }
 
-    /// The first frame that waits.
+    /// Returns the first queued frame.
     pub fn first(&self) -> Option<QueuedFrame>
         ensures { result ≡ first_of self.now.items }
     {
@@ -73,14 +71,14 @@ impl SendQueue {
         }
     }
 
-    /// How many bytes of the first frame are gone.
+    /// Returns how many bytes of the first frame were sent.
     pub fn written(&self) -> usize
         ensures { result ≡ self.now.written }
     {
         self.written
     }
 
-    /// Lets a frame wait behind the others.
+    /// Appends a frame to the queue.
     pub fn push(&mut self, frame: QueuedFrame)
         requires { length self.old.items < 3 }
         ensures { self.new ≡ pushed self.old frame }
@@ -88,7 +86,7 @@ impl SendQueue {
         self.queued.push(frame);
     }
 
-    /// Notes that `n` more bytes of the first frame are gone, which has `len` bytes in all.
+    /// Adds `n` to the bytes sent of the first frame, whose length is `len`; some of it stays unsent.
     pub fn advance(&mut self, n: usize, len: usize)
         requires { self.old.written + n < len }
         ensures { self.new ≡ record { written = self.old.written + n; items = self.old.items } }
@@ -97,7 +95,7 @@ impl SendQueue {
         self.written += n;
     }
 
-    /// Takes the first frame off the list.
+    /// Removes and returns the first frame.
     pub fn drop_first(&mut self) -> Option<QueuedFrame>
         ensures gone { result ≡ first_of self.old.items }
         ensures left { self.new ≡ record { written = 0; items = tail_of self.old.items } }

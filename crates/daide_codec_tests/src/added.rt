@@ -1,4 +1,4 @@
-//! What no clause shows of an operator's words: which are added, and each call once.
+//! The rules for adding an operator's words, beyond what contracts state; and each public call once.
 
 use daide_grammar::level::Level;
 use daide_grammar::predict::Predict;
@@ -13,7 +13,7 @@ use daide_words::word::{Word, WordError};
 use daide_words::words::Words;
 use std::test::Fail;
 
-/// A word by its parts.
+/// Builds a word from its parts.
 fn word(name: [u8; 3], code: u16, slot: Slot, level: Level, operand: Operand) -> Word {
     Word {
         name,
@@ -24,12 +24,12 @@ fn word(name: [u8; 3], code: u16, slot: Slot, level: Level, operand: Operand) ->
     }
 }
 
-/// A press of a power from level 20 on.
+/// Returns a press of a power, from level 20 on.
 fn xyz() -> Word {
     word(*b"XYZ", 0x4A40, Slot::Press, Level::L20, Operand::Power)
 }
 
-/// An arrangement of an arrangement from level 30 on.
+/// Returns an arrangement of an arrangement, from level 30 on.
 fn qqq() -> Word {
     word(
         *b"QQQ",
@@ -40,7 +40,7 @@ fn qqq() -> Word {
     )
 }
 
-/// Names of slots, and what has them.
+/// A name | the slot of that name, if there is one.
 const SLOTS: &[(&str, Option<Slot>)] = &[
     ("press", Some(Slot::Press)),
     ("arrangement", Some(Slot::Arrangement)),
@@ -49,7 +49,7 @@ const SLOTS: &[(&str, Option<Slot>)] = &[
     ("", None),
 ];
 
-/// Names of operands, and what has them.
+/// A name | the operand of that name, if there is one.
 const OPERANDS: &[(&str, Option<Operand>)] = &[
     ("power", Some(Operand::Power)),
     ("powers", Some(Operand::Powers)),
@@ -72,7 +72,7 @@ fn slots_and_operands_have_their_names(_rt: HostRuntime) -> Result<(), Fail> {
     Ok(())
 }
 
-/// A name, a code, a level and an operand of a word that makes an arrangement, and why it is refused after XYZ.
+/// Name, code, level and operand of a word for an arrangement | why it is refused after XYZ.
 const REFUSED: &[([u8; 3], u16, Level, Operand, WordError)] = &[
     (*b"GOF", 0x4AFF, Level::L30, Operand::Power, WordError::Name),
     (*b"xyz", 0x4AFF, Level::L30, Operand::Power, WordError::Name),
@@ -98,7 +98,7 @@ const REFUSED: &[([u8; 3], u16, Level, Operand, WordError)] = &[
     (*b"NEW", 0x4AFF, Level::L0, Operand::Press, WordError::Level),
 ];
 
-/// A word of an arrangement is refused so, and nothing is added to the one word there is.
+/// Checks that a word is refused with this fault, and that the number of words stays 1.
 fn check_refused(
     words: &mut Words,
     row: &([u8; 3], u16, Level, Operand, WordError),
@@ -109,7 +109,7 @@ fn check_refused(
     same(&(answer, words.names().len()), &(Err(*fault), 1), code)
 }
 
-/// The words are XYZ and QQQ, and their names these.
+/// Checks that the words are XYZ and QQQ, with their names.
 fn check_both(words: &Words) -> Result<(), Fail> {
     let names = [(xyz().code, *b"XYZ"), (qqq().code, *b"QQQ")];
     let is_named = words.names() == names.as_slice();
@@ -117,7 +117,7 @@ fn check_both(words: &Words) -> Result<(), Fail> {
     holds(is_named && are_both, "the names, and the words")
 }
 
-/// After XYZ each of them is refused, and QQQ is added.
+/// Adds XYZ, checks that each row is refused after it, and adds QQQ.
 fn check_words(words: &mut Words) -> Result<(), Fail> {
     holds(words.add(xyz()) == Ok(()), "XYZ")?;
     for row in REFUSED {
@@ -152,13 +152,14 @@ fn seventeenth_word_is_refused(_rt: HostRuntime) -> Result<(), Fail> {
     same(&told, &want, &"the last, the names, the sixteenth")
 }
 
-/// The classes of XYZ and QQQ, where there is XYZ alone.
+/// Returns the classes of XYZ and QQQ, in a table with XYZ alone.
 fn classes_of(table: &mut Extended) -> (Class, Class) {
     let xyz = table.class_of(xyz().code).class();
     (xyz, table.class_of(qqq().code).class())
 }
 
-/// Whether the start stops at XYZ, and may end, and how often the table was asked then.
+/// Returns whether the start symbol has an error entry for XYZ, whether it is nullable, and the number of look-ups so
+/// far.
 fn asked_at_start(table: &mut Extended) -> (bool, bool, u64) {
     let start = table.start(Side2::Client, Level::L0);
     let word = table.class_of(xyz().code);

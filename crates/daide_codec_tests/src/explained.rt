@@ -1,5 +1,5 @@
-//! Explanations of messages that are not relayed, and notes on inputs: each row worked out from the protocol and from
-//! docs/FORMATS.md by hand.
+//! Explanations of messages that are not relayed, and notes on inputs. The expected text is worked out from
+//! docs/PROTOCOL.md and docs/FORMATS.md.
 
 use daide_frame::side::Side;
 use daide_gate::frame_view::{Request, show_input};
@@ -11,7 +11,7 @@ use daide_words::Words;
 use std::alloc::Global;
 use std::test::Fail;
 
-/// A side and a level | its frame in hexadecimal digits | what is shown with explanations, `/` being a line feed.
+/// A side and a level | its frame in hexadecimal digits | the output with explanations, with `/` for a line feed.
 const EXPLAINED: &str = "\
 bot 0 | 02000004 4803 4000 | DM 4/GOF (/PRN/PRN ( GOF ( )/unpaired: ( at 1/
 bot 0 | 02000006 4803 4001 4000 | DM 6/GOF ) (/PRN/PRN ( GOF ) ( )/unpaired: ) at 1/
@@ -33,7 +33,7 @@ bot 0 | 020000044803400 | input is not hexadecimal
 bot 0 | 020000044803 | input is not one frame
 ";
 
-/// An input, `\t` being a tab | its note, if it has one | its odd group, if it has one.
+/// An input, with `\t` for a tab | its note, if it has one | its odd group, if it has one.
 const NOTED: &str = "\
 02 00 O0 00 | byte 7 is 'O' |
 \t0x02 | byte 3 is 'x' |
@@ -77,7 +77,7 @@ fn judged_as(field: &str) -> Option<(Side, Level)> {
     }
 }
 
-/// Returns what is shown of an input with explanations, or the text of its fault.
+/// Returns the output for an input with explanations, or the text of its fault.
 fn explained(alloc: Global, (side, level): (Side, Level), input: &[u8]) -> Result<String, Fail> {
     let request = Request {
         side,
@@ -92,7 +92,7 @@ fn explained(alloc: Global, (side, level): (Side, Level), input: &[u8]) -> Resul
     }
 }
 
-/// Shows the frame of a row.
+/// Checks the output for a row.
 fn assert_explained(alloc: Global, row: &str) -> Result<(), Fail> {
     let (sender, rest) = first_field(row);
     let (input, want) = first_field(rest);
@@ -111,7 +111,7 @@ fn refused_messages_are_explained(rt: HostRuntime) -> Result<(), Fail> {
     Ok(())
 }
 
-/// Returns the note of an input as text; nothing if it has none.
+/// Returns the text of an input's note, or an empty text if it has none.
 fn noted(alloc: Global, input: &[u8]) -> Result<String, Fail> {
     match input_note(alloc, input)? {
         Some(note) => Ok(note.to_string(alloc)?),
@@ -119,10 +119,10 @@ fn noted(alloc: Global, input: &[u8]) -> Result<String, Fail> {
     }
 }
 
-/// The advice after an odd group.
+/// The advice at the end of an odd group's text.
 const ADVICE: &str = ": if the input is a dump with offsets, leave the offsets out";
 
-/// Returns the odd group of an input as text, without the advice; nothing if it has none.
+/// Returns the text of an input's odd group without the advice, or an empty text if it has none.
 fn odd(alloc: Global, input: &[u8]) -> Result<String, Fail> {
     match odd_group(input) {
         Some(group) => {
@@ -138,7 +138,7 @@ fn odd(alloc: Global, input: &[u8]) -> Result<String, Fail> {
     }
 }
 
-/// Notes the input of a row.
+/// Checks the note and the odd group of a row.
 fn assert_noted(alloc: Global, row: &str) -> Result<(), Fail> {
     let (input, rest) = first_field(row);
     let (note, group) = first_field(rest);

@@ -1,4 +1,4 @@
-//! Tables of headers, initial messages and frames, byte for byte as the protocol has them.
+//! Tables of headers, initial messages and frames, byte by byte as the protocol defines them.
 
 use daide_frame::code::Code;
 use daide_frame::cutter::{Cutter, Step};
@@ -9,10 +9,10 @@ use linked_list_allocator::LocalHeap;
 use std::alloc::{Allocator, Global};
 use std::test::Fail;
 
-/// The longest body that the cap of a usual session allows.
+/// The body cap of a session with the default limits.
 const CAP: u16 = 65_526;
 
-/// A header, the cap, and what it says.
+/// A header | the cap | its kind and its length.
 const GOOD_HEADERS: &[([u8; 4], u16, Kind, u16)] = &[
     ([0x02, 0x00, 0x00, 0x02], 1024, Kind::Dm, 2),
     ([0x02, 0xFF, 0x00, 0x02], 1024, Kind::Dm, 2),
@@ -24,7 +24,7 @@ const GOOD_HEADERS: &[([u8; 4], u16, Kind, u16)] = &[
     ([0x04, 0x00, 0x00, 0x02], CAP, Kind::Em, 2),
 ];
 
-/// A header, the cap, and its first fault.
+/// A header | the cap | its first fault.
 const WRONG_HEADERS: &[([u8; 4], u16, Code)] = &[
     ([0x02, 0x00, 0x04, 0x02], 1024, Code::UnknownMessage),
     ([0x02, 0x00, 0x04, 0x01], 1024, Code::WrongLength),
@@ -39,7 +39,7 @@ const WRONG_HEADERS: &[([u8; 4], u16, Code)] = &[
     ([0x82, 0x00, 0x00, 0x02], CAP, Code::UnknownMessage),
 ];
 
-/// A header says that.
+/// Checks the kind and the length of a header.
 fn check_header(row: &([u8; 4], u16, Kind, u16)) -> Result<(), Fail> {
     let (bytes, cap, kind, len) = row;
     let head = Head {
@@ -60,7 +60,7 @@ fn headers_are_judged_in_order(_rt: HostRuntime) -> Result<(), Fail> {
     Ok(())
 }
 
-/// A header, and its bytes.
+/// A kind and a length | the bytes of the header.
 const WRITTEN: &[(Kind, u16, [u8; 4])] = &[
     (Kind::Im, 4, [0x00, 0x00, 0x00, 0x04]),
     (Kind::Rm, 6, [0x01, 0x00, 0x00, 0x06]),
@@ -81,7 +81,7 @@ fn headers_are_written_high_byte_first(_rt: HostRuntime) -> Result<(), Fail> {
     Ok(())
 }
 
-/// The body of an initial message, and the answer.
+/// The body of an initial message | the result of its check.
 const INITIAL_MESSAGES: &[([u8; 4], Result<(), Code>)] = &[
     ([0x00, 0x01, 0xDA, 0x10], Ok(())),
     ([0x00, 0x01, 0x10, 0xDA], Err(Code::WrongEndian)),
@@ -101,7 +101,7 @@ fn faults_of_the_initial_message(_rt: HostRuntime) -> Result<(), Fail> {
     Ok(())
 }
 
-/// The codes, and their numbers.
+/// A code | its number.
 const CODES: &[(Code, u8)] = &[
     (Code::ImTimeout, 0x01),
     (Code::ImNotFirst, 0x02),
@@ -127,8 +127,8 @@ fn codes_have_the_protocols_numbers(_rt: HostRuntime) -> Result<(), Fail> {
     Ok(())
 }
 
-/// Feeds bytes in pieces as long as there is room for, but of at most `longest` bytes, and tells the
-/// last answer and how many bytes were fed until then.
+/// Feeds bytes in pieces of at most `longest` bytes, as long as there is room. Returns the last step, and the number of
+/// bytes fed up to it.
 fn feed_all<A: Allocator>(cutter: &mut Cutter<A>, bytes: &[u8], longest: usize) -> (Step, usize) {
     let mut rest = bytes;
     let mut last = Step::More;
@@ -143,7 +143,7 @@ fn feed_all<A: Allocator>(cutter: &mut Cutter<A>, bytes: &[u8], longest: usize) 
     (last, bytes.len().saturating_sub(rest.len()))
 }
 
-/// The head of a frame, and its body.
+/// The header of a frame. Its body follows.
 const HEAD: Head = Head {
     kind: Kind::Dm,
     len: 2,
@@ -151,7 +151,7 @@ const HEAD: Head = Head {
 
 const BODY: &[u8] = &[0x48, 0x0F];
 
-/// That frame in pieces: a piece, the answer to it, and the room after it.
+/// A piece of that frame | the step that it causes | the room after it.
 const PIECES: &[(&[u8], Step, usize)] = &[
     (&[], Step::More, 4),
     (&[0x02, 0x00, 0x00, 0x02], Step::Headed, 2),
@@ -169,7 +169,7 @@ const SINGLE_BYTES: &[(&[u8], Step, usize)] = &[
     (&[0x0F], Step::Bodied, 0),
 ];
 
-/// The answer to a piece, if there is room for it.
+/// Feeds a piece, if there is room for it, and returns its step.
 fn feed_piece(cutter: &mut Cutter, piece: &[u8]) -> Option<Step> {
     if piece.len() > cutter.room() {
         return None;
@@ -177,7 +177,7 @@ fn feed_piece(cutter: &mut Cutter, piece: &[u8]) -> Option<Step> {
     Some(cutter.feed(piece))
 }
 
-/// Feeds pieces, and holds each answer and the room after it against the table.
+/// Feeds pieces, and checks the step and the room after each.
 fn feed_pieces(cutter: &mut Cutter, pieces: &[(&[u8], Step, usize)]) -> Result<(), Fail> {
     for (piece, step, room) in pieces {
         let answer = feed_piece(cutter, piece);
@@ -186,12 +186,12 @@ fn feed_pieces(cutter: &mut Cutter, pieces: &[(&[u8], Step, usize)]) -> Result<(
     Ok(())
 }
 
-/// What is seen of a cutter: the room, the head, and whether the body is this.
+/// Returns a cutter's room and header, and whether it has this body.
 fn seen(cutter: &Cutter, body: &[u8]) -> (usize, Option<Head>, bool) {
     (cutter.room(), cutter.head(), cutter.body() == body)
 }
 
-/// Cuts that frame from these pieces, and is reset.
+/// Checks that the cutter cuts the frame from these pieces, before and after a reset.
 fn cut_frame(cutter: &mut Cutter, pieces: &[(&[u8], Step, usize)]) -> Result<(), Fail> {
     same(&seen(cutter, &[]), &(4, None, true), &"before")?;
     feed_pieces(cutter, pieces)?;
@@ -207,7 +207,7 @@ fn cuts_one_frame_whole_and_by_bytes(rt: HostRuntime) -> Result<(), Fail> {
     cut_frame(&mut cutter, SINGLE_BYTES)
 }
 
-/// First frames: the bytes, the last answer, the byte that it comes at, and how many bytes of body are kept.
+/// The bytes of a first frame | the last step | the number of bytes fed up to it | the number of body bytes kept.
 #[rattlefmt::skip]
 const FIRST_FRAMES: &[(&[u8], Step, usize, usize)] = &[
     (&[0x02, 0x00, 0x00, 0x03], Step::Fault(Code::WrongLength), 4, 0),
@@ -224,14 +224,14 @@ const FIRST_FRAMES: &[(&[u8], Step, usize, usize)] = &[
     (&[0x03, 0x00, 0x00, 0x00], Step::Bodied, 4, 0),
 ];
 
-/// A first frame in pieces of at most `longest` bytes.
+/// Cuts a first frame in pieces of at most `longest` bytes.
 fn cut_first(alloc: Global, bytes: &[u8], longest: usize) -> Result<(Step, usize, usize), Fail> {
     let mut cutter = Cutter::new(alloc, CAP)?;
     let (last, fed) = feed_all(&mut cutter, bytes, longest);
     Ok((last, fed, cutter.body().len()))
 }
 
-/// In single bytes a first frame is answered so, at that byte; and so in pieces of any size, whatever was fed then.
+/// Checks a first frame: fed in single bytes it has this last step at this byte; in longer pieces the same last step.
 fn check_first(alloc: Global, row: &(&[u8], Step, usize, usize)) -> Result<(), Fail> {
     let (bytes, step, end, body) = row;
     same(&cut_first(alloc, bytes, 1)?, &(*step, *end, *body), bytes)?;
@@ -250,7 +250,8 @@ fn faults_whole_and_by_bytes(rt: HostRuntime) -> Result<(), Fail> {
     Ok(())
 }
 
-/// What is seen of a cutter over a heap: what its room took, the answer to a whole frame, and what is taken then.
+/// Cuts a frame on a heap. Returns the bytes in use after the allocation, the last step, and the bytes in use at the
+/// end.
 fn cut_within(heap: &LocalHeap) -> Option<(usize, Step, usize)> {
     let mut cutter = Cutter::new(heap, 512).ok()?;
     let taken = heap.used();
@@ -258,7 +259,7 @@ fn cut_within(heap: &LocalHeap) -> Option<(usize, Step, usize)> {
     Some((taken, last, heap.used()))
 }
 
-/// Whether a cutter finds room in a heap of so many bytes, which it leaves empty.
+/// Returns whether a cutter can be allocated on a heap of this size, and checks that the heap is empty afterwards.
 fn is_cut_within(alloc: Global, bytes: usize) -> Result<bool, Fail> {
     let heap = LocalHeap::new(alloc, bytes)?;
     let seen = cut_within(&heap);
@@ -267,7 +268,7 @@ fn is_cut_within(alloc: Global, bytes: usize) -> Result<bool, Fail> {
     Ok(seen.is_some())
 }
 
-/// It takes room for the longest body and no more.
+/// Over heaps of growing size: the cutter allocates room for the longest body, and nothing else, or is refused.
 #[test]
 fn refused_memory_is_told_and_nothing_else(rt: HostRuntime) -> Result<(), Fail> {
     let mut refused = false;

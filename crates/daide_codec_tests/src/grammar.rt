@@ -1,4 +1,4 @@
-//! What no clause shows: numbers worked out by hand, each call once, and that answers are small.
+//! Values that no contract states, each public call once, and a test that moves are small.
 
 use daide_grammar::column::Column;
 use daide_grammar::dense::Dense;
@@ -15,12 +15,12 @@ use daide_words::{Extended, Words};
 use std::mem::size_of;
 use std::test::Fail;
 
-/// The numbers of levels, and some of none.
+/// The numbers of all levels. The numbers after them are of no level.
 const LEVELS: &[u16] = &[0, 10, 20, 30, 40, 50, 60];
 
 const NO_LEVELS: &[u16] = &[1, 9, 65, 70, 65535];
 
-/// A level has this number.
+/// Checks that a number is that of a level.
 fn check_level(number: u16) -> Result<(), Fail> {
     match Level::of(number) {
         Some(level) => same(&level.number(), &number, &number),
@@ -39,7 +39,7 @@ fn levels_have_their_numbers(_rt: HostRuntime) -> Result<(), Fail> {
     Ok(())
 }
 
-/// The number of an HLO's level, the level that is allowed, and the level that is taken.
+/// The number in an HLO | the top level | the level that is set.
 const HLO_LEVELS: &[(i16, Level, Level)] = &[
     (8191, Level::L60, Level::L60),
     (60, Level::L30, Level::L30),
@@ -60,12 +60,12 @@ fn level_of_an_hlo_is_the_greatest_allowed(_rt: HostRuntime) -> Result<(), Fail>
     Ok(())
 }
 
-/// How an answer begins: whether it stops, whether it takes the class, and how many symbols it leaves.
+/// Returns whether a move is an error entry, whether it takes the class, and the number of symbols that it pushes.
 fn seen(answer: &Move) -> (bool, bool, usize) {
     (answer.is_stop(), answer.is_take(), answer.len())
 }
 
-/// Whether a table starts with the symbols of a client, and of a server.
+/// Returns whether a table has the start symbols of a client and of a server.
 fn are_starts<T: Predict>(table: &mut T) -> (bool, bool) {
     let client = table.start(Side2::Client, Level::L0);
     let server = table.start(Side2::ServerEnd, Level::L60);
@@ -75,7 +75,7 @@ fn are_starts<T: Predict>(table: &mut T) -> (bool, bool) {
     )
 }
 
-/// What a table makes of OBS: its class, the answer to it at the start, and whether a bracket there stops.
+/// Returns a table's class of OBS, its move for OBS at the start, and whether a bracket is an error there.
 fn obs_at_start<T: Predict>(table: &mut T) -> (Class, (bool, bool, usize), bool) {
     let client = table.start(Side2::Client, Level::L0);
     let obs = table.class_of(Token::from_code(0x480F));
@@ -84,8 +84,9 @@ fn obs_at_start<T: Predict>(table: &mut T) -> (Class, (bool, bool, usize), bool)
     (obs.class(), seen(&answer), bracket.is_stop())
 }
 
-/// What a table makes of TME: the answer to it at the start, whether a number comes next, and whether a bracket in place of
-/// it is taken, and stops; and whether the message may end before the number, and HST before its turn.
+/// Returns a table's entries for TME. They are the move at the start; whether the next symbol is an optional number,
+/// takes a bracket, or has an error entry for it; and whether the message may end before the number, and an HST before
+/// its turn.
 fn tme_at_start<T: Predict>(
     table: &mut T,
 ) -> ((bool, bool, usize), (bool, bool, bool), (bool, bool)) {
@@ -102,13 +103,13 @@ fn tme_at_start<T: Predict>(
     )
 }
 
-/// A few cells by hand, of any table.
+/// Checks some known cells of any table, and the number of look-ups.
 fn answers_and_counts<T: Predict>(table: &mut T) -> Result<(), Fail> {
     same(&are_starts(table), &(true, true), &"the start")?;
-    // OBS is a whole message, and nothing else may follow
+    // OBS is a complete message, and nothing may follow it.
     let obs = obs_at_start(table);
     same(&obs, &(Class::Obs, (false, true, 0), true), &"OBS")?;
-    // TME may stand alone, and HST may not
+    // TME is complete without a number; HST is not complete without a turn.
     let tme = tme_at_start(table);
     let want = ((false, true, 1), (true, false, false), (true, false));
     same(&tme, &want, &"TME, and HST")?;

@@ -1,8 +1,9 @@
-//! The verdicts on messages, as a session comes to them.
+//! Verdicts on messages, read as a session reads them.
 //!
-//! A session reads what has come of a body, slice by slice, over the table with an operator's words. So each row is
-//! judged by that reader: its body whole, in pieces of 512 bytes, and cut after each byte, with words that it doesn't use
-//! and without any. Some are judged token by token too, over each table and with either room.
+//! A session reads the received part of a body, slice by slice, over the table with an operator's words. So each row is
+//! judged by that reader: with its body whole, in pieces of 512 bytes, and in single bytes; with words that the row
+//! does not use, and without words. Some rows are also judged token by token, over each table and with either stack
+//! size.
 
 ghost use Rattle.std.specs.Prelude.{◌≤◌, IfOk, length};
 
@@ -25,10 +26,10 @@ use std::test::Fail;
 /// The longest body, in bytes.
 pub const LONGEST: usize = 65_534;
 
-/// How many bytes a piece of a body has: all, those of a turn, and one.
+/// The sizes of a body's pieces: the whole body, the size of a turn's buffer, and one byte.
 const PIECES: &[usize] = &[LONGEST, 512, 1];
 
-/// The body of a message, which has at most `LONGEST` bytes.
+/// Returns the body of a message. Fails if it has more than `LONGEST` bytes.
 pub fn body_of(alloc: Global, message: &[Token]) -> Result<Vec<u8>, Fail>
     ensures { IfOk result (λ body. length body.items ≤ LONGEST) }
 {
@@ -42,7 +43,7 @@ pub fn body_of(alloc: Global, message: &[Token]) -> Result<Vec<u8>, Fail>
     Ok(body)
 }
 
-/// The verdict on a body that came in pieces of so many bytes, and how often the table was asked for it.
+/// Returns the verdict on a body that is read in pieces of `piece` bytes, and the number of look-ups for it.
 pub fn judged<T: Predict, const N: usize>(
     reader: &mut Reader<T, N>,
     sender: (Side2, Level),
@@ -66,7 +67,7 @@ pub fn judged<T: Predict, const N: usize>(
     (verdict, reader.steps())
 }
 
-/// A body has a verdict, in whatever pieces it comes, and the table is asked as often for it.
+/// Checks that a body has this verdict whatever the size of its pieces, with the same number of look-ups.
 fn assert_judged<T: Predict, const N: usize>(
     reader: &mut Reader<T, N>,
     sender: (Side2, Level),
@@ -92,7 +93,7 @@ struct Sessions {
 }
 
 impl Sessions {
-    /// A row has its verdict in both sessions.
+    /// Checks that a row has its verdict in both sessions.
     fn assert_row(&mut self, alloc: Global, row: &str) -> Result<(), Fail> {
         let Some((side, level, text, want)) = example_of(row) else {
             return Err(Fail::new(row));
@@ -104,10 +105,10 @@ impl Sessions {
     }
 }
 
-/// Each example has its verdict in a session, in whatever pieces it comes. A row of the table is a side and a level | a
-/// message | the verdict on it.
+/// Checks that each example has its verdict in a session, whatever the size of its pieces. A row is a side and a level
+/// | a message | the verdict on it.
 pub fn assert_verdicts(alloc: Global, rows: &str) -> Result<(), Fail> {
-    // Where a reader is made over words, the prover wants their codes' type among the function's own.
+    // The prover needs the type of the words' codes in scope to build a reader over words.
     let words = two_words();
     let _names = words.names();
     let mut sessions = Sessions {
@@ -120,16 +121,16 @@ pub fn assert_verdicts(alloc: Global, rows: &str) -> Result<(), Fail> {
     Ok(())
 }
 
-// Token by token.
+// ---- token by token
 
-/// The verdict on a message, and how often the table was asked after each of its tokens and at its end.
+/// The verdict on a message, and the number of look-ups after each of its tokens and at its end.
 #[derive(Drop)]
 struct Course {
     verdict: Verdict,
     steps: Vec<u64>,
 }
 
-/// The course of a message, token by token.
+/// Reads a message token by token.
 fn course_of<T: Predict, const N: usize>(
     alloc: Global,
     reader: &mut Reader<T, N>,
@@ -150,7 +151,7 @@ fn course_of<T: Predict, const N: usize>(
     Ok(Course { verdict, steps })
 }
 
-/// A reader has the same course of a message.
+/// Checks that a reader has this course for a message.
 fn assert_alike<T: Predict, const N: usize>(
     alloc: Global,
     reader: &mut Reader<T, N>,
@@ -163,7 +164,7 @@ fn assert_alike<T: Predict, const N: usize>(
     holds(course.steps.as_slice() == want.steps.as_slice(), text)
 }
 
-/// Readers over each table, and with either room.
+/// Readers over each table, with both stack sizes.
 #[derive(Drop)]
 struct Readers {
     plain: Reader<Plain, 512>,
@@ -173,7 +174,7 @@ struct Readers {
 }
 
 impl Readers {
-    /// Each reader has the course of the plain one.
+    /// Checks that each reader has the same course as the plain one.
     fn assert_all_alike(
         &mut self,
         alloc: Global,
@@ -186,7 +187,7 @@ impl Readers {
         assert_alike(alloc, &mut self.extended, row, message, want)
     }
 
-    /// A row has its verdict, and the same course in each reader.
+    /// Checks that a row has its verdict, and the same course in each reader.
     fn assert_row(&mut self, alloc: Global, row: &str) -> Result<(), Fail> {
         let Some(example) = example_of(row) else {
             return Err(Fail::new(row));
@@ -199,9 +200,10 @@ impl Readers {
     }
 }
 
-/// Each example has its verdict token by token, and the same course over each table and with either room.
+/// Checks that each example has its verdict token by token, and the same course over each table and with both stack
+/// sizes.
 pub fn assert_courses(alloc: Global, rows: &str) -> Result<(), Fail> {
-    // Where a reader is made over words, the prover wants their codes' type among the function's own.
+    // The prover needs the type of the words' codes in scope to build a reader over words.
     let words = Words::new();
     let _names = words.names();
     let mut readers = Readers {

@@ -1,10 +1,11 @@
-//! Tests of the libraries below a session, and of what reads text: the worked examples of verdicts of docs/EXAMPLES.md,
-//! each rule of the grammar, tables worked out by hand, and each public call once on its happy path.
+//! Tests of the libraries below a session, and of those that parse text: the worked examples of verdicts in
+//! docs/EXAMPLES.md, each rule of the grammar, tables of known values, and each public call once on its successful
+//! path.
 //!
-//! There is nothing here to call. What a contract says is proved and not tested; these tests hold the definitions
-//! against verdicts and bytes that were worked out from the protocol. They stand apart, since a crate with tests is
-//! proved twice, with them and without. Those of sessions stand in `daide_session_tests`, so that two processors prove
-//! both at once.
+//! There is nothing here to call. Contracts are proved, not tested. These tests compare the definitions with verdicts
+//! and bytes that were worked out from the protocol. They are in crates of their own, because a crate with tests is
+//! proved twice, with them and without. The tests of sessions are in `daide_session_tests`, so that two processors
+//! prove both crates at the same time.
 #![tactic(auto)]
 
 #[cfg(test)]

@@ -1,4 +1,4 @@
-//! Logs worked out by hand, and their reports.
+//! Logs and their reports, worked out from docs/FORMATS.md.
 
 use daide_log::LogFault;
 use daide_log::check::check_log;
@@ -12,7 +12,7 @@ mod match_lines;
 mod matches;
 mod streams;
 
-/// What a check answers, and what it writes.
+/// Returns the result of a check, and its report.
 fn checked(alloc: Global, log: &[u8]) -> Result<(Result<Summary, LogFault>, String), Fail> {
     let mut bytes = log;
     let mut report = Vec::new(alloc);
@@ -20,7 +20,7 @@ fn checked(alloc: Global, log: &[u8]) -> Result<(Result<Summary, LogFault>, Stri
     Ok((answer, String::from_utf8(report)?))
 }
 
-/// The same of a log with `/` for a line feed, and the text of the fault, if any.
+/// Returns the report and the text of the fault, if there is one, for a log with `/` for each line feed.
 fn checked_row(alloc: Global, log: &str) -> Result<(String, String), Fail> {
     let log = log.replace(alloc, "/", "\n")?;
     let (answer, written) = checked(alloc, log.as_bytes())?;
@@ -31,7 +31,7 @@ fn checked_row(alloc: Global, log: &str) -> Result<(String, String), Fail> {
     Ok((written.replace(alloc, "\n", "/")?, told))
 }
 
-/// Logs | their reports, with `/` for a line feed | the text of the fault, if any.
+/// A log | its report, both with `/` for a line feed | the text of the fault, if there is one.
 const ROWS: &str = "\
  | | line 1 is not a log line
 daide-log 3/ | | line 1 is not a log line
@@ -75,7 +75,7 @@ daide-log 1/config 60 1024 16 0/ | | line 2 is not a log line
 daide-log 1/config 60 1024 16/Bot 00/ | | line 3 is not a log line
 ";
 
-/// The first field of a row, and the fields after it.
+/// Returns the first field of a row, and the fields after it.
 fn first_field(row: &str) -> (&str, &str) {
     match row.split_once('|') {
         Some(parts) => parts,
@@ -105,7 +105,7 @@ fn logs_and_their_reports(rt: HostRuntime) -> Result<(), Fail> {
     check_rows(rt.alloc(), ROWS)
 }
 
-/// The faults of a log, and the text of each.
+/// A fault of a log | its text.
 const FAULTS: &[(LogFault, &str)] = &[
     (LogFault::BadLine(1), "line 1 is not a log line"),
     (LogFault::LineTooLong(1_000_000), "line 1000000 is too long"),
@@ -115,7 +115,7 @@ const FAULTS: &[(LogFault, &str)] = &[
     (LogFault::Memory, "out of memory"),
 ];
 
-/// The fault has this text.
+/// Checks the text of a fault.
 fn check_text(alloc: Global, fault: &LogFault, text: &str) -> Result<(), Fail> {
     let told = fault.to_string(alloc)?;
     same(&told.as_str(), &text, &text)

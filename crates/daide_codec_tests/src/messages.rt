@@ -8,10 +8,10 @@ use daide_token::token::Token;
 use std::alloc::Global;
 use std::test::Fail;
 
-/// Whose message it is, the level, the message as text, and the verdict on it.
+/// A side, a level, a message as text, and the verdict on it.
 pub type Example<'a> = (Side2, Level, &'a str, Verdict);
 
-/// A side by its word.
+/// Parses a side.
 fn side_of(word: &str) -> Option<Side2> {
     match word {
         "client" => Some(Side2::Client),
@@ -20,7 +20,7 @@ fn side_of(word: &str) -> Option<Side2> {
     }
 }
 
-/// A level by its number.
+/// Parses the number of a level.
 fn level_named(word: &str) -> Option<Level> {
     match word.parse() {
         Ok(number) => Level::of(number),
@@ -28,7 +28,7 @@ fn level_named(word: &str) -> Option<Level> {
     }
 }
 
-/// A verdict by its word, and the place behind a HUH.
+/// Parses a verdict: its name, and the place after `huh`.
 fn verdict_of(text: &str) -> Option<Verdict> {
     match text {
         "relay" => Some(Verdict::Relay),
@@ -40,7 +40,7 @@ fn verdict_of(text: &str) -> Option<Verdict> {
     }
 }
 
-/// A row of a table: a side and a level | a message | the verdict, as `client 60 | GOF GOF | huh 1`.
+/// Parses a row: a side and a level | a message | the verdict, such as `client 60 | GOF GOF | huh 1`.
 pub fn example_of(row: &str) -> Option<Example<'_>> {
     let (sender, rest) = row.split_once(" | ")?;
     let (text, verdict) = rest.split_once(" | ")?;
@@ -53,7 +53,7 @@ pub fn example_of(row: &str) -> Option<Example<'_>> {
     ))
 }
 
-/// The token of `#` and four hexadecimal digits.
+/// Parses `#` and four hexadecimal digits as a token.
 fn token_of_code(word: &str) -> Option<Token> {
     let digits = word.strip_prefix('#')?;
     match u16::from_str_radix(digits, 16) {
@@ -62,7 +62,7 @@ fn token_of_code(word: &str) -> Option<Token> {
     }
 }
 
-/// The token of a number.
+/// Parses a number as a token.
 fn token_of_number(word: &str) -> Option<Token> {
     match word.parse() {
         Ok(number) => Token::of_number(number),
@@ -70,7 +70,7 @@ fn token_of_number(word: &str) -> Option<Token> {
     }
 }
 
-/// The token of a word of the text form: a bracket, a name, `#` and four hexadecimal digits, or a number.
+/// Parses a word of the text form as a token: a bracket, a name, `#` and four hexadecimal digits, or a number.
 fn token_of(word: &str) -> Option<Token> {
     match word.as_bytes() {
         b"(" => Some(Token::from_code(0x4000)),
@@ -81,7 +81,7 @@ fn token_of(word: &str) -> Option<Token> {
     }
 }
 
-/// A token more, if it is one.
+/// Appends a token. Fails with the word if there is none.
 fn push(tokens: &mut Vec<Token>, token: Option<Token>, word: &str) -> Result<(), Fail> {
     match token {
         Some(token) => Ok(tokens.push(token)?),
@@ -89,7 +89,7 @@ fn push(tokens: &mut Vec<Token>, token: Option<Token>, word: &str) -> Result<(),
     }
 }
 
-/// The tokens of a text, each letter being one.
+/// Appends one token for each letter of a text.
 fn push_letters(tokens: &mut Vec<Token>, letters: &[u8]) -> Result<(), Fail> {
     for letter in letters {
         tokens.push(Token::from_be([0x4B, *letter]))?;
@@ -97,7 +97,7 @@ fn push_letters(tokens: &mut Vec<Token>, letters: &[u8]) -> Result<(), Fail> {
     Ok(())
 }
 
-/// The tokens of a word, each letter of a text in quotes being one.
+/// Appends the tokens of a word, one for each letter of a quoted text.
 fn push_word(tokens: &mut Vec<Token>, word: &str) -> Result<(), Fail> {
     match word.as_bytes() {
         [] => Ok(()),
@@ -106,7 +106,7 @@ fn push_word(tokens: &mut Vec<Token>, word: &str) -> Result<(), Fail> {
     }
 }
 
-/// The tokens of a word, as often as it stands: `62*(` is 62 brackets.
+/// Appends the tokens of a word, repeated by its count: `62*(` is 62 brackets.
 fn read_word(tokens: &mut Vec<Token>, word: &str) -> Result<(), Fail> {
     let (count, word) = counted(word);
     for _time in 0..count {
@@ -115,7 +115,7 @@ fn read_word(tokens: &mut Vec<Token>, word: &str) -> Result<(), Fail> {
     Ok(())
 }
 
-/// The tokens of a message that is written in the text form, a space between its words.
+/// Returns the tokens of a message in the text form, with single spaces between its words.
 pub fn tokens_of_text(alloc: Global, text: &str) -> Result<Vec<Token>, Fail> {
     let mut tokens = Vec::new(alloc);
     for word in text.split(' ') {

@@ -1,7 +1,7 @@
-//! Each part of each rule: left out, empty, said twice, or of a kind that comes near its own.
+//! Each part of each rule: left out, empty, repeated, or of a kind similar to its own.
 //!
-//! A rule that were wider than the protocol's in one part, or narrower, would pass one of these messages
-//! or refuse it. The expected verdicts were worked out by hand from docs/PROTOCOL.md.
+//! If a rule were wider or narrower than the protocol's in one part, one of these messages would have another verdict.
+//! The expected verdicts are worked out from docs/PROTOCOL.md.
 
 use crate::judging::assert_verdicts;
 use std::test::Fail;

@@ -1,4 +1,4 @@
-//! Whole ranges of sizes: what is right at one size is right at the next, and memory suffices at each.
+//! Whole ranges of sizes: the result is right and memory is sufficient at each size.
 
 use daide_frame::side::Side::Bot;
 use daide_gate::frame_view::show;
@@ -10,12 +10,12 @@ use daide_token::text::write_text;
 use std::alloc::Global;
 use std::test::Fail;
 
-/// A log of so many sessions, whose timer pops in the last.
+/// Returns a log of `sessions` sessions, in which the timer of the last one expires.
 fn log_of(alloc: Global, sessions: usize) -> Result<String, Fail> {
     Ok(format!(in alloc; "daide-log 2\nconfig 60 512 16 {sessions} 0\n{sessions} timer\n")?)
 }
 
-/// Such a log has one fault.
+/// Checks that such a log has one fault.
 fn assert_log(alloc: Global, sessions: usize) -> Result<(), Fail> {
     let log = log_of(alloc, sessions)?;
     let mut report = Vec::new(alloc);
@@ -34,7 +34,7 @@ fn log_of_each_number_of_sessions(rt: HostRuntime) -> Result<(), Fail> {
     Ok(())
 }
 
-/// A log of these limits has nothing to report.
+/// Checks that a log with these limits has an empty report.
 fn assert_log_limits(alloc: Global, body: u16, depth: u16) -> Result<(), Fail> {
     let log = format!(in alloc; "daide-log 1\nconfig 60 {body} {depth}\n")?;
     let summary = check_log(alloc, &mut log.as_bytes(), &mut Vec::new(alloc));
@@ -44,7 +44,7 @@ fn assert_log_limits(alloc: Global, body: u16, depth: u16) -> Result<(), Fail> {
     )
 }
 
-/// Settings of these limits are read.
+/// Checks that settings with these limits are accepted.
 fn assert_limits(alloc: Global, body: u16, depth: u16, sessions: u16) -> Result<(), Fail> {
     let text = format!(in alloc;
         "listen = \"a\"\nserver = \"b\"\nmax_body = {body}\nmax_depth = {depth}\n\
@@ -60,7 +60,7 @@ fn assert_limits(alloc: Global, body: u16, depth: u16, sessions: u16) -> Result<
     )
 }
 
-/// Logs of each depth and of each even body.
+/// Checks logs with each depth limit and each even body cap.
 #[test]
 fn log_of_each_limit(rt: HostRuntime) -> Result<(), Fail> {
     for depth in 4..=254u16 {
@@ -72,7 +72,7 @@ fn log_of_each_limit(rt: HostRuntime) -> Result<(), Fail> {
     Ok(())
 }
 
-/// Settings of each depth, of each number of sessions at once, and of bodies throughout their range.
+/// Checks settings with each depth limit, each number of sessions at once, and body caps throughout their range.
 #[test]
 fn settings_of_each_limit(rt: HostRuntime) -> Result<(), Fail> {
     for depth in 4..=254u16 {
@@ -89,13 +89,13 @@ fn settings_of_each_limit(rt: HostRuntime) -> Result<(), Fail> {
     Ok(())
 }
 
-/// A hexadecimal digit more.
+/// Appends a hexadecimal digit.
 fn push_digit(text: &mut String, digit: u8) -> Result<(), Fail> {
     let digit = char::from_digit(u32::from(digit), 16);
     Ok(text.push(digit.unwrap_or('0'))?)
 }
 
-/// A message of so many GOF, as a frame in hexadecimal digits, and so many blanks before it.
+/// Returns the frame of a message of `tokens` GOF in hexadecimal digits, after `blanks` blanks.
 fn shown_input(alloc: Global, tokens: u16, blanks: u16) -> Result<String, Fail> {
     let bytes = tokens.saturating_mul(2);
     let mut input = String::new(alloc);
@@ -113,7 +113,7 @@ fn shown_input(alloc: Global, tokens: u16, blanks: u16) -> Result<String, Fail> 
     Ok(input)
 }
 
-/// One GOF is relayed, and no other number of them.
+/// Checks that a message of one GOF is relayed, and one of any other number is not.
 fn assert_shown(alloc: Global, tokens: u16, blanks: u16) -> Result<(), Fail> {
     let input = shown_input(alloc, tokens, blanks)?;
     let mut output = Vec::new(alloc);
@@ -121,7 +121,7 @@ fn assert_shown(alloc: Global, tokens: u16, blanks: u16) -> Result<(), Fail> {
     same(&shown, &Ok(tokens == 1), &tokens)
 }
 
-/// Inputs of each length from 8 bytes to 811.
+/// Checks inputs of each length from 8 bytes to 811.
 #[test]
 fn frame_of_each_length_is_shown(rt: HostRuntime) -> Result<(), Fail> {
     for tokens in 0..=200u16 {
@@ -132,7 +132,7 @@ fn frame_of_each_length_is_shown(rt: HostRuntime) -> Result<(), Fail> {
     Ok(())
 }
 
-/// The addresses, and a comment of so many letters behind them.
+/// Returns the addresses, followed by a comment of `letters` letters.
 fn settings_of(alloc: Global, letters: usize) -> Result<String, Fail> {
     let mut text = String::new(alloc);
     text.push_str("listen = \"a\"\nserver = \"b\"\n#")?;
@@ -152,7 +152,7 @@ fn settings_of_any_length(rt: HostRuntime) -> Result<(), Fail> {
     Ok(())
 }
 
-/// So many times the bytes of a token.
+/// Returns the bytes of a token, repeated.
 fn repeated(alloc: Global, token: [u8; 2], times: usize) -> Result<Vec<u8>, Fail> {
     let mut bytes = Vec::new(alloc);
     for _time in 0..times {
@@ -161,7 +161,7 @@ fn repeated(alloc: Global, token: [u8; 2], times: usize) -> Result<Vec<u8>, Fail
     Ok(bytes)
 }
 
-/// The text of so many times a token.
+/// Returns the text of a token, repeated.
 fn text_of(alloc: Global, token: [u8; 2], times: usize) -> Result<Vec<u8>, Fail> {
     let tokens = repeated(alloc, token, times)?;
     let mut written = Vec::new(alloc);
@@ -171,7 +171,7 @@ fn text_of(alloc: Global, token: [u8; 2], times: usize) -> Result<Vec<u8>, Fail>
     Ok(written)
 }
 
-/// So many times `#4a12` with spaces between them, and so many letters in quotes.
+/// Checks the text of `times` tokens `#4a12`, separated by spaces, and of `times` letters in quotes.
 fn assert_texts(alloc: Global, times: usize) -> Result<(), Fail> {
     let words = text_of(alloc, [0x4A, 0x12], times)?;
     let are_words = words

@@ -1,6 +1,6 @@
-//! Each rule of the grammar: a message that uses it, and one that misses it by a token.
+//! Each rule of the grammar: a message that follows it, and one that differs by a token.
 //!
-//! The expected verdicts were worked out by hand from docs/PROTOCOL.md.
+//! The expected verdicts are worked out from docs/PROTOCOL.md.
 
 use crate::judging::assert_verdicts;
 use std::test::Fail;

@@ -1,6 +1,6 @@
-//! The settings of a run: each fault by its text, each range at both ends, each wrong type.
+//! The settings of a run: the text of each fault, both ends of each range, and each wrong type.
 //!
-//! The expected lines were worked out by hand from docs/FORMATS.md, "Settings".
+//! The expected lines are worked out from docs/FORMATS.md, "Settings".
 
 use daide_gate::settings::{Settings, read_settings};
 use daide_grammar::level::Level;
@@ -11,13 +11,13 @@ use daide_words::{Operand, Slot, Word};
 use std::alloc::Global;
 use std::test::Fail;
 
-/// The two lines that must stand.
+/// The two lines that are required.
 const ADDRESSES: &str = "listen = \"127.0.0.1:16713\"\nserver = \"127.0.0.1:16714\"\n";
 
-/// A text, and the fault that it is, empty where it is none.
+/// A text | its fault, or empty if it has none.
 type Row = (&'static str, &'static str);
 
-/// Whole documents, and the fault of each.
+/// A whole document | its fault.
 #[rattlefmt::skip]
 const DOCUMENTS: &[Row] = &[
     ("listen =", "settings are not TOML"),
@@ -38,7 +38,7 @@ const DOCUMENTS: &[Row] = &[
     ("listen = \"a\"\nserver = \"b\"\nmax_body = 511\nmax_depth = true", "max_body out of range"),
 ];
 
-/// A line behind the two addresses, and the fault that it is, if it is one.
+/// A line after the two addresses | its fault, if it has one.
 #[rattlefmt::skip]
 const LINES: &[Row] = &[
     ("top_level = 0", ""),
@@ -101,7 +101,7 @@ const LINES: &[Row] = &[
     ("# nothing else", ""),
 ];
 
-/// What stands at `words`, and the fault that it is, if it is one.
+/// The value of `words` | its fault, if it has one.
 #[rattlefmt::skip]
 const WORDS: &[Row] = &[
     ("[]", ""),
@@ -129,13 +129,13 @@ const WORDS: &[Row] = &[
     ("[ { name = \"XYZ\", code = 84544, slot = \"press\", level = 20, operand = \"power\" } ]", "words out of range"),
     ("[ { name = \"XYZ\", code = -1, slot = \"press\", level = 20, operand = \"power\" } ]", "words out of range"),
     ("[ { name = \"XYZ\", code = 0x4A40, slot = \"arrangement\", level = 20, operand = \"press\" } ]", "words out of range"),
-    // the shape of all before the range of any
+    // the types of all words are checked before any range
     ("[ { name = \"XYZ\", code = 0x4A40, slot = \"pres\", level = 20, operand = \"power\" }, { name = \"QQQ\" } ]", "wrong type for words"),
-    // a name twice
+    // one name twice
     ("[ { name = \"XYZ\", code = 0x4A40, slot = \"press\", level = 20, operand = \"power\" }, { name = \"XYZ\", code = 0x4A41, slot = \"press\", level = 20, operand = \"power\" } ]", "words out of range"),
 ];
 
-/// Whole lines with words, and their fault: words come after all other keys but `stall_seconds`.
+/// Lines with words | their fault: words are checked after all other keys but `stall_seconds`.
 const BESIDE_WORDS: &[Row] = &[
     ("turns = 0\nwords = 1", "turns out of range"),
     (
@@ -149,7 +149,7 @@ const BESIDE_WORDS: &[Row] = &[
     ("stall_seconds = 86401\nwords = 1", "wrong type for words"),
 ];
 
-/// Seventeen words, each of which would be accepted after the ones before it.
+/// Seventeen words, each of which would be accepted after those before it.
 const SEVENTEEN: &str = "words = [
     { name = 'QQA', code = 0x4A50, slot = 'press', level = 20, operand = 'power' },
     { name = 'QQB', code = 0x4A51, slot = 'press', level = 20, operand = 'power' },
@@ -170,7 +170,7 @@ const SEVENTEEN: &str = "words = [
     { name = 'QQQ', code = 0x4A60, slot = 'press', level = 20, operand = 'power' },
     ]";
 
-/// The fault of a text as its line, empty where there is none.
+/// Returns the line of a text's fault, or an empty text if it has none.
 fn fault_of(alloc: Global, text: &str) -> Result<String, Fail> {
     match read_settings(alloc, text) {
         Ok(_) => Ok(String::new(alloc)),
@@ -178,7 +178,7 @@ fn fault_of(alloc: Global, text: &str) -> Result<String, Fail> {
     }
 }
 
-/// A text behind this front has this fault.
+/// Checks that the front and the text together have this fault.
 fn assert_fault(alloc: Global, front: &str, text: &str, want: &str) -> Result<(), Fail> {
     let mut whole = String::from_str(alloc, front)?;
     whole.push_str(text)?;
@@ -187,7 +187,7 @@ fn assert_fault(alloc: Global, front: &str, text: &str, want: &str) -> Result<()
     same(&fault.as_str(), &want, &text)
 }
 
-/// Each row is a text behind this front, and its fault.
+/// Checks each row: a text after this front, and its fault.
 fn assert_faults(alloc: Global, front: &str, rows: &[Row]) -> Result<(), Fail> {
     for (text, fault) in rows {
         assert_fault(alloc, front, text, fault)?;
@@ -201,7 +201,7 @@ fn settings_faults_in_order(rt: HostRuntime) -> Result<(), Fail> {
     assert_faults(rt.alloc(), ADDRESSES, LINES)
 }
 
-/// The two lines that must stand, and words.
+/// The two lines that are required, and the key of the words.
 const ADDRESSES_AND_WORDS: &str =
     "listen = \"127.0.0.1:16713\"\nserver = \"127.0.0.1:16714\"\nwords = ";
 
@@ -212,7 +212,7 @@ fn shape_of_all_words_before_their_range(rt: HostRuntime) -> Result<(), Fail> {
     assert_fault(rt.alloc(), ADDRESSES, SEVENTEEN, "words out of range")
 }
 
-/// The rest of an address of so many bytes, and the end of its line.
+/// Returns the rest of an address of `count` bytes, and the end of its line.
 fn address_of(alloc: Global, count: usize) -> Result<String, Fail> {
     let mut address = String::new(alloc);
     for _ in 0..count {
@@ -231,7 +231,7 @@ fn addresses_of_255_bytes_and_one_more(rt: HostRuntime) -> Result<(), Fail> {
     assert_fault(rt.alloc(), front, longer.as_str(), "server out of range")
 }
 
-/// The addresses, the limits of a session and its time, and the limits of a run are these; and there are so many words.
+/// Checks the addresses, the limits and the time of a session, the limits of a run, and the number of words.
 fn assert_settings(
     settings: &Settings,
     addresses: (&str, &str),
@@ -253,7 +253,7 @@ fn assert_settings(
     same(&settings.words.names().len(), &words, &"words")
 }
 
-/// The limits that stand where none are given.
+/// The limits if none are given.
 const DEFAULTS: Config = Config {
     top_level: 60,
     max_body: 65_526,
@@ -268,13 +268,13 @@ fn two_addresses_give_the_defaults(rt: HostRuntime) -> Result<(), Fail> {
     assert_settings(&settings, addresses, (DEFAULTS, 30), run, 0)
 }
 
-/// Each key with a value of its own, the last one first.
+/// Each key with a value of its own, in reverse order.
 const EACH_KEY: &str =
     "stall_seconds = 9\nwords = [ { name = \"XYZ\", code = 0x4A40, slot = \"press\", level = 20, operand = \"power\" } ]\n\
     idle_seconds = 8\nturns = 7\nsessions = 6\nmax_sessions = 5\nim_seconds = 4\nmax_depth = 13\nmax_body = 1024\n\
     top_level = 20\nserver = \"s\"\nlisten = \"l\"\n";
 
-/// The limits of a session there.
+/// The limits of a session in `EACH_KEY`.
 const OWN_LIMITS: Config = Config {
     top_level: 20,
     max_body: 1024,

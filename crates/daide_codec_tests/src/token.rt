@@ -1,4 +1,4 @@
-//! Tables of tokens, their classes, names and printed text, byte for byte as the protocol has them.
+//! Tables of tokens, their classes, names and printed text, byte by byte as the protocol defines them.
 
 use daide_test_support::rows::same;
 use daide_token::class::Class;
@@ -9,7 +9,7 @@ use std::io;
 use std::io::{ErrorKind, Write};
 use std::test::Fail;
 
-/// Two bytes, and the number that they are, if they are one.
+/// Two bytes | their number, if they are one.
 const NUMBERS: &[([u8; 2], Option<i16>)] = &[
     ([0x00, 0x00], Some(0)),
     ([0x1F, 0xFF], Some(8191)),
@@ -19,10 +19,10 @@ const NUMBERS: &[([u8; 2], Option<i16>)] = &[
     ([0xFF, 0xFF], None),
 ];
 
-/// Numbers that no token has.
+/// Numbers without a token.
 const NO_NUMBERS: &[i16] = &[8192, -8193, i16::MAX, i16::MIN];
 
-/// Two bytes are the token of this number, if they are one, and are read back from it.
+/// Checks the number of a token of two bytes, and that the number's token is this one.
 fn check_number(bytes: [u8; 2], number: Option<i16>) -> Result<(), Fail> {
     let token = Token::from_be(bytes);
     let back = match number {
@@ -44,7 +44,7 @@ fn numbers_have_fourteen_bits(_rt: HostRuntime) -> Result<(), Fail> {
     Ok(())
 }
 
-/// Codes, their classes, and whether their category is known.
+/// A code | its class | whether its category is known.
 const CLASSES: &[(u16, Class, bool)] = &[
     (0x0000, Class::Num, true),
     (0x3FFF, Class::Num, true),
@@ -85,7 +85,7 @@ fn classes_go_by_category_then_code(_rt: HostRuntime) -> Result<(), Fail> {
     Ok(())
 }
 
-/// Codes and their names.
+/// A code | its name.
 const NAMES: &[(u16, &str)] = &[
     (0x4000, "BRA"),
     (0x4001, "KET"),
@@ -144,7 +144,7 @@ fn what_no_table_lists_has_none(_rt: HostRuntime) -> Result<(), Fail> {
     Ok(())
 }
 
-/// Tokens, and their text.
+/// The bytes of tokens | their text.
 const TEXTS: &[(&[u8], &str)] = &[
     (&[], ""),
     (&[0x1F, 0xFF, 0x20, 0x00, 0x3F, 0xFF], "8191 -8192 -1"),
@@ -160,7 +160,7 @@ const TEXTS: &[(&[u8], &str)] = &[
     (&[0xFF, 0xFF, 0x00, 0x00], "#ffff 0"),
 ];
 
-/// Tokens have this text.
+/// Checks the text of tokens.
 fn check_text(alloc: Global, tokens: &[u8], text: &str) -> Result<(), Fail> {
     if tokens.len() % 2 != 0 {
         return Err(Fail::new(text));
@@ -195,7 +195,7 @@ fn added_names_are_printed(rt: HostRuntime) -> Result<(), Fail> {
     )
 }
 
-/// It takes some writes, and fails at the next.
+/// A writer that accepts `writes` writes, and fails at the next one.
 #[derive(Drop)]
 struct FailsAtWrite {
     writes: usize,
@@ -215,7 +215,7 @@ impl Write for FailsAtWrite {
     }
 }
 
-/// What becomes of a text whose writer takes so many writes: the writer's error, if it was handed on.
+/// Returns the error of a text's writer that accepts `writes` writes, if it is returned.
 fn fault_after(writes: usize) -> Option<ErrorKind> {
     let tokens = [0x48, 0x03, 0x4B, 0x41, 0x00, 0x00, 0x4B, 0x42];
     let mut writer = FailsAtWrite { writes };

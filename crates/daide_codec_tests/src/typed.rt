@@ -1,4 +1,4 @@
-//! Text of messages, written as frames. The codes of the expected bytes are those of docs/PROTOCOL.md.
+//! Messages as text, written as frames. The codes of the expected bytes are those of docs/PROTOCOL.md.
 
 use daide_test_support::fakes::{FailsAtRead, FailsAtWrite};
 use daide_test_support::rows::{holds, same};
@@ -9,12 +9,12 @@ use std::alloc::{Allocator, Global};
 use std::io::{ErrorKind, Read, Write};
 use std::test::Fail;
 
-/// Lines of text, with XYZ as #4a40 and QQQ as #4a41; what is written; the fault's text, if there is one.
+/// Lines of text, with XYZ as #4a40 and QQQ as #4a41 | the output | the text of the fault, if there is one.
 type Row = (&'static str, &'static str, &'static str);
 
 #[rattlefmt::skip]
 const ROWS: &[Row] = &[
-    // lines and their ends
+    // lines and their line ends
     ("", "", ""),
     ("GOF", "02 00 00 02 48 03\n", ""),
     ("GOF\n", "02 00 00 02 48 03\n", ""),
@@ -31,7 +31,7 @@ const ROWS: &[Row] = &[
     ("NME('a ~')('')", "02 00 00 10 48 0C 40 00 4B 61 4B 20 4B 7E 40 01 40 00 40 01\n", ""),
     ("'a''('GOF", "02 00 00 06 4B 61 4B 28 48 03\n", ""),
     ("XYZ ( ENG ) QQQ", "02 00 00 0A 4A 40 40 00 41 01 40 01 4A 41\n", ""),
-    // no items, at each place
+    // words that are not items, at various columns
     ("gof", "", "line 1: not a message: 1"),
     ("GOF\n GOF gof", "02 00 00 02 48 03\n", "line 2: not a message: 6"),
     ("GOFX", "", "line 1: not a message: 1"),
@@ -65,7 +65,7 @@ fn fault_of<R: Read, W: Write>(
     }
 }
 
-/// A row's text has these frames, and this fault.
+/// Checks the frames and the fault of a row.
 fn assert_row(alloc: Global, row: &Row) -> Result<(), Fail> {
     let (text, frames, fault) = row;
     let mut input = text.as_bytes();
@@ -83,7 +83,7 @@ fn text_is_written_as_frames(rt: HostRuntime) -> Result<(), Fail> {
     Ok(())
 }
 
-/// As many equal bytes, whether the input has as many lines or is one; the fault's text.
+/// A byte | how often it is repeated as one line | the text of the fault.
 const LONG: &[(u8, u64, &str)] = &[
     (b'(', 32_763, ""),
     (b'(', 32_764, "line 1: too long"),
@@ -91,7 +91,7 @@ const LONG: &[(u8, u64, &str)] = &[
     (b' ', 400_001, "line 1: too long"),
 ];
 
-/// A line of equal bytes has this fault.
+/// Checks that a line of equal bytes has this fault.
 fn assert_long(alloc: Global, byte: u8, count: u64, fault: &str) -> Result<(), Fail> {
     let mut input = std::io::repeat(byte).take(count);
     let mut output = Vec::new(alloc);
@@ -112,12 +112,12 @@ fn lines_and_messages_have_bounds(rt: HostRuntime) -> Result<(), Fail> {
     Ok(())
 }
 
-/// Two lines, and their frames.
+/// Two lines of text. Their frames follow.
 const LINES: &[u8] = b"GOF\nYES\n";
 
 const FRAMES: &[u8] = b"02 00 00 02 48 03\n02 00 00 02 48 1C\n";
 
-/// A read that fails after the first line leaves its frame.
+/// Checks that after a failed read the frames of the lines before are written.
 #[test]
 fn failed_reads_come_after_the_frames_before(rt: HostRuntime) -> Result<(), Fail> {
     for reads in 0..9usize {
@@ -141,7 +141,7 @@ fn failed_reads_come_after_the_frames_before(rt: HostRuntime) -> Result<(), Fail
     Ok(())
 }
 
-/// A write that fails is a fault, and what was taken before is a front of the frames.
+/// Checks that a failed write is a fault, and that a prefix of the frames was accepted.
 #[test]
 fn failed_writes_are_faults(rt: HostRuntime) -> Result<(), Fail> {
     for writes in 0..12usize {
@@ -162,7 +162,7 @@ fn failed_writes_are_faults(rt: HostRuntime) -> Result<(), Fail> {
     Ok(())
 }
 
-/// The answer on a heap, and how many bytes were written.
+/// Returns the result on a heap, and whether the output is a prefix of the frames.
 fn outcome_on<A: Allocator + Copy>(alloc: Global, heap: A) -> (Result<(), TextFault>, bool) {
     let mut input = LINES;
     let mut output = Vec::new(alloc);
@@ -170,7 +170,7 @@ fn outcome_on<A: Allocator + Copy>(alloc: Global, heap: A) -> (Result<(), TextFa
     (found, FRAMES.starts_with(output.as_slice()))
 }
 
-/// Over heaps from empty to ample: refused memory and nothing else, and what is written is a front of the frames.
+/// Over heaps of growing size: a refused allocation is the only fault, and the output is a prefix of the frames.
 #[test]
 fn growths_are_refused_in_turn(rt: HostRuntime) -> Result<(), Fail> {
     let mut refused = false;

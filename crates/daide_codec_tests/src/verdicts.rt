@@ -133,7 +133,7 @@ fn each_table_has_the_same_course(rt: HostRuntime) -> Result<(), Fail> {
     Ok(())
 }
 
-/// The messages of the worked examples whose bytes on both wires stand in `daide_session_tests`.
+/// The worked examples whose bytes on both connections are in `daide_session_tests`.
 const ANSWERED: &str = "\
 client 0 | NME ( 'a' ) ( 'b' ) | relay
 client 0 | GOF ( | prn

@@ -1,4 +1,4 @@
-//! An operator's words: messages with them and without, as verdicts and as they are shown.
+//! An operator's words: messages with and without them, as verdicts and as `show` prints them.
 //!
 //! XYZ is a press of a power from level 20 on, QQQ an arrangement of an arrangement from level 30 on.
 
@@ -22,7 +22,7 @@ use linked_list_allocator::LocalHeap;
 use std::alloc::{Allocator, Global};
 use std::test::Fail;
 
-/// The verdict on a bot's message at a depth of 62 brackets, on as many entries as that takes.
+/// Returns the verdict on a bot's message with a depth limit of 62, on the smallest sufficient stack.
 fn verdict_on_512(words: Words, level: Level, body: &[u8]) -> Verdict
     requires { length body.now ≤ LONGEST }
 {
@@ -31,7 +31,7 @@ fn verdict_on_512(words: Words, level: Level, body: &[u8]) -> Verdict
     judged(&mut reader, (Side2::Client, level), body, 512).0
 }
 
-/// The verdict at a depth, on as many entries as the deepest takes, which a session has.
+/// Returns the verdict with a depth limit, on the stack of a session, which is sufficient for the greatest limit.
 fn verdict_on_2048(words: Words, depth: u16, level: Level, body: &[u8]) -> Verdict
     requires low { 4 ≤ depth }
     requires high { depth ≤ 254 }
@@ -42,7 +42,8 @@ fn verdict_on_2048(words: Words, depth: u16, level: Level, body: &[u8]) -> Verdi
     judged(&mut reader, (Side2::Client, level), body, 512).0
 }
 
-/// A bot's message, #4a40 being XYZ and #4a41 QQQ; its level; its verdict with the words, and without.
+/// A bot's message, with #4a40 for XYZ and #4a41 for QQQ | its level | its verdict with the words | its verdict without
+/// them.
 type Message = (&'static str, Level, Verdict, Verdict);
 
 #[rattlefmt::skip]
@@ -60,7 +61,7 @@ const MESSAGES: &[Message] = &[
     ("SND ( FRA ) ( FCT ( #4a41 ( QRY ( DRW ) ) ) )", L60, Huh(9), Huh(7)),
 ];
 
-/// The verdicts of readers of either room, with the words, and without.
+/// Returns the verdicts with the words and without them, of readers with both stack sizes.
 fn verdicts(level: Level, body: &[u8]) -> ((Verdict, Verdict), (Verdict, Verdict))
     requires { length body.now ≤ LONGEST }
 {
@@ -71,7 +72,7 @@ fn verdicts(level: Level, body: &[u8]) -> ((Verdict, Verdict), (Verdict, Verdict
     ((with, without), (roomy_with, roomy_without))
 }
 
-/// The body of a message as text.
+/// Returns the body of a message that is given as text.
 fn body_of_text(alloc: Global, text: &str) -> Result<Vec<u8>, Fail>
     ensures { IfOk result (λ body. length body.items ≤ LONGEST) }
 {
@@ -79,7 +80,7 @@ fn body_of_text(alloc: Global, text: &str) -> Result<Vec<u8>, Fail>
     body_of(alloc, tokens.as_slice())
 }
 
-/// Readers of either room have the verdicts of a row.
+/// Checks that readers with both stack sizes have the verdicts of a row.
 fn assert_message(alloc: Global, row: &Message) -> Result<(), Fail> {
     let (text, level, with, without) = row;
     let body = body_of_text(alloc, text)?;
@@ -95,7 +96,7 @@ fn words_stand_from_their_level(rt: HostRuntime) -> Result<(), Fail> {
     Ok(())
 }
 
-/// HUH and brackets, and the verdict where 62 may be open, and where 254 may be.
+/// HUH with brackets | the verdict with a depth limit of 62 | the verdict with a depth limit of 254.
 type Depth = (&'static str, Verdict, Verdict);
 
 const DEPTHS: &[Depth] = &[
@@ -105,7 +106,7 @@ const DEPTHS: &[Depth] = &[
     ("HUH 255*( 255*)", Huh(63), Huh(255)),
 ];
 
-/// The verdicts where 62 brackets may be open, of readers of either room, and where 254 may be.
+/// Returns the verdicts with a depth limit of 62, of readers with both stack sizes, and with a limit of 254.
 fn verdicts_by_depth(body: &[u8]) -> (Verdict, Verdict, Verdict)
     requires { length body.now ≤ LONGEST }
 {
@@ -115,7 +116,7 @@ fn verdicts_by_depth(body: &[u8]) -> (Verdict, Verdict, Verdict)
     (shallow, roomy, deep)
 }
 
-/// Readers of either room have the verdicts of a row.
+/// Checks that readers with both stack sizes have the verdicts of a row.
 fn assert_depth(alloc: Global, row: &Depth) -> Result<(), Fail> {
     let (text, shallow, deep) = row;
     let body = body_of_text(alloc, text)?;
@@ -131,10 +132,10 @@ fn as_deep_as_is_said_whatever_the_room(rt: HostRuntime) -> Result<(), Fail> {
     Ok(())
 }
 
-/// A bot's `SND ( FRA ) ( XYZ ( ENG ) )` as a frame.
+/// The frame of a bot's message `SND ( FRA ) ( XYZ ( ENG ) )`.
 const SENT: &[u8] = b"02000014 48174000 41024001 4000 4A40 4000 4101 4001 4001";
 
-/// Its level, whether there are words, and what is shown.
+/// The level of the message | whether there are words | the output.
 const SHOWN: &[(Level, bool, &str)] = &[
     (L20, true, "DM 20\nSND ( FRA ) ( XYZ ( ENG ) )\nrelay\n"),
     (
@@ -149,7 +150,7 @@ const SHOWN: &[(Level, bool, &str)] = &[
     ),
 ];
 
-/// Shows the frame at a level with the words; whether it is relayed.
+/// Shows the frame at a level with the words, and returns whether it is relayed.
 fn show_words<A: Allocator + Copy>(
     alloc: A,
     level: Level,
@@ -165,7 +166,7 @@ fn show_words<A: Allocator + Copy>(
     show_with(alloc, &request, &mut input, output)
 }
 
-/// Shows the frame at a level with the words or without; whether it is relayed.
+/// Shows the frame at a level with the words or without, and returns whether it is relayed.
 fn show_frame<A: Allocator + Copy>(
     alloc: A,
     level: Level,
@@ -179,7 +180,7 @@ fn show_frame<A: Allocator + Copy>(
     show(alloc, Side::Bot, level, &mut input, output)
 }
 
-/// The frame is shown so at a level, with the words or without.
+/// Checks the output for the frame at a level, with the words or without.
 fn assert_shown(alloc: Global, level: Level, has_words: bool, want: &str) -> Result<(), Fail> {
     let mut output = Vec::new(alloc);
     let shown = show_frame(alloc, level, has_words, &mut output);
@@ -199,7 +200,7 @@ fn words_are_shown_by_their_names(rt: HostRuntime) -> Result<(), Fail> {
     Ok(())
 }
 
-/// Shows the frame with the words or without on a heap; whether memory sufficed, where that is all that can be wanting.
+/// Shows the frame on a heap, and returns whether memory was sufficient. Returns `None` after any other fault.
 fn is_shown_on(alloc: Global, heap: &LocalHeap, has_words: bool) -> Option<bool> {
     let mut output = Vec::new(alloc);
     match show_frame(heap, L20, has_words, &mut output) {
@@ -209,7 +210,7 @@ fn is_shown_on(alloc: Global, heap: &LocalHeap, has_words: bool) -> Option<bool>
     }
 }
 
-/// The same on a heap of a size, which is empty again then.
+/// The same on a heap of this size, which must be empty at the end.
 fn shows_on_heap(alloc: Global, size: usize, has_words: bool) -> Result<bool, Fail> {
     let heap = LocalHeap::new(alloc, size)?;
     match is_shown_on(alloc, &heap, has_words) {
@@ -218,11 +219,11 @@ fn shows_on_heap(alloc: Global, size: usize, has_words: bool) -> Result<bool, Fa
     }
 }
 
-/// Over heaps from empty to ample: want of memory and nothing else, and nothing is written.
+/// Over heaps of growing size: a refused allocation is the only fault, and nothing is written.
 fn assert_growths(alloc: Global, has_words: bool) -> Result<(), Fail> {
     let mut refused = 0u32;
     for unit in 0..96usize {
-        // a multiple of 16 bytes more each time; the cutter takes its 65,526 at once
+        // sizes grow by 16 bytes; the cutter allocates its 65,526 bytes at once
         let size = if unit < 32 {
             16 * unit
         } else {

@@ -1,4 +1,4 @@
--- Each accept is counted by the sockets.
+-- The sockets count each accept.
 use Rattle.std.proofs.Common.{◌≡◌, ℕ, ◌+◌, true, false, List, [], ◌∷◌, Option, ap, arith}
 use Rattle.daide_protocol.specs.System.{SystemCall, Begins, BeginsTurn, Accepts, Connects, Retires, Notifies, Waits}
 use Rattle.daide_protocol.specs.System.{TransitsBy}

@@ -1,4 +1,4 @@
--- What words give at command lines that are written out, worked out from the help by hand.
+-- The parse of some complete command lines. The expected values follow the help.
 use Rattle.std.proofs.Common.{◌≡◌, true, List, [], ◌∷◌, Some, None, option_map, refl, codes}
 use Rattle.clap.specs.Words.{Text, all_of, fault_of, first_of, subcommand_of}
 use Rattle.clap.specs.declared.error.kind.ErrorKind.TheVariants.{MissingRequiredArgument, UnknownArgument}
@@ -39,7 +39,7 @@ shown_is_taken : fault_of gate_app shown ≡ []
 unfolding clap_on_literals
 shown_is_taken = refl
 
--- a run that is recorded
+-- a run with records
 abbrev recorded : List Text
 recorded = codes "daide-gate" ∷ codes "run" ∷ codes "--record" ∷ codes "logs" ∷ codes "a.toml" ∷ []
 
@@ -53,7 +53,7 @@ recorded_folder : option_map (λ p. first_of (codes "record") p.1) (subcommand_o
 unfolding clap_on_literals
 recorded_folder = refl
 
--- no command; a run without settings; an option that there isn't
+-- no command; a run without settings; an unknown option
 nothing_asked : subcommand_of gate_app (codes "daide-gate" ∷ []) ≡ None
 unfolding clap_on_literals
 nothing_asked = refl

@@ -1,4 +1,4 @@
--- What a command has after arguments and subcommands were added to it, and what a subcommand that was met has.
+-- A command after arguments and subcommands were added to it, and the values of a parsed subcommand.
 use Rattle.std.proofs.Common.{◌≡◌, ◌||◌, Bool, true, false, List, [], ◌∷◌, map, Option, Some, None, option_map, refl, sym, ap, ap₂, ◌∙◌, subst}
 use Rattle.std.specs.List.{list_any}
 use Rattle.std.specs.Prelude.{Box}
@@ -63,7 +63,7 @@ subcommands_added (command ∷ commands) old new local adds =
     subcommands_added commands adds.0 new local.1 adds.2
     ∙ ap (λ (app : App). with_all_subcommands app (map shape_of commands)) (adds.1.shape local.0)
 
--- the name and the values of a subcommand that was met
+-- the name and the values of a parsed subcommand
 met_in : {Z : Type 0} (met : Option (Box SubCommand Z)) (name : Text) (rows : List Row) →
     Some name ≡ option_map (λ b. (out-SubCommand (box_value b)).name.now) met →
     Some rows ≡ option_map (λ p. p.1) (subcommand_rows met) → subcommand_rows met ≡ Some (name, rows)

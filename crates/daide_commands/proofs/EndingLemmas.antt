@@ -1,4 +1,4 @@
--- How `show` and `frame` end where their library was not asked, or was asked with what the words say.
+-- The end of `show` and `frame`, without a call of their library, or after a call for the arguments.
 use Rattle.std.proofs.Common.{◌≡◌, ◌⊎◌, ◌<◌, ℕ, true, ltb, lt-ltb, List, [], length, Option, Some, None, IfSome, Err, refl, rules, arith}
 use Rattle.std.specs.Io.KnownBytes.{Keeps, Appends}
 use Rattle.daide_token.specs.Names.{Named}
@@ -18,7 +18,7 @@ appends_nothing : (known : Option (List ℕ)) → Appends known known []
 appends_nothing None = tt
 appends_nothing (Some bytes) = search rules
 
--- what holds of all bytes holds of those that are known
+-- a property of all bytes holds for the known ones
 of_any : (P : List ℕ → Type 0) (known : Option (List ℕ)) → ((bytes : List ℕ) → P bytes) → IfSome known P
 of_any P None h = tt
 of_any P (Some bytes) h = h bytes
@@ -29,7 +29,7 @@ too_long : (asked : ShowRequest) (input : Option (List ℕ)) → IfSome input (�
 too_long asked None h = tt
 too_long asked (Some bytes) h = let e : ltb limit (length bytes) ≡ true = lt-ltb limit (length bytes) h in rw e refl
 
--- a fault of reading is the input's own, or says nothing of it
+-- a fault of reading is the input's own, or independent of it
 pub reading_fault : (asked : ShowRequest) (input : Option (List ℕ)) (fault : ShowFault) →
     (fault ≡ show_faults.TooLong → IfSome input (λ bytes. limit < length bytes)) →
     (fault ≡ show_faults.Read) ⊎ (fault ≡ show_faults.TooLong) ⊎ (fault ≡ show_faults.Memory) →
@@ -41,12 +41,12 @@ reading_fault asked input show_faults.NotOneFrame long one = absurd (grind (arit
 reading_fault asked input show_faults.Memory long one = of_any _ input (λ bytes. tt)
 reading_fault asked input show_faults.Write long one = absurd (grind (arith, one))
 
--- before anything is shown, a fault ends the run with status 1, and leaves the output as it was
+-- before the frame is shown, a fault ends the program with status 1, and leaves the output unchanged
 pub show_refused : (asked : ShowRequest) (input old : Option (List ℕ)) (fault : ShowFault) (status : ℕ) →
     IfSome input (λ bytes. IsFaultAt asked bytes fault) → status ≡ 1 → ShowEnds asked input old old status
 show_refused asked input old fault status h e = (Err fault, (h, λ other. keeps_same old), e)
 
--- the same where memory is refused, of which no input has anything
+-- the same for refused memory, which is independent of the input
 pub show_without_memory : (asked : ShowRequest) (input old : Option (List ℕ)) (status : ℕ) → status ≡ 1 →
     ShowEnds asked input old old status
 show_without_memory asked input old status e =
@@ -57,7 +57,7 @@ some_lines : (known : Option (List ℕ)) → (lines : List (List ℕ)) × AreLin
 some_lines None = ([], tt)
 some_lines (Some text) = (text_lines text, refl)
 
--- where memory is refused before a line is read, no frame is written
+-- if memory is refused before a line is read, no frame is written
 pub frame_without_memory : (added : List Named) (input old : Option (List ℕ)) (status : ℕ) → status ≡ 1 →
     FrameEnds added input old old status
 frame_without_memory added input old status e =

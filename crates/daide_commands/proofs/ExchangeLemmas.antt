@@ -1,4 +1,4 @@
--- Metered ports over two streams move these by their answers.
+-- Ports with a quota over two streams move the bytes of their calls.
 use Rattle.std.proofs.Common.{◌≡◌, ℕ, List, [], ◌∷◌, Option, Some, None, refl, ap, subst, sym}
 use Rattle.std.specs.Prelude.{Contains}
 use Rattle.daide_protocol.specs.Wires.{SessionView}
@@ -18,11 +18,11 @@ use Rattle.daide_commands.specs.Exchanged.{Exchanges}
 use Rattle.daide_commands.proofs.StreamLemmas.{exchanged}
 
 module _ {P S : Type 0} (streams : P → Buffer S × Buffer S) (to_give taken : S → Option (List ℕ)) where
-  -- what one call does to the streams
+  -- the effect of one call on the streams
   abbrev pub MovesOf : P → PortCall → P → Type 0
   MovesOf old answer new = Transfers to_give taken (streams old) answer (streams new)
 
-  -- spent ports are asked nothing, and say that nothing came and nothing went
+  -- a call beyond the quota does not reach the ports inside, and moves no byte
   spent_moves : (answer : PortCall) (old new : Buffer S × Buffer S) → IsSpentAnswer answer → new ≡ old →
       Transfers to_give taken old answer new
   spent_moves TurnBegins old new h e = still_moves to_give taken old new _ (λ one. refl) (λ one. refl) e

@@ -1,4 +1,4 @@
--- Each law of `laws`, used once at a few calls. Each fact takes the law alone, so that a weaker one does not check.
+-- Each law of `laws`, used once at a few calls. Each fact takes only the law, so that a weaker law does not check.
 use Rattle.std.proofs.Common.{◌≡◌, ℕ, ◌+◌, true, false, List, [], ◌∷◌, ◌++◌, Option, ap, ◌∙◌}
 use Rattle.std.specs.Prelude.{Contains}
 use Rattle.std.specs.Io.KnownBytes.{Consumes}
@@ -20,7 +20,7 @@ use Rattle.daide_sockets.specs.Pairing.{Paired, RunSockets, Transits}
 use Rattle.daide_commands.specs.Accepted.{BotsAreCounted}
 use Rattle.daide_commands.specs.Exchanged.{SessionsExchange, ServedSessionsExchange}
 
--- of three accepts two gave a bot
+-- two of three accepts returned a bot
 two_came : {P S : Type 0} (to_give taken : S → Option (List ℕ)) (calls : S → Option (List StreamCall)) →
     BotsAreCounted P to_give taken calls → (pair : P → Paired S) (old new : RunSockets S) → old.came ≡ 0 →
     TransitsBy (Transits to_give taken calls pair) old (Begins ∷ Accepts true ∷ Accepts false ∷ Accepts true ∷ []) new →
@@ -28,7 +28,7 @@ two_came : {P S : Type 0} (to_give taken : S → Option (List ℕ)) (calls : S �
 two_came to_give taken calls law pair old new none goes =
     law pair old new (Begins ∷ Accepts true ∷ Accepts false ∷ Accepts true ∷ []) goes ∙ ap (λ (n : ℕ). n + 2) none
 
--- one byte of the bot is what its stream gave next
+-- one byte heard from the bot is the next byte of its stream
 heard_one : {S : Type 0} (to_give got : S → Option (List ℕ)) → SessionsExchange to_give got → (limits : Limits)
     (first now : Buffer S × Buffer S) (g : SessionView) →
     EvolvesBy (Transfers to_give got) first (Pulled Bot 4 (Got 1) (7 ∷ []) ∷ []) now →
@@ -37,7 +37,7 @@ heard_one : {S : Type 0} (to_give got : S → Option (List ℕ)) → SessionsExc
 heard_one to_give got law limits first now g moves exact none =
     (law limits (Pulled Bot 4 (Got 1) (7 ∷ []) ∷ []) first now g moves exact).heard Bot none
 
--- a session that a run served began with ports that a connect gave
+-- a session that a run served began with ports that a connect delivered
 came_by_a_connect : {P S : Type 0} (transition : P → PortCall → P → Type 0) (streams : P → Buffer S × Buffer S)
     (to_give taken : S → Option (List ℕ)) → ServedSessionsExchange transition streams to_give taken →
     (settings : Settings) (given : P) (now : SessionView × QuotaPortsView P) →

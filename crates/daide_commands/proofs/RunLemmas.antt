@@ -1,4 +1,4 @@
--- How a run ends, by the calls that the loop made of a system over sockets.
+-- The end of a run, by the calls of the loop to a system over sockets.
 use Rattle.std.proofs.Common.{◌≡◌, ℕ, List, [], ◌∷◌, Option, Result, Ok, Err, refl, inl, inr, ap, subst}
 use Rattle.std.specs.Result.{OnOk, IfErr}
 use Rattle.daide_protocol.specs.Ports.{PortCall}
@@ -19,11 +19,11 @@ use Rattle.daide_commands.specs.Running.{no_sockets, RunsBy, RunEnds, TextRuns, 
 
 module _ {P S T : Type 0} (to_give taken : S → Option (List ℕ)) (calls : S → Option (List StreamCall)) (pair : P → Paired S)
     (transition : P → PortCall → P → Type 0) (sockets_of : T → RunSockets S) where
-  -- what one call does to the system
+  -- the effect of one call on the system
   abbrev step : T → SystemCall P → T → Type 0
   step old answer new = Transits to_give taken calls pair (sockets_of old) answer (sockets_of new)
 
-  -- a system that goes on as its sockets do takes them along
+  -- the sockets of a system follow its calls
   sockets_go : (answers : List (SystemCall P)) (old new : T) → TransitsBy step old answers new →
       TransitsBy (Transits to_give taken calls pair) (sockets_of old) answers (sockets_of new)
   sockets_go [] old new e = ap sockets_of e
@@ -54,7 +54,7 @@ module _ {P S T : Type 0} (to_give taken : S → Option (List ℕ)) (calls : S �
 
 module _ {P S : Type 0} (to_give taken : S → Option (List ℕ)) (calls : S → Option (List StreamCall)) (pair : P → Paired S)
     (transition : P → PortCall → P → Type 0) where
-  -- a run that doesn't begin ends with what was written as it was
+  -- a run that does not begin leaves the output unchanged
   pub unbegun : (settings : Settings) (failed : Type 0) (known : Option (List ℕ)) (fault : GatewayFault) →
       IsBeforeServing fault → RunEnds to_give taken calls pair transition settings failed known known (Err (Gateway fault))
   unbegun settings failed known gateway_faults.Listen before = refl
@@ -72,7 +72,7 @@ module _ {P S : Type 0} (to_give taken : S → Option (List ℕ)) (calls : S →
   unrefused settings failed before after X (Err run_faults.Record) ends = λ h. absurd h
   unrefused settings failed before after X (Err (Gateway fault)) ends = λ h. absurd h
 
-  -- if a run ends well, it said that it listens
+  -- a run that ends well has printed `listening`
   pub said : (settings : Settings) (failed : Type 0) (before after : Option (List ℕ))
       (result : Result (Unit {0}) RunFault) → RunEnds to_give taken calls pair transition settings failed before after result →
       OnOk result (Announces failed before after)

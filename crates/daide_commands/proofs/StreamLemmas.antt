@@ -1,4 +1,4 @@
--- Streams along a history of answers.
+-- Streams along a trace of port calls.
 use Rattle.std.proofs.Common.{◌≡◌, ℕ, Bool, true, false, List, [], ◌∷◌, ◌++◌, Option, refl, sym, ap}
 use Rattle.std.proofs.Common.{◌∙◌, subst, append_assoc, append-nil}
 use Rattle.std.specs.Io.KnownBytes.{Consumes, Appends}
@@ -20,9 +20,9 @@ use Rattle.daide_buffered_io.specs.Streams.{stream_of, gave, given, Transfers}
 use Rattle.daide_commands.specs.Exchanged.{Exchanges}
 use Rattle.daide_buffered_io.proofs.BufferLemmas.{same_passes, passes_then}
 
--- ---- the bytes of the events are those that were given
+-- ---- the bytes of the events are the bytes returned
 
--- an event in front of others
+-- an event before others
 event_first : (side : Side) (event : Event) (events more : List Event) →
     bytes_from side (events ++ more) ≡ bytes_from side events ++ bytes_from side more →
     bytes_from side (event ∷ events ++ more) ≡ bytes_from side (event ∷ events) ++ bytes_from side more
@@ -98,7 +98,7 @@ module _ {S : Type 0} (to_give got : S → Option (List ℕ)) where
   nothing_waited limits Bot = refl
   nothing_waited limits Server = refl
 
-  -- where nothing was held at first, the stream gave what was handed out and what is held now
+  -- if the read buffer was empty at first, the stream gave the bytes returned and those in the read buffer now
   heard_of : (old new : Buffer S) (out over : List ℕ) → Passes to_give got old out over new → old.read_buffer ≡ [] →
       Consumes (to_give old.stream) (to_give new.stream) (out ++ new.read_buffer)
   heard_of old new out over h none =

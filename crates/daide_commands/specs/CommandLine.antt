@@ -1,4 +1,4 @@
--- The command line that is understood, as clap's contracts see one, and the order that words give. (own)
+-- The definition of the command line, in the terms of clap's contracts, and the order that arguments give. (own)
 use Rattle.std.specs.Prelude.{◌≡◌, ◌⊎◌, ◌&&◌, ◌==◌, Bool, true, false, if◌then◌else◌, codes}
 use Rattle.std.specs.Prelude.{List, [], ◌∷◌, Option, Some, None, Result, Ok, Err, option_map, unwrap_or, map}
 use Rattle.std.specs.List.{list_any}
@@ -28,7 +28,7 @@ use Rattle.daide_commands.specs.declared.arguments.RunOrder.{RunOrder}
 
 -- ---- the command line
 
--- an option with a value, a flag, and all words that are no options
+-- an option with a value, a flag, and all words that are not options
 abbrev pub option_rule : Text → Rule
 option_rule name = record (new_rule name) { long = Some name; action = Some Set; value_names = 1 }
 
@@ -41,7 +41,7 @@ words_rule name = record (new_rule name) {
   range = Some (record { start_inclusive = 1; end_inclusive = usize_max });
 }
 
--- one word that is no option
+-- one word that is not an option
 abbrev pub word_rule : Text → Bool → Rule
 word_rule name required = record (new_rule name) { action = Some Set; required = required }
 
@@ -64,26 +64,26 @@ abbrev pub run_app : App
 run_app = with_rules (codes "run")
     (flag_rule (codes "verbose") ∷ option_rule (codes "record") ∷ word_rule (codes "SETTINGS") true ∷ [])
 
--- the whole of it, where no word begins as a negative number
+-- the whole command line, if no argument begins as a negative number
 abbrev pub gate_app : App
 gate_app = record {
   top = record (new_shape (codes "daide-gate")) { is_leaf = false; has_version = true };
   subs = show_app.top ∷ check_app.top ∷ frame_app.top ∷ run_app.top ∷ [];
 }
 
--- the subcommands, in the order in which the help has them; `frame` may take negative numbers
+-- the subcommands, in the order of the help; `frame` may take negative numbers
 abbrev pub AreCommands : Bool → List Command → Type 0
 AreCommands negative commands = (list_any (λ command. (out-Command command).has_globals) commands ≡ false)
     × (negative ≡ false → map shape_of commands ≡ gate_app.subs)
 
--- a hyphen, and a digit next
+-- a hyphen, and then a digit
 abbrev pub begins_negative : Text → Bool
 begins_negative (hyphen ∷ digit ∷ rest) = hyphen == 45 && is_digit digit
 begins_negative other = false
 
--- ---- the order that a subcommand gives, by the values of its arguments
+-- ---- the order of a subcommand, by the values of its arguments
 
--- the side that a word names, and the level
+-- the side with this name, and the level with this name
 abbrev pub side_named : Text → Option Side
 side_named word =
     if bytes_eq word (codes "bot") then Some Bot
@@ -105,26 +105,26 @@ level_named word =
 abbrev pub is_set : Text → List Row → Bool
 is_set name rows = option_map_or (λ value. bytes_eq value (codes "true")) (first_of name rows) false
 
--- what `run` asks for
+-- the order of `run`
 abbrev pub IsRunOrder : List Row → RunOrder → Type 0
 IsRunOrder rows order =
     (order.settings.now ≡ unwrap_or (first_of (codes "SETTINGS") rows) [])
     × (order.is_verbose ≡ is_set (codes "verbose") rows)
     × (option_map (λ text. text.now) order.record ≡ first_of (codes "record") rows)
 
--- what `check` asks for; without a file, standard input
+-- the order of `check`; without a file, standard input
 abbrev pub IsCheckOrder : List Row → CheckOrder → Type 0
 IsCheckOrder rows order =
     (order.path.now ≡ unwrap_or (first_of (codes "FILE") rows) (codes "-"))
     × (order.is_explained ≡ is_set (codes "explain") rows)
 
--- what `frame` asks for
+-- the order of `frame`
 abbrev pub IsFrameOrder : List Row → FrameOrder → Type 0
 IsFrameOrder rows order =
     (option_map (λ text. text.now) order.words ≡ first_of (codes "words") rows)
     × (option_map (λ typed. map (λ word. word.now) typed.now) order.typed ≡ all_of (codes "TEXT") rows)
 
--- what `show` asks for, by the side and the level that are named; a bad side is refused before a bad level
+-- the order of `show`, by the named side and level; a bad side is refused before a bad level
 abbrev pub IsShowOrder : Option Side → Option Level → List Row → Order → Type 0
 IsShowOrder None level rows order = order ≡ BadSide
 IsShowOrder (Some side) None rows order = order ≡ BadLevel
@@ -134,7 +134,7 @@ IsShowOrder (Some side) (Some level) rows order = (show : ShowOrder) × (order �
     × (option_map (λ text. text.now) show.words ≡ first_of (codes "words") rows)
     × (option_map (λ typed. map (λ word. word.now) typed.now) show.typed ≡ all_of (codes "HEX") rows)
 
--- the commands; `show` is what is meant by any other name
+-- the subcommands; any other name is `show`
 pub data Subcommand : Type 0 where
   ForRun : Subcommand
   ForCheck : Subcommand
@@ -157,7 +157,7 @@ IsOrderFor ForShow rows order =
     IsShowOrder (side_named (unwrap_or (first_of (codes "side") rows) (codes "bot")))
     (level_named (unwrap_or (first_of (codes "level") rows) (codes "0"))) rows order
 
--- the order of what words gave: the name of a subcommand, and the values of its arguments; without any it is `show`
+-- the order of a parse: the name of a subcommand, and the values of its arguments; without a subcommand it is `show`
 abbrev pub IsOrderOf : Option (Text × List Row) → Order → Type 0
 IsOrderOf None order = order ≡ Show (record {
   side = Bot;
@@ -168,17 +168,17 @@ IsOrderOf None order = order ≡ Show (record {
 })
 IsOrderOf (Some (name, rows)) order = IsOrderFor (subcommand_named name) rows order
 
--- ---- what words give
+-- ---- the parse of arguments
 
--- Words give a subcommand with the values of its arguments, or none; or there is a reason why they give nothing. clap's
--- contracts say which of words none of which begins as a negative number; of others they say nothing.
+-- Arguments parse to a subcommand with the values of its arguments, or to none, or to an error. The contracts of clap
+-- define the result if no argument begins as a negative number; otherwise they say nothing.
 abbrev pub ParsesTo : List Text → Result (Option (Text × List Row)) ErrorKind → Type 0
 ParsesTo words (Ok asked) = list_any begins_negative words ≡ false →
     (fault_of gate_app words ≡ []) × (asked ≡ subcommand_of gate_app words)
 ParsesTo words (Err why) = list_any begins_negative words ≡ false →
     (why ≡ OutOfMemory) ⊎ IsAmong why (fault_of gate_app words)
 
--- the same of what clap returned
+-- the parse from clap's result
 abbrev pub parsed_by : Result ArgMatches Error → Result (Option (Text × List Row)) ErrorKind
 parsed_by (Ok matches) = Ok (subcommand_rows_of matches)
 parsed_by (Err why) = Err (kind_of why)

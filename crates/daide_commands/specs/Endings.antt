@@ -1,4 +1,4 @@
--- How `show`, `check` and `frame` end: the exit status by what their libraries answered, and what was written. (own)
+-- The end of `show`, `check` and `frame`: the exit status by the result of their libraries, and the output. (own)
 use Rattle.std.specs.Prelude.{◌≡◌, ◌≢◌, ◌⊎◌, ℕ, ◌≤◌, ◌==◌, ◌&&◌, Bool, true, false, if◌then◌else◌, codes}
 use Rattle.std.specs.Prelude.{List, [], ◌∷◌, ◌++◌, map, Option, Some, None, IfSome, option_map, Result, Ok, Err}
 use Rattle.std.specs.List.{join_with_byte}
@@ -28,38 +28,38 @@ use Rattle.daide_commands.specs.declared.arguments.ShowOrder.{ShowOrder}
 use Rattle.daide_commands.specs.declared.arguments.CheckOrder.{CheckOrder}
 use Rattle.daide_commands.specs.declared.arguments.FrameOrder.{FrameOrder}
 
--- the words of a command line as one text, if there are any, with a space between each two; else what standard input has
+-- the arguments as one text, if there are any, with a space between each two; otherwise the bytes of standard input
 abbrev pub given_by : Option (List (List ℕ)) → Option (List ℕ) → Option (List ℕ)
 given_by None known = known
 given_by (Some words) known = Some (join_with_byte 32 words)
 
--- the same, with the words as a line
+-- the same, with the arguments as a line
 abbrev pub lines_by : Option (List (List ℕ)) → Option (List ℕ) → Option (List ℕ)
 lines_by None known = known
 lines_by (Some words) known = Some (join_with_byte 32 words ++ 10 ∷ [])
 
 -- ---- `show`
 
--- the status by what `show_input` answered: whether the frame would be relayed, or a fault
+-- the status by the result of `show_input`: whether the frame would be relayed, or a fault
 abbrev pub show_status : Result Bool ShowFault → ℕ
 show_status (Ok true) = 0
 show_status (Ok false) = 3
 show_status (Err fault) = 1
 
--- what an answer says of an input, and of the output before and after
+-- the relation of a result to an input, and to the output before and after
 abbrev pub IsShowAnswer : ShowRequest → Option (List ℕ) → Option (List ℕ) → Option (List ℕ) → Result Bool ShowFault → Type 0
 IsShowAnswer asked input old new (Ok relayed) = IfSome input (λ bytes. Shows asked bytes relayed old new)
 IsShowAnswer asked input old new (Err fault) =
     IfSome input (λ bytes. shown.IsFaultAt asked bytes fault) × (fault ≢ show_faults.Write → Keeps old new)
 
--- the status is that of an answer to this input
+-- the status is that of a result for this input
 abbrev pub ShowEnds : ShowRequest → Option (List ℕ) → Option (List ℕ) → Option (List ℕ) → ℕ → Type 0
 ShowEnds asked input old new status =
     (answer : Result Bool ShowFault) × IsShowAnswer asked input old new answer × (status ≡ show_status answer)
 
 -- ---- `check`
 
--- no message was answered, and there was no fault
+-- no PRN, no HUH and no fault
 abbrev pub is_clean : Summary → Bool
 is_clean counts = counts.prn == 0 && counts.huh == 0 && counts.faults == 0
 
@@ -67,18 +67,18 @@ abbrev pub check_status : Result Summary LogFault → ℕ
 check_status (Ok counts) = if is_clean counts then 0 else 3
 check_status (Err fault) = 1
 
--- with explanations a frame that is not whole is a fault too
+-- with explanations an incomplete frame is a fault too
 abbrev pub explained_status : Result Explained LogFault → ℕ
 explained_status (Ok report) = if is_clean report.counts && report.unfinished == 0 then 0 else 3
 explained_status (Err fault) = 1
 
--- the status is that of the plain report of this log, of which the rest was left
+-- the status is that of the plain report of this log; `rest` is the unread rest of the log
 abbrev pub CheckEnds : Option (List ℕ) → Option (List ℕ) → Option (List ℕ) → Option (List ℕ) → ℕ → Type 0
 CheckEnds log rest old new status =
     (answer : Result Summary LogFault) × IsAnswered plain (silent log) (silent rest) old new answer
     × (status ≡ check_status answer)
 
--- the same of the report with explanations
+-- the same for the report with explanations
 abbrev pub ExplainedEnds : Option (List ℕ) → Option (List ℕ) → Option (List ℕ) → Option (List ℕ) → ℕ → Type 0
 ExplainedEnds log rest old new status =
     (words : List Word) × (answer : Result Explained LogFault)
@@ -94,7 +94,7 @@ abbrev pub frame_status : Result (Unit {0}) TextFault → ℕ
 frame_status (Ok done) = 0
 frame_status (Err fault) = 1
 
--- what an answer says of lines of text, and of the output before and after
+-- the relation of a result to lines of text, and to the output before and after
 abbrev pub IsFrameAnswer : List Named → Option (List ℕ) → Option (List ℕ) → Option (List ℕ) → Result (Unit {0}) TextFault →
     Type 0
 IsFrameAnswer added input old new (Ok done) = Writes added input old new
@@ -106,8 +106,9 @@ FrameEnds added input old new status =
 
 -- ---- an order
 
--- The same of an order, by the bytes of standard input and by those that are left of it. What a file has and what the
--- operating system returns no clause knows: the words of settings are some words, and of a file's log nothing is said.
+-- The same for an order, by the bytes of standard input and by the rest of them that is unread. No clause knows the
+-- contents of a file or the results of the operating system. So the words of settings are any words, and a file's log
+-- is any log.
 
 abbrev pub ShowRuns : ShowOrder → Option (List ℕ) → Option (List ℕ) → Option (List ℕ) → ℕ → Type 0
 ShowRuns order known old new status =
@@ -136,10 +137,10 @@ OrderEnds failed (Run order) known rest old new status = (status ≤ 1) × (stat
 OrderEnds failed BadSide known rest old new status = (status ≡ 2) × (new ≡ old)
 OrderEnds failed BadLevel known rest old new status = (status ≡ 2) × (new ≡ old)
 
--- ---- words that give no order
+-- ---- arguments that give no order
 
--- By the reason that clap returned: want of memory is a fault; help and the version go to the output, which may fail to take
--- them; and with words that are not understood nothing is written there.
+-- The end by the error that clap returned. Refused memory is a fault. Help and version are written to the output, which
+-- may fail. With a usage error nothing is written there.
 pub record UsageEnds (why : ErrorKind) (old new : Option (List ℕ)) (status : ℕ) : Type 0 where
   pub memory : why ≡ OutOfMemory → (status ≡ 1) × (new ≡ old)
   pub shown : (why ≡ DisplayHelp) ⊎ (why ≡ DisplayVersion) → status ≤ 1

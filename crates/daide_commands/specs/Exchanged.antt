@@ -1,4 +1,4 @@
--- What a session exchanges with the two streams behind its ports, and each session of a run with its own.
+-- The bytes that a session exchanges with the two streams of its ports, for one session and for each session of a run.
 use Rattle.std.specs.Prelude.{◌≡◌, ℕ, true, false, List, [], ◌++◌, Option, Contains}
 use Rattle.std.specs.Io.KnownBytes.{Consumes, Appends}
 use Rattle.daide_frame.specs.declared.side.Side.{Side}
@@ -15,12 +15,12 @@ use Rattle.daide_event_loop.specs.Served.{IsServed, run_limits}
 use Rattle.daide_buffered_io.specs.Buffers.{Buffer, Passes}
 use Rattle.daide_buffered_io.specs.Streams.{stream_of, Transfers}
 
--- ---- what a session exchanges with its streams
+-- ---- a session and its streams
 
--- By a history of answers a session that began at two buffered streams stands at two others. The machine went by events
--- whose bytes of each side are those that were handed out of that side's stream, in order; what was handed over for each
--- stream is a front of the machine's answers to these events, and all of them where the session is closed and the wire
--- didn't fail.
+-- By a trace of port calls a session and its two buffered streams went from a first state to the present one. The
+-- machine handled events with the bytes that each side's stream returned, in order. The bytes put to each stream are a
+-- front of the machine's output for these events; they are all of it if the session is closed and the wire did not
+-- fail.
 pub record Exchanges {S : Type 0} (to_give got : S → Option (List ℕ)) (limits : Limits) (history : List PortCall)
     (first : Buffer S × Buffer S) (g : SessionView) (now : Buffer S × Buffer S) : Type 0 where
   pub effects : List Effect
@@ -30,9 +30,9 @@ pub record Exchanges {S : Type 0} (to_give got : S → Option (List ℕ)) (limit
   pub front : (side : Side) → (rest : List ℕ) × (sent_bytes (sent_to side effects) ≡ taken side history ++ rest)
   pub all : is_closed g ≡ true → (side : Side) → has_failed side history ≡ false →
       taken side history ≡ sent_bytes (sent_to side effects)
-  -- Of a stream that began with nothing held: what it gave is what the session heard, and then what is held ahead; what
-  -- it took is a front of the machine's answers, what is held behind comes next, and where nothing is, it took all of them
-  -- once the session is closed and the wire didn't fail.
+  -- For a stream that began with empty buffers: the bytes that it gave are those that the session heard, followed by
+  -- its read buffer. The bytes that it accepted, followed by its write buffer, are a front of the machine's output. If
+  -- that buffer is empty, the session closed and the wire not failed, it accepted the whole output.
   pub heard : (side : Side) → (stream_of first side).read_buffer ≡ [] →
       Consumes (to_give (stream_of first side).stream) (to_give (stream_of now side).stream)
       (bytes_from side (events_of history) ++ (stream_of now side).read_buffer)
@@ -43,18 +43,18 @@ pub record Exchanges {S : Type 0} (to_give got : S → Option (List ℕ)) (limit
       (stream_of first side).write_buffer ≡ [] → (stream_of now side).write_buffer ≡ [] →
       Appends (got (stream_of first side).stream) (got (stream_of now side).stream) (sent_bytes (sent_to side effects))
 
--- A session that is bounded and exact by what ports over two buffered streams answered exchanges with these streams exactly what
--- the machine hears and answers.
+-- A session that is bounded and exact by the trace of ports over two buffered streams exchanges with these streams
+-- exactly the machine's input and output.
 abbrev pub SessionsExchange : {S : Type 0} → (S → Option (List ℕ)) → (S → Option (List ℕ)) → Type 0
 SessionsExchange {S} to_give got =
     (limits : Limits) (history : List PortCall) (first now : Buffer S × Buffer S) (g : SessionView) →
     EvolvesBy (Transfers to_give got) first history now → IsBoundedAndExact limits history g →
     Exchanges to_give got limits history first g now
 
--- ---- what the sessions of a run exchange
+-- ---- the sessions of a run
 
--- A session that a run served, over ports with two buffered streams behind them: since a connect gave its ports, it exchanged
--- with their streams exactly what the machine hears and answers.
+-- A session that a run served, over ports with two buffered streams. Since a connect delivered its ports, it exchanged
+-- with their streams exactly the machine's input and output.
 abbrev pub ServedSessionsExchange : {P S : Type 0} → (P → PortCall → P → Type 0) → (P → Buffer S × Buffer S) →
     (S → Option (List ℕ)) → (S → Option (List ℕ)) → Type 0
 ServedSessionsExchange {P} {S} transition streams to_give taken = (settings : Settings) (answers : List (SystemCall P))

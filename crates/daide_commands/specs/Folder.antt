@@ -1,8 +1,8 @@
--- The files in which the sessions of a run are recorded. (own)
+-- The files with the records of the sessions of a run. (own)
 use Rattle.std.specs.Prelude.{ℕ, ◌-◌, ◌^◌, false, List, [], ◌++◌, Option, Some, None, codes}
 use Rattle.std.specs.Fmt.{decimal, padded_integral, format_spec}
 
--- a number as `{:06}` prints it: in six digits, zeros before it, or in more where it needs more
+-- a number as `{:06}` prints it: in six digits with leading zeros, or in more if it needs more
 abbrev pub six_digits : ℕ → List ℕ
 six_digits n = padded_integral (format_spec 32 0 4 6 (2 ^ 64 - 1)) false [] (decimal n)
 
@@ -10,7 +10,7 @@ six_digits n = padded_integral (format_spec 32 0 4 6 (2 ^ 64 - 1)) false [] (dec
 abbrev pub path_in : List ℕ → ℕ → List ℕ
 path_in folder number = folder ++ (codes "/session-" ++ (six_digits number ++ codes ".log"))
 
--- what a session's file holds; nothing is known where there is none
+-- the contents of a session's file; nothing is known without a file
 abbrev pub file_contents : {F : Type 0} → (F → Option (List ℕ)) → Option F → Option (List ℕ)
 file_contents contents None = None
 file_contents contents (Some file) = contents file

@@ -1,4 +1,4 @@
--- What a gateway's faults say, and what it writes.
+-- The faults of a gateway, and its output.
 use Rattle.std.specs.Prelude.{◌⊎◌, ℕ, List, Option, codes}
 use Rattle.std.specs.Io.KnownBytes.{Appends}
 use Rattle.daide_sockets.specs.declared.bound_sockets.BindError.{BindError}
@@ -6,17 +6,17 @@ use Rattle.daide_sockets.specs.declared.bound_sockets.BindError.TheVariants as B
 use Rattle.daide_commands.specs.declared.gateway.GatewayFault.{GatewayFault}
 use Rattle.daide_commands.specs.declared.gateway.GatewayFault.TheVariants.{Listen, Memory, Serve}
 
--- the fault of a gateway that has no ground to run on
+-- the fault of a gateway that could not bind its sockets
 abbrev pub fault_by : BindError → GatewayFault
 fault_by BindErrors.Listen = Listen
 fault_by BindErrors.Memory = Memory
 
--- a fault that comes before the gateway serves
+-- a fault before the gateway serves
 abbrev pub IsBeforeServing : GatewayFault → Type 0
 IsBeforeServing Listen = Unit {0}
 IsBeforeServing Memory = Unit {0}
 IsBeforeServing (Serve fault) = ⊥
 
--- it said that it listens, and wrote nothing else; or a write failed
+-- `listening` is printed, and nothing else; or a write failed
 abbrev pub Announces : Type 0 → Option (List ℕ) → Option (List ℕ) → Type 0
 Announces failed old new = failed ⊎ Appends old new (codes "listening\n")

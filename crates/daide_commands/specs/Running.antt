@@ -1,4 +1,4 @@
--- What a run serves, from its settings on. (own)
+-- The effect of a run, from its settings on. (own)
 use Rattle.std.specs.Prelude.{◌≡◌, ◌≢◌, ◌⊎◌, ℕ, List, [], Option, Result, Ok, Err}
 use Rattle.toml.specs.Parse.{parse_document}
 use Rattle.daide_protocol.specs.Ports.{PortCall}
@@ -19,24 +19,24 @@ use Rattle.daide_commands.specs.declared.running.RunFault.{RunFault}
 use Rattle.daide_commands.specs.declared.running.RunFault.TheVariants.{Unreadable, Memory, Record, Gateway}
 use Rattle.daide_commands.specs.declared.running.RunFault.TheVariants as run_faults
 
--- sockets to which no bot came, and of which none closes
+-- the sockets of a run with no bot yet, none of which is closing
 abbrev pub no_sockets : {S : Type 0} → RunSockets S
 no_sockets = record { came = 0; arrivals = []; closing = [] }
 
--- The sockets of a run began with none and went on by calls of this kind, as sockets do.
+-- The sockets of a run began with none, and this property holds for the trace of their system calls.
 abbrev pub RunsBy : {P S : Type 0} → (S → Option (List ℕ)) → (S → Option (List ℕ)) →
     (S → Option (List StreamCall)) → (P → Paired S) →
     (List (SystemCall P) → Type 0) → Type 0
 RunsBy {P} {S} to_give taken calls pair Kind = (answers : List (SystemCall P)) × (new : RunSockets S)
     × TransitsBy (Transits to_give taken calls pair) no_sockets answers new × Kind answers
 
--- how a run ends after it served
+-- the result of a run from the result of its loop
 abbrev pub ending_by : Result (Unit {0}) ServeFault → Result (Unit {0}) RunFault
 ending_by (Ok done) = Ok done
 ending_by (Err fault) = Err (Gateway (gateway_faults.Serve fault))
 
--- How a run of settings ends. If all bots were served, it said that it listens, and its calls are a whole run of these
--- settings; if it was given up, they are the calls until then. Before that nothing is written.
+-- The end of a run of settings. If all bots were served, it printed `listening`, and its calls are a whole run of these
+-- settings. If it was given up, they are the calls until then. Before that nothing is written.
 abbrev pub RunEnds : {P S : Type 0} → (S → Option (List ℕ)) → (S → Option (List ℕ)) →
     (S → Option (List StreamCall)) → (P → Paired S) →
     (P → PortCall → P → Type 0) → Settings → Type 0 → Option (List ℕ) → Option (List ℕ) →
@@ -52,7 +52,7 @@ RunEnds to_give taken calls pair transition settings failed old new (Err Unreada
 RunEnds to_give taken calls pair transition settings failed old new (Err Record) = ⊥
 RunEnds to_give taken calls pair transition settings failed old new (Err (run_faults.Settings fault)) = ⊥
 
--- a fault of a text, which is found before anything is opened
+-- a fault of a text, which is found before any socket is opened
 abbrev pub IsOfText : RunFault → Type 0
 IsOfText (run_faults.Settings fault) = Unit {0}
 IsOfText Unreadable = ⊥
@@ -67,7 +67,7 @@ Reads text settings = judged_settings (parse_document text) ≡ Ok (given_of set
 abbrev pub IsRefused : List ℕ → SettingsError → Type 0
 IsRefused text fault = fault ≢ settings_faults.Memory → judged_settings (parse_document text) ≡ Err fault
 
--- How a run of a text ends: as one of its settings, or at once if it has none.
+-- The end of a run of a text: that of a run of its settings, or at once if it has none.
 abbrev pub TextRuns : {P S : Type 0} → (S → Option (List ℕ)) → (S → Option (List ℕ)) →
     (S → Option (List StreamCall)) → (P → Paired S) →
     (P → PortCall → P → Type 0) → List ℕ → Type 0 → Option (List ℕ) → Option (List ℕ) →
@@ -77,8 +77,8 @@ TextRuns to_give taken calls pair transition text failed old new result =
     ⊎ ((settings : Settings) × Reads text settings
     × RunEnds to_give taken calls pair transition settings failed old new result)
 
--- How a run of a file ends, of which no clause says what it has: as one of some settings, or before that, with nothing
--- written.
+-- The end of a run of a file, whose contents no clause knows: that of a run of some settings, or before that, with
+-- nothing written.
 abbrev pub FileRuns : {P S : Type 0} → (S → Option (List ℕ)) → (S → Option (List ℕ)) →
     (S → Option (List StreamCall)) → (P → Paired S) →
     (P → PortCall → P → Type 0) → Type 0 → Option (List ℕ) → Option (List ℕ) → Result (Unit {0}) RunFault → Type 0

@@ -1,4 +1,4 @@
-//! The words of the command line, and what they ask for.
+//! The arguments of the command line, and the order that they give.
 
 ghost use Rattle.std.specs.Prelude.{◌≡◌, IfOk, map, option_map, unwrap_or, codes, false};
 ghost use Rattle.std.specs.List.{list_any};
@@ -15,7 +15,7 @@ use daide_grammar::level::Level;
 use std::alloc::{AllocError, Global};
 use std::convert::AsStr;
 
-/// What the words ask for. Words of one command line are borrowed for `'m`, their texts for `'a`.
+/// The order that the arguments give. The slices of arguments are borrowed for `'m`, their texts for `'a`.
 #[derive(Clone, Copy)]
 pub(crate) enum Order<'m, 'a> {
     /// Show one frame.
@@ -26,28 +26,28 @@ pub(crate) enum Order<'m, 'a> {
     Frame(FrameOrder<'m, 'a>),
     /// Serve.
     Run(RunOrder<'a>),
-    /// `--side` names no side.
+    /// The value of `--side` is not a side.
     BadSide,
-    /// `--level` names no level.
+    /// The value of `--level` is not a level.
     BadLevel,
 }
 
-/// What to show of a frame.
+/// The order to show a frame.
 #[derive(Clone, Copy)]
 pub(crate) struct ShowOrder<'m, 'a> {
-    /// The side whose frame it is.
+    /// The side that sends the frame.
     pub side: Side,
     /// The level at which it is judged.
     pub level: Level,
-    /// The path of the file of settings whose words count, if any.
+    /// The path of the settings with the words of press, if it was given.
     pub words: Option<&'a str>,
     /// Whether the verdict is explained.
     pub is_explained: bool,
-    /// The frame, as words; without any, it is read from standard input.
+    /// The frame, as arguments; `None` if it is read from standard input.
     pub typed: Option<&'m [&'a str]>,
 }
 
-/// How to report a log.
+/// The order to report a log.
 #[derive(Clone, Copy)]
 pub(crate) struct CheckOrder<'a> {
     /// The path of the log, or `-` for standard input.
@@ -56,27 +56,27 @@ pub(crate) struct CheckOrder<'a> {
     pub is_explained: bool,
 }
 
-/// Which messages to make frames of.
+/// The order to write the frames of messages.
 #[derive(Clone, Copy)]
 pub(crate) struct FrameOrder<'m, 'a> {
-    /// The path of the file of settings whose words count, if any.
+    /// The path of the settings with the words of press, if it was given.
     pub words: Option<&'a str>,
-    /// One message, as words; without any, standard input has a message on each line.
+    /// One message, as arguments; `None` if standard input has a message on each line.
     pub typed: Option<&'m [&'a str]>,
 }
 
-/// How to serve.
+/// The order to serve.
 #[derive(Clone, Copy)]
 pub(crate) struct RunOrder<'a> {
     /// The path of the file of settings.
     pub settings: &'a str,
-    /// Whether a line is told where a session begins, and one where it ends.
+    /// Whether the beginning and the end of each session are logged.
     pub is_verbose: bool,
-    /// The folder in which a record of each session is kept, if any is.
+    /// The folder for the records of sessions, if they are kept.
     pub record: Option<&'a str>,
 }
 
-/// What the program does without a command, and its exit statuses.
+/// The help on the default command, and the exit statuses.
 const NOTES: &str = "\
 Without a command it does what 'show' does with its defaults. The options of 'show':
       --side <SIDE>       bot or server [default: bot]
@@ -92,7 +92,7 @@ Exit status:
   2  words that are not understood
   3  the frame is shown, and would not be relayed; the log is reported, and has a PRN, HUH or fault";
 
-/// How the frame is read, examples, and what the exit status says of it.
+/// The help on the input of `show`, with examples and exit statuses.
 const SHOW_NOTES: &str = "\
 The input has at most 200,000 bytes. Spaces, tabs and line ends are dropped wherever they stand.
 The exit status is 0 if the frame would be relayed, and 3 if not; 'daide-gate --help' has all.
@@ -101,7 +101,7 @@ Examples:
   daide-gate show --explain 02 00 00 04 48 03 40 00
   daide-gate show --level 10 < examples/peace-proposal.hex";
 
-/// What a log is, examples, and what the exit status says of it.
+/// The help on the logs of `check`, with examples and exit statuses.
 const CHECK_NOTES: &str = "\
 A log's first line is 'daide-log 1', its second 'config LEVEL BODY DEPTH'; each further one is 'bot HEX',
 'server HEX', 'end bot', 'end server' or 'timer', or is empty, or begins with '#'. The log of a match begins with
@@ -113,7 +113,7 @@ Examples:
   daide-gate check examples/match.log
   daide-gate check --explain examples/whole-match.log";
 
-/// What a message is, examples, and what the exit status says of it.
+/// The help on the messages of `frame`, with examples and exit statuses.
 const FRAME_NOTES: &str = "\
 A message is written as 'show' prints it: names, numbers, quoted text, #hhhh and brackets, with blanks between.
 Each frame is one line of hexadecimal digits, which 'daide-gate show' reads.
@@ -123,7 +123,7 @@ Examples:
   daide-gate frame \"NME ('a') ('1')\"
   echo 'GOF' | daide-gate frame | daide-gate show";
 
-/// What a run prints, examples, and what its exit status says of it.
+/// The help on the output of `run`, with examples and exit statuses.
 const RUN_NOTES: &str = "\
 It prints 'listening' once bots may come. What ends no run, as a server that can't be reached, is told in a
 line on standard error. With '--record' the folder gets a log of each session, session-000001.log and so on,
@@ -134,7 +134,7 @@ Examples:
   daide-gate run examples/settings.toml
   daide-gate run --verbose --record . examples/tournament.toml";
 
-/// Returns an option that takes any one word, so that a wrong one is refused in the program's own words.
+/// Returns an option that takes any value, so that the program reports a wrong one itself.
 fn option<'a>(alloc: Global, name: &'a str, value: &'a str, help: &'a str) -> Arg<'a>
     ensures rule { rule_of result ≡ option_rule name.entry.now }
     ensures local { result.global ≡ false }
@@ -157,7 +157,7 @@ fn flag<'a>(alloc: Global, name: &'a str, help: &'a str) -> Arg<'a>
         .help(help)
 }
 
-/// Returns an argument that takes all words that are no options.
+/// Returns an argument that takes all words that are not options.
 fn all_words<'a>(alloc: Global, name: &'a str, help: &'a str) -> Arg<'a>
     ensures rule { rule_of result ≡ words_rule name.entry.now }
     ensures local { result.global ≡ false }
@@ -209,7 +209,7 @@ fn check_command<'a>(alloc: Global) -> Result<Command<'a>, AllocError>
         .args(words_taken)
 }
 
-/// Returns the command `frame`, whose words may be negative numbers where it `takes_negative`.
+/// Returns the command `frame`. Its arguments may be negative numbers if it `takes_negative`.
 fn frame_command<'a>(alloc: Global, takes_negative: bool) -> Result<Command<'a>, AllocError>
     ensures app { takes_negative ≡ false → IfOk result (λ command. app_of command ≡ frame_app) }
     ensures local { IfOk result (λ command. (out-Command command).has_globals ≡ false) }
@@ -248,7 +248,7 @@ fn run_command<'a>(alloc: Global) -> Result<Command<'a>, AllocError>
         .args(words_taken)
 }
 
-/// Returns the commands, in the order in which the help has them.
+/// Returns the commands, in the order of the help.
 fn subcommands<'a>(alloc: Global, takes_negative: bool) -> Result<Vec<Command<'a>>, AllocError>
     ensures { IfOk result (λ commands. AreCommands takes_negative commands.items) }
 {
@@ -274,7 +274,7 @@ pub(crate) fn command<'a>(alloc: Global, takes_negative: bool) -> Result<Command
         .subcommands(subcommands)
 }
 
-/// Returns the side that a word names.
+/// Returns the side with this name.
 fn side_of(word: &str) -> Option<Side>
     ensures { result ≡ side_named word.now }
 {
@@ -285,7 +285,7 @@ fn side_of(word: &str) -> Option<Side>
     }
 }
 
-/// Returns the level that a word names, in decimal digits.
+/// Returns the level with this name, in decimal digits.
 fn level_named(word: &str) -> Option<Level>
     ensures { result ≡ level_named word.now }
 {
@@ -311,7 +311,7 @@ pub(crate) fn parse<'a, S: AsStr>(alloc: Global, words: &'a [S]) -> Result<ArgMa
     command.try_get_matches_from(words)
 }
 
-/// Returns whether a flag was given.
+/// Returns true if a flag was given.
 fn is_given(matches: &ArgMatches<'_>, name: &str) -> bool
     ensures { result ≡ is_set name.now (rows_of (found_of matches.now)) }
 {
@@ -328,7 +328,7 @@ fn value_of<'a>(matches: &ArgMatches<'a>, name: &str) -> Option<&'a str>
     matches.get_str(name)
 }
 
-/// Returns the values that words have, if there are any.
+/// Returns the values of an argument, if there are any.
 fn values_of<'m, 'a>(matches: &'m ArgMatches<'a>, name: &str) -> Option<&'m [&'a str]>
     ensures { option_map (λ typed. map (λ word. word.now) typed.now) result
         ≡ all_of name.now (rows_of (found_of matches.now)) }
@@ -336,14 +336,14 @@ fn values_of<'m, 'a>(matches: &'m ArgMatches<'a>, name: &str) -> Option<&'m [&'a
     matches.get_strs(name)
 }
 
-/// Returns whether a word begins as a negative number.
+/// Returns true if an argument begins as a negative number.
 fn begins_negative(word: &str) -> bool
     ensures { result ≡ begins_negative word.now }
 {
     matches!(word.as_bytes(), [b'-', b'0'..=b'9', ..])
 }
 
-/// Returns whether any of the words begins as a negative number.
+/// Returns true if any of the arguments begins as a negative number.
 pub(crate) fn has_negative<S: AsStr>(words: &[S]) -> bool
     ensures { result ≡ list_any begins_negative (map S.text words.now) }
 {
@@ -357,7 +357,7 @@ pub(crate) fn has_negative<S: AsStr>(words: &[S]) -> bool
     false
 }
 
-/// Returns what the words of `run` ask for.
+/// Returns the order of `run`.
 fn run_order<'a>(run: &ArgMatches<'a>) -> RunOrder<'a>
     ensures { IsRunOrder (rows_of (found_of run.now)) result }
 {
@@ -368,7 +368,7 @@ fn run_order<'a>(run: &ArgMatches<'a>) -> RunOrder<'a>
     }
 }
 
-/// Returns what the words of `check` ask for.
+/// Returns the order of `check`.
 fn check_order<'a>(check: &ArgMatches<'a>) -> CheckOrder<'a>
     ensures { IsCheckOrder (rows_of (found_of check.now)) result }
 {
@@ -378,7 +378,7 @@ fn check_order<'a>(check: &ArgMatches<'a>) -> CheckOrder<'a>
     }
 }
 
-/// Returns what the words of `frame` ask for.
+/// Returns the order of `frame`.
 fn frame_order<'m, 'a>(frame: &'m ArgMatches<'a>) -> FrameOrder<'m, 'a>
     ensures { IsFrameOrder (rows_of (found_of frame.now)) result }
 {
@@ -388,7 +388,7 @@ fn frame_order<'m, 'a>(frame: &'m ArgMatches<'a>) -> FrameOrder<'m, 'a>
     }
 }
 
-/// Returns what the words of `show` ask for. A bad side is refused before a bad level.
+/// Returns the order of `show`. A bad side is refused before a bad level.
 fn show_order<'m, 'a>(show: &'m ArgMatches<'a>) -> Order<'m, 'a>
     ensures { IsShowOrder (side_named (unwrap_or (first_of (codes "side") (rows_of (found_of show.now))) (codes "bot")))
         (level_named (unwrap_or (first_of (codes "level") (rows_of (found_of show.now))) (codes "0")))
@@ -409,7 +409,7 @@ fn show_order<'m, 'a>(show: &'m ArgMatches<'a>) -> Order<'m, 'a>
     })
 }
 
-/// Returns what the words of a command of this name ask for.
+/// Returns the order of the command with this name.
 fn order_for<'m, 'a>(name: &str, given: &'m ArgMatches<'a>) -> Order<'m, 'a>
     ensures { IsOrderFor (subcommand_named name.now) (rows_of (found_of given.now)) result }
 {

@@ -12,7 +12,7 @@ use std::io::{Read, Write};
 use std::rt::Files;
 use std::{fs, io};
 
-/// Returns whether a report counts no message that was answered and no fault.
+/// Returns true if a report counts no PRN, no HUH and no fault.
 fn is_clean(counts: Summary) -> bool
     ensures { result ≡ is_clean counts }
 {
@@ -30,7 +30,7 @@ fn end_check<E: Write>(answer: Result<Summary, LogFault>, errors: &mut E) -> io:
     }
 }
 
-/// Does the same for a report with explanations, in which a frame that is not whole is a fault too.
+/// Does the same for a report with explanations, in which an incomplete frame is a fault too.
 fn end_explained<E: Write>(answer: Result<Explained, LogFault>, errors: &mut E) -> io::Result<u8>
     ensures { IfOk result (λ status. status ≡ explained_status answer) }
 {
@@ -41,7 +41,7 @@ fn end_explained<E: Write>(answer: Result<Explained, LogFault>, errors: &mut E) 
     }
 }
 
-/// Reports the log that a reader has.
+/// Writes the report of the log in a reader.
 fn check_read<A: Allocator + Copy, I: Read, O: Write, E: Write>(
     alloc: A,
     is_explained: bool,
@@ -60,7 +60,7 @@ fn check_read<A: Allocator + Copy, I: Read, O: Write, E: Write>(
     end_check(answer, errors)
 }
 
-/// Reports the log at a path, or that of standard input. What a file has no contract says.
+/// Writes the report of the log at a path, or of standard input. No contract is about the contents of a file.
 pub(crate) fn run_check<R: AllocGlobal + Files, I: Read, O: Write, E: Write>(
     rt: &R,
     order: CheckOrder<'_>,

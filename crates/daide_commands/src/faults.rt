@@ -1,4 +1,4 @@
-//! The one line that tells a fault, and the exit statuses.
+//! The line that reports a fault, and the exit statuses.
 
 ghost use Rattle.std.specs.Prelude.{◌≡◌, IfOk};
 
@@ -6,20 +6,20 @@ use std::fmt::Display;
 use std::io;
 use std::io::Write;
 
-/// The status of a run that did what was asked.
+/// The status of success.
 pub const CLEAN: u8 = 0;
 
-/// The status of a run that a fault ended.
+/// The status after a fault.
 pub const FAULT: u8 = 1;
 
-/// The status of a run whose words are not understood.
+/// The status of a command line that is not understood.
 pub const USAGE: u8 = 2;
 
-/// The status of a run that shows a message which would not be relayed, or a frame at fault, and of one that reports a
-/// log with either.
+/// The status if the shown frame is at fault or its message would not be relayed, or if the reported log has a PRN, HUH
+/// or fault.
 pub const NOT_RELAYED: u8 = 3;
 
-/// Tells a fault in one line, and gives back the status that it ends the run with.
+/// Reports a fault in one line on standard error. Returns the given status.
 pub(crate) fn tell<E: Write>(
     errors: &mut E,
     fault: impl Display + Drop,

@@ -1,7 +1,7 @@
 //! A folder with a record of each session: a log that `check` reads.
 //!
-//! Whether there is a file of a name, whether one can be made, and what a file keeps of what is written to it are the
-//! system's to say.
+//! The operating system decides whether a file exists, whether one can be created, and which written bytes it keeps. No
+//! contract is about that.
 
 ghost use Rattle.std.specs.Prelude.{◌≡◌, ◌⊎◌, ℕ, List, Option, IfOk, IfErr, IfSome, string_bytes};
 ghost use Rattle.std.specs.Io.KnownBytes.{append_known};
@@ -21,16 +21,16 @@ use std::io::{ErrorKind, Write};
 use std::rt::Files;
 use thiserror::Error;
 
-/// What is wrong of a session's record, by its number. The session goes on.
+/// Why a session has no complete record, with its number. The session goes on.
 #[derive(Clone, Copy, Debug, PartialEq, Eq, Error)]
 pub enum RecordNotice {
-    /// A file of its name is there already, and is not written over.
+    /// A file with its name exists already, and is not overwritten.
     #[error("session {0} is not recorded: its file is there already")]
     IsThere(u32),
-    /// Its file can't be made.
+    /// Its file could not be created.
     #[error("session {0} is not recorded: its file could not be made")]
     Unmade(u32),
-    /// Its file took no more, as where the disk is full.
+    /// Its file accepted no more bytes, for example because the disk is full.
     #[error("record of session {0} broke off: it could not be written")]
     Unwritten(u32),
     /// It has as many lines as a log may have.
@@ -38,8 +38,7 @@ pub enum RecordNotice {
     Full(u32),
 }
 
-/// The file of a session's record; none where there isn't one, so that each write fails. It holds what was written to it,
-/// as its file tells.
+/// The file of a session's record. Without a file, each write fails. Its contents are those of the file.
 #[derive(Drop)]
 pub(crate) struct SessionFile<F: Drop> {
     number: u32,
@@ -66,12 +65,12 @@ impl<F: Write + Drop> Write for SessionFile<F> {
     }
 }
 
-/// Tells what is wrong of a record. Where nobody reads it the run goes on.
+/// Reports a notice on standard error. The run goes on if the line cannot be written.
 fn tell<E: Write>(errors: &mut E, notice: RecordNotice) {
     let _ = writeln!(errors, "daide-gate: {notice}");
 }
 
-/// A folder, and what stands at the head of each record in it.
+/// A folder, with the configuration and the words that head each record in it.
 #[derive(Drop)]
 pub(crate) struct Folder<'a, R: Files> {
     rt: &'a R,
@@ -80,7 +79,7 @@ pub(crate) struct Folder<'a, R: Files> {
     words: Words,
 }
 
-/// The file of the session of this number in a folder.
+/// Returns the path of a session's file in a folder.
 fn path_of(alloc: Global, folder: &str, number: u32) -> Result<String, AllocError>
     ensures { IfOk result (λ path. string_bytes path ≡ path_in folder.now number) }
 {
@@ -88,8 +87,8 @@ fn path_of(alloc: Global, folder: &str, number: u32) -> Result<String, AllocErro
 }
 
 impl<'a, R: AllocGlobal + Files> Folder<'a, R> {
-    /// A folder in which records of sessions with these settings are kept; none where no file can be made in it, which
-    /// is tried by one that is removed at once. No session has its number. An empty word names no folder.
+    /// Opens a folder for the records of sessions with these settings. Returns `None` if the path is empty, or if no
+    /// file can be created in it. To test that, a file with the number 0, which no session has, is created and removed.
     pub(crate) fn at(rt: &'a R, path: &'a str, settings: &Settings) -> Option<Folder<'a, R>>
         ensures { IfSome result (λ folder. (folder.config ≡ settings.now.config) × (folder.words ≡ settings.now.words)) }
     {
@@ -108,7 +107,7 @@ impl<'a, R: AllocGlobal + Files> Folder<'a, R> {
         Some(folder)
     }
 
-    /// Makes a file, which must not be there.
+    /// Creates a file, which must not exist yet.
     fn make(&self, name: &str) -> io::Result<R::File> {
         OpenOptions::new()
             .write(true)
@@ -116,7 +115,7 @@ impl<'a, R: AllocGlobal + Files> Folder<'a, R> {
             .open(self.rt, name)
     }
 
-    /// The file of a session's record, or why there is none.
+    /// Creates the file of a session's record, or returns why there is none.
     fn file_of(&self, number: u32) -> Result<R::File, RecordNotice>
         ensures { IfErr result (λ notice. (notice ≡ RecordNotice.IsThere number) ⊎ (notice ≡ RecordNotice.Unmade number)) }
     {
@@ -130,8 +129,8 @@ impl<'a, R: AllocGlobal + Files> Folder<'a, R> {
             })
     }
 
-    /// The ports of a session of this number, recorded from here on: the record has its head, for these settings, behind
-    /// whatever its file has, and is whole so far. What is wrong of its file is told.
+    /// Starts the record of the session with this number, and returns its ports with the record. The head for these
+    /// settings is appended to the file, and the record is whole so far. Reports a failure to create the file.
     pub(crate) fn begin<P: Ports, E: Write>(
         &self,
         number: u32,
@@ -159,7 +158,7 @@ impl<'a, R: AllocGlobal + Files> Folder<'a, R> {
     }
 }
 
-/// Ends a session's record: it is whole from here on, or what is wrong of it is told. Hands back the ports.
+/// Ends a session's record. Reports why it is not whole, if so. Returns the ports.
 pub(crate) fn end<P: Ports, F: Write + Drop, E: Write>(
     recorded: Recording<P, SessionFile<F>>,
     errors: &mut E,
@@ -168,7 +167,7 @@ pub(crate) fn end<P: Ports, F: Write + Drop, E: Write>(
 {
     let (ports, record) = recorded.into_parts();
     let (file, end) = record.finish();
-    // Of one without a file it was told at its beginning.
+    // A missing file was reported at the beginning.
     if file.file.is_some() {
         match end {
             RecordEnd::Whole => {}

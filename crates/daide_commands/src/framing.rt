@@ -1,4 +1,4 @@
-//! `frame`: the frames of messages, from the words of the command line or from standard input.
+//! `frame`: the frames of messages, from arguments or from standard input.
 
 ghost use Rattle.std.specs.Prelude.{◌≡◌, ◌≤◌, ◌++◌, ◌∷◌, [], Some, map, IfOk};
 ghost use Rattle.std.specs.List.{join_with_byte};
@@ -27,7 +27,7 @@ fn end_frame<E: Write>(answer: Result<(), TextFault>, errors: &mut E) -> io::Res
     }
 }
 
-/// Writes the frames of the messages that a reader has, one a line.
+/// Writes the frames of the messages in a reader, one a line.
 fn frame_read<A: Allocator + Copy, I: Read, O: Write, E: Write>(
     alloc: A,
     words: &Words,
@@ -42,7 +42,7 @@ fn frame_read<A: Allocator + Copy, I: Read, O: Write, E: Write>(
     end_frame(answer, errors)
 }
 
-/// Writes the frame of the message that words have. A line feed within a word ends a message.
+/// Writes the frame of the message in the arguments. A line feed within an argument ends a message.
 fn frame_words<A: Allocator + Copy, O: Write, E: Write>(
     alloc: A,
     words: &Words,
@@ -61,7 +61,7 @@ fn frame_words<A: Allocator + Copy, O: Write, E: Write>(
     frame_read(alloc, words, &mut input, output, errors)
 }
 
-/// Returns words as a line.
+/// Returns the arguments as a line.
 fn line_of<A: Allocator>(alloc: A, words: &[&str]) -> Result<Vec<u8, A>, AllocError>
     ensures { IfOk result (λ line. line.items ≡ join_with_byte 32 (map (λ word. word.now) words.now) ++ 10 ∷ []) }
 {

@@ -17,13 +17,13 @@ use std::net::Net;
 use std::rt::Clock;
 use thiserror::Error;
 
-/// Why a gateway doesn't begin, or ends early.
+/// Why a gateway does not begin, or ends early.
 #[derive(Clone, Copy, Debug, PartialEq, Eq, Error)]
 pub enum GatewayFault {
-    /// The address can't be listened on, or the system has no descriptor for the table of sockets.
+    /// The address cannot be bound, or the system has no descriptor for the table of sockets.
     #[error("cannot listen")]
     Listen,
-    /// The memory of the server's addresses, the table or the sockets was refused, or the listener can't be followed.
+    /// The allocator refused the server's addresses or the table of sockets.
     #[error("out of memory")]
     Memory,
     /// The run ended before all its bots were served.
@@ -31,7 +31,7 @@ pub enum GatewayFault {
     Serve(ServeFault),
 }
 
-/// The fault of a gateway that has no ground to run on.
+/// Converts an error of the sockets to a fault of the gateway.
 fn fault_of(fault: BindError) -> GatewayFault
     ensures before { IsBeforeServing result }
     ensures cause { result ≡ fault_by fault }
@@ -42,7 +42,7 @@ fn fault_of(fault: BindError) -> GatewayFault
     }
 }
 
-/// Listens at the address of settings, and looks up the server's: what a run stands on. Nobody is served yet.
+/// Binds the address of the settings, resolves the server's, and creates the table of sockets. Serves no bot yet.
 pub fn bind<'r, R: AllocGlobal + Clock + Net>(
     rt: &'r R,
     settings: &Settings,
@@ -52,7 +52,7 @@ pub fn bind<'r, R: AllocGlobal + Clock + Net>(
     bind_sockets(rt, settings).map_err(fault_of)
 }
 
-/// Says that it listens. Where nobody reads it the run goes on.
+/// Prints `listening`. The run goes on if it cannot be written.
 fn announce<O: Sink>(output: &mut O)
     ensures { Announces (HasFailed O.Fails) (O.contents output.old) (O.contents output.new) }
 {

@@ -1,23 +1,23 @@
-//! Hints for words that a command doesn't take.
+//! Hints for arguments that a command does not take.
 
 use clap::error::ErrorKind;
 use std::convert::AsStr;
 use std::io::Write;
 use thiserror::Error;
 
-/// What the user may have wanted to do.
+/// The command that the user may have meant.
 #[derive(Clone, Copy, Debug, PartialEq, Eq, Error)]
 pub(crate) enum Hint {
-    /// The words are a message's text.
+    /// The arguments are the text of a message.
     #[error("'daide-gate frame' writes the frame of a message that is given as text")]
     Frame,
-    /// The words are a frame's digits.
+    /// The arguments are the digits of a frame.
     #[error("'daide-gate show' shows a frame that is given as hexadecimal digits")]
     Show,
-    /// The word is the path of a file.
+    /// The argument is the path of a file.
     #[error("'daide-gate check' reports a log")]
     Check,
-    /// The words are the paths of several files.
+    /// The arguments are the paths of several files.
     #[error("'daide-gate check' reports one log at a time")]
     OneLog,
     /// The settings are missing.
@@ -25,7 +25,7 @@ pub(crate) enum Hint {
     Settings,
 }
 
-/// Returns whether a word is a name of the protocol, alone or at the start of a message.
+/// Returns true if an argument is a name of the protocol, alone or at the start of a message.
 fn is_named(word: &[u8]) -> bool {
     let Some(name) = word.get(..3) else {
         return false;
@@ -34,7 +34,7 @@ fn is_named(word: &[u8]) -> bool {
         && matches!(word.get(3), None | Some(b' ' | b'('))
 }
 
-/// Returns the hint for a word that is no command, if its form says what it is.
+/// Returns the hint for an argument that is not a command, by its form.
 pub(crate) fn hint_of(word: &str) -> Option<Hint> {
     let bytes = word.as_bytes();
     if bytes.is_empty() {
@@ -52,7 +52,7 @@ pub(crate) fn hint_of(word: &str) -> Option<Hint> {
     None
 }
 
-/// Returns whether the words after `check` name two files before any option that there isn't.
+/// Returns true if the arguments after `check` have two files before any unknown option.
 fn has_two_logs<S: AsStr>(words: &[S]) -> bool {
     let mut logs = 0u32;
     for word in words {
@@ -65,7 +65,7 @@ fn has_two_logs<S: AsStr>(words: &[S]) -> bool {
     logs >= 2
 }
 
-/// Returns the hint for words with a fault of usage, if there is one. The first word is the program's name.
+/// Returns the hint for arguments with a usage error, if there is one. The first argument is the program's name.
 pub(crate) fn usage_hint<S: AsStr>(kind: ErrorKind, words: &[S]) -> Option<Hint> {
     let (first, rest) = words.get(1..)?.split_first()?;
     match (kind, first.as_str()) {
@@ -76,7 +76,7 @@ pub(crate) fn usage_hint<S: AsStr>(kind: ErrorKind, words: &[S]) -> Option<Hint>
     }
 }
 
-/// Writes a hint, if there is one. One that can't be written changes nothing.
+/// Writes a hint, if there is one. A failure to write it has no effect.
 pub(crate) fn suggest<E: Write>(hint: Option<Hint>, errors: &mut E) {
     if let Some(hint) = hint {
         let _ = writeln!(errors, "  tip: {hint}");

@@ -1,10 +1,11 @@
-//! What `daide-gate` does with the words of its command line, over any streams.
+//! The commands of `daide-gate`, over any streams.
 //!
-//! `arguments` says what the words ask for, `hints` what else they may mean, `program` does it: by `showing`, `checking`
-//! and `framing`, which take the input from words (`typed`), a file or a reader, or by `running`. `gateway` is the gateway over sockets at the addresses of
-//! settings, with its laws, `text` reads a text that has a bound, `running` reads settings and runs the gateway, `folder`
-//! has the records of sessions, `recorded` is a run that keeps them, `faults` has the line that tells a fault and the exit
-//! statuses, and `terminal` is a standard input that a person may be typing.
+//! `arguments` parses the command line into an order, `hints` suggests another command for arguments that do not parse,
+//! and `program` carries out the order. `showing`, `checking` and `framing` take their input from the arguments
+//! (`typed`), a file or a reader. `running` reads the settings and runs the gateway; `gateway` is the gateway over
+//! sockets, with its laws. `text` reads a text of bounded length. `folder` has the records of sessions, and `recorded`
+//! is a run that keeps them. `faults` has the line that reports a fault and the exit statuses, and `terminal` is a
+//! standard input with a prompt.
 #![tactic(auto)]
 
 mod arguments;

@@ -1,4 +1,4 @@
-//! What the program does, over any streams.
+//! The program, over any streams.
 
 ghost use Rattle.std.specs.Prelude.{◌≡◌, ◌≤◌, IfOk, map};
 ghost use Rattle.clap.specs.Values.{kind_of};
@@ -21,7 +21,7 @@ use std::io::{Read, Write};
 use std::net::Net;
 use std::rt::{Clock, Files};
 
-/// Writes the help that was asked for, or what is wrong with the words. Returns the status.
+/// Writes the requested help, or the usage error. Returns the status.
 fn report_usage<S: AsStr, O: Write, E: Write>(
     why: Error,
     words: &[S],

@@ -1,5 +1,5 @@
-//! A run of which each session is recorded in a folder: the system of its sockets, with a record round each session's
-//! ports. A run without one has the sockets' own system and nothing of this.
+//! A run that records each session in a folder: the system of its sockets, with a record around the ports of each
+//! session. A run without records uses the sockets' own system, and nothing of this.
 
 ghost use Rattle.std.specs.Prelude.{◌≡◌, ◌⊎◌, ℕ, []};
 ghost use Rattle.daide_sockets.specs.Lingering.{GoOnFor};
@@ -24,7 +24,7 @@ pub(crate) struct RecordedSockets<'w, 'f, R: AllocGlobal + Clock + Net + Files, 
 }
 
 impl<R: AllocGlobal + Clock + Net + Files, E: Write + Drop> RecordedSockets<'_, '_, R, E> {
-    /// Waits until the last sockets are closed: what closes goes on by rounds.
+    /// Waits until the last sockets are closed. The closing sockets are advanced by rounds.
     pub(crate) fn finish(&mut self)
         ensures { (rounds : ℕ) × GoOnFor ⟦<Connection as Duplex>⟧.to_give ⟦<Connection as Duplex>⟧.taken
             ⟦<Connection as Duplex>⟧.calls rounds self.old.sockets.closings self.new.sockets.closings

@@ -1,4 +1,4 @@
-//! `run`: the settings of a file, and the gateway at work until all its bots were served.
+//! `run`: reads the settings of a file, and runs the gateway until all its bots were served.
 
 ghost use Rattle.std.specs.Prelude.{◌≡◌, ◌≤◌, None, [], IfOk, IfErr, OnOk, IfSome, IsOkAnd, string_bytes};
 ghost use Rattle.daide_log.specs.Recording.{HasFailed};
@@ -28,27 +28,27 @@ use std::rt::{Clock, Files};
 use std::{fs, io};
 use thiserror::Error;
 
-/// Why a run doesn't begin, or ends early.
+/// Why a run does not begin, or ends early.
 #[derive(Clone, Copy, Debug, PartialEq, Eq, Error)]
 pub enum RunFault {
-    /// The file can't be read, is too long, or is not UTF-8.
+    /// The file cannot be read, is too long, or is not UTF-8.
     #[error("settings could not be read")]
     Unreadable,
-    /// The text of the file gives no settings.
+    /// The text of the file has no settings.
     #[error("{0}")]
     Settings(SettingsError),
-    /// The memory of the file's text was refused.
+    /// The allocator refused the file's text or the sockets, or the listener cannot be registered.
     #[error("out of memory")]
     Memory,
-    /// No file can be made in the folder of the records.
+    /// No file can be created in the folder of the records.
     #[error("record could not be written")]
     Record,
-    /// The gateway of the settings doesn't begin, or ends early.
+    /// The gateway does not begin, or ends early.
     #[error("{0}")]
     Gateway(GatewayFault),
 }
 
-/// The text of settings that a stream has.
+/// Reads the text of settings from a stream.
 pub fn text_of<A: Allocator, I: Read>(alloc: A, input: &mut I) -> Result<String<A>, RunFault>
     ensures { IfOk result (λ text. IfSome (I.remaining input.old) (λ all. string_bytes text ≡ all)) }
 {
@@ -58,13 +58,13 @@ pub fn text_of<A: Allocator, I: Read>(alloc: A, input: &mut I) -> Result<String<
     })
 }
 
-/// The text of a file of settings.
+/// Reads the text of a file of settings.
 fn text_at<R: AllocGlobal + Files>(rt: &R, path: &str) -> Result<String, RunFault> {
     let mut file = fs::open(rt, path).map_err(|_| RunFault::Unreadable)?;
     text_of(rt.alloc(), &mut file)
 }
 
-/// The settings of a file.
+/// Reads the settings of a file.
 pub(crate) fn settings_at<R: AllocGlobal + Files>(
     rt: &R,
     path: &str,
@@ -73,7 +73,7 @@ pub(crate) fn settings_at<R: AllocGlobal + Files>(
     read_settings(rt.alloc(), text.as_str()).map_err(RunFault::Settings)
 }
 
-/// Returns the words of the settings at a path; without a path there are none.
+/// Returns the words of the settings at a path; without a path, no words.
 pub(crate) fn words_at<R: AllocGlobal + Files>(
     rt: &R,
     path: Option<&str>,
@@ -86,7 +86,7 @@ pub(crate) fn words_at<R: AllocGlobal + Files>(
     }
 }
 
-/// Returns how a run ended after it served.
+/// Returns the result of a run from the result of its loop.
 fn ending_of(served: Result<(), ServeFault>) -> Result<(), RunFault>
     ensures { result ≡ ending_by served }
 {
@@ -96,8 +96,8 @@ fn ending_of(served: Result<(), ServeFault>) -> Result<(), RunFault>
     }
 }
 
-/// Serves over sockets at the addresses of settings, and waits until the last of them are closed. It tells of its sessions
-/// where it `is_verbose`.
+/// Serves over sockets at the addresses of the settings, and waits until the last sockets are closed. Logs its sessions
+/// if it `is_verbose`.
 fn serve_sockets<R: AllocGlobal + Clock + Net, O: Sink, E: Write>(
     rt: &R,
     settings: &Settings,
@@ -158,7 +158,7 @@ pub fn run_text<R: AllocGlobal + Clock + Net, O: Sink, E: Write>(
     }
 }
 
-/// Serves over sockets at the addresses of settings, and keeps a record of each session in a folder.
+/// Serves over sockets at the addresses of the settings, and keeps a record of each session in a folder.
 fn serve_recorded<'r, R: AllocGlobal + Files + Clock + Net, O: Sink, E: Write>(
     rt: &'r R,
     settings: &Settings,
@@ -217,7 +217,7 @@ fn run_recorded<'r, R: AllocGlobal + Files + Clock + Net, O: Sink, E: Write>(
     serve_recorded(rt, &settings, (is_verbose, &folder), output, errors)
 }
 
-/// Serves as it is ordered.
+/// Carries out the order to serve.
 fn run_ordered<R: AllocGlobal + Files + Clock + Net, O: Sink, E: Write>(
     rt: &R,
     order: RunOrder<'_>,
@@ -234,8 +234,8 @@ fn run_ordered<R: AllocGlobal + Files + Clock + Net, O: Sink, E: Write>(
     run_text(rt, text.as_str(), order.is_verbose, output, errors)
 }
 
-/// Reads the settings of a file, listens, says so, and serves until all bots were served. Only a fault that could
-/// not be told is an error.
+/// Reads the settings of a file, binds the address, prints `listening`, and serves until all bots were served. Returns
+/// the status. Fails only if a fault could not be reported.
 pub(crate) fn run<R: AllocGlobal + Files + Clock + Net, O: Sink, E: Write>(
     rt: &R,
     order: RunOrder<'_>,

@@ -1,4 +1,4 @@
-//! `show`: one frame, from the words of the command line or from standard input.
+//! `show`: one frame, from arguments or from standard input.
 
 ghost use Rattle.std.specs.Prelude.{◌≡◌, ◌≤◌, Some, map, IfOk};
 ghost use Rattle.std.specs.List.{join_with_byte};
@@ -16,21 +16,21 @@ use std::io;
 use std::io::{Read, Write};
 use std::rt::Files;
 
-/// Writes why an input is not one frame in digits. A note that can't be written changes nothing.
+/// Writes why an input is not one frame in digits. A failure to write it has no effect.
 fn write_note<A: Allocator + Copy, E: Write>(alloc: A, input: &[u8], errors: &mut E) {
     if let Ok(Some(note)) = input_note(alloc, input) {
         let _ = writeln!(errors, "daide-gate: {note}");
     }
 }
 
-/// Writes which group of an input can't be whole bytes. A note that can't be written changes nothing.
+/// Writes which group of an input cannot be whole bytes. A failure to write it has no effect.
 fn write_odd_group<E: Write>(input: &[u8], errors: &mut E) {
     if let Some(odd) = odd_group(input) {
         let _ = writeln!(errors, "daide-gate: {odd}");
     }
 }
 
-/// Returns whether an answer is due to the input, and not to memory or the output.
+/// Returns true if the result is due to the input, and not to memory or the output.
 fn is_of_input(answer: Result<bool, ShowFault>) -> bool {
     matches!(
         answer,
@@ -38,7 +38,8 @@ fn is_of_input(answer: Result<bool, ShowFault>) -> bool {
     )
 }
 
-/// Reports what became of an input on standard error, unless it was shown and would be relayed. Returns the status.
+/// Reports the result for an input on standard error, unless its frame was shown and would be relayed. Returns the
+/// status.
 fn end_show<A: Allocator + Copy, E: Write>(
     alloc: A,
     answer: Result<bool, ShowFault>,
@@ -62,7 +63,7 @@ fn end_show<A: Allocator + Copy, E: Write>(
     Ok(status)
 }
 
-/// Shows the frame that a reader has.
+/// Shows the frame in a reader.
 fn show_read<A: Allocator + Copy, I: Read, O: Write, E: Write>(
     alloc: A,
     request: &Request<'_>,
@@ -81,7 +82,7 @@ fn show_read<A: Allocator + Copy, I: Read, O: Write, E: Write>(
     end_show(alloc, answer, request.is_explained, text.as_slice(), errors)
 }
 
-/// Shows the frame that words have, and suggests another command for words of another form.
+/// Shows the frame in the arguments, and suggests another command for arguments of another form.
 fn show_words<A: Allocator + Copy, O: Write, E: Write>(
     alloc: A,
     request: &Request<'_>,

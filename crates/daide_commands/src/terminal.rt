@@ -1,9 +1,9 @@
-//! Standard input that a person may be typing.
+//! Standard input with a prompt for a terminal.
 
 use std::io;
 use std::io::{IsTerminal, Read};
 
-/// An input that says what it waits for at its first read, where it is a terminal.
+/// An input that writes a prompt before its first read if it is a terminal.
 #[derive(Drop)]
 pub struct Asking<'a, R: Eprint, I: Read + IsTerminal> {
     rt: &'a R,
@@ -12,7 +12,7 @@ pub struct Asking<'a, R: Eprint, I: Read + IsTerminal> {
 }
 
 impl<'a, R: Eprint, I: Read + IsTerminal> Asking<'a, R, I> {
-    /// An input of which nothing was read yet. What a terminal gives no contract says.
+    /// Wraps an input that was not read yet. No contract is about the bytes of a terminal.
     pub fn new(rt: &'a R, input: I) -> Asking<'a, R, I> {
         Asking {
             rt,

@@ -1,23 +1,25 @@
-//! A text that has a bound.
+//! A text of bounded length.
 
 ghost use Rattle.std.specs.Prelude.{◌≡◌, ◌≤◌, length, string_bytes, IfOk, IfSome};
 
 use std::alloc::Allocator;
 use std::io::{ErrorKind, Read};
 
-/// The most bytes that a text of settings may have.
+/// The most bytes of a text of settings.
 const MOST_BYTES: usize = 65_536;
 
 /// Why there is no text.
 #[derive(Clone, Copy, Debug, PartialEq, Eq)]
 pub enum SettingsTextFault {
-    /// The stream can't be read, has too many bytes, or is not UTF-8.
+    /// The stream cannot be read, has too many bytes, or is not UTF-8.
     Unreadable,
-    /// A growth was refused.
+    /// The allocator refused a growth.
     Memory,
 }
 
-/// Reads a text of settings, which has a bound.
+/// Reads a text of settings of at most `MOST_BYTES` bytes.
+///
+/// Fails with `Memory` if a growth was refused, otherwise with `Unreadable`.
 pub fn read_text<A: Allocator, I: Read>(
     alloc: A,
     input: &mut I,

@@ -1,4 +1,4 @@
--- How often the tables are asked, answer after answer of the ports.
+-- The number of table look-ups, over a trace of port calls.
 use Rattle.std.proofs.Common.{◌≡◌, ℕ, ◌+◌, Bool, true, false, cond, List, [], ◌∷◌, ◌++◌, length, refl, sym, ap, ◌∙◌}
 use Rattle.std.proofs.Common.{subst, arith, length-append, append-nil}
 use Rattle.daide_frame.specs.declared.side.Side.{Side}
@@ -12,7 +12,7 @@ use Rattle.daide_protocol.specs.declared.ports.Pull.TheVariants.{Got}
 use Rattle.daide_protocol.specs.Ports.{PortCall, Clock, Pulled, events_of}
 use Rattle.daide_driver.specs.Record.{came, Works}
 
--- ---- one answer after another
+-- ---- one port call after another
 
 bytes_from-append : (side : Side) (xs ys : List Event) → bytes_from side (xs ++ ys)
     ≡ bytes_from side xs ++ bytes_from side ys
@@ -39,13 +39,13 @@ works_then a xs b ys c joined h k side =
         ∙ (ap length (bytes_from-append side (events_of xs) (events_of ys))
         ∙ length-append (bytes_from side (events_of xs)) (bytes_from side (events_of ys)))
 
--- ---- an answer by which no byte came
+-- ---- a port call that delivers no byte
 
 pub works_clock : (a b : SessionView) (im_timer_expired : Bool) → ((side : Side) → IsPaidBy 0 side a b) → Works a (Clock im_timer_expired ∷ []) b
 works_clock a b true h side = h side
 works_clock a b false h side = h side
 
--- ---- bytes of one side
+-- ---- bytes from one peer
 
 own_bytes : (side : Side) (bytes : List ℕ) → length (bytes_from side (bytes_come side bytes)) ≡ length bytes
 own_bytes Bot [] = refl

@@ -1,4 +1,4 @@
--- Calls of a hub in a row leave its sessions apart.
+-- Calls of a hub in a row keep its sessions apart.
 use Rattle.std.proofs.Common.{◌≡◌, ℕ, zero, suc, true, List, [], ◌∷◌, ◌++◌, length, map, Option, Some, refl, sym, ap}
 use Rattle.std.proofs.Common.{◌<◌, subst, set, ◌∙◌, arith}
 use Rattle.std.specs.Prelude.{slice_get, remove, unwrap_or}
@@ -18,12 +18,12 @@ use Rattle.daide_driver.proofs.PortCalls.{turn_begins}
 use Rattle.daide_driver.proofs.Stretches.{transition_then, carries_then, carries_weaker, relays_append, relays_nil}
 use Rattle.daide_driver.proofs.Standing.{headline_of, headlines_join, new_stands}
 
--- what is the one thing is the other
+-- `Some` is injective
 some-same : {X : Type 0} (x y : X) → Some x ≡ Some y → x ≡ y
 some-same {X} x y e = ap (λ (o : Option X). unwrap_or o x) e
 
 module _ {P : Type 0} (transition : P → PortCall → P → Type 0) (limits : Limits) where
-  -- lives and places, one by one
+  -- lives and places, pair by pair
   abbrev Each : List (Life P) → List (SessionView × P) → Type 0
   Each [] [] = Unit {0}
   Each [] (place ∷ places) = ⊥
@@ -41,7 +41,7 @@ module _ {P : Type 0} (transition : P → PortCall → P → Type 0) (limits : L
   each-added (l ∷ lives) [] life place w each = absurd each
   each-added (l ∷ lives) (p ∷ places) life place w each = (each.0, each-added lives places life place w each.1)
 
-  -- a call of its own more
+  -- one call more for a session
   calls-more : (calls : List OwnCall) (call : OwnCall) (first before after : SessionView × P) →
       CallsAlone transition calls first before → OwnStep transition call before after →
       CallsAlone transition (calls ++ call ∷ []) first after
@@ -81,7 +81,7 @@ module _ {P : Type 0} (transition : P → PortCall → P → Type 0) (limits : L
   each-counted (l ∷ lives) [] each = absurd each
   each-counted (l ∷ lives) (p ∷ places) each = ap suc (each-counted lives places each.1)
 
-  -- the life at a place that there is
+  -- the life at an existing place
   each-found : (lives : List (Life P)) (places : List (SessionView × P)) (i : ℕ) (now : SessionView × P) →
       slice_get places i ≡ Some now → Each lives places →
       (life : Life P) × (slice_get lives i ≡ Some life) × WentAlone transition limits life now
@@ -102,7 +102,7 @@ module _ {P : Type 0} (transition : P → PortCall → P → Type 0) (limits : L
   }
 
 module _ {P : Type 0} (transition : P → PortCall → P → Type 0) where
-  -- what one call does, by its contract
+  -- the effect of one call, by its contract
   one-call : (call : HubCall P) (old new : HubView P) (lives : List (Life P)) → HubStep transition old call new →
       Each transition old.limits lives old.places →
       (new.limits ≡ old.limits) × Each transition old.limits (lives_after call lives) new.places
@@ -173,14 +173,14 @@ module _ {P : Type 0} (transition : P → PortCall → P → Type 0) where
       (lives-of calls old parts.0 parts.1) in
       (found.0, removed.0, found.1, removed.2, found.2)
 
-  -- one headline after another, by the answers of both
+  -- two headlines, one after another, by the joined traces
   pub headline_then : (a b c : SessionView × P) → EvolveTogether transition Headline a b → EvolveTogether transition Headline b c →
       EvolveTogether transition Headline a c
   headline_then a b c h k =
       carries_weaker transition (Then Headline Headline) Headline a c (λ xs. headlines_join a.0 xs c.0)
       (carries_then transition Headline Headline a b c h k)
 
-  -- by a call of its own a session goes as the answers of its ports in it say
+  -- a call for a session is a part of a run, by the port calls in it
   own-relays : (call : OwnCall) (a b : SessionView × P) → OwnStep transition call a b → EvolveTogether transition RefinesRun a b
   own-relays TurnStarts a b t = record {
     call = TurnBegins ∷ [];
@@ -202,7 +202,7 @@ module _ {P : Type 0} (transition : P → PortCall → P → Type 0) where
       (record { call = []; session = relays_nil a.0; ports = refl })
   alone-relays (call ∷ calls) a b t = relays-then a t.0 b (own-relays call a t.0 t.1) (alone-relays calls t.0 b t.2)
 
-  -- within its bounds it stays, and a turn leaves it there
+  -- a session within its bounds stays within them, and a turn brings it within them
   own-bounded : (call : OwnCall) (a b : SessionView × P) → OwnStep transition call a b → IsWithinBounds a.0 →
       IsWithinBounds b.0
   own-bounded TurnStarts a b t h = subst IsWithinBounds (sym t.0) h
@@ -219,7 +219,7 @@ module _ {P : Type 0} (transition : P → PortCall → P → Type 0) where
   turned-bounded (TurnStarts ∷ calls) a b h t = turned-bounded calls t.0 b h t.2
   turned-bounded (TurnRuns ∷ calls) a b h t = stays-bounded calls t.0 b t.2 t.1.exchange.session.bounds
 
-  -- calls of its own, of which one at least turned it, have the headline of all that the ports answered in them
+  -- the calls for a session, if at least one is a turn, have the headline of all port calls in them
   alone-headline : (calls : List OwnCall) (a b : SessionView × P) → 0 < turns_of calls → CallsAlone transition calls a b →
       EvolveTogether transition Headline a b
   alone-headline calls a b h t =
@@ -234,7 +234,7 @@ module _ {P : Type 0} (transition : P → PortCall → P → Type 0) where
       let went = (sessions_apart calls old new run).alone i life now e f in
       (went.0, went.1, alone-headline life.calls went.0 now h went.2)
 
-  -- where a session stood by these answers, it stands by those of its own calls more
+  -- a reachable session stays reachable, with the port calls of the calls for it appended to its history
   stands-alone : (limits : Limits) (ports : P) (a b : SessionView × P) → EvolveTogether transition RefinesRun a b →
       ((history : List PortCall) × IsReachable limits history a.0 × EvolvesBy transition ports history a.1) →
       (history : List PortCall) × IsReachable limits history b.0 × EvolvesBy transition ports history b.1

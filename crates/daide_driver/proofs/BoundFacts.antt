@@ -1,5 +1,5 @@
--- The numbers in the promises of a turn and a hub: each bound is computed at the least, the usual and the greatest
--- limits. Worked out by hand, so that another number in a definition does not check.
+-- The numbers in the contracts of a turn and a hub. Each bound is computed at the least, the usual and the greatest
+-- limits. The expected values are independent of the definitions, so another number in a definition does not check.
 use Rattle.std.proofs.Common.{◌≡◌, ℕ, ◌+◌, ◌*◌, ◌≤◌, ◌<◌, ◌⊎◌, inl, inr, min, List, [], ◌∷◌, length, refl, ap, ◌∙◌, arith}
 use Rattle.std.specs.Prelude.{Ok}
 use Rattle.daide_frame.specs.declared.side.Side.{Side}
@@ -20,21 +20,21 @@ use Rattle.daide_driver.specs.Hub.{IsHubSize, IsHubCause, session_bound}
 
 -- ---- bounds
 
--- a pull of 512 bytes ends 257 tokens at most: four answers for each, and four at a message's end
+-- a pull of 512 bytes completes at most 257 tokens: four look-ups for each, and four at a message's end
 work_of_a_turn : turn_steps ≡ 1032
 work_of_a_turn = refl
 
--- 64 frames at most wait for both wires, beside what is kept of each direction
+-- at most 64 frames are queued for both wires, beside the bounds of each direction
 frames_that_wait : (g : SessionView) → IsWithinBounds g → length g.to_bot + length g.to_server ≤ 64
 frames_that_wait g bounds = bounds.further
 
--- so much room there is, and of so many bytes is the buffer of the one pull into it
+-- with this much room, the one pull uses a buffer of this many bytes
 abbrev IsPulledInto : ℕ → ℕ → Type 0
 IsPulledInto room buffer =
     (side : Side) (old new : SessionView) (answers : List PortCall) (pull : FillsRoom side old answers new) →
     room_of old side ≡ room → answers ≡ Pulled side buffer pull.pull pull.bytes ∷ []
 
--- as long as the room, and 512 at most
+-- as long as the room, and at most 512
 pulled_bytes : IsPulledInto 1 1 × IsPulledInto 4 4 × IsPulledInto 256 256 × IsPulledInto 511 511 × IsPulledInto 512 512
     × IsPulledInto 513 512 × IsPulledInto 65526 512
 pulled_bytes = (buffer, buffer, buffer, buffer, buffer, buffer, buffer)
@@ -42,7 +42,7 @@ pulled_bytes = (buffer, buffer, buffer, buffer, buffer, buffer, buffer)
     buffer : {room : ℕ} → IsPulledInto room (min room 512)
     buffer side old new answers pull is = pull.asked ∙ ap (λ n. Pulled side (min n 512) pull.pull pull.bytes ∷ []) is
 
--- over all that came, two answers a byte: eight for four bytes of the bot, and none for the server
+-- over all bytes received, two look-ups a byte: eight for four bytes from the bot, and none for the server
 work_of_bytes : (limits : Limits) (g : SessionView) →
     IsBoundedAndExact limits (Pulled Bot 4 (Got 4) (0x02 ∷ 0x00 ∷ 0x00 ∷ 0x02 ∷ []) ∷ []) g →
     IsRaised 8 0 (holding g Bot).total × IsRaised 0 0 (holding g Server).total
@@ -67,7 +67,7 @@ narrowest_bound = refl
 
 -- ---- hubs
 
--- a hub is for 1 to 256 sessions, and refused for their number where it is for none or for more
+-- a hub is for 1 to 256 sessions; 0 and more than 256 are refused
 hub_sizes : IsHubSize 1 × IsHubSize 255 × IsHubSize 256 × (IsHubSize 0 → ⊥) × (IsHubSize 257 → ⊥)
 hub_sizes = (
   (omega arith, omega arith),

@@ -1,4 +1,4 @@
--- A turn takes a byte at least where one waits, and loses none.
+-- A turn sends at least one byte if one is queued, and loses none.
 use Rattle.std.proofs.Common.{◌≡◌, ℕ, ◌+◌, ◌<◌, ◌≤◌, min, Bool, true, false, List, [], ◌∷◌, ◌++◌, length, take}
 use Rattle.std.proofs.Common.{inl, inr, refl, sym, ◌∙◌, ap, subst, arith, length-append, length-take, length-drop}
 use Rattle.std.proofs.Common.{append_assoc, append-nil}
@@ -18,7 +18,7 @@ use Rattle.daide_driver.specs.Turn.{Then, AdvancesByEvents, Hears, AsksClock, Ha
 use Rattle.daide_driver.specs.Turn.{Pulls, Turn}
 use Rattle.daide_driver.specs.Due.{AreTurns, TakesSome, EachTakesSome, EachTurnTakesSome, taken_in}
 
--- ---- answers in a row
+-- ---- traces joined
 
 pub taken-append : (side : Side) (a b : List PortCall) → taken side (a ++ b) ≡ taken side a ++ taken side b
 taken-append side [] b = refl
@@ -31,15 +31,15 @@ split : (side : Side) (a b : List PortCall) → EachTakesSome side (a ++ b) →
 split side [] b h = (tt, h)
 split side (x ∷ a) b h = let r = split side a b h.1 in ((h.0, r.0), r.1)
 
--- how many bytes wait for the wire toward a side
+-- how many bytes are queued for the wire of this side
 abbrev due : SessionView → Side → ℕ
 due g side = length (sent_bytes (queued g side))
 
--- none is lost
+-- no byte is lost
 abbrev Keeps : Side → SessionView → List PortCall → SessionView → Type 0
 Keeps side old answers new = due old side ≤ length (taken side answers) + due new side
 
--- where answers in a row say so, each of its own
+-- if neither of two traces loses a byte, the joined trace loses none
 then_keeps : (side : Side) (a b : List PortCall) (old mid new : SessionView) → Keeps side old a mid →
     Keeps side mid b new →
     Keeps side old (a ++ b) new
@@ -48,7 +48,7 @@ then_keeps side a b old mid new h k =
 
 -- ---- the steps of a turn
 
--- where nothing was taken
+-- no byte was accepted
 none_taken : (a b : ℕ) → a ≤ b → a ≤ 0 + b
 none_taken a b h = omega arith
 
@@ -115,7 +115,7 @@ put_beside side old answers new (inr h) =
     subst (λ (a : List PortCall). Keeps side old a new) (sym h.asked)
     (beside_hands side old new (front_of old (other side)) h.put h.hands)
 
--- a put to this wire takes something where something waits
+-- a put to this wire sends something if something is queued
 abbrev Gains : Side → SessionView → List PortCall → SessionView → Type 0
 Gains side old answers new = 0 < due old side → 0 < length (taken side answers)
 
@@ -149,9 +149,9 @@ put_own side old answers new (inr h) some =
       subst (λ (a : List PortCall). Gains side old a new) (sym h.asked) own.1,
     )
 
--- ---- one stretch, and then another
+-- ---- one trace, and then another
 
--- stretches of a kind in which a wire takes something at each put lose nothing
+-- steps of a kind in which the wire accepts something at each put lose nothing
 abbrev AllKeep : Side → (SessionView → List PortCall → SessionView → Type 0) → Type 0
 AllKeep side K = (o : SessionView) (a : List PortCall) (n : SessionView) → K o a n → EachTakesSome side a → Keeps side o a n
 

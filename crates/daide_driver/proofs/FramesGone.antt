@@ -1,4 +1,4 @@
--- A wire that takes all that it is handed has a frame after as many turns as the frame has parts.
+-- A wire that accepts all that it is offered has accepted a frame after as many turns as the frame has parts.
 use Rattle.std.proofs.Common.{◌≡◌, ℕ, zero, suc, ◌+◌, ◌-◌, ◌<◌, ◌≤◌, ◌⊎◌, Bool, true, false, List, [], ◌∷◌, ◌++◌, length}
 use Rattle.std.proofs.Common.{take, drop, Option, Some, None, inl, inr, refl, sym, ◌∙◌, ap, subst, arith}
 use Rattle.std.proofs.Common.{append_assoc, append-nil, length-append, length-drop}
@@ -29,12 +29,12 @@ use Rattle.daide_driver.proofs.DueLemmas.{own_taken, taken-append}
 
 -- ---- parts
 
--- parts as one
+-- the parts joined
 abbrev whole_of : List (List ℕ) → List ℕ
 whole_of [] = []
 whole_of (part ∷ parts) = part ++ whole_of parts
 
--- how many of them have something left
+-- how many of the parts are not empty
 abbrev left_of : List (List ℕ) → ℕ
 left_of [] = 0
 left_of ([] ∷ parts) = left_of parts
@@ -64,7 +64,7 @@ drop_front : (a b : List ℕ) → drop (length a) (a ++ b) ≡ b
 drop_front [] b = refl
 drop_front (x ∷ a) b = drop_front a b
 
--- the next part is gone, and no other
+-- the next part is sent, and no other
 one_gone : (parts : List (List ℕ)) → 0 < length (next_part parts) →
     (suc (left_of (parts_after (length (next_part parts)) parts)) ≤ left_of parts)
     × (whole_of parts ≡ next_part parts ++ whole_of (parts_after (length (next_part parts)) parts))
@@ -92,9 +92,9 @@ one_gone ((byte ∷ part) ∷ parts) h =
       ap (λ (ps : List (List ℕ)). (byte ∷ part) ++ whole_of ps) (sym after),
     )
 
--- ---- what is left of a frame
+-- ---- the rest of a frame
 
--- n bytes of the first frame are left, in k parts at most
+-- n bytes of the first frame are left, in at most k parts
 record HasLeft (side : Side) (k n : ℕ) (g : SessionView) : Type 0 where
   frame : Sent
   frames : List Sent
@@ -121,12 +121,12 @@ same_left side k n old new e h = subst (HasLeft side k n) (sym e) h
 
 -- ---- the steps of a turn
 
--- a stretch of this kind leaves it
+-- a step of this kind leaves the rest
 abbrev AllLeave : Side → (SessionView → List PortCall → SessionView → Type 0) → Type 0
 AllLeave side K = (o : SessionView) (a : List PortCall) (n : SessionView) (k size : ℕ) → K o a n → HasLeft side k size o →
     HasLeft side k size n
 
--- a stretch of this kind takes what is left, or a part of it at least
+-- the wire accepts the rest, or at least one part of it
 abbrev Advances : Side → ℕ → ℕ → List PortCall → SessionView → Type 0
 Advances side k size answers new =
     (size ≤ length (taken side answers))
@@ -172,7 +172,7 @@ beside_leaves : (side : Side) → AllLeave side (Puts (other side))
 beside_leaves side old answers new k size (inl h) left = same_left side k size old new h.2 left
 beside_leaves side old answers new k size (inr h) left = hands_leaves side h.put old new k size h.hands left
 
--- this wire takes the whole front
+-- this wire accepts the whole front
 own_hands : (side : Side) (put : Put) (old new : SessionView) (k size : ℕ) → 0 < length (front_of old side) →
     Hands side put old new → TakesAll side (Offered side (front_of old side) put) → HasLeft side k size old →
     Advances side k size (Offered side (front_of old side) put ∷ []) new
@@ -243,7 +243,7 @@ own_advances side old answers new k size (inr h) all left =
     subst (λ (a : List PortCall). Advances side k size a new) (sym h.asked)
     (own_hands side h.put old new k size h.filled h.hands each.0 left)
 
--- ---- one stretch, and then another
+-- ---- one trace, and then another
 
 split : (side : Side) (a b : List PortCall) → EachTakesAll side (a ++ b) → EachTakesAll side a × EachTakesAll side b
 split side [] b h = (tt, h)
@@ -323,7 +323,7 @@ part_by_part side (answers ∷ turns) old new k size are all left enough =
         let few = p.3 in
         omega (arith, few, later, sum)
 
--- ---- a frame of which nothing is gone
+-- ---- an unsent frame
 
 answer_whole : (header body : List ℕ) (verdict : Verdict) →
     whole_of (parts_by header body (Some verdict)) ≡ header ++ answer_body body verdict

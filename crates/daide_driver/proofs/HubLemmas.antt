@@ -1,4 +1,4 @@
--- Places of a hub: one that changes, one that is taken out, and what all weigh.
+-- Places of a hub: one that changes, one that is removed, and the sum of all weights.
 use Rattle.std.proofs.Common.{◌≡◌, ℕ, ◌+◌, ◌*◌, ◌<◌, ◌≤◌, Bool, true, false, cond, List, [], ◌∷◌, ◌++◌, length, take}
 use Rattle.std.proofs.Common.{drop}
 use Rattle.std.proofs.Common.{map, get_or, set, suc, Some, refl, sym, ap, ◌∙◌, subst, arith, length-append}
@@ -29,7 +29,7 @@ use Rattle.std.proofs.Math.Nat.{add-mul}
 
 -- ---- memory
 
--- with right limits there is one cause for which no session is made
+-- with right limits there is one reason why no session is created
 pub body_refused : (Refuses : ℕ → Type 0) (config : Config) (error : SessionError) → config_fault config ≡ Ok tt →
     IsCause Refuses config error → Refuses config.max_body
 body_refused Refuses config (SessionErrors.Config fault) right cause =
@@ -38,7 +38,7 @@ body_refused Refuses config SessionErrors.Memory right cause = cause.1
 
 -- ---- places
 
--- what was read at a place twice is the same
+-- two reads at the same place return the same
 pub same_read : {X : Type 0} (items : List X) (i : ℕ) (x y : X) → i < length items → x ≡ get_or items i x →
     y ≡ get_or items i y → x ≡ y
 same_read items i x y lt e f = get_or_read items i x lt e y ∙ sym f
@@ -71,14 +71,14 @@ module _ {X P : Type 0} (v : X → SessionView × P) where
       (record { limits = limits; max = max; places = map v (set items i x) }) (with_places h (set h.places i (v x)))) e
       (ap (λ (ps : List (SessionView × P)). record { limits = limits; max = max; places = ps }) (map-set v items i x))
 
-  -- how many places there are
+  -- the number of places
   pub places_counted : (limits : Limits) (max : ℕ) (items : List X) (now : HubView P) →
       ◌≡◌ {A = HubView P} (record { limits = limits; max = max; places = map v items }) now →
       length items ≡ length now.places
   places_counted limits max items now e =
       sym (length-map items v) ∙ ap (λ (h : HubView P). length h.places) e
 
-  -- there is room for one more
+  -- there is a free place
   pub room_here : (limits : Limits) (max : ℕ) (items : List X) (now : HubView P) →
       ◌≡◌ {A = HubView P} (record { limits = limits; max = max; places = map v items }) now →
       length items < max → length now.places < now.max
@@ -102,7 +102,7 @@ module _ {X P : Type 0} (v : X → SessionView × P) where
       map-append v (take i items) (drop (suc i) items)
       ∙ rw (take-map v i items, drop-map v (suc i) items) refl
 
-  -- one place taken out
+  -- one place removed
   pub place_removed : (limits : Limits) (max : ℕ) (items : List X) (i : ℕ) (now : HubView P) →
       ◌≡◌ {A = HubView P} (record { limits = limits; max = max; places = map v items }) now →
       ◌≡◌ {A = HubView P} (record { limits = limits; max = max; places = map v (remove items i) })
@@ -116,13 +116,13 @@ pub all_removed : {X : Type 0} (Q : X → Type 0) (items : List X) (i : ℕ) →
 all_removed Q items i h =
     All-append Q (take i items) (drop (suc i) items) (All-take Q i items h) (All-drop Q (suc i) items h)
 
--- ---- what holds between calls
+-- ---- the invariant between calls
 
 module _ {X : Type 0} (seen : X → SessionView) (config : Config) (words : List Word) (max : ℕ) where
   abbrev Limited : X → Type 0
   Limited x = (seen x).state.limits ≡ limits_with config words
 
-  -- one place changed, and its limits didn't
+  -- one place changed, with the same limits
   pub hosting_set : (capacity : ℕ) (items : List X) (i : ℕ) (x y : X) → i < length items → x ≡ get_or items i x →
       (seen y).state.limits ≡ (seen x).state.limits →
       IsHubSession seen config words max capacity items → IsHubSession seen config words max capacity (set items i y)
@@ -150,7 +150,7 @@ module _ {X : Type 0} (seen : X → SessionView) (config : Config) (words : List
 
 -- ---- the weight
 
--- what one session weighs at most, whatever came
+-- the greatest weight of one session, whatever it received
 pub weight_small : (g : SessionView) → ((side : Side) → IsKeptSmall g.state.limits.cap (holding g side)) →
     ((side : Side) → (holding g side).entries ≤ 8 * g.state.limits.max_depth + 16) →
     (length g.to_bot ≤ 3) × (length g.to_server ≤ 3) → weight_of g ≤ session_bound g.state.limits
@@ -205,14 +205,14 @@ place_small {X} seen config words max capacity items i x h lt read kept entries 
 pub one_more : (n b total more : ℕ) → total ≤ n * b → more ≤ b → total + more ≤ (n + 1) * b
 one_more n b total more h k = rw (add-mul n 1 b) (omega (arith, h, k))
 
--- the places of a hub weigh together what their sessions do
+-- the weight of a hub is the sum of its sessions' weights
 pub sum_by-map : {X Y : Type 0} (f : Y → ℕ) (v : X → Y) (xs : List X) → sum_by f (map v xs) ≡ sum_by (λ x. f (v x)) xs
 sum_by-map f v [] = refl
 sum_by-map f v (x ∷ xs) =
     sum_by-cons f (v x) (map v xs) ∙ ap (λ (n : ℕ). f (v x) + n) (sum_by-map f v xs)
     ∙ sym (sum_by-cons (λ x. f (v x)) x xs)
 
--- ---- what ended a session
+-- ---- the ending of a session
 
 pub is_there : {A : Type 0} (o : Option A) → is_some o ≡ true → IsSome o
 is_there None e = absurd (cc)

@@ -1,5 +1,5 @@
--- Each law of `laws`, used once at values that were worked out by hand: few calls, two places, six turns. Each fact takes
--- the law alone, so that a weaker one does not check.
+-- Each law of `laws`, used once at small values: few calls, two places, six turns. Each fact takes only the law, so
+-- that a weaker law does not check.
 use Rattle.std.proofs.Common.{◌≡◌, ℕ, ◌+◌, ◌<◌, ◌≤◌, min, false, List, [], ◌∷◌, ◌++◌, length, Some, refl, sym, ◌∙◌, ap, subst, arith}
 use Rattle.std.specs.Prelude.{slice_get}
 use Rattle.daide_frame.specs.declared.side.Side.TheVariants.{Bot, Server}
@@ -19,7 +19,7 @@ use Rattle.daide_driver.specs.Record.{EvolveTogether, RefinesRun}
 
 -- ---- relays
 
--- a look at the clock, and two bytes after it
+-- a read of the clock, and two bytes after it
 joined : RelaysJoin → (a b c : SessionView) (bytes : List ℕ) → RefinesRun a (Clock false ∷ []) b →
     RefinesRun b (Pulled Bot 512 (Got 2) bytes ∷ []) c → RefinesRun a (Clock false ∷ Pulled Bot 512 (Got 2) bytes ∷ []) c
 joined law a b c bytes first second =
@@ -43,9 +43,9 @@ headlines : {P : Type 0} (transition : P → PortCall → P → Type 0) → Head
     EvolveTogether transition Headline c d → EvolveTogether transition Headline a d
 headlines transition law a b c d first second third = law a c d (law a b c first second) third
 
--- ---- what waits
+-- ---- the queued bytes
 
--- one byte waits at least, and one turn is made
+-- at least one byte is queued, and one turn is made
 byte_goes : DueBytesGo → (old new : SessionView) (answers : List PortCall) → AreTurns old (answers ∷ []) new →
     EachTurnTakesSome Server (answers ∷ []) → (n : ℕ) → length (sent_bytes (queued old Server)) ≡ n + 1 →
     0 < length (taken_in Server (answers ∷ []))
@@ -55,7 +55,7 @@ byte_goes law old new answers turns some n waits =
     (law Server (answers ∷ []) old new turns some) in
     omega (arith, gone)
 
--- six turns are enough for a frame of which nothing is gone
+-- six turns are enough for an unsent frame
 frame_goes : FramesGo → (old new : SessionView) (a b c d e f : List PortCall) →
     AreTurns old (a ∷ b ∷ c ∷ d ∷ e ∷ f ∷ []) new → EachTurnTakesAll Bot (a ∷ b ∷ c ∷ d ∷ e ∷ f ∷ []) →
     AreFresh (parts_of old Bot) (queued old Bot) →
@@ -66,11 +66,11 @@ frame_goes law old new a b c d e f turns all fresh =
 -- ---- a hub
 
 module _ {P : Type 0} (transition : P → PortCall → P → Type 0) (limits : Limits) where
-  -- a hub with room for two
+  -- a hub with two places
   abbrev two : List (SessionView × P) → HubView P
   two places = record { limits = limits; max = 2; places = places }
 
-  -- a turn of the first place leaves the second as it was
+  -- a turn of the first place leaves the second unchanged
   second_stays : SessionsAreApart transition → (first second now : SessionView × P) (new : HubView P) →
       HubRuns transition (two (first ∷ second ∷ [])) (Turned 0 ∷ []) new → slice_get new.places 1 ≡ Some now → now ≡ second
   second_stays law first second now new runs at =
@@ -78,7 +78,7 @@ module _ {P : Type 0} (transition : P → PortCall → P → Type 0) (limits : L
       let went = apart.alone 1 (fresh_life (Stood second)) now refl at in
       went.2 ∙ went.1
 
-  -- ports that come back after one turn that began with them
+  -- the ports returned after one turn that began with them
   handed_back : PortsComeBackApart transition → (place : SessionView × P) (ports : P) (new : HubView P) →
       HubRuns transition (two (place ∷ [])) (Begun 0 ∷ Removed 0 ports ∷ []) new →
       (life : Life P) × (session : SessionView) × WentAlone transition limits life (session, ports)
@@ -96,7 +96,7 @@ module _ {P : Type 0} (transition : P → PortCall → P → Type 0) (limits : L
       at (omega arith) in
       subst (λ (first : SessionView × P). EvolveTogether transition Headline first now) got.1 got.2
 
-  -- ports that were handed in, and no turn
+  -- ports that were handed over, and no turn
   one_added : OpenedSessionsAreReachable transition → (ports : P) (now : SessionView × P) (new : HubView P) →
       HubRuns transition (two []) (Added ports ∷ []) new → slice_get new.places 0 ≡ Some now →
       (history : List PortCall) × IsReachable limits history now.0 × EvolvesBy transition ports history now.1

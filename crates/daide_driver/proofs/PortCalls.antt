@@ -1,4 +1,4 @@
--- What one answer of the ports does to a session and its wires.
+-- The effect of one port call on a session and its wires.
 use Rattle.std.proofs.Common.{◌≡◌, ℕ, ◌<◌, ◌≤◌, Bool, true, false, cond, ltb, eqb, List, [], ◌∷◌, ◌++◌, length, take}
 use Rattle.std.proofs.Common.{drop}
 use Rattle.std.proofs.Common.{refl, sym, ap, ◌∙◌, subst, arith, append_assoc, append-nil, zero, suc, inl}
@@ -88,7 +88,7 @@ has_ended a side len bytes note b work g = record {
   work = work;
 }
 
--- ---- a front that is taken off what waits
+-- ---- a front that is removed from the queue
 
 not_less : (a b : ℕ) → ((ltb a b ≡ true) × (suc a ≤ b)) ⊎ ((ltb a b ≡ false) × (b < suc a)) → false ≡ ltb a b → b ≤ a
 not_less a b (inl t) e = absurd (let x : false ≡ true = e ∙ t.0 in cc)
@@ -123,7 +123,7 @@ without_bytes n xs (frame ∷ frames) f h =
 
 -- ---- the puts
 
--- the wire that took n bytes
+-- the wire that accepted n bytes
 this_wire : (a : SessionView) (side : Side) (bytes : List ℕ) (n : ℕ) (b : SessionView) → IsFrontOf bytes (queued a side) →
     n ≤ length bytes → Wrote a side n b →
     sent_bytes (queued a side) ++ [] ≡ (take n bytes ++ []) ++ sent_bytes (queued b side)
@@ -131,7 +131,7 @@ this_wire a side bytes n b f h g =
     append-nil (sent_bytes (queued a side)) ∙ without_bytes n bytes (queued a side) f h
     ∙ rw (append-nil (take n bytes)) (ap (λ (t : List Sent). take n bytes ++ sent_bytes t) (sym g.taken))
 
--- a wire that waits for what it waited for
+-- a wire whose queue is unchanged
 same_wire : (a : SessionView) (side : Side) (b : SessionView) → queued b side ≡ queued a side →
     sent_bytes (queued a side) ++ [] ≡ [] ++ sent_bytes (queued b side)
 same_wire a side b e = append-nil (sent_bytes (queued a side)) ∙ ap sent_bytes (sym e)

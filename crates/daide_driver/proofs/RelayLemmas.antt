@@ -13,11 +13,11 @@ use Rattle.daide_driver.specs.declared.relaying.RelayEnd.TheVariants.{Closed, Tu
 use Rattle.daide_driver.proofs.Stretches.{relays_append, relays_nil, carries_then, carries_weaker, carries_nothing}
 use Rattle.daide_driver.proofs.Standing.{headline_of}
 
--- n turns, of a session that isn't closed then
+-- n turns, and the session is not closed after them
 abbrev pub StaysOpen : ℕ → SessionView → List PortCall → SessionView → Type 0
 StaysOpen n old answers new = Turns n old answers new × (is_closed new ≡ false)
 
--- turns relay
+-- turns are a part of a run
 turns_relay : (n : ℕ) (a : SessionView) (xs : List PortCall) (b : SessionView) → Turns n a xs b → RefinesRun a xs b
 turns_relay zero a xs b h =
     subst (λ (ys : List PortCall). RefinesRun a ys b) (sym h.0)

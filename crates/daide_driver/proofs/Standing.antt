@@ -1,4 +1,4 @@
--- A session that stands where a run from its opening stands is bounded and exact after each stretch.
+-- A reachable session is bounded and exact after each further call.
 use Rattle.std.proofs.Common.{◌≡◌, ℕ, ◌*◌, Bool, true, false, List, [], ◌∷◌, ◌++◌, refl, sym, ap, ◌∙◌, subst}
 use Rattle.std.proofs.Common.{append_assoc, append-nil, arith, inr}
 use Rattle.std.specs.Prelude.{◌&&◌}
@@ -17,7 +17,7 @@ use Rattle.daide_driver.proofs.Stretches.{relays_append}
 use Rattle.daide_driver.proofs.TurnLemmas.{WorkingTurn, turn_in_order, turn_relays}
 use Rattle.daide_session.proofs.WorkLemmas.{nothing_left, paid_idle}
 
--- ---- nothing waits for a wire of a closed session
+-- ---- the queues of a closed session are empty
 
 none_of : (frames : List Sent) → no_frame frames ≡ true → frames ≡ []
 none_of [] e = refl
@@ -45,7 +45,7 @@ moved_all true over waited answers took waits f e n h = absurd (cc)
 moved_all false over waited answers took waits f e n h =
     sym (ap (λ (x : List ℕ). x ++ answers) (sym e) ∙ h ∙ ap (λ (x : List ℕ). took ++ x) n ∙ append-nil took)
 
--- ---- the work from a run's opening on
+-- ---- the work since the opening of a run
 
 whole_work : (limits : Limits) (history : List PortCall) (g : SessionView) → IsReachable limits history g → (side : Side) →
     IsRaised (2 * came side history) 0 (holding g side).total
@@ -81,7 +81,7 @@ headline_of a xs b within r limits history stands =
           (nothing_waited limits side) (ap sent_bytes (closed_wire b closed side)) (all.wires side);
     }
 
--- a new session stands at a run's opening
+-- a new session is at the opening of a run
 pub new_stands : (limits : Limits) (g : SessionView) → IsNew limits g → IsReachable limits [] g
 new_stands limits g n = record {
   effects = [];
@@ -103,7 +103,7 @@ new_stands limits g n = record {
     wire Bot e f = sym (ap sent_bytes e)
     wire Server e f = sym (ap sent_bytes f)
 
--- all that a turn's answers do
+-- the whole effect of a turn's trace
 pub one_turn : (a : SessionView) (xs : List PortCall) (b : SessionView) → IsWithinBounds b → WorkingTurn a xs b →
     WholeTurn a xs b
 one_turn a xs b within t =
@@ -115,7 +115,7 @@ one_turn a xs b within t =
       headline = headline_of a xs b within relays;
     }
 
--- one headline after another is a headline of both stretches
+-- two headlines, one after another, are a headline of the joined traces
 pub headlines_join : (a : SessionView) (xs : List PortCall) (c : SessionView) → Then Headline Headline a xs c →
     Headline a xs c
 headlines_join a xs c h limits history stands =

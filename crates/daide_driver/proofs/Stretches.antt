@@ -1,4 +1,4 @@
--- Stretches of answers, one after another.
+-- Traces of port calls, one after another.
 use Rattle.std.proofs.Common.{◌≡◌, ℕ, Bool, true, false, List, [], ◌∷◌, ◌++◌, Option, Some, None, refl, sym, ap}
 use Rattle.std.proofs.Common.{◌∙◌, subst, append_assoc, append-nil}
 use Rattle.std.specs.Prelude.{◌||◌, unwrap_or}
@@ -54,7 +54,7 @@ empty_parts : (xs ys : List ℕ) → ◌≡◌ {A = List ℕ} [] (xs ++ ys) → 
 empty_parts [] ys e = (refl, sym e)
 empty_parts (x ∷ xs) ys e = absurd (cc)
 
--- where nothing waits and nothing is answered, nothing is taken
+-- if nothing is queued and there is no further output, nothing more is accepted
 stopped : (w a t m r b u s : List ℕ) → w ++ a ≡ t ++ r → m ≡ [] → b ≡ [] → m ++ b ≡ u ++ s →
     (s ≡ []) × (w ++ (a ++ b) ≡ (t ++ u) ++ r)
 stopped w a t m r b u s h em eb k =
@@ -75,9 +75,9 @@ moved_append true true o p w a t m b u r h k e =
     let s = stopped w a t m h.2.0 b u k.2.0 h.2.1 h.1 quiet.0 k.2.1 in
     (k.0, k.1, (h.2.0, s.1))
 
--- ---- stretches that relay
+-- ---- traces by which a session relays
 
--- once over, nothing is sent
+-- a session that is over sends nothing
 over_runs : (a b : SessionState) (es : List Event) (effects : List Effect) → is_over a.phase ≡ true →
     Runs a es effects b → (effects ≡ []) × (b ≡ a)
 over_runs a b es effects over run = one_run es a effects [] b a run (over_stays a es over)
@@ -114,7 +114,7 @@ relays_nil a = record {
   work = λ side. paid_same side a a refl refl;
 }
 
--- ---- what is told, step after step
+-- ---- traces, step by step
 
 module _ {A : Type 0} where
   pub tells_nil : (s : Option (List A)) → AppendsTo s [] s
@@ -154,12 +154,12 @@ module _ {P : Type 0} (transition : P → PortCall → P → Type 0) where
       ((xs : List PortCall) → K a.0 xs b.0 → L a.0 xs b.0) → EvolveTogether transition K a b → EvolveTogether transition L a b
   carries_weaker K L a b f h = record { call = h.call; session = f h.call h.session; ports = h.ports }
 
-  -- the ports were asked nothing
+  -- no port call was made
   pub carries_nothing : (K : SessionView → List PortCall → SessionView → Type 0) (a b : SessionView) (p : P) →
       K a [] b → EvolveTogether transition K (a, p) (b, p)
   carries_nothing K a b p h = record { call = []; session = h; ports = refl }
 
-  -- the ports answered once
+  -- one port call was made
   pub carries_one : (K : SessionView → List PortCall → SessionView → Type 0) (a b : SessionView) (p q : P) (answer : PortCall) →
       transition p answer q → K a (answer ∷ []) b → EvolveTogether transition K (a, p) (b, q)
   carries_one K a b p q answer given h = record { call = answer ∷ []; session = h; ports = (q, given, refl) }

@@ -1,4 +1,4 @@
--- A turn is a stretch by which the session relays.
+-- A turn is a part of a run.
 use Rattle.std.proofs.Common.{◌≡◌, ℕ, ◌<◌, ◌≤◌, Bool, true, false, eqb, List, [], ◌∷◌, length, refl, sym, ap, ◌∙◌}
 use Rattle.std.proofs.Common.{subst, arith, length-append, inl, inr}
 use Rattle.std.proofs.Common.{⊎_elim}
@@ -20,7 +20,7 @@ use Rattle.daide_driver.proofs.Stretches.{relays_append, relays_nil}
 use Rattle.daide_driver.proofs.PortCalls.{clock_pops, clock_runs, got_bytes, was_idle, has_ended}
 use Rattle.daide_driver.proofs.PortCalls.{took_bytes, put_failed, filled, none_left}
 
--- nothing was asked, and nothing changed
+-- no port call, and no change
 unmoved : (a b : SessionView) (xs : List PortCall) → xs ≡ [] → b ≡ a → RefinesRun a xs b
 unmoved a b xs e f =
     subst (λ (ys : List PortCall). RefinesRun a ys b) (sym e)
@@ -75,7 +75,7 @@ then_relays K L f g a xs b h =
     subst (λ (ys : List PortCall). RefinesRun a ys b) (sym h.3)
     (relays_append a h.1 h.0 h.2 b (f a h.1 h.0 h.4) (g h.0 h.2 b h.5))
 
--- the steps of a turn, each with what the tables were asked in it
+-- the steps of a turn, each with the look-ups made in it
 abbrev pub WorkingTurn : SessionView → List PortCall → SessionView → Type 0
 WorkingTurn =
     Then (Working AsksClock) (Then (Working (Puts Bot)) (Then (Working (Puts Server))
@@ -112,9 +112,9 @@ turn_in_order =
     (then_weaker (Working (Pulls Bot)) (Working (Pulls Server)) (Pulls Bot) (Pulls Server)
     (step_of (Pulls Bot)) (step_of (Pulls Server)))))
 
--- ---- what a turn's steps make
+-- ---- the effect of a turn's steps
 
--- nothing waits, and no put is made
+-- the queue is empty, and no put is made
 pub no_put : (side : Side) (front : List ℕ) (a : SessionView) (empty : Bool) → IsFrontOf front (queued a side) →
     empty ≡ eqb (length front) 0 → empty ≡ true → Puts side a [] a
 no_put side front a empty is e f = inl (none_left front (queued a side) empty e f is, refl, refl)

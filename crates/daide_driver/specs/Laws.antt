@@ -1,4 +1,4 @@
--- What holds of all stretches of answers.
+-- Laws about all traces of port calls.
 use Rattle.std.specs.Prelude.{List, [], ◌++◌}
 use Rattle.daide_protocol.specs.Machine.{Limits}
 use Rattle.daide_protocol.specs.Wires.{SessionView, IsNew}
@@ -6,16 +6,16 @@ use Rattle.daide_protocol.specs.Ports.{PortCall}
 use Rattle.daide_driver.specs.Record.{RefinesRun, EvolveTogether}
 use Rattle.daide_driver.specs.Headline.{IsReachable, Headline}
 
--- by what ports answered in two calls, one after the other, a session goes as in one call
+-- the traces of two calls, one after the other, join to the trace of one call
 abbrev pub RelaysJoin : Type 0
 RelaysJoin = (a b c : SessionView) (first second : List PortCall) →
     RefinesRun a first b → RefinesRun b second c → RefinesRun a (first ++ second) c
 
--- a new session stands where a run from its opening stands, before its ports answered anything
+-- a new session is reachable, before its first port call
 abbrev pub NewSessionsAreReachable : Type 0
 NewSessionsAreReachable = (limits : Limits) (g : SessionView) → IsNew limits g → IsReachable limits [] g
 
--- relaying twice is relaying once, by the answers of both
+-- relaying twice is relaying once, by the joined traces
 abbrev pub HeadlinesJoin : {P : Type 0} → (P → PortCall → P → Type 0) → Type 0
 HeadlinesJoin {P} transition = (a b c : SessionView × P) →
     EvolveTogether transition Headline a b → EvolveTogether transition Headline b c → EvolveTogether transition Headline a c

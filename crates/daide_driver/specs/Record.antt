@@ -1,4 +1,4 @@
--- What the answers of ports make of a session: its moves, what waits for each wire, and how often the tables may be asked.
+-- The effect of a trace of port calls on a session: its moves, the queued bytes of each wire, and the table look-ups.
 use Rattle.std.specs.Prelude.{◌≡◌, ℕ, Bool, true, false, List, [], ◌++◌, length}
 use Rattle.daide_frame.specs.declared.side.Side.{Side}
 use Rattle.daide_protocol.specs.Heard.{bytes_from}
@@ -10,30 +10,30 @@ use Rattle.daide_session.specs.Work.{IsPaidBy}
 
 -- ---- the work
 
--- how many bytes came of a side
+-- how many bytes were received from a side
 abbrev pub came : Side → List PortCall → ℕ
 came side answers = length (bytes_from side (events_of answers))
 
--- each side's table was asked at most twice for each byte that came of that side
+-- each side's table made at most two look-ups for each byte received from that side
 abbrev pub Works : SessionView → List PortCall → SessionView → Type 0
 Works old answers new = (side : Side) → IsPaidBy (came side answers) side old new
 
--- a stretch of this kind, in which the tables were asked no more than that
+-- a part of a run of this kind, with at most that many look-ups
 abbrev pub Working : (SessionView → List PortCall → SessionView → Type 0) → SessionView → List PortCall → SessionView → Type 0
 Working Kind old answers new = Kind old answers new × Works old answers new
 
--- ---- sent and waiting are the answers
+-- ---- the bytes sent and the bytes queued are the output
 
--- One wire: what waited, and the machine's answers, are what it took, and what waits. Where it failed, what it
--- took is a front of that, nothing waits, and the session is over.
+-- One wire: the bytes queued before, and the machine's output, are the bytes accepted and the bytes queued now. If the
+-- wire failed, the bytes accepted are a front of them, nothing is queued, and the session is over.
 abbrev pub Moved : Bool → Bool → List ℕ → List ℕ → List ℕ → List ℕ → Type 0
 Moved false over waited answers took waits = waited ++ answers ≡ took ++ waits
 Moved true over waited answers took waits =
     (over ≡ true) × (waits ≡ []) × ((rest : List ℕ) × (waited ++ answers ≡ took ++ rest))
 
--- By these answers of the ports the session goes from old to new: its state is the machine's, by the events
--- that they tell, each wire took the machine's answers, the moves are counted, and no table was asked more than twice
--- for a byte that came.
+-- By this trace the session goes from old to new. Its state is the machine's after the events of the trace. The bytes
+-- that each wire accepted, with those that are queued, are the machine's output. The moves are counted, and each table
+-- made at most two look-ups for a byte received.
 pub record RefinesRun (old : SessionView) (answers : List PortCall) (new : SessionView) : Type 0 where
   pub effects : List Effect
   pub run : Runs old.state (events_of answers) effects new.state
@@ -44,8 +44,8 @@ pub record RefinesRun (old : SessionView) (answers : List PortCall) (new : Sessi
 
 -- ---- a call
 
--- A call of this kind: by the answers of the ports in it, told or not, the session and the ports went from one pair to
--- the other.
+-- A call of this kind: by one trace of port calls, recorded or not, the session and the ports went from one pair to the
+-- other.
 pub record EvolveTogether {P : Type 0} (transition : P → PortCall → P → Type 0)
     (Kind : SessionView → List PortCall → SessionView → Type 0) (old new : SessionView × P) : Type 0 where
   pub call : List PortCall

@@ -1,4 +1,4 @@
--- What `relay` does: so many turns of a session, while it isn't closed.
+-- The effect of `relay`: turns of a session while it is not closed, at most a given number.
 use Rattle.std.specs.Prelude.{◌≡◌, ℕ, zero, suc, ◌≤◌, Bool, true, false, List, [], ◌++◌}
 use Rattle.daide_protocol.specs.Wires.{SessionView, is_closed}
 use Rattle.daide_protocol.specs.Ports.{PortCall}
@@ -7,15 +7,15 @@ use Rattle.daide_driver.specs.Headline.{Headline, WholeTurn}
 use Rattle.daide_driver.specs.declared.relaying.RelayEnd.{RelayEnd}
 use Rattle.daide_driver.specs.declared.relaying.RelayEnd.TheVariants.{Closed, TurnsSpent}
 
--- n turns, each of a session that isn't closed: after each one the session is within its bounds, and what each wire is
--- handed next is as that turn left it
+-- n turns, each of a session that is not closed; after each one the session is within its bounds, and the next turn
+-- starts from its fronts
 abbrev pub Turns : ℕ → SessionView → List PortCall → SessionView → Type 0
 Turns zero old answers new = (answers ≡ []) × (new ≡ old)
 Turns (suc n) old answers new =
     (mid : SessionView) × (first : List PortCall) × (second : List PortCall)
     × (answers ≡ first ++ second) × Turns n old first mid × (is_closed mid ≡ false) × WholeTurn mid second new
 
--- all turns were made where they are told as spent, and else at most all
+-- all turns were made if the relay reports them as spent; otherwise at most all
 abbrev pub MakesTurns : RelayEnd → ℕ → SessionView → List PortCall → SessionView → Type 0
 MakesTurns Closed turns old answers new = (n : ℕ) × (n ≤ turns) × Turns n old answers new
 MakesTurns TurnsSpent turns old answers new = Turns turns old answers new
@@ -24,7 +24,7 @@ abbrev pub is_spent : RelayEnd → Bool
 is_spent Closed = false
 is_spent TurnsSpent = true
 
--- what a relay does that ended so, all of it by the same answers
+-- the effect of a relay that ended this way, all parts by the same trace
 pub record WholeRelay (end : RelayEnd) (turns : ℕ) (old : SessionView) (call : List PortCall)
     (new : SessionView) : Type 0 where
   pub in_order : MakesTurns end turns old call new

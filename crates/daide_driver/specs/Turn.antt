@@ -1,5 +1,5 @@
--- What a turn asks of the ports and does to the session: the clock, one put to each wire where something waits,
--- one pull from each side where there is room, in this order, each by the state at its own step.
+-- The port calls of a turn and their effect on the session: the clock, one put to each wire with a queued frame, one
+-- pull from each side with room. They are in this order, each by the state at its own step.
 use Rattle.std.specs.Prelude.{◌≡◌, ℕ, ◌+◌, ◌*◌, ◌<◌, ◌≤◌, ◌⊎◌, min, Bool, true, false, List, [], ◌∷◌, ◌++◌, length}
 use Rattle.daide_frame.specs.declared.side.Side.{Side}
 use Rattle.daide_frame.specs.declared.side.Side.TheVariants.{Bot, Server}
@@ -15,55 +15,55 @@ use Rattle.daide_protocol.specs.declared.ports.Put.TheVariants.{Took, Failed}
 use Rattle.daide_channels.specs.Fronts.{KeepsFront, AreFresh}
 use Rattle.daide_protocol.specs.Ports.{PortCall, Clock, Pulled, Offered, pulled_len, IsPutWithin}
 
--- how many bytes a turn reads of a side at most (own)
+-- the most bytes that a turn reads from a side (own)
 abbrev pub most_pulled : ℕ
 most_pulled = 512
 
--- one stretch of answers, and then another
+-- one trace, and then another
 abbrev pub Then : (SessionView → List PortCall → SessionView → Type 0) → (SessionView → List PortCall → SessionView → Type 0) →
     SessionView → List PortCall → SessionView → Type 0
 Then First Second old answers new =
     (mid : SessionView) × (first : List PortCall) × (second : List PortCall)
     × (answers ≡ first ++ second) × First old first mid × Second mid second new
 
--- the session goes on by these events, whatever it tells of them
+-- the session handles these events, with any note
 abbrev pub AdvancesByEvents : SessionView → List Event → SessionView → Type 0
 AdvancesByEvents old events new = (note : Note) × Refines old events note new
 
--- what each wire is handed next stays, and a wire of which nothing waited is handed a whole end or an answer's header
+-- the front of each wire stays; a wire with an empty queue then starts with a whole final frame or an answer's header
 abbrev pub KeepsBoth : SessionView → SessionView → Type 0
 KeepsBoth old new = (to : Side) → KeepsFront old to new
 
 -- ---- the clock
 
--- the timer of the initial message, where it popped
+-- the expiry of the IM timer, if it expired
 abbrev pub Hears : Bool → SessionView → SessionView → Type 0
 Hears true old new = AdvancesByEvents old (ImTimerExpired ∷ []) new × KeepsBoth old new
 Hears false old new = new ≡ old
 
--- the clock is asked once
+-- the clock is read once
 abbrev pub AsksClock : SessionView → List PortCall → SessionView → Type 0
 AsksClock old answers new = (im_timer_expired : Bool) × (answers ≡ Clock im_timer_expired ∷ []) × Hears im_timer_expired old new
 
 -- ---- the puts
 
--- What the wire took is off the parts of its frame: where something is left of what it was handed, that is handed over
--- next, else the frame's next part. Where the frame is gone, the next frame is handed over as one that waits only now.
+-- The accepted bytes are removed from the parts of the frame. The next front is then the rest of the offered part, or
+-- else the frame's next part. If the whole frame was accepted, the next frame starts with its first part.
 pub record TakesFront (side : Side) (n : ℕ) (old new : SessionView) : Type 0 where
   pub rest : n < first_len (queued old side) → parts_of new side ≡ parts_after n (parts_of old side)
   pub next : first_len (queued old side) ≤ n → AreFresh (parts_of new side) (queued new side)
 
--- what the wire took is taken off what waits; a wire that failed is lost; what the other wire is handed next stays
+-- the accepted bytes are removed from the queue; a failed wire is lost; the other wire's front stays
 abbrev pub Hands : Side → Put → SessionView → SessionView → Type 0
 Hands side (Took n) old new =
     Wrote old side n new × TakesFront side n old new × KeepsFront old (other side) new
 Hands side Failed old new = Lost old side new × KeepsFront old (other side) new
 
--- nothing waits, and no put is made
+-- the queue is empty, and no put is made
 abbrev pub HasNone : Side → SessionView → List PortCall → SessionView → Type 0
 HasNone side old answers new = (queued old side ≡ []) × (answers ≡ []) × (new ≡ old)
 
--- something waits, and one put is made, of the whole front
+-- the queue is not empty, and one put of the whole front is made
 pub record HandsFront (side : Side) (old : SessionView) (answers : List PortCall) (new : SessionView) : Type 0 where
   pub put : Put
   pub filled : 0 < length (front_of old side)
@@ -77,7 +77,7 @@ Puts side old answers new = HasNone side old answers new ⊎ HandsFront side old
 
 -- ---- the pulls
 
--- bytes that came go in; an end is an end
+-- received bytes are fed; an end is handled as an end
 abbrev pub Gets : Side → Pull → List ℕ → SessionView → SessionView → Type 0
 Gets side (Got n) bytes old new = AdvancesByEvents old (bytes_come side bytes) new × KeepsBoth old new
 Gets side Idle bytes old new = new ≡ old
@@ -87,7 +87,7 @@ Gets side Ended bytes old new = AdvancesByEvents old (Ends side ∷ []) new × K
 abbrev pub HasNoRoom : Side → SessionView → List PortCall → SessionView → Type 0
 HasNoRoom side old answers new = (room_of old side ≡ 0) × (answers ≡ []) × (new ≡ old)
 
--- there is room, and one pull is made, into a buffer as long as the room, and of `most_pulled` bytes at most
+-- there is room, and one pull is made into a buffer as long as the room, but of at most `most_pulled` bytes
 pub record FillsRoom (side : Side) (old : SessionView) (answers : List PortCall) (new : SessionView) : Type 0 where
   pub pull : Pull
   pub bytes : List ℕ
@@ -106,11 +106,11 @@ Turn = Then AsksClock (Then (Puts Bot) (Then (Puts Server) (Then (Pulls Bot) (Pu
 
 -- ---- its work
 
--- what a turn asks a side's table at most: four answers for each token of its one pull, for a token that the
--- pull's first byte ends, and at a message's end
+-- The most look-ups of a turn in one side's table: four for each token of its one pull, four for a token that the
+-- pull's first byte completes, and four at a message's end.
 abbrev pub turn_steps : ℕ
 turn_steps = 4 * 257 + 4
 
--- each side's table was asked at most so many times
+-- each side's table made at most this many look-ups
 abbrev pub AsksAtMost : ℕ → SessionView → SessionView → Type 0
 AsksAtMost most old new = (side : Side) → IsRaised most (holding old side).total (holding new side).total

@@ -1,7 +1,7 @@
-//! Many sessions with their ports, each of which answers as if it were alone.
+//! Many sessions with their ports, none of which affects another.
 //!
-//! A hub makes room for all its sessions at once, so that `add` takes the two bodies of a new session and nothing
-//! else, and no other call takes memory.
+//! A hub reserves the places of all its sessions at once. So `add` allocates only the two bodies of a new session, and
+//! no other call allocates.
 
 ghost use Rattle.std.specs.Prelude.{◌≡◌, ℕ, ◌+◌, ◌*◌, ◌<◌, ◌≤◌, [], length, Ok, Some, None, false};
 ghost use Rattle.std.specs.Prelude.{IfOk, IfErr, IfSome, IfNone, OnOk, OnErr, slice_get, sum_by};
@@ -25,34 +25,33 @@ use daide_words::words::Words;
 use std::alloc::{Allocator, Global};
 use std::marker::Model;
 
-/// Why there is no hub, in the order in which it is looked at.
+/// Why no hub was created, in the order of the checks.
 #[derive(Clone, Copy, Debug, PartialEq, Eq)]
 pub enum HubError {
     /// A limit of the sessions is wrong.
     Config(ConfigError),
     /// The number of sessions is not from 1 to 256.
     Sessions,
-    /// The memory of the places was refused.
+    /// The allocator refused the places.
     Memory,
 }
 
-/// Why a session was not added.
+/// Why no session was added, in the order of the checks.
 #[derive(Clone, Copy, Debug, PartialEq, Eq)]
 pub enum AddFault {
-    /// The hub has as many sessions as it has room for.
+    /// The hub has its maximum number of sessions.
     Full,
-    /// The memory of a body was refused.
+    /// The allocator refused a body.
     Memory,
 }
 
-/// What is left of a session that is taken out.
+/// A removed session: its ports, its counts and its ending.
 #[derive(Drop)]
 pub struct Removed<P: Ports> {
-    /// Its ports.
     pub ports: P,
-    /// Its moves counted, modulo 2^64.
+    /// The counted moves, each modulo 2^64.
     pub summary: Summary,
-    /// Which event ended it.
+    /// The event that ended the session.
     pub ending: Ending,
 }
 
@@ -63,8 +62,8 @@ struct SessionSlot<P: Ports, A: Allocator> {
     ports: P,
 }
 
-/// Sessions in one loop. Contracts see the limits of its sessions, how many there may be, and at each place a
-/// session's value and its ports. All turns read through one buffer, which would else be made anew for each.
+/// Sessions in one loop. The abstract value has the limits of the sessions, their maximum number, and at each place the
+/// value of a session and its ports. All turns share one buffer, so that no turn has to clear a new one.
 #[derive(Drop)]
 pub struct Hub<P: Ports, A: Allocator = Global> {
     alloc: A,
@@ -176,7 +175,7 @@ impl<P: Ports, A: Allocator + Copy> Hub<P, A> {
         turn_through(&mut place.session, &mut place.ports, &mut self.buffer);
     }
 
-    /// The session at a place.
+    /// Returns the session at a place.
     pub fn session(&self, i: usize) -> &Session<A>
         requires { i < length self.now.places }
         ensures { IfSome (slice_get self.now.places i) (λ place. result.now ≡ place.0) }
@@ -184,7 +183,7 @@ impl<P: Ports, A: Allocator + Copy> Hub<P, A> {
         &self.places[i].session
     }
 
-    /// The ports of the session at a place.
+    /// Returns the ports of the session at a place.
     pub fn ports(&self, i: usize) -> &P
         requires { i < length self.now.places }
         ensures { IfSome (slice_get self.now.places i) (λ place. result.now ≡ place.1) }
@@ -206,7 +205,7 @@ impl<P: Ports, A: Allocator + Copy> Hub<P, A> {
         &mut lent.ports
     }
 
-    /// How many sessions there are.
+    /// Returns the number of sessions.
     pub fn count(&self) -> usize
         ensures { result ≡ length self.now.places }
     {

@@ -1,8 +1,8 @@
-//! What turns a session: its ports, one turn, many in a row, and many sessions in one loop.
+//! The driver of a session: one turn, many turns in a row, and many sessions in one loop.
 //!
-//! A session touches no wire: what is asked of its two wires and of the clock is `Ports`, below. `turn_io` is one turn,
-//! `relaying` makes turns until the session is closed, and `hub` holds sessions with their ports. What the ports answer is
-//! a parameter of all that is said here, stored or not.
+//! A session does no I/O. Its two wires and its clock are `Ports`, of `daide_protocol`. `turn_io` is one turn,
+//! `relaying` makes turns until the session is closed, and `hub` holds sessions with their ports. The contracts have
+//! the trace of the port calls as a parameter, whether the ports record it or not.
 #![tactic(auto)]
 
 pub mod hub;

@@ -1,4 +1,4 @@
-//! The loop over turns, which ends with the session.
+//! The loop of turns, which ends with the session.
 
 ghost use Rattle.std.specs.Prelude.{◌≡◌, ◌≤◌, not};
 ghost use Rattle.daide_protocol.specs.Wires.{is_closed};
@@ -14,13 +14,13 @@ use std::alloc::Allocator;
 /// How a relay ended.
 #[derive(Clone, Copy, Debug, PartialEq, Eq)]
 pub enum RelayEnd {
-    /// The session is over, and nothing waits for either wire.
+    /// The session is over, and both send queues are empty.
     Closed,
     /// All turns were made, and the session may be relayed further.
     TurnsSpent,
 }
 
-/// Makes turns while the session isn't closed, and at most so many.
+/// Makes at most `turns` turns, and stops as soon as the session is closed.
 fn make_turns<A: Allocator, P: Ports>(
     session: &mut Session<A>,
     ports: &mut P,

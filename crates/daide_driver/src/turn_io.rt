@@ -1,8 +1,8 @@
-//! A turn: what moves bytes between a session and its two wires.
+//! A turn: moves bytes between a session and its two wires.
 //!
-//! The clock is asked first, so that a late initial message ends the session before anything is read. Then what
-//! waits is written, so that a side whose answer goes out may be read in the same turn. Each wire and each side
-//! is asked once, so no peer can hold up the other.
+//! The clock is read first, so that a late initial message ends the session before anything is read. Then the queued
+//! frames are written, so that a side whose answer is sent can be read in the same turn. A turn makes at most one call
+//! for each wire and one for each side, so neither peer can delay the other.
 
 ghost use Rattle.std.specs.Prelude.{◌≡◌, ℕ, ◌+◌, ◌*◌, ◌<◌, ◌≤◌, min, length};
 ghost use Rattle.daide_frame.specs.declared.side.Side.{Side};
@@ -19,10 +19,10 @@ use daide_protocol::ports::{Ports, Pull, Put};
 use daide_session::session::Session;
 use std::alloc::Allocator;
 
-/// How many bytes a turn reads of a side at most.
+/// The most bytes that a turn reads from a side.
 pub(crate) const BUFFER: usize = 512;
 
-/// Tells the session where the time for its initial message is over.
+/// Reads the clock, and reports an expired IM timer to the session.
 fn ask_clock<A: Allocator, P: Ports>(session: &mut Session<A>, ports: &mut P)
     ensures clock { EvolveTogether P.transition (Working AsksClock) (session.old, ports.old) (session.new, ports.new) }
     ensures asks_nothing { AsksNothing session.old session.new }
@@ -33,7 +33,7 @@ fn ask_clock<A: Allocator, P: Ports>(session: &mut Session<A>, ports: &mut P)
     }
 }
 
-/// Hands the whole front of what waits for a wire to that wire.
+/// Puts the whole front of a send queue to its wire.
 fn put_front<A: Allocator, P: Ports>(session: &mut Session<A>, ports: &mut P, side: Side)
     ensures puts { EvolveTogether P.transition (Working (Puts side)) (session.old, ports.old) (session.new, ports.new) }
     ensures asks_nothing { AsksNothing session.old session.new }
@@ -49,7 +49,7 @@ fn put_front<A: Allocator, P: Ports>(session: &mut Session<A>, ports: &mut P, si
     }
 }
 
-/// Reads what a side sent into a buffer, and tells the session of it.
+/// Pulls bytes from a side into a buffer, and feeds them to the session.
 fn pull_into<A: Allocator, P: Ports>(
     session: &mut Session<A>,
     ports: &mut P,
@@ -74,7 +74,7 @@ fn pull_into<A: Allocator, P: Ports>(
     }
 }
 
-/// Reads what a side sent, as much as the session has room for and the buffer holds.
+/// Pulls as many bytes from a side as the session has room for and the buffer holds.
 fn pull<A: Allocator, P: Ports>(
     session: &mut Session<A>,
     ports: &mut P,
@@ -140,7 +140,7 @@ pub fn turn<A: Allocator, P: Ports>(session: &mut Session<A>, ports: &mut P)
     turn_through(session, ports, &mut [0; BUFFER]);
 }
 
-/// One turn, which reads through a buffer that it is lent: what the buffer holds before is not looked at.
+/// Makes one turn that reads through the given buffer, whose old contents have no effect.
 pub(crate) fn turn_through<A: Allocator, P: Ports>(
     session: &mut Session<A>,
     ports: &mut P,

@@ -1,4 +1,4 @@
--- The turns of a round: what the system is asked as they begin, and the hub that lends their ports.
+-- The turns of a round: the system calls that begin them, and the hub that lends their ports.
 use Rattle.std.proofs.Common.{◌≡◌, ℕ, zero, suc, ◌+◌, ◌<◌, List, [], ◌∷◌, ◌++◌, length, Option, Some, None}
 use Rattle.std.proofs.Common.{refl, sym, ap, ◌∙◌, subst, arith, add-one}
 use Rattle.std.specs.Prelude.{IfSome, All, slice_get}
@@ -14,10 +14,10 @@ use Rattle.daide_event_loop.specs.Serving.{OpensTurn, TakesTurn, TurnsBelow}
 use Rattle.daide_event_loop.specs.Served.{sum_over_calls}
 use Rattle.daide_event_loop.proofs.TransitLemmas.{transits_then}
 
--- ---- what the system is asked
+-- ---- the system calls
 
 module _ {P : Type 0} where
-  -- each of these begins a turn
+  -- each of these calls begins a turn
   abbrev pub OnlyBegin : List (SystemCall P) → Type 0
   OnlyBegin [] = Unit {0}
   OnlyBegin (BeginsTurn before after ∷ answers) = OnlyBegin answers
@@ -38,7 +38,7 @@ module _ {P : Type 0} where
   only_append (Notifies notice ∷ xs) ys h k = absurd h
   only_append (Waits more ∷ xs) ys h k = absurd h
 
-  -- so they count as nothing else
+  -- so they add nothing to any other count
   pub none_counted : (count : SystemCall P → ℕ) (xs : List (SystemCall P)) →
       ((before after : P) → count (BeginsTurn before after) ≡ 0) → OnlyBegin xs → sum_over_calls count xs ≡ 0
   none_counted count [] none h = refl
@@ -87,7 +87,7 @@ slice_some (x ∷ xs) zero h = (x, refl)
 slice_some (x ∷ xs) (suc i) h = slice_some xs i (omega (arith, h))
 
 module _ {P : Type 0} (port_transition : P → PortCall → P → Type 0) where
-  -- as its turn begins the place has the ports that the loan left, and the session is as it was
+  -- when its turn begins, the place has the ports that the loan left, and the session is unchanged
   pub lent : (hub : HubView (QuotaPortsView P)) (i : ℕ) (old new : QuotaPortsView P) → i < length hub.places →
       IfSome (slice_get hub.places i) (λ place. old ≡ place.1) → Meters port_transition old TurnBegins new →
       Changes (OpensTurn port_transition (beginning old new)) hub i (with_ports hub i new)
@@ -114,7 +114,7 @@ module _ {P : Type 0} (port_transition : P → PortCall → P → Type 0) where
     ap (λ (k : HubView (QuotaPortsView P)). length k.places) h.3 ∙ length-set old.places i h.1,
   )
 
-  -- so many places as before
+  -- the number of places stays
   pub lent_inside : (hub : HubView (QuotaPortsView P)) (i : ℕ) (old new : QuotaPortsView P) → i < length hub.places →
       IfSome (slice_get hub.places i) (λ place. old ≡ place.1) → Meters port_transition old TurnBegins new →
       i < length (with_ports hub i new).places
@@ -136,7 +136,7 @@ module _ {P : Type 0} (port_transition : P → PortCall → P → Type 0) where
     pub none_turned : (s : S) (old : HubView (QuotaPortsView P)) → Turning s old 0 old s
     none_turned s old = record { answers = []; transits = refl; turns = (refl, refl); max = refl; count = refl }
 
-    -- one more place had its turn
+    -- one place more had its turn
     pub another_turn : (s t u : S) (old mid new : HubView (QuotaPortsView P)) (n : ℕ) → Turning s old n mid t →
         (answers : List (SystemCall P)) → TransitsBy transition t answers u → TakesTurn port_transition mid n answers new →
         Turning s old (n + 1) new u

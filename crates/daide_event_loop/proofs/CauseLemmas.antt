@@ -1,4 +1,4 @@
--- Why a session ended, by what its ports answered while turns were left.
+-- The cause of an ending, by the port calls within the quota.
 use Rattle.std.proofs.Common.{◌≡◌, ℕ, zero, suc, Bool, true, false, List, [], ◌∷◌, ◌++◌, Option, Some, None}
 use Rattle.std.proofs.Common.{refl, sym, ap, ◌∙◌, subst, arith, append-nil, inl, inr}
 use Rattle.std.specs.Prelude.{is_some, is_none, nat_lt}
@@ -27,7 +27,7 @@ use Rattle.daide_event_loop.specs.Serving.{fresh, is_reported, cause_by}
 use Rattle.daide_event_loop.proofs.TurnCounts.{turn_begins_none, counted_from, none_below_zero}
 use Rattle.daide_event_loop.proofs.LostWires.{is_lost, lost_waits}
 
--- ---- the first end or failure that is told
+-- ---- the first synthetic end
 
 abbrev pub first_of : List PortCall → Option Ending
 first_of [] = None
@@ -49,7 +49,7 @@ or_none None = refl
 or_none (Some x) = refl
 
 module _ {P : Type 0} (port_transition : P → PortCall → P → Type 0) where
-  -- ports that are spent stay so, and tell the first of these
+  -- ports beyond their quota stay so, and record the first of these ends
   record Tells (answers : List PortCall) (old new : QuotaPortsView P) : Type 0 where
     spent : AreSpent answers
     first_synthetic_end : new.first_synthetic_end ≡ option_or old.first_synthetic_end (first_of answers)
@@ -110,7 +110,7 @@ module _ {P : Type 0} (port_transition : P → PortCall → P → Type 0) where
         turns_left = rest.turns_left;
       }
 
-  -- while turns are left nothing is told
+  -- within the quota nothing is recorded
   where_left : (left : Option ℕ) (turns : ℕ) (ending : Ending) (told : Option Ending) → left ≡ Some turns →
       reported_where left ending told ≡ told
   where_left None turns ending told e = absurd (cc)
@@ -146,7 +146,7 @@ module _ {P : Type 0} (port_transition : P → PortCall → P → Type 0) where
         (rest.1.0, sym h.1.turns_left ∙ rest.1.1),
       )
 
-  -- ---- the answers while turns are left
+  -- ---- the port calls within the quota
 
   all_left : (answers : List PortCall) (turns more : ℕ) (old new : QuotaPortsView P) → old.turns_left ≡ Some turns →
       EvolvesBy (Meters port_transition) old answers new → new.turns_left ≡ Some more → while_left turns answers ≡ answers
@@ -165,7 +165,7 @@ module _ {P : Type 0} (port_transition : P → PortCall → P → Type 0) where
       ap (λ (l : List PortCall). Offered side bytes put ∷ l)
       (all_left answers turns more h.0 new (h.1.turns_left ∙ e) h.2 k)
 
-  -- what is answered once they are spent counts no more
+  -- port calls beyond the quota are not counted
   spent_adds : (answers more : List PortCall) (turns : ℕ) (old new : QuotaPortsView P) → old.turns_left ≡ Some turns →
       EvolvesBy (Meters port_transition) old answers new → new.turns_left ≡ None →
       while_left turns (answers ++ more) ≡ while_left turns answers
@@ -184,7 +184,7 @@ module _ {P : Type 0} (port_transition : P → PortCall → P → Type 0) where
       ap (λ (l : List PortCall). Offered side bytes put ∷ l)
       (spent_adds answers more turns h.0 new (h.1.turns_left ∙ e) h.2 k)
 
-  -- a turn that begins with none left is the first of them
+  -- the first of them is the beginning of a turn with none left
   last_adds : (answers more : List PortCall) (turns : ℕ) (old new : QuotaPortsView P) →
       old.turns_left ≡ Some turns → EvolvesBy (Meters port_transition) old answers new → new.turns_left ≡ Some 0 →
       while_left turns (answers ++ TurnBegins ∷ more) ≡ answers
@@ -206,9 +206,9 @@ module _ {P : Type 0} (port_transition : P → PortCall → P → Type 0) where
       ap (λ (l : List PortCall). Offered side bytes put ∷ l)
       (last_adds answers more turns h.0 new (h.1.turns_left ∙ e) h.2 k)
 
--- ---- a session by what it is told first
+-- ---- a session by its first synthetic end
 
--- the session was in this state when its turns were spent, and is in another since, by what was told first
+-- the session was in this state when its turns were spent, and the first synthetic end led to its present state
 pub record Cut (state now : SessionState) (told : Option Ending) : Type 0 where
   pub still : told ≡ None → now ≡ state
   pub before : (e : Ending) → state.ending ≡ Some e → (now.ending ≡ Some e) × (is_reported told e ≡ false)
@@ -264,7 +264,7 @@ first_itself (Pulled side buffer pull bytes ∷ answers) e f =
 first_itself (Offered side bytes put ∷ answers) e f =
     subst (λ (o : Option Ending). self o ≡ true) f (side_itself side)
 
--- ---- one that is open
+-- ---- an open session
 
 over_for_good : (old : SessionState) (events : List Event) (effects : List Effect) (new : SessionState) →
     is_over old.phase ≡ true → Runs old events effects new → new ≡ old
@@ -284,7 +284,7 @@ loses_by old side effects new live step = (
   ap (λ (o : Successor). is_over o.state.phase) (sym step.outcome) ∙ (rw live refl),
 )
 
--- by what it is told first it ends, and by nothing else
+-- the first synthetic end ends it, and nothing else does
 abbrev RefinesBy : Option Ending → SessionState → SessionState → Type 0
 RefinesBy None old new = new ≡ old
 RefinesBy (Some e) old new = new.ending ≡ Some e
@@ -309,7 +309,7 @@ goes_by (Offered side bytes Failed ∷ answers) old effects new spent live run =
     let one = loses_by old side run.1 run.0 live run.3 in
     ap (λ (s : SessionState). s.ending) (over_for_good run.0 (events_of answers) run.2 new one.1 run.4) ∙ one.0
 
--- ---- one that is over
+-- ---- a session that is over
 
 lost_is_reported : (side : Side) (e : Ending) → is_reported (Some (Endings.Lost side)) e ≡ is_lost side (Some e)
 lost_is_reported side (Endings.Ended one) = refl
@@ -327,7 +327,7 @@ no_room g side over = rw over refl
 
 module _ (limits : Limits) (history : List PortCall) (g : SessionView) (ending : Ending)
     (stands : IsReachable limits history g) (over : is_over g.state.phase ≡ true) (ended : g.state.ending ≡ Some ending) where
-  -- what ended it is not told first
+  -- its ending is not the first synthetic end
   abbrev Other : List PortCall → Type 0
   Other answers = is_reported (first_of answers) ending ≡ false
 
@@ -394,7 +394,7 @@ some_ending : (o : Option Ending) (over : Bool) → is_some o ≡ over → over 
 some_ending None over e f = absurd (cc)
 some_ending (Some x) over e f = (x, refl)
 
--- a turn of spent ports
+-- a turn beyond the quota
 module _ (limits : Limits) (history call : List PortCall) (a b : SessionView) (effects : List Effect)
     (state : SessionState) (told later : Option Ending) (stands : IsReachable limits history a) (turn : Turn a call b)
     (spent : AreSpent call) (run : Runs a.state (events_of call) effects b.state)
@@ -410,7 +410,7 @@ module _ (limits : Limits) (history call : List PortCall) (a b : SessionView) (e
   was_ended m same (Some e) f = (e, (c.before e f).0)
   was_ended m same None f = (m, c.since m f same)
 
-  -- something was told before
+  -- an end was recorded before
   reported_before : (m : Ending) → told ≡ Some m → Cut state b.state later
   reported_before m same =
       let e = was_ended m same state.ending refl in
@@ -427,7 +427,7 @@ module _ (limits : Limits) (history call : List PortCall) (a b : SessionView) (e
   is_later None = false
   is_later (Some x) = is_reported later x
 
-  -- it was over, and nothing was told since
+  -- the session was over, and no end was recorded since
   over_before : told ≡ None → is_over a.state.phase ≡ true → Cut state b.state later
   over_before none over =
       let e = some_ending a.state.ending (is_over a.state.phase) known over in
@@ -447,7 +447,7 @@ module _ (limits : Limits) (history call : List PortCall) (a b : SessionView) (e
         itself = λ x f. first_itself call x (sym first ∙ f);
       }
 
-  -- it was open: what is told first ends it
+  -- the session was open: the first synthetic end ends it
   open_before : told ≡ None → is_over a.state.phase ≡ false → Cut state b.state later
   open_before none live =
       let first = first_is none in
@@ -476,7 +476,7 @@ module _ (limits : Limits) (history call : List PortCall) (a b : SessionView) (e
 -- ---- along a session's turns
 
 module _ {P : Type 0} (port_transition : P → PortCall → P → Type 0) (limits : Limits) (turns : ℕ) where
-  -- how a session stands to the state in which its turns were spent, or to its own while some are left
+  -- how a session relates to the state at its last turn within the quota, or to its own while turns are left
   pub record IsCut (history : List PortCall) (now : SessionView × QuotaPortsView P) : Type 0 where
     pub effects : List Effect
     pub state : SessionState
@@ -506,7 +506,7 @@ module _ {P : Type 0} (port_transition : P → PortCall → P → Type 0) (limit
         subst (λ (o : Option Ending). Cut state b.0.state o) (sym t.1.first_synthetic_end)
         (subst (λ (g : SessionView). Cut state g.state a.1.first_synthetic_end) (sym t.0) h)
 
-    -- they were spent before
+    -- the quota was exceeded before
     begun_spent : a.1.turns_left ≡ None → IsCut longer b
     begun_spent e = record {
       effects = c.effects;
@@ -517,7 +517,7 @@ module _ {P : Type 0} (port_transition : P → PortCall → P → Type 0) (limit
       quiet = λ n k. let none = t.1.turns_left ∙ ap one_less e in absurd (cc);
     }
 
-    -- they are spent now
+    -- the quota is exceeded now
     begun_last : a.1.turns_left ≡ Some 0 → IsCut longer b
     begun_last e = record {
       effects = stands.effects;
@@ -528,7 +528,7 @@ module _ {P : Type 0} (port_transition : P → PortCall → P → Type 0) (limit
       quiet = λ n k. let none = t.1.turns_left ∙ ap one_less e in absurd (cc);
     }
 
-    -- some are left
+    -- some turns are left
     begun_more : (n : ℕ) → a.1.turns_left ≡ Some (suc n) → IsCut longer b
     begun_more n e =
         let left : b.1.turns_left ≡ Some n = t.1.turns_left ∙ ap one_less e in
@@ -552,7 +552,7 @@ module _ {P : Type 0} (port_transition : P → PortCall → P → Type 0) (limit
     pub cut_begun : IsCut (history ++ TurnBegins ∷ []) b
     cut_begun = begun_by a.1.turns_left refl
 
-  -- ---- a turn is made
+  -- ---- a turn runs
 
   module _ (history : List PortCall) (ports : P) (a b : SessionView × QuotaPortsView P) (t : IsTurned (Meters port_transition) a b)
       (answered : EvolvesBy (Meters port_transition) (fresh ports turns) history a.1) (stands : IsReachable limits history a.0)
@@ -563,7 +563,7 @@ module _ {P : Type 0} (port_transition : P → PortCall → P → Type 0) (limit
     along : EvolvesBy (Meters port_transition) (fresh ports turns) (history ++ call) b.1
     along = transition_then (Meters port_transition) history call (fresh ports turns) a.1 b.1 answered t.exchange.ports
 
-    -- they were spent before
+    -- the quota was exceeded before
     spent_before : a.1.turns_left ≡ None → IsCut (history ++ call) b
     spent_before e =
         let s = tells port_transition call a.1 b.1 e t.exchange.ports in
@@ -577,7 +577,7 @@ module _ {P : Type 0} (port_transition : P → PortCall → P → Type 0) (limit
           quiet = λ n k. let none = s.turns_left in absurd (cc);
         }
 
-    -- some are left behind it, and so nothing was told
+    -- some turns are left after it, and so nothing was recorded
     left_still : (n m : ℕ) → a.1.turns_left ≡ Some n → b.1.turns_left ≡ Some m → IsCut (history ++ call) b
     left_still n m e k =
         let none : b.1.first_synthetic_end ≡ None = (untold port_transition call m a.1 b.1 t.exchange.ports k).0 ∙ c.quiet n e in
@@ -590,7 +590,7 @@ module _ {P : Type 0} (port_transition : P → PortCall → P → Type 0) (limit
           quiet = λ j f. none;
         }
 
-    -- a turn takes none of them
+    -- the turn takes none of them
     one_left : (n : ℕ) (o : Option ℕ) → a.1.turns_left ≡ Some n → b.1.turns_left ≡ o → IsCut (history ++ call) b
     one_left n (Some m) e k = left_still n m e k
     one_left n None e k =

@@ -1,4 +1,4 @@
--- How many bots came, how many of them are on their way, and what became of the others.
+-- The bots accepted, the connects under way, and the fate of the others.
 use Rattle.std.proofs.Common.{◌≡◌, ℕ, zero, suc, ◌+◌, Bool, true, false, List, [], ◌∷◌, ◌++◌, refl, sym, ◌∙◌}
 use Rattle.std.proofs.Common.{subst, arith}
 use Rattle.std.specs.Prelude.{◌==◌, is_none}
@@ -15,7 +15,7 @@ use Rattle.daide_event_loop.specs.Serving.{end_of, retirement, retirements, wait
 use Rattle.daide_event_loop.specs.Served.{comes, connects, unreached, sum_over_calls}
 use Rattle.daide_event_loop.proofs.BeginningLemmas.{OnlyBegin, none_counted}
 
--- one that is not none is one more than another
+-- a number that is not zero is a successor
 one_fewer : (n : ℕ) → (n == 0) ≡ false → (m : ℕ) × (n ≡ suc m)
 one_fewer zero e = absurd (cc)
 one_fewer (suc m) e = (m, refl)
@@ -28,8 +28,8 @@ module _ {P : Type 0} where
       let rest = counted_append count xs ys in
       omega (arith, rest)
 
-  -- By these answers so many more came; and of those that were on their way and these, the ones that are not any more
-  -- were joined to the server, or it couldn't be reached.
+  -- By this trace `accepted` grows by the bots accepted. Of the connects under way before and these, those no longer
+  -- under way completed or failed.
   pub record Counts (answers : List (SystemCall P)) (old new : AdmissionCounters) : Type 0 where
     pub came : old.accepted + sum_over_calls comes answers ≡ new.accepted
     pub connected : old.connecting + sum_over_calls comes answers
@@ -50,7 +50,7 @@ module _ {P : Type 0} where
         sessions = k.sessions ∙ h.sessions;
       }
 
-  -- answers of which none is about a bot's coming or its connect
+  -- none of these calls accepts a bot or concerns a connect
   record Silent (answers : List (SystemCall P)) : Type 0 where
     came : sum_over_calls comes answers ≡ 0
     joined : sum_over_calls connects answers ≡ 0
@@ -79,7 +79,7 @@ module _ {P : Type 0} where
   beginning_counts counters =
       silent_counts (Begins ∷ []) counters (record { came = refl; joined = refl; failed = refl })
 
-  -- turns begin with no bot that came
+  -- beginning turns accepts no bot
   pub turns_count : (answers : List (SystemCall P)) (counters : AdmissionCounters) → OnlyBegin answers → Counts answers counters counters
   turns_count answers counters h =
       silent_counts answers counters (record {
@@ -101,7 +101,7 @@ module _ {P : Type 0} where
       subst (λ (l : List (SystemCall P)). Counts l old new) (sym h.0)
       (subst (λ (t : AdmissionCounters). Counts [] old t) (sym h.1) (silent_counts [] old nothing_said))
 
-  -- one that was on its way is joined, or its server couldn't be reached
+  -- one connect that was under way completes or fails
   one_met : (answers : List (SystemCall P)) (old : AdmissionCounters) → (old.connecting == 0) ≡ false →
       sum_over_calls comes answers ≡ 0 → sum_over_calls connects answers + sum_over_calls unreached answers ≡ 1 →
       Counts answers old (arrived old)

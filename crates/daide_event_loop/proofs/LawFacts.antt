@@ -1,5 +1,4 @@
--- Each law of `laws`, used once at values that were worked out by hand. Each fact takes the law alone, so that a weaker one
--- does not check.
+-- Each law of `laws`, used once at small values. Each fact takes only the law, so that a weaker law does not check.
 use Rattle.std.proofs.Common.{◌≡◌, ℕ, ◌+◌, true, false, List, [], ◌∷◌, length, refl, ◌∙◌, ap, arith}
 use Rattle.std.specs.Prelude.{is_none}
 use Rattle.daide_protocol.specs.Wires.{SessionView}
@@ -13,7 +12,7 @@ use Rattle.daide_event_loop.specs.Served.{comes, sum_over_calls, retires, unreac
 use Rattle.daide_event_loop.specs.Serving.{ServiceView, Rounds, fresh, initial_service}
 
 module _ {P : Type 0} (port_transition : P → PortCall → P → Type 0) where
-  -- of two turns the third that begins is one too many, and the second is not
+  -- with two turns the third to begin is beyond the quota, and the second is not
   spent : TurnsAreCounted port_transition → (ports : P) (now : QuotaPortsView P) →
       EvolvesBy (Meters port_transition) (fresh ports 2)
       (TurnBegins ∷ Clock false ∷ TurnBegins ∷ Clock false ∷ TurnBegins ∷ []) now → is_none now.turns_left ≡ true
@@ -25,13 +24,13 @@ module _ {P : Type 0} (port_transition : P → PortCall → P → Type 0) where
       is_none now.turns_left ≡ false
   not_spent law ports now h = law ports 2 (TurnBegins ∷ Clock false ∷ TurnBegins ∷ Clock false ∷ []) now h
 
-  -- a turn in which the clock alone was asked, and had not popped, moved nothing, whatever the turn before it did
+  -- a turn whose only call was to the clock, which had not expired, made no progress, whatever the turn before did
   still : MovesAreAnswered port_transition → (old mid new : SessionView × QuotaPortsView P) → IsBegun (Meters port_transition) old mid →
       (turn : IsTurned (Meters port_transition) mid new) → turn.exchange.call ≡ Clock false ∷ [] → new.1.made_progress ≡ false
   still law old mid new begins turn is =
       law old mid new begins turn ∙ ap (λ (answers : List PortCall). progress_by answers false) is
 
-  -- after one round that left nobody, each bot that came was let go, or its server couldn't be reached
+  -- after one round that left no session and no connect, each accepted bot was retired, or its server was unreachable
   one_round : SessionsAreServed port_transition → (settings : Settings) (answers : List (SystemCall P)) (run : ServiceView P) →
       Rounds port_transition 1 (initial_service settings) answers run → run.counters.connecting ≡ 0 → length run.hub.places ≡ 0 →
       (run.counters.accepted ≡ sum_over_calls comes answers)

@@ -1,4 +1,4 @@
--- A session ends by a wire that was lost where that wire failed, and for such a wire nothing waits.
+-- A session that ended by a lost wire had a failed put to that wire, and no frame is queued for the wire.
 use Rattle.std.proofs.Common.{◌≡◌, ℕ, ◌<◌, Bool, true, false, cond, List, [], ◌∷◌, ◌++◌, length, Option, Some, None}
 use Rattle.std.proofs.Common.{Result, Ok, Err, refl, sym, ap, ◌∙◌, subst, arith}
 use Rattle.std.specs.Prelude.{◌||◌}
@@ -27,9 +27,9 @@ use Rattle.daide_protocol.specs.Wires.{SessionView, same_side, queued, sent_byte
 use Rattle.daide_driver.specs.Headline.{IsReachable, untouched}
 use Rattle.daide_driver.specs.Record.{Moved}
 
--- ---- what ends a session otherwise
+-- ---- other endings of a session
 
--- the wire toward this side ended it
+-- the wire to this side ended the session
 abbrev pub is_lost : Side → Option Ending → Bool
 is_lost side None = false
 is_lost side (Some (Endings.Ended one)) = false
@@ -122,7 +122,7 @@ module _ (to : Side) where
       go true o = rw o h
       go false o = rw o apart
 
-  -- an event that isn't a failure of the wire
+  -- an event that is not a failure of the wire
   abbrev Spares : Event → Type 0
   Spares (Comes side x) = Unit {0}
   Spares (Ends side) = Unit {0}
@@ -188,7 +188,7 @@ module _ (to : Side) where
       let one = one_not old (Loses side) (events_of history) effects new own h run in
       history_not history one.0 one.1 new (right_of_or (same_side side to) (has_failed to history) kept) one.2 one.3
 
-  -- ---- what waits for a wire that was lost
+  -- ---- the queue of a lost wire
 
   none_waits : (failed over : Bool) (waited answers took waits : List ℕ) → failed ≡ true →
       Moved failed over waited answers took waits → waits ≡ []
@@ -208,7 +208,7 @@ module _ (to : Side) where
       ap (λ (l : List ℕ). l ++ sent_bytes frames) (sym h.1.1) ∙ e in
       nothing_from front h.1.0 (sent_bytes frames) some all
 
-  -- where the wire ended the session, nothing is handed to it any more
+  -- if the wire ended the session, no put to it is made any more
   pub lost_waits : (limits : Limits) (history : List PortCall) (g : SessionView) (front : List ℕ) → IsReachable limits history g →
       is_lost to g.state.ending ≡ true → IsFrontOf front (queued g to) → 0 < length front → ⊥
   lost_waits limits history g front stands lost is_front some = go (has_failed to history) refl

@@ -1,4 +1,4 @@
--- Sessions that are over are taken out, from the last place to the first.
+-- Closed sessions are removed, from the last place to the first.
 use Rattle.std.proofs.Common.{◌≡◌, ℕ, zero, suc, ◌-◌, ◌<◌, ◌≤◌, Bool, true, false, List, [], ◌∷◌, ◌++◌, length}
 use Rattle.std.proofs.Common.{Option, Some, refl, sym, ap, ◌∙◌, subst, append_assoc, append-nil, arith}
 use Rattle.std.specs.Prelude.{◌||◌, IfSome, slice_get, remove, is_none, unwrap_or}
@@ -15,7 +15,7 @@ use Rattle.daide_event_loop.specs.Serving.{last_words, parting, retirement, reti
 use Rattle.daide_event_loop.specs.Serving.{RemovesClosed, is_progress, any_progress}
 use Rattle.daide_event_loop.proofs.TransitLemmas.{transits_then}
 
--- ---- the last of a list
+-- ---- the last element of a list
 
 last_apart : {X : Type 0} (n : ℕ) (xs : List X) → length xs ≡ suc n →
     (ys : List X) × (x : X) × (xs ≡ ys ++ x ∷ []) × (length ys ≡ n)
@@ -64,7 +64,7 @@ module _ {P : Type 0} where
   fewer_remain [] = omega (arith)
   fewer_remain (x ∷ xs) = fewer_by x xs (is_closed x.0) refl (fewer_remain xs)
 
--- the places from `left` on were looked at, and the system was handed what went of them
+-- the places from `left` on were looked at, and their closed sessions were retired
 module _ {P S : Type 0} (transition : S → SystemCall P → S → Type 0) where
   pub record Removing (system_old : S) (old : HubView (QuotaPortsView P)) (left : ℕ)
       (hub : HubView (QuotaPortsView P)) (system_new : S) (removed : Bool) : Type 0 where
@@ -123,7 +123,7 @@ module _ {P S : Type 0} (transition : S → SystemCall P → S → Type 0) where
       let all = all_removed s t old new b (subst (λ (n : ℕ). Removing s old n new t b) none h) in
       rw (ap (λ (k : HubView (QuotaPortsView P)). k.places) all.2.1) (fewer_remain old.places)
 
-  -- what stands at the last place that is left
+  -- the session at the last of the places left
   at_last : (s t : S) (old hub : HubView (QuotaPortsView P)) (b : Bool) (n : ℕ) →
       (h : Removing s old (suc n) hub t b) →
       (ys : List (SessionView × QuotaPortsView P)) × (x : SessionView × QuotaPortsView P) × (length ys ≡ n)

@@ -1,5 +1,5 @@
--- What counts as a move in a turn, why a session ended, and in which order sessions are parted with. Worked out by hand, so
--- that an answer taken for its neighbour does not check.
+-- The progress of a turn, the cause of an ending, and the order of retirements. The expected values are independent of
+-- the definitions, so a result in place of its neighbour does not check.
 use Rattle.std.proofs.Common.{◌≡◌, ℕ, ◌+◌, true, false, List, [], ◌∷◌, map, replicate, Some, None, Option, refl}
 use Rattle.std.specs.List.{range_with_len}
 use Rattle.daide_frame.specs.declared.side.Side.{Side}
@@ -23,9 +23,9 @@ use Rattle.daide_event_loop.specs.Served.{turns_in, while_left}
 use Rattle.daide_event_loop.specs.Serving.{cause_by, retirements, remaining}
 use Rattle.daide_protocol.specs.System.{BeginsTurn, Retires, Notifies}
 
--- ---- what moved
+-- ---- progress
 
--- no byte that came, and none that went, is no move; a byte is one, and so is an end, a failure and a clock that popped
+-- zero bytes received or sent are no progress; a byte is, and so are an end, a failure and an expired IM timer
 no_bytes_are_no_move : (side : Side) → (progress_after (Pulled side 512 (Got 0) []) false ≡ false)
     × (progress_after (Pulled side 512 Idle []) false ≡ false)
     × (progress_after (Offered side (0x02 ∷ []) (Took 0)) false ≡ false) × (progress_after (Clock false) false ≡ false)
@@ -37,7 +37,7 @@ moves : (side : Side) → (progress_after (Pulled side 512 Ended []) false ≡ t
     × (map (λ n. progress_after (Offered side [] (Took n)) false) (range_with_len 0 513) ≡ false ∷ replicate 512 true)
 moves side = (refl, refl, refl, refl, refl)
 
--- what moved has moved until the next turn begins
+-- progress stays until the next turn begins
 moves_stay : (side : Side) → (progress_after (Pulled side 512 Idle []) true ≡ true)
     × (progress_after (Pulled side 512 (Got 0) []) true ≡ true)
     × (progress_after (Offered side (0x02 ∷ []) (Took 0)) true ≡ true) × (progress_after (Clock false) true ≡ true)
@@ -49,28 +49,28 @@ moves_stay side = (refl, refl, refl, refl, refl, refl, refl, refl)
 
 -- ---- turns
 
--- only a turn that begins takes one, and no question does
+-- only the beginning of a turn takes one from the quota; no other call does
 turns_taken : (side : Side) → (left_after TurnBegins (Some 2) ≡ Some 1) × (left_after TurnBegins (Some 1) ≡ Some 0)
     × (left_after TurnBegins (Some 0) ≡ None) × (left_after TurnBegins None ≡ None)
     × (left_after (Clock false) (Some 0) ≡ Some 0) × (left_after (Clock true) (Some 1) ≡ Some 1)
     × (left_after (Pulled side 4 (Got 4) []) (Some 1) ≡ Some 1) × (left_after (Offered side [] Failed) (Some 1) ≡ Some 1)
 turns_taken side = (refl, refl, refl, refl, refl, refl, refl, refl)
 
--- ---- why a session ended
+-- ---- the cause of an ending
 
--- spent ports tell an end or a failure; the first stays, whatever is told after it
+-- beyond the quota an end or a failure is recorded; later ones do not replace the first
 first_reported : (one other : Side) → (reported_after (Pulled one 4 Ended []) None None ≡ Some (Ended one))
     × (reported_after (Offered one [] Failed) None None ≡ Some (Lost one))
     × (reported_after (Pulled one 4 Ended []) None (Some (Lost other)) ≡ Some (Lost other))
     × (reported_after (Offered one [] Failed) None (Some (Ended other)) ≡ Some (Ended other))
 first_reported one other = (refl, refl, refl, refl)
 
--- while turns are left the ports' own ends and failures are none of these
+-- within the quota the ports' own ends and failures are not recorded
 nothing_reported : (side : Side) → (reported_after (Pulled side 4 Ended []) (Some 0) None ≡ None)
     × (reported_after (Offered side [] Failed) (Some 0) None ≡ None) × (reported_after (Clock false) None None ≡ None)
 nothing_reported side = (refl, refl, refl)
 
--- an event by which spent ports ended it is that its turns were spent; any other is the cause itself
+-- an ending recorded first beyond the quota has spent turns as its cause; any other is the cause itself
 causes : (cause_by None (Some (Ended Bot)) ≡ Causes.Session (Ended Bot))
     × (cause_by (Some (Ended Bot)) (Some (Ended Bot)) ≡ Causes.TurnsSpent)
     × (cause_by (Some (Lost Server)) (Some (Lost Server)) ≡ Causes.TurnsSpent)
@@ -81,11 +81,11 @@ causes = (refl, refl, refl, refl, refl, refl)
 
 -- ---- the order of retirements
 
--- counts of which each is another
+-- counts that all differ
 abbrev counts : ℕ → Summary
 counts n = record { relayed = n; prn = n + 1; huh = n + 2; faults = n + 3 }
 
--- a session in a phase, what ended it, its counts, and what waits for its bot
+-- a session with a phase, an ending, counts, and frames queued for its bot
 abbrev session : Limits → Phase → Option Ending → ℕ → List Sent → SessionView
 session limits phase ending n to_bot = record {
   state = with_ending ending (in_phase phase (initial_state limits).level (initial_state limits));
@@ -98,20 +98,20 @@ session limits phase ending n to_bot = record {
   summary = counts n;
 }
 
--- of the session an FM waits for its bot
+-- a session with an FM queued for its bot
 abbrev queued : Limits → SessionView
 queued limits = session limits Over (Some (Final Bot)) 20 (record { to = Bot; answers = None; bytes = fm_bytes } ∷ [])
 
--- ports that go by a number, with so many turns left
+-- ports identified by a number, with this many turns left
 abbrev ports : ℕ → Option ℕ → QuotaPortsView ℕ
 ports number left = record { ports = number; turns_left = left; made_progress = false; first_synthetic_end = None }
 
--- ports whose turns are spent, and what they told first since
+-- ports beyond their quota, and their first synthetic end
 abbrev spent : ℕ → Ending → QuotaPortsView ℕ
 spent number told = record { ports = number; turns_left = None; made_progress = false; first_synthetic_end = Some told }
 
--- the first is over, the second waits, the third is open, the fourth was open till its turns were spent, the fifth is over,
--- and so was the sixth, of which an FM waited for the bot till its turns were spent
+-- The first is closed, the second has a frame queued, the third is open, and the fourth was open until its turns were
+-- spent. The fifth is closed, and so is the sixth, whose FM for the bot was queued until its turns were spent.
 abbrev six : Limits → List (SessionView × QuotaPortsView ℕ)
 six limits =
     (session limits Over (Some (Fault Server SecondRm)) 10 [], ports 1 (Some 9)) ∷ (queued limits, ports 2 (Some 9))
@@ -119,7 +119,7 @@ six limits =
     ∷ (session limits Over (Some (Ended Server)) 50 [], ports 5 (Some 0))
     ∷ (session limits Over (Some (Ended Server)) 60 [], spent 6 (Lost Bot)) ∷ []
 
--- from the last place to the first, each that is over and of which nothing waits, with its own end and its own counts
+-- from the last place to the first, each closed session, with its own end and its own counts
 parted_from_the_last : (limits : Limits) →
     retirements (six limits)
     ≡ Notifies TurnsSpent ∷ Retires 6 (record { cause = Causes.Session (Ended Server); summary = counts 60 })
@@ -134,8 +134,8 @@ others_stay limits = refl
 
 -- ---- turns that begin
 
--- of three turns that began the third was one too many of two; with ports that are lent the system is asked, and not with
--- spent ones
+-- of three turns the third is beyond a quota of two; the system begins a turn with ports within their quota, and with
+-- no others
 turns_counted : (turns_in (TurnBegins ∷ Clock false ∷ TurnBegins ∷ Clock false ∷ TurnBegins ∷ Clock false ∷ []) ≡ 3)
     × (while_left 2 (TurnBegins ∷ Clock true ∷ TurnBegins ∷ Clock false ∷ TurnBegins ∷ Clock false ∷ [])
     ≡ TurnBegins ∷ Clock true ∷ TurnBegins ∷ Clock false ∷ [])

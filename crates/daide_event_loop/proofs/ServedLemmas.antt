@@ -1,4 +1,4 @@
--- The sessions of a run, step after step.
+-- The sessions of a run, step by step.
 use Rattle.std.proofs.Common.{◌≡◌, ℕ, zero, suc, ◌<◌, ◌≤◌, Bool, true, false, List, [], ◌∷◌, ◌++◌, length, take, set}
 use Rattle.std.proofs.Common.{◌+◌, refl, sym, ap, ◌∙◌, subst, arith, append-nil, length-append}
 use Rattle.std.specs.Prelude.{◌==◌, ◌&&◌, ◌||◌, Option, Some, None, Ok, Contains, All, is_none, is_some, not}
@@ -40,26 +40,26 @@ use Rattle.daide_event_loop.proofs.CauseLemmas.{IsCut, cut_begins, cut_begun, cu
 use Rattle.daide_event_loop.proofs.CountLemmas.{counted_append, Counts, counts_then, admission_counts, meeting_counts}
 use Rattle.daide_event_loop.proofs.CountLemmas.{beginning_counts, turns_count, removal_counts, wait_counts}
 
--- ---- what moved
+-- ---- progress
 
 module _ {P : Type 0} (port_transition : P → PortCall → P → Type 0) where
   answers_moved : (xs : List PortCall) (a b : QuotaPortsView P) → EvolvesBy (Meters port_transition) a xs b → b.made_progress ≡ progress_by xs a.made_progress
   answers_moved [] a b h = ap (λ (m : QuotaPortsView P). m.made_progress) h
   answers_moved (x ∷ xs) a b h = answers_moved xs h.0 b h.2 ∙ ap (progress_by xs) h.1.made_progress
 
-  -- what moved before a turn began is forgotten
+  -- progress before a turn began is cleared
   pub turn_moved : (a m b : SessionView × QuotaPortsView P) → IsBegun (Meters port_transition) a m → (t : IsTurned (Meters port_transition) m b) →
       b.1.made_progress ≡ progress_by t.exchange.call false
   turn_moved a m b begun t =
       answers_moved t.exchange.call m.1 b.1 t.exchange.ports ∙ ap (progress_by t.exchange.call) begun.1.made_progress
 
--- ---- how many ports came and went
+-- ---- the ports delivered and the ports retired
 
 as_many : {a b : ℕ} → a ≡ b → a ≡ b + 0
 as_many {a} {b} e = omega (arith, e)
 
 module _ {P : Type 0} where
-  -- so many came, and so many went
+  -- this many were delivered, and this many retired
   record Passes (answers : List (SystemCall P)) (many few : ℕ) : Type 0 where
     came : sum_over_calls connects answers ≡ many
     went : sum_over_calls retires answers ≡ few
@@ -89,7 +89,7 @@ module _ {P : Type 0} where
       passes_as answers (Accepts h.0 ∷ []) 0 0 h.1 (record { came = refl; went = refl })
   admission_passes false old answers new h = passes_as answers [] 0 0 h.0 (record { came = refl; went = refl })
 
-  -- those that came are held
+  -- the run has the delivered ports
   meeting_passes : (b : Bool) (old : HubView (QuotaPortsView P)) (counters : AdmissionCounters) (answers : List (SystemCall P))
       (new : HubView (QuotaPortsView P)) (new_counters : AdmissionCounters) → MeetsWhere b old counters answers new new_counters →
       (n : ℕ) × Passes answers n 0 × (length new.places ≡ length old.places + n)
@@ -124,7 +124,7 @@ module _ {P : Type 0} where
         as_many (ap (λ (k : HubView (QuotaPortsView P)). length k.places) m.1),
       )
 
-  -- those that are no longer held went
+  -- the ports that the run no longer has were retired
   removal_passes : (places : List (SessionView × QuotaPortsView P)) →
       (n : ℕ) × Passes (retirements places) 0 n × (length places ≡ length (remaining places) + n)
   removal_passes [] = (0, record { came = refl; went = refl }, refl)
@@ -167,7 +167,7 @@ module _ {P : Type 0} where
   wait_passes false more = record { came = refl; went = refl }
 
 module _ {P : Type 0} (port_transition : P → PortCall → P → Type 0) (settings : Settings) where
-  -- ---- more answers
+  -- ---- a longer trace
 
   abbrev later : (Kind : Limits → List PortCall → SessionView → Type 0) (xs ys : List (SystemCall P)) (now : SessionView × QuotaPortsView P) →
       IsSessionOfRun port_transition Kind settings xs now → IsSessionOfRun port_transition Kind settings (xs ++ ys) now
@@ -289,7 +289,7 @@ module _ {P : Type 0} (port_transition : P → PortCall → P → Type 0) (setti
           limits = ap (λ (k : HubView (QuotaPortsView P)). k.limits) c.3 ∙ h.limits;
         }
 
-    -- it is made
+    -- the turn runs
     one_below : (n : ℕ) (old mid new : HubView (QuotaPortsView P)) → Below n old mid →
         Changes (IsTurned (Meters port_transition)) mid n new → Below (suc n) old new
     one_below n old mid new h c =
@@ -327,7 +327,7 @@ module _ {P : Type 0} (port_transition : P → PortCall → P → Type 0) (setti
           b.count,
         )
 
-    -- ---- bots come
+    -- ---- bots are accepted
 
     admitted : (b : Bool) (old : AdmissionCounters) (answers : List (SystemCall P)) (new : AdmissionCounters) → AdmitsWhere b old answers new →
         All Gone answers × (new.turns ≡ old.turns)
@@ -340,7 +340,7 @@ module _ {P : Type 0} (port_transition : P → PortCall → P → Type 0) (setti
     admitted false old answers new h =
         (All-same Gone answers [] h.0 (All-nil Gone), ap (λ (t : AdmissionCounters). t.turns) h.1)
 
-    -- ---- one reaches the server, or doesn't
+    -- ---- a connect completes or fails
 
     record Met (old : HubView (QuotaPortsView P)) (old_counters : AdmissionCounters) (answers : List (SystemCall P)) (new : HubView (QuotaPortsView P))
         (new_counters : AdmissionCounters) : Type 0 where
@@ -411,7 +411,7 @@ module _ {P : Type 0} (port_transition : P → PortCall → P → Type 0) (setti
               turns = ap (λ (t : AdmissionCounters). t.turns) m.2;
             }
 
-    -- ---- those that are over are taken out
+    -- ---- closed sessions are removed
 
     spoken : (b : Bool) → All Gone (last_words b)
     spoken true = All-cons Gone (Notifies TurnsSpent) [] tt (All-nil Gone)
@@ -421,7 +421,7 @@ module _ {P : Type 0} (port_transition : P → PortCall → P → Type 0) (setti
     some_ending None e = absurd (cc)
     some_ending (Some ending) e = (ending, refl)
 
-    -- what is told of a session's end is its own
+    -- the reported end of a session is its own
     ended : (place : SessionView × QuotaPortsView P) → is_closed place.0 ≡ true → (h : Served place) →
         IsEndOf (run_limits settings) settings.turns h.0.history place.0 (end_of place)
     ended place closed h =
@@ -456,7 +456,7 @@ module _ {P : Type 0} (port_transition : P → PortCall → P → Type 0) (setti
 
   -- ---- rounds
 
-  -- what holds between the rounds of a run
+  -- the invariant between the rounds of a run
   pub record Keeps (answers : List (SystemCall P)) (run : ServiceView P) : Type 0 where
     pub limits : run.hub.limits ≡ run_limits settings
     pub turns : run.counters.turns ≡ settings.turns
@@ -571,7 +571,7 @@ module _ {P : Type 0} (port_transition : P → PortCall → P → Type 0) (setti
       subst (λ (l : List (SystemCall P)). Keeps l run) (sym h.3)
       (round_serves h.1 h.2 h.0 run (rounds_serve n h.1 h.0 h.4) h.6)
 
-  -- the body that a session wanted after these rounds is the longest of the settings
+  -- the body requested for a session after these rounds is the longest of the settings
   pub body_refused : (Refuses : ℕ → Type 0) (n : ℕ) (answers : List (SystemCall P)) (run : ServiceView P) →
       Rounds port_transition n (initial_service settings) answers run → Refuses run.hub.limits.cap → Refuses settings.config.max_body
   body_refused Refuses n answers run rounds refused =

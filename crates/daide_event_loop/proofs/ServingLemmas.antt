@@ -1,4 +1,4 @@
--- What moved in a round, and a run's rounds.
+-- The progress of a round, and the rounds of a run.
 use Rattle.std.proofs.Common.{◌≡◌, ℕ, zero, suc, ◌+◌, Bool, true, false, List, [], ◌∷◌, ◌++◌}
 use Rattle.std.proofs.Common.{refl, ap, ◌∙◌, subst, add-one, take, arith, ◌<◌, inl, inr, sym, Result, Ok, Err}
 use Rattle.std.specs.Prelude.{◌||◌, ◌==◌, length, slice_get, IfSome, IfErr}
@@ -21,13 +21,13 @@ pub not_none : (n : ℕ) → (n ≡ 0 → ⊥) → (n == 0) ≡ false
 not_none zero h = absurd (h refl)
 not_none (suc n) h = eqb-suc-zero n
 
--- ---- what moved
+-- ---- progress
 
 or_false : (b : Bool) → (b || false) ≡ b
 or_false true = refl
 or_false false = refl
 
--- one more place was looked at
+-- one place more was looked at
 pub any_more : {P : Type 0} (xs : List (SessionView × QuotaPortsView P)) (i : ℕ) (m : QuotaPortsView P) → i < length xs →
     IfSome (slice_get xs i) (λ place. m ≡ place.1) → any_moved (take (suc i) xs) ≡ (any_moved (take i xs) || m.made_progress)
 any_more [] i m lt h = absurd (omega (arith, lt))
@@ -43,7 +43,7 @@ pub waits_alike : {P : Type 0} (a b c d e p q r s t : Bool) → a ≡ p → b �
 waits_alike a b c d e p q r s t h i j k l = rw (h, i, j, k, l) refl
 
 module _ {P S : Type 0} (port_transition : P → PortCall → P → Type 0) (transition : S → SystemCall P → S → Type 0) where
-  -- so many rounds, and what the system answered in them
+  -- the first n rounds, with their trace of system calls
   abbrev pub Ran : ℕ → ServiceView P → S → ServiceView P → S → Type 0
   Ran n old s new t =
       (answers : List (SystemCall P)) × TransitsBy transition s answers t × Rounds port_transition n old answers new
@@ -64,7 +64,7 @@ module _ {P S : Type 0} (port_transition : P → PortCall → P → Type 0) (tra
 
 module _ {P S : Type 0} (Refuses : ℕ → Type 0) (port_transition : P → PortCall → P → Type 0)
     (transition : S → SystemCall P → S → Type 0) (settings : Settings) where
-  -- a round of it was broken off
+  -- one of its rounds was broken off
   pub runs_out : (n : ℕ) (mid end : ServiceView P) (s t u : S) →
       Ran port_transition transition n (initial_service settings) s mid t → is_done mid ≡ false → (last : List (SystemCall P)) →
       TransitsBy transition t last u → BreaksOff Refuses mid last end →
@@ -87,7 +87,7 @@ module _ {P S : Type 0} (Refuses : ℕ → Type 0) (port_transition : P → Port
   )
 
 module _ {P : Type 0} (Refuses : ℕ → Type 0) (port_transition : P → PortCall → P → Type 0) (settings : Settings) where
-  -- a run that was not begun asked the system nothing
+  -- a run that did not begin made no system call
   pub not_begun : (fault : ServeFault) → IsOpeningCause Refuses settings fault →
       GivesUp Refuses port_transition settings fault []
   not_begun (Faults.Config wrong) cause = refl
@@ -95,7 +95,7 @@ module _ {P : Type 0} (Refuses : ℕ → Type 0) (port_transition : P → PortCa
   not_begun Faults.Memory cause = inl (refl, cause.2)
   not_begun Faults.RoundsSpent cause = absurd cause
 
--- why a run was not begun is why it gave up
+-- the reason for not beginning is the reason for giving up
 pub opening_cause : (Refuses : ℕ → Type 0) (settings : Settings) (fault : ServeFault) →
     IsOpeningCause Refuses settings fault → IsServeCause Refuses settings fault
 opening_cause Refuses settings (Faults.Config wrong) cause = cause
@@ -103,13 +103,13 @@ opening_cause Refuses settings Faults.Sessions cause = cause
 opening_cause Refuses settings Faults.Memory cause = ((cause.0, cause.1), inl cause.2)
 opening_cause Refuses settings Faults.RoundsSpent cause = absurd cause
 
--- what holds of a fault holds at an error that is this fault
+-- a property of a fault holds at an error that is this fault
 pub at_fault : {A : Type 0} (r : Result A ServeFault) (fault : ServeFault) (Holds : ServeFault → Type 0) →
     IsErrAnd r (λ told. told ≡ fault) → Holds fault → IfErr r Holds
 at_fault (Ok x) fault Holds told h = tt
 at_fault (Err other) fault Holds told h = subst Holds (sym told) h
 
--- what holds at want of memory holds where that is the only fault
+-- a property of `Memory` holds if this is the only fault
 pub at_memory : {A : Type 0} (r : Result A ServeFault) (fault : ServeFault) (Holds : ServeFault → Type 0) →
     IsErrAnd r (λ told. told ≡ fault) → fault ≡ Faults.Memory → Holds Faults.Memory → IfErr r Holds
 at_memory (Ok x) fault Holds told e h = tt

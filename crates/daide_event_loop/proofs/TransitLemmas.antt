@@ -1,4 +1,4 @@
--- Calls of a system, one after another.
+-- System calls, one after another.
 use Rattle.std.proofs.Common.{List, [], ◌∷◌, ◌++◌, subst}
 use Rattle.daide_protocol.specs.System.{SystemCall, TransitsBy}
 

@@ -1,4 +1,4 @@
--- How many turns began, and how many are left by that.
+-- The number of turns that began, and the turns left.
 use Rattle.std.proofs.Common.{◌≡◌, ℕ, zero, suc, ◌+◌, Bool, true, false, List, [], ◌∷◌, ◌++◌, Some, None}
 use Rattle.std.proofs.Common.{refl, sym, ap, ◌∙◌, arith, inl, inr}
 use Rattle.std.specs.Prelude.{nat_lt, is_none}
@@ -20,7 +20,7 @@ turns_append (Clock im_timer_expired ∷ xs) ys = turns_append xs ys
 turns_append (Pulled side buffer pull bytes ∷ xs) ys = turns_append xs ys
 turns_append (Offered side bytes put ∷ xs) ys = turns_append xs ys
 
--- in a stretch of this kind no turn begins
+-- a trace of this kind begins no turn
 abbrev BeginsNone : (SessionView → List PortCall → SessionView → Type 0) → Type 0
 BeginsNone Kind = (old : SessionView) (answers : List PortCall) (new : SessionView) → Kind old answers new → turns_in answers ≡ 0
 
@@ -52,7 +52,7 @@ turn_begins_none =
     (then_begins (Puts Server) (Then (Pulls Bot) (Pulls Server)) (put_begins Server)
     (then_begins (Pulls Bot) (Pulls Server) (pull_begins Bot) (pull_begins Server))))
 
--- ---- how many turns were made
+-- ---- the number of turns
 
 pub none_below_zero : (n : ℕ) → nat_lt n 0 ≡ false
 none_below_zero n = grind (arith, nat_tests)
@@ -68,7 +68,7 @@ below_alike m n = go (nat_lt m n) refl
     go false e = let more = ltb-false m n e in e ∙ sym (le-ltb (suc m) (suc n) (omega (arith, more)))
 
 module _ {P : Type 0} (port_transition : P → PortCall → P → Type 0) where
-  -- spent ports stay so
+  -- ports beyond their quota stay so
   stays_spent : (xs : List PortCall) (a b : QuotaPortsView P) → a.turns_left ≡ None → EvolvesBy (Meters port_transition) a xs b →
       b.turns_left ≡ None
   stays_spent [] a b e h = ap (λ (m : QuotaPortsView P). m.turns_left) h ∙ e

@@ -1,4 +1,4 @@
--- Ports with so many turns: what a call does to them by its answer, and what counts as a move.
+-- Ports with a quota of turns: the effect of a call and its result, and what counts as progress.
 use Rattle.std.specs.Prelude.{◌≡◌, ℕ, suc, zero, nat_lt, Bool, true, false, ◌||◌, List, [], ◌∷◌, Option, Some, None}
 use Rattle.std.specs.Option.{option_or}
 use Rattle.daide_protocol.specs.declared.ending.Ending.{Ending}
@@ -10,15 +10,15 @@ use Rattle.daide_protocol.specs.declared.ports.Pull.TheVariants.{Got, Idle, Ende
 use Rattle.daide_protocol.specs.declared.ports.Put.{Put}
 use Rattle.daide_protocol.specs.declared.ports.Put.TheVariants.{Took, Failed}
 
--- ports, the turns that are left of them, none once they are spent, whether anything moved in the last one, and the end or
--- failure that was told first since they are spent
+-- the ports inside, the turns left (none once the quota is exceeded), whether the last turn made progress, and the
+-- first end or failure returned beyond the quota
 pub record QuotaPortsView (P : Type 0) : Type 0 where
   pub ports : P
   pub turns_left : Option ℕ
   pub made_progress : Bool
   pub first_synthetic_end : Option Ending
 
--- a turn that begins is one of those that are left; where none is left it is one too many, and the turns are spent
+-- a turn that begins takes one of the turns left; if none is left, the quota is exceeded
 abbrev pub one_less : Option ℕ → Option ℕ
 one_less None = None
 one_less (Some zero) = None
@@ -30,37 +30,37 @@ left_after (Clock im_timer_expired) left = left
 left_after (Pulled side buffer pull bytes) left = left
 left_after (Offered side bytes put) left = left
 
--- bytes came, or the side ended
+-- bytes were received, or the side ended
 abbrev pub is_gain : Pull → Bool
 is_gain (Got count) = nat_lt 0 count
 is_gain Idle = false
 is_gain Ended = true
 
--- bytes went, or the wire failed
+-- bytes were sent, or the wire failed
 abbrev pub is_loss : Put → Bool
 is_loss (Took count) = nat_lt 0 count
 is_loss Failed = true
 
--- whether anything moved since the turn began: the clock had popped, or there was a gain or a loss
+-- whether the turn made progress since it began: the IM timer expired, or there was a gain or a loss
 abbrev pub progress_after : PortCall → Bool → Bool
 progress_after TurnBegins made_progress = false
 progress_after (Clock im_timer_expired) made_progress = made_progress || im_timer_expired
 progress_after (Pulled side buffer pull bytes) made_progress = made_progress || is_gain pull
 progress_after (Offered side bytes put) made_progress = made_progress || is_loss put
 
--- the same after answers, one after another
+-- the same after several calls, one after another
 abbrev pub progress_by : List PortCall → Bool → Bool
 progress_by [] made_progress = made_progress
 progress_by (answer ∷ answers) made_progress = progress_by answers (progress_after answer made_progress)
 
--- what is answered once the turns are spent: no clock pops, both sides have ended, and both wires fail
+-- the results beyond the quota: the IM timer does not expire, both sides have ended, and both wires fail
 abbrev pub IsSpentAnswer : PortCall → Type 0
 IsSpentAnswer TurnBegins = Unit {0}
 IsSpentAnswer (Clock im_timer_expired) = im_timer_expired ≡ false
 IsSpentAnswer (Pulled side buffer pull bytes) = pull ≡ Ended
 IsSpentAnswer (Offered side bytes put) = put ≡ Failed
 
--- the end or failure by which the session goes, where the ports are not asked: the first one stays
+-- the first end or failure returned without a call to the ports inside; later ones do not replace it
 abbrev pub reported_where : Option ℕ → Ending → Option Ending → Option Ending
 reported_where (Some turns) ending told = told
 reported_where None ending told = option_or told (Some ending)
@@ -71,12 +71,12 @@ reported_after (Clock im_timer_expired) left told = told
 reported_after (Pulled side buffer pull bytes) left told = reported_where left (Endings.Ended side) told
 reported_after (Offered side bytes put) left told = reported_where left (Endings.Lost side) told
 
--- while turns are left the ports are asked; once they are spent they are asked nothing more
+-- within the quota the ports inside are called; beyond it they are not
 abbrev pub EvolvesWhile : {P : Type 0} → (P → PortCall → P → Type 0) → Option ℕ → P → PortCall → P → Type 0
 EvolvesWhile transition (Some turns) old answer new = transition old answer new
 EvolvesWhile transition None old answer new = IsSpentAnswer answer × (new ≡ old)
 
--- what a call with this answer does to them
+-- the effect of a call with this result
 pub record Meters {P : Type 0} (transition : P → PortCall → P → Type 0) (old : QuotaPortsView P) (answer : PortCall)
     (new : QuotaPortsView P) : Type 0 where
   pub turns_left : new.turns_left ≡ left_after answer old.turns_left
@@ -84,9 +84,9 @@ pub record Meters {P : Type 0} (transition : P → PortCall → P → Type 0) (o
   pub first_synthetic_end : new.first_synthetic_end ≡ reported_after answer new.turns_left old.first_synthetic_end
   pub ports : EvolvesWhile transition new.turns_left old.ports answer new.ports
 
--- ---- the system at a turn's beginning
+-- ---- the system at the beginning of a turn
 
--- it is asked to begin a turn with ports of which turns are left, and is lent no others
+-- within the quota the system begins the turn, and is lent the ports; beyond it there is no such call
 abbrev pub beginning_where : {P : Type 0} → Option ℕ → P → P → List (SystemCall P)
 beginning_where (Some turns) before after = BeginsTurn before after ∷ []
 beginning_where None before after = []

@@ -1,4 +1,4 @@
--- What a run makes of each of its sessions: those that it holds, and those whose ports it lets go.
+-- The effect of a run on each of its sessions: those that it has, and those that it retired.
 use Rattle.std.specs.Prelude.{◌≡◌, ℕ, zero, suc, ◌+◌, nat_lt, true, false, List, [], ◌∷◌, length}
 use Rattle.std.specs.Prelude.{Option, Some, None, is_none, Ok, Contains, All}
 use Rattle.daide_protocol.specs.declared.ending.Ending.{Ending}
@@ -22,8 +22,8 @@ use Rattle.daide_event_loop.specs.Serving.{ServiceView, fresh, initial_service, 
 abbrev pub run_limits : Settings → Limits
 run_limits settings = limits_with settings.config (words_of settings.words)
 
--- A session of a run: a connect gave its ports, which had all their turns to come; and by all that they answered since,
--- it is of this kind.
+-- A session of a run: a connect delivered its ports, with a full quota of turns; and by all its port calls since, it
+-- has this property.
 pub record IsSessionOfRun {P : Type 0} (transition : P → PortCall → P → Type 0)
     (Kind : Limits → List PortCall → SessionView → Type 0) (settings : Settings) (answers : List (SystemCall P))
     (now : SessionView × QuotaPortsView P) : Type 0 where
@@ -33,12 +33,12 @@ pub record IsSessionOfRun {P : Type 0} (transition : P → PortCall → P → Ty
   pub answered : EvolvesBy (Meters transition) (fresh ports settings.turns) history now.1
   pub stands : Kind (run_limits settings) history now.0
 
--- by all that its ports answered it is bounded and exact
+-- by all its port calls it is bounded and exact
 abbrev pub IsServed : {P : Type 0} → (P → PortCall → P → Type 0) → Settings → List (SystemCall P) →
     SessionView × QuotaPortsView P → Type 0
 IsServed transition = IsSessionOfRun transition IsBoundedAndExact
 
--- the answers while turns were left: those before the turn that was one too many began
+-- the port calls within the quota: those before the first turn beyond it
 abbrev pub while_left : ℕ → List PortCall → List PortCall
 while_left turns [] = []
 while_left zero (TurnBegins ∷ answers) = []
@@ -47,20 +47,20 @@ while_left turns (Clock im_timer_expired ∷ answers) = Clock im_timer_expired �
 while_left turns (Pulled side buffer pull bytes ∷ answers) = Pulled side buffer pull bytes ∷ while_left turns answers
 while_left turns (Offered side bytes put ∷ answers) = Offered side bytes put ∷ while_left turns answers
 
--- the event that ended a session, if one did; else its turns were spent while it was open
+-- the event that ended a session, if there was one; otherwise its turns were spent while it was open
 abbrev pub cause_of : Option Ending → Cause
 cause_of (Some ending) = Causes.Session ending
 cause_of None = Causes.TurnsSpent
 
--- How a session ended, by all that its ports answered: its cause is what ended it while its turns were left, and its moves
--- are counted.
+-- The end of a session, by all its port calls: its cause is the event that ended it within its quota, and its moves are
+-- counted.
 abbrev pub IsEndOf : Limits → ℕ → List PortCall → SessionView → SessionEnd → Type 0
 IsEndOf limits turns history session end =
     (effects : List Effect) × (state : SessionState)
     × Runs (untouched limits).state (events_of (while_left turns history)) effects state × (end.cause ≡ cause_of state.ending)
     × (end.summary ≡ session.summary)
 
--- ports that are let go are those of a session that is closed, and was served, and what is told of its end is its own
+-- retired ports are those of a closed session that was served, and the reported end is that of this session
 abbrev pub RetiresClosed : {P : Type 0} → (P → PortCall → P → Type 0) → Settings → List (SystemCall P) →
     SystemCall P → Type 0
 RetiresClosed {P} transition settings answers (Retires ports end) =
@@ -74,7 +74,7 @@ RetiresClosed transition settings answers (Connects connect) = Unit {0}
 RetiresClosed transition settings answers (Notifies notice) = Unit {0}
 RetiresClosed transition settings answers (Waits more) = Unit {0}
 
--- ports that came with an answer, and those that went
+-- the number of ports that a call delivered, and the number that it retired
 abbrev pub connects : {P : Type 0} → SystemCall P → ℕ
 connects (Connects (Ready ports)) = 1
 connects (Connects Failed) = 0
@@ -95,7 +95,7 @@ retires (Connects connect) = 0
 retires (Notifies notice) = 0
 retires (Waits more) = 0
 
--- bots that came with an answer, and those whose server couldn't be reached
+-- the number of bots that a call accepted, and the number whose server could not be reached
 abbrev pub comes : {P : Type 0} → SystemCall P → ℕ
 comes (Accepts true) = 1
 comes (Accepts false) = 0
@@ -121,9 +121,9 @@ abbrev pub sum_over_calls : {P : Type 0} → (SystemCall P → ℕ) → List (Sy
 sum_over_calls count [] = 0
 sum_over_calls count (answer ∷ answers) = count answer + sum_over_calls count answers
 
--- After whatever rounds of a run, each session that it holds is served, and so was each whose ports it let go; of the
--- ports that came it holds all that it didn't let go; it counts each bot that came; and of these it has on their way to
--- the server all that weren't joined to it and whose server could be reached.
+-- After any rounds of a run: each session that it has is served, and so is each that it retired. Of the ports delivered
+-- it has all that it did not retire. It counts each bot that it accepted. Each of these bots has a connect under way,
+-- got a session, or could not reach the server.
 abbrev pub SessionsAreServed : {P : Type 0} → (P → PortCall → P → Type 0) → Type 0
 SessionsAreServed {P} transition = (settings : Settings) (n : ℕ) (answers : List (SystemCall P)) (run : ServiceView P) →
     Rounds transition n (initial_service settings) answers run →
@@ -132,9 +132,10 @@ SessionsAreServed {P} transition = (settings : Settings) (n : ℕ) (answers : Li
     × (run.counters.accepted ≡ sum_over_calls comes answers)
     × (sum_over_calls comes answers ≡ run.counters.connecting + sum_over_calls connects answers + sum_over_calls unreached answers)
 
--- A whole run of settings whose limits were accepted: rounds until all bots were served and none is held. So each connect that came about was a session, which
--- was served, and let go as a closed one: by all that its ports answered it is bounded and exact, and none is lost. As
--- many bots came as the settings say, and of each the ports were let go or the server couldn't be reached.
+-- A whole run of settings with accepted limits: rounds until all bots were served and no session is left. So each
+-- completed connect was a session, which was served, and retired as a closed one. By all its port calls it is bounded
+-- and exact, and none is lost. As many bots were accepted as the settings say; for each, ports were retired or the
+-- server was unreachable.
 pub record IsWholeRun {P : Type 0} (transition : P → PortCall → P → Type 0) (settings : Settings)
     (answers : List (SystemCall P)) : Type 0 where
   pub accepted : (config_fault settings.config ≡ Ok tt) × IsHubSize settings.max_sessions
@@ -144,7 +145,7 @@ pub record IsWholeRun {P : Type 0} (transition : P → PortCall → P → Type 0
   pub all_came : sum_over_calls comes answers ≡ settings.sessions
   pub all_served : sum_over_calls comes answers ≡ sum_over_calls retires answers + sum_over_calls unreached answers
 
--- Whether anything moved in a turn that began, by which a round waits or doesn't, is told by the turn's answers.
+-- Whether a turn made progress, which decides if a round waits, follows from the port calls of the turn.
 abbrev pub MovesAreAnswered : {P : Type 0} → (P → PortCall → P → Type 0) → Type 0
 MovesAreAnswered {P} transition = (old mid new : SessionView × QuotaPortsView P) → IsBegun (Meters transition) old mid →
     (turn : IsTurned (Meters transition) mid new) → new.1.made_progress ≡ progress_by turn.exchange.call false
@@ -157,7 +158,7 @@ turns_in (Clock im_timer_expired ∷ answers) = turns_in answers
 turns_in (Pulled side buffer pull bytes ∷ answers) = turns_in answers
 turns_in (Offered side bytes put ∷ answers) = turns_in answers
 
--- Ports that had so many turns to come are spent exactly where more turns began than that.
+-- Ports with a quota of turns are spent exactly if more turns began than the quota has.
 abbrev pub TurnsAreCounted : {P : Type 0} → (P → PortCall → P → Type 0) → Type 0
 TurnsAreCounted {P} transition = (ports : P) (turns : ℕ) (history : List PortCall) (now : QuotaPortsView P) →
     EvolvesBy (Meters transition) (fresh ports turns) history now → is_none now.turns_left ≡ nat_lt turns (turns_in history)

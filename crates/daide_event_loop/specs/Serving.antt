@@ -1,5 +1,5 @@
--- The loop of a run: what each step of a round asks of the system and does to the sessions, what a round is, and
--- what a whole run is, to its end or broken off. A step is stated with what the system answered in it, told or not.
+-- The loop of a run: the system calls and the effect of each step of a round, a round, and a whole run, completed or
+-- broken off. Each step is stated with its trace of system calls, recorded or not.
 use Rattle.std.specs.Prelude.{◌≡◌, ℕ, zero, suc, ◌+◌, ◌-◌, ◌≤◌, nat_lt, Bool, true, false, not, ◌&&◌, ◌||◌, ◌==◌, ◌⊎◌}
 use Rattle.std.specs.Prelude.{List, [], ◌∷◌, ◌++◌, length, filter, Option, Some, None, Ok, is_none, if◌then◌else◌}
 use Rattle.std.specs.List.{list_any}
@@ -27,22 +27,22 @@ use Rattle.daide_protocol.specs.declared.system.SessionEnd.{SessionEnd}
 use Rattle.daide_event_loop.specs.QuotaPorts.{QuotaPortsView, Meters, beginning}
 use Rattle.daide_protocol.specs.System.{SystemCall, Begins, BeginsTurn, Accepts, Connects, Retires, Notifies, Waits}
 
--- a run at work: the sessions, and the counts of bots
+-- the state of a run: the sessions, and the counters
 pub record ServiceView (P : Type 0) : Type 0 where
   pub hub : HubView (QuotaPortsView P)
   pub counters : AdmissionCounters
 
--- ---- the counts
+-- ---- the counters
 
--- one more bot may come, beside so many sessions; a connect that is under way takes a place too
+-- one more bot may be accepted beside `count` sessions; a connect under way needs a place too
 abbrev pub may_accept : AdmissionCounters → ℕ → Bool
 may_accept counters count = nat_lt counters.accepted counters.sessions && nat_lt (count + counters.connecting) counters.max_sessions
 
--- all bots came, and none is left, as a session or on its way to the server
+-- all bots were accepted, and none is left, as a session or with a connect under way
 abbrev pub is_served : AdmissionCounters → ℕ → Bool
 is_served counters count = (counters.accepted == counters.sessions) && ((counters.connecting == 0) && (count == 0))
 
--- so many bots are on their way to the server, and so many came
+-- the same limits, with these counts of connects under way and bots accepted
 abbrev pub counting : AdmissionCounters → ℕ → ℕ → AdmissionCounters
 counting counters connecting accepted = record {
   max_sessions = counters.max_sessions;
@@ -52,24 +52,24 @@ counting counters connecting accepted = record {
   accepted = accepted;
 }
 
--- one more on its way, where one came
+-- a bot that was accepted has a connect under way
 abbrev pub come : Bool → AdmissionCounters → AdmissionCounters
 come true counters = counting counters (counters.connecting + 1) (counters.accepted + 1)
 come false counters = counters
 
--- one fewer on its way
+-- one connect fewer is under way
 abbrev pub arrived : AdmissionCounters → AdmissionCounters
 arrived counters = counting counters (counters.connecting - 1) counters.accepted
 
--- no more are held than there may be at once, and no more came than there may be in all
+-- no more sessions and connects than the limit at once, and no more bots accepted than the limit in all
 pub record IsWithinQuotas {P : Type 0} (hub : HubView (QuotaPortsView P)) (counters : AdmissionCounters) : Type 0 where
   pub same_max : hub.max ≡ counters.max_sessions
   pub held : length hub.places + counters.connecting ≤ counters.max_sessions
   pub accepted : counters.accepted ≤ counters.sessions
 
--- ---- bots come
+-- ---- bots are accepted
 
--- where one more may come, the system is asked once; else not
+-- the system is called once if one more bot may be accepted, otherwise not
 abbrev pub AdmitsWhere : {P : Type 0} → Bool → AdmissionCounters → List (SystemCall P) → AdmissionCounters → Type 0
 AdmitsWhere true old answers new = (came : Bool) × (answers ≡ Accepts came ∷ []) × (new ≡ come came old)
 AdmitsWhere false old answers new = (answers ≡ []) × (new ≡ old)
@@ -77,13 +77,14 @@ AdmitsWhere false old answers new = (answers ≡ []) × (new ≡ old)
 abbrev pub Admits : {P : Type 0} → ℕ → AdmissionCounters → List (SystemCall P) → AdmissionCounters → Type 0
 Admits count old = AdmitsWhere (may_accept old count) old
 
--- ---- bots reach the server, or don't
+-- ---- connects complete or fail
 
--- ports with all their turns to come
+-- ports with a full quota of turns
 abbrev pub fresh : {P : Type 0} → P → ℕ → QuotaPortsView P
 fresh ports turns = record { ports = ports; turns_left = Some turns; made_progress = false; first_synthetic_end = None }
 
--- one that is there becomes a session in its opening state, at the last place; one that failed is told, and let go
+-- a completed connect turns into a session in its opening state, at the last place; a failed one is reported, and its
+-- bot dropped
 abbrev pub MeetsBy : {P : Type 0} → Connect P → HubView (QuotaPortsView P) → AdmissionCounters → List (SystemCall P) →
     HubView (QuotaPortsView P) → AdmissionCounters → Type 0
 MeetsBy (Ready ports) hub counters told new_hub new_counters =
@@ -92,7 +93,7 @@ MeetsBy Failed hub counters told new_hub new_counters =
     (told ≡ Notifies CannotReach ∷ []) × (new_hub ≡ hub) × (new_counters ≡ arrived counters)
 MeetsBy Pending hub counters told new_hub new_counters = (told ≡ []) × (new_hub ≡ hub) × (new_counters ≡ counters)
 
--- where none is on its way, the system isn't asked
+-- if no connect is under way, the system is not called
 abbrev pub MeetsWhere : {P : Type 0} → Bool → HubView (QuotaPortsView P) → AdmissionCounters → List (SystemCall P) →
     HubView (QuotaPortsView P) → AdmissionCounters → Type 0
 MeetsWhere true hub counters answers new_hub new_counters = (answers ≡ []) × (new_hub ≡ hub) × (new_counters ≡ counters)
@@ -106,19 +107,19 @@ FinishesConnect hub counters = MeetsWhere (counters.connecting == 0) hub counter
 
 -- ---- each session has a turn
 
--- a turn of a session begins with its own ports, and the system is asked to begin it with these, while turns are left
+-- a turn of a session begins with its own ports, and the system begins it with these while turns are left
 abbrev pub OpensTurn : {P : Type 0} → (P → PortCall → P → Type 0) → List (SystemCall P) →
     SessionView × QuotaPortsView P → SessionView × QuotaPortsView P → Type 0
 OpensTurn transition answers old new = IsBegun (Meters transition) old new × (answers ≡ beginning old.1 new.1)
 
--- the session at this place has one turn: it begins, and is made
+-- the session at this place has one turn: it begins, and runs
 abbrev pub TakesTurn : {P : Type 0} → (P → PortCall → P → Type 0) → HubView (QuotaPortsView P) → ℕ →
     List (SystemCall P) → HubView (QuotaPortsView P) → Type 0
 TakesTurn {P} transition old i answers new =
     (mid : HubView (QuotaPortsView P)) × Changes (OpensTurn transition answers) old i mid
     × Changes (IsTurned (Meters transition)) mid i new
 
--- those at the first n places have one turn each, in their order
+-- the sessions at the first n places have one turn each, in their order
 abbrev pub TurnsBelow : {P : Type 0} → (P → PortCall → P → Type 0) → ℕ → HubView (QuotaPortsView P) →
     List (SystemCall P) → HubView (QuotaPortsView P) → Type 0
 TurnsBelow transition zero old answers new = (answers ≡ []) × (new ≡ old)
@@ -133,22 +134,22 @@ TurnsAll transition old answers new = TurnsBelow transition (length old.places) 
 abbrev pub any_moved : {P : Type 0} → List (SessionView × QuotaPortsView P) → Bool
 any_moved places = list_any (λ place. place.1.made_progress) places
 
--- ---- sessions that are over are taken out
+-- ---- closed sessions are removed
 
 abbrev pub last_words : {P : Type 0} → Bool → List (SystemCall P)
 last_words true = Notifies TurnsSpent ∷ []
 last_words false = []
 
--- whether an event is the one that was told first since the turns are spent
+-- whether an event is the first one reported beyond the quota
 abbrev pub is_reported : Option Ending → Ending → Bool
 is_reported None ending = false
 is_reported (Some (Ended one)) (Ended side) = same_side one side
 is_reported (Some (Lost one)) (Lost side) = same_side one side
 is_reported (Some told) ending = false
 
--- Why a session ended: the event that ended it while its turns were left, and where none did, that these were spent. A
--- session that was open then ends by what is told first since. One that was over before is asked for no more bytes, and
--- nothing waits for a wire that was lost, so what ended it is not told again.
+-- The cause of an ending: the event that ended the session within its quota or, if there was none, the spent turns.
+-- Beyond the quota an open session ends by the first end or failure reported. A session that was over is not read any
+-- more, and has an empty queue for a lost wire, so its own ending is not reported again.
 abbrev pub cause_by : Option Ending → Option Ending → Cause
 cause_by told None = Causes.TurnsSpent
 cause_by told (Some ending) = if is_reported told ending then Causes.TurnsSpent else Causes.Session ending
@@ -156,11 +157,11 @@ cause_by told (Some ending) = if is_reported told ending then Causes.TurnsSpent 
 abbrev pub end_by : Option Ending → Option Ending → Summary → SessionEnd
 end_by told ending summary = record { cause = cause_by told ending; summary = summary }
 
--- how a session ended, and its moves counted
+-- the end of a session, with its counted moves
 abbrev pub end_of : {P : Type 0} → SessionView × QuotaPortsView P → SessionEnd
 end_of place = end_by place.1.first_synthetic_end place.0.state.ending place.0.summary
 
--- that its turns are spent is told, if so, and its ports go, with how it ended
+-- spent turns are reported, if so, and then the ports are retired with the end of their session
 abbrev pub parting : {P : Type 0} → QuotaPortsView P → SessionEnd → List (SystemCall P)
 parting meter end = last_words (is_none meter.turns_left) ++ Retires meter.ports end ∷ []
 
@@ -168,7 +169,7 @@ abbrev pub retirement_where : {P : Type 0} → Bool → SessionView × QuotaPort
 retirement_where true place = parting place.1 (end_of place)
 retirement_where false place = []
 
--- a session that is over and of which nothing waits is parted with
+-- a closed session is retired
 abbrev pub retirement : {P : Type 0} → SessionView × QuotaPortsView P → List (SystemCall P)
 retirement place = retirement_where (is_closed place.0) place
 
@@ -177,7 +178,7 @@ abbrev pub retirements : {P : Type 0} → List (SessionView × QuotaPortsView P)
 retirements [] = []
 retirements (place ∷ places) = retirements places ++ retirement place
 
--- the sessions that are not over, or of which something waits, in their order
+-- the sessions that are not closed, in their order
 abbrev pub remaining : {P : Type 0} → List (SessionView × QuotaPortsView P) → List (SessionView × QuotaPortsView P)
 remaining places = filter (λ place. not (is_closed place.0)) places
 
@@ -186,7 +187,7 @@ RemovesClosed old answers new = (answers ≡ retirements old.places) × (new ≡
 
 -- ---- a round
 
--- whether the system gave the run something: a bot, a connect that came about or failed, or ports to take
+-- whether a call is progress: an accepted bot, a completed or failed connect, a retirement, or a notice
 abbrev pub is_progress : {P : Type 0} → SystemCall P → Bool
 is_progress Begins = false
 is_progress (BeginsTurn before after) = false
@@ -201,14 +202,13 @@ is_progress (Waits more) = false
 abbrev pub any_progress : {P : Type 0} → List (SystemCall P) → Bool
 any_progress answers = list_any is_progress answers
 
--- one wait where nothing moved
+-- one wait if no progress was made
 abbrev pub wait_where : {P : Type 0} → Bool → Bool → List (SystemCall P)
 wait_where true more = []
 wait_where false more = Waits more ∷ []
 
--- The system is told that a round begins; at most one bot is admitted; at most one connect is taken up; each session has
--- one turn, which the system is asked to begin; those that are over are taken out; and there is one wait, exactly where
--- nothing moved in all this.
+-- The system begins a round. At most one bot is accepted, and at most one connect completes or fails. Each session has
+-- a turn, which the system begins. Closed sessions are removed. There is one wait, exactly if no progress was made.
 pub record Round {P : Type 0} (transition : P → PortCall → P → Type 0) (old : ServiceView P)
     (answers : List (SystemCall P)) (new : ServiceView P) : Type 0 where
   pub admission : List (SystemCall P)
@@ -222,7 +222,7 @@ pub record Round {P : Type 0} (transition : P → PortCall → P → Type 0) (ol
   pub finishes : FinishesConnect old.hub came meeting connected new.counters
   pub turns : TurnsAll transition connected beginnings turned
   pub removes : RemovesClosed turned removal new.hub
-  -- whatever came, no more are held than there may be at once, and no more came than there may be in all
+  -- in any case no more sessions and connects than the limit at once, and no more bots than the limit in all
   pub within : IsWithinQuotas new.hub new.counters
   pub asked : answers ≡ Begins ∷ admission ++ meeting ++ beginnings ++ removal ++ wait_where
       (any_progress admission || any_progress meeting || any_moved turned.places || any_progress removal)
@@ -230,11 +230,11 @@ pub record Round {P : Type 0} (transition : P → PortCall → P → Type 0) (ol
 
 -- ---- a run
 
--- whether all bots were served, and none is held
+-- whether all bots were served, and no session is left
 abbrev pub is_done : {P : Type 0} → ServiceView P → Bool
 is_done run = is_served run.counters (length run.hub.places)
 
--- n rounds, each of a run that isn't done
+-- n rounds, each of a run that is not done
 abbrev pub Rounds : {P : Type 0} → (P → PortCall → P → Type 0) → ℕ → ServiceView P → List (SystemCall P) →
     ServiceView P → Type 0
 Rounds transition zero old answers new = (answers ≡ []) × (new ≡ old)
@@ -243,7 +243,7 @@ Rounds {P} transition (suc n) old answers new =
     × (answers ≡ first ++ second) × Rounds transition n old first mid × (is_done mid ≡ false)
     × Round transition mid second new
 
--- a run that no bot came to
+-- a run with no bot yet
 abbrev pub initial_service : {P : Type 0} → Settings → ServiceView P
 initial_service settings = record {
   hub = record {
@@ -260,16 +260,16 @@ initial_service settings = record {
   };
 }
 
--- rounds from the opening, until all bots were served and none is held
+-- rounds from the opening, until all bots were served and no session is left
 abbrev pub Serves : {P : Type 0} → (P → PortCall → P → Type 0) → Settings → List (SystemCall P) → Type 0
 Serves {P} transition settings answers =
     (n : ℕ) × (end : ServiceView P) × Rounds transition n (initial_service settings) answers end × (is_done end ≡ true)
 
 -- ---- a run that is broken off
 
--- A round whose new session was refused its memory: it was begun, and at most one bot admitted, as in any round; a connect
--- was under way and came about, and with it the round ends. Its ports are dropped; no session had a turn, and none is
--- taken out. `Refuses` is the allocator's relation of that name.
+-- A round whose new session was refused its memory. It began, and accepted at most one bot, as any round; a connect was
+-- under way and completed, and then the round ends. The ports are dropped; no session had a turn, and none is removed.
+-- `Refuses` is the allocator's relation of that name.
 pub record BreaksOff {P : Type 0} (Refuses : ℕ → Type 0) (old : ServiceView P) (answers : List (SystemCall P))
     (new : ServiceView P) : Type 0 where
   pub admission : List (SystemCall P)
@@ -278,11 +278,11 @@ pub record BreaksOff {P : Type 0} (Refuses : ℕ → Type 0) (old : ServiceView 
   pub admits : Admits (length old.hub.places) old.counters admission came
   pub under_way : (came.connecting == 0) ≡ false
   pub asked : answers ≡ Begins ∷ admission ++ Connects (Ready ports) ∷ []
-  -- room for a body of the longest length
+  -- the memory of a body of the longest length
   pub refused : Refuses old.hub.limits.cap
   pub leaves : new ≡ record { hub = old.hub; counters = arrived came }
 
--- rounds from the opening, and one that is broken off, of a run that isn't done
+-- rounds from the opening, and a broken-off round of a run that is not done
 pub record RunsOut {P : Type 0} (Refuses : ℕ → Type 0) (transition : P → PortCall → P → Type 0) (settings : Settings)
     (answers : List (SystemCall P)) : Type 0 where
   pub n : ℕ
@@ -303,10 +303,10 @@ pub record RunsLong {P : Type 0} (transition : P → PortCall → P → Type 0) 
   pub all : n + 1 ≡ 18446744073709551616
   pub rounds : Rounds transition n (initial_service settings) answers end
 
--- What a run did that ends with this fault, before all its bots were served. With wrong settings the system was asked
--- nothing. `Memory` has two causes, each a refusal of the allocator, whose relation `Refuses` is: room for the places was
--- refused, and the system was asked nothing; or room for a body was, in a round that is broken off. Rounds are spent only
--- after all of them were made.
+-- The trace of a run that ends with this fault, before all its bots were served. With wrong settings there is no system
+-- call. `Memory` has two causes, each a refusal of the allocator, by its relation `Refuses`. Either the places were
+-- refused, without a system call; or a body was refused, in a round that is broken off. `RoundsSpent` needs all rounds
+-- to be made.
 abbrev pub GivesUp : {P : Type 0} → (ℕ → Type 0) → (P → PortCall → P → Type 0) → Settings → ServeFault →
     List (SystemCall P) → Type 0
 GivesUp Refuses transition settings (Faults.Config fault) answers = answers ≡ []
@@ -317,13 +317,13 @@ GivesUp Refuses transition settings Faults.RoundsSpent answers = RunsLong transi
 
 -- ---- refusals
 
--- a refusal of the hub by the name that a run has for it
+-- an error of the hub as a fault of the run
 abbrev pub fault_of : HubError → ServeFault
 fault_of (HubErrors.Config fault) = Faults.Config fault
 fault_of HubErrors.Sessions = Faults.Sessions
 fault_of HubErrors.Memory = Faults.Memory
 
--- why a run was not begun: limits first, then the number of sessions, then the memory of the places
+-- why a run did not begin: the limits first, then the number of sessions, then the memory of the places
 abbrev pub IsOpeningCause : (ℕ → Type 0) → Settings → ServeFault → Type 0
 IsOpeningCause Refuses settings (Faults.Config fault) =
     IsHubCause Refuses settings.config settings.max_sessions (HubErrors.Config fault)
@@ -336,8 +336,8 @@ IsOpeningCause Refuses settings Faults.RoundsSpent = ⊥
 abbrev pub AreAccepted : Settings → Type 0
 AreAccepted settings = (config_fault settings.config ≡ Ok tt) × IsHubSize settings.max_sessions
 
--- Why a run gave up: as above, but later a body is refused as the places are. Memory is requested, and rounds are made,
--- only if the settings are right.
+-- Why a run gave up: as above, or the allocator later refused a body. Memory is requested, and rounds are made, only if
+-- the settings are right.
 abbrev pub IsServeCause : (ℕ → Type 0) → Settings → ServeFault → Type 0
 IsServeCause Refuses settings (Faults.Config fault) = IsOpeningCause Refuses settings (Faults.Config fault)
 IsServeCause Refuses settings Faults.Sessions = IsOpeningCause Refuses settings Faults.Sessions
@@ -345,7 +345,7 @@ IsServeCause Refuses settings Faults.Memory =
     AreAccepted settings × (Refuses settings.max_sessions ⊎ Refuses settings.config.max_body)
 IsServeCause Refuses settings Faults.RoundsSpent = AreAccepted settings
 
--- a fault of the settings, told before the system is asked anything
+-- a fault of the settings, returned before the first system call
 abbrev pub IsOfSettings : ServeFault → Type 0
 IsOfSettings (Faults.Config fault) = Unit {0}
 IsOfSettings Faults.Sessions = Unit {0}

@@ -1,10 +1,10 @@
-//! How many bots a run has, and how many it may have.
+//! Counters of the bots of a run, and their limits.
 
 ghost use Rattle.std.specs.Prelude.{◌≡◌, ◌+◌, ◌≤◌};
 ghost use Rattle.daide_event_loop.specs.Serving.{may_accept, is_served};
 
-/// How many bots come at once and in all, how many turns each has, how many of them are on their way to the server,
-/// and how many came.
+/// The limits of a run: sessions at once, bots in all, turns a session. Its counts: bots with a connect to the server
+/// under way, and bots accepted.
 #[derive(Clone, Copy, Debug)]
 pub struct AdmissionCounters {
     pub max_sessions: usize,
@@ -15,7 +15,7 @@ pub struct AdmissionCounters {
 }
 
 impl AdmissionCounters {
-    /// Whether one more bot may come, beside so many sessions.
+    /// Returns true if the run may accept one more bot while it has `count` sessions.
     pub fn accepts(&self, count: usize) -> bool
         requires { count + self.now.connecting ≤ self.now.max_sessions }
         ensures { result ≡ may_accept self.now count }
@@ -23,7 +23,8 @@ impl AdmissionCounters {
         self.accepted < self.sessions && count + self.connecting < self.max_sessions
     }
 
-    /// Whether all bots came, and none is left, as one of so many sessions or on its way.
+    /// Returns true if all bots were accepted, and none is left, as one of `count` sessions or with a connect under
+    /// way.
     pub fn is_served(&self, count: usize) -> bool
         ensures { result ≡ is_served self.now count }
     {

@@ -1,7 +1,7 @@
-//! The loop of a run: bots come, their sessions have their turns, and the run ends when all were served.
+//! The event loop of a run: it accepts bots, gives their sessions turns, and ends when all bots were served.
 //!
-//! It knows no socket: what a run asks of the system is `System`, below. `quota_ports` has ports with so many turns,
-//! and `serving` is the loop over both.
+//! It uses no socket: its environment is `System`, of `daide_protocol`. `quota_ports` limits the turns of ports, and
+//! `serving` is the loop.
 #![tactic(auto)]
 
 mod admission_counters;

@@ -1,4 +1,4 @@
-//! Ports with so many turns, which remember whether their last turn moved anything.
+//! Ports with a quota of turns, which record whether their last turn made progress.
 
 ghost use Rattle.std.specs.Prelude.{◌≡◌, false, Some, None, is_none};
 ghost use Rattle.daide_protocol.specs.Ports.{TurnBegins};
@@ -15,10 +15,10 @@ use std::marker::Model;
 #[derive(Drop)]
 pub struct QuotaPorts<P: Ports> {
     ports: P,
-    /// How many turns are left; none of ports whose turns are spent.
+    /// The turns left; `None` once the quota is exceeded.
     turns_left: Option<u64>,
     made_progress: bool,
-    /// The end or failure that was told first since the turns are spent. A session that was open till then is ended by it.
+    /// The first end or failure returned beyond the quota. It ends a session that was open until then.
     first_synthetic_end: Option<Ending>,
 }
 
@@ -33,7 +33,7 @@ impl<P: Ports> Model for QuotaPorts<P> {
 impl<P: Ports> QuotaPorts<P> {
     ghost use Rattle.daide_event_loop.specs.QuotaPorts.{Meters, beginning};
 
-    /// Ports with so many turns to come.
+    /// Wraps ports with a quota of `turns` turns.
     pub fn new(ports: P, turns: u64) -> QuotaPorts<P>
         ensures { result ≡ record { ports = ports; turns_left = Some turns; made_progress = false; first_synthetic_end = None } }
     {
@@ -58,29 +58,29 @@ impl<P: Ports> QuotaPorts<P> {
         }
     }
 
-    /// Whether more turns were begun than there are.
+    /// Returns true if more turns were begun than the quota has.
     pub fn is_spent(&self) -> bool
         ensures { result ≡ is_none self.now.turns_left }
     {
         self.turns_left.is_none()
     }
 
-    /// Whether anything moved since the turn began: the clock had popped, bytes came or went, a side ended, or a wire
-    /// failed.
+    /// Returns true if the turn made progress since it began: the IM timer expired, bytes were received or sent, a side
+    /// ended, or a wire failed.
     pub fn has_moved(&self) -> bool
         ensures { result ≡ self.now.made_progress }
     {
         self.made_progress
     }
 
-    /// The end or failure that was told first since the turns are spent.
+    /// Returns the first end or failure that was returned beyond the quota.
     pub fn first_synthetic_end(&self) -> Option<Ending>
         ensures { result ≡ self.now.first_synthetic_end }
     {
         self.first_synthetic_end
     }
 
-    /// The ports themselves.
+    /// Returns the ports inside.
     pub fn into_ports(self) -> P
         ensures { result ≡ self.ports }
     {

@@ -1,6 +1,6 @@
-//! The loop of a run: it admits bots one by one, gives each session its turns, and ends when all were served.
+//! The event loop of a run: it accepts bots, gives each session its turns, and ends when all bots were served.
 //!
-//! It knows no socket. What the system gives is a parameter, so that whole runs can be driven in memory.
+//! It uses no socket. The system is a parameter, so that tests can drive whole runs in memory.
 
 ghost use Rattle.std.specs.Prelude.{◌≡◌, ◌+◌, ◌<◌, ◌≤◌, ◌==◌, false, List, [], ◌∷◌, length, Some};
 ghost use Rattle.std.specs.Prelude.{Ok, OnOk, OnErr, IfOk, IfErr};
@@ -30,21 +30,21 @@ use thiserror::Error;
 /// Why a run ended before all its bots were served.
 #[derive(Clone, Copy, Debug, PartialEq, Eq, Error)]
 pub enum ServeFault {
-    /// A limit of the sessions is wrong. Settings that were read have none.
+    /// A limit of the sessions is wrong. Settings that were read never cause this.
     #[error("limits out of range")]
     Config(ConfigError),
-    /// The number of sessions at once is not from 1 to 256. Settings that were read have none.
+    /// The number of sessions at once is not from 1 to 256. Settings that were read never cause this.
     #[error("max_sessions out of range")]
     Sessions,
-    /// The memory of the places, or of a session, was refused.
+    /// The allocator refused the places, or a session.
     #[error("out of memory")]
     Memory,
-    /// All rounds were made, 2^64 - 1 of them: a loop that may not end has this bound.
+    /// All rounds were made, 2^64 - 1 of them. This is the bound of a loop that otherwise need not end.
     #[error("rounds spent")]
     RoundsSpent,
 }
 
-/// A run at work: sessions, and the counts of bots. Contracts see both.
+/// The state of a run: its sessions, and its counters. The abstract value has both.
 #[derive(Drop)]
 pub struct Service<P: Ports, A: Allocator = Global> {
     hub: Hub<QuotaPorts<P>, A>,
@@ -61,7 +61,7 @@ impl<P: Ports, A: Allocator> Model for Service<P, A> {
     ghost invariant = { λ s. IsWithinQuotas s.hub s.counters };
 }
 
-/// A refusal of the hub, as a run tells it.
+/// Converts an error of the hub to a fault of the run.
 fn fault_of(fault: HubError) -> ServeFault
     ensures { result ≡ fault_of fault }
 {
@@ -72,7 +72,7 @@ fn fault_of(fault: HubError) -> ServeFault
     }
 }
 
-/// Lets a bot in, if there is a place for it and it is not one too many. Answers whether one came.
+/// Accepts a bot if there is a place for it and the limit is not reached. Returns true if a bot was accepted.
 fn admit<P: Ports, S: System<P>>(
     count: usize,
     counters: &mut AdmissionCounters,
@@ -97,8 +97,9 @@ fn admit<P: Ports, S: System<P>>(
     came
 }
 
-/// Makes a session of a bot whose connect to the server came about, or lets it go where that failed. Answers
-/// whether it was either. `Memory` comes only after room for a body was refused.
+/// Turns a completed connect into a session, or reports a failed one. Returns true if a connect completed or failed.
+///
+/// Fails with `Memory` if the allocator refused a body.
 fn finish_connect<P: Ports, A: Memory + Copy, S: System<P>>(
     hub: &mut Hub<QuotaPorts<P>, A>,
     counters: &mut AdmissionCounters,
@@ -137,7 +138,7 @@ fn finish_connect<P: Ports, A: Memory + Copy, S: System<P>>(
     }
 }
 
-/// One turn of the session at a place: the system begins it with that session's ports, and then it is made.
+/// Makes one turn of the session at a place: the system begins it with the ports of that session.
 fn take_turn<P: Ports, A: Allocator + Copy, S: System<P>>(
     hub: &mut Hub<QuotaPorts<P>, A>,
     i: usize,
@@ -151,7 +152,7 @@ fn take_turn<P: Ports, A: Allocator + Copy, S: System<P>>(
     hub.turn(i);
 }
 
-/// One turn of each session, in order of place.
+/// Makes one turn of each session, in order of place.
 fn turn_all<P: Ports, A: Allocator + Copy, S: System<P>>(
     hub: &mut Hub<QuotaPorts<P>, A>,
     system: &mut S,
@@ -166,7 +167,7 @@ fn turn_all<P: Ports, A: Allocator + Copy, S: System<P>>(
     }
 }
 
-/// Whether anything moved in the last turns.
+/// Returns true if any session made progress in its last turn.
 fn has_moved<P: Ports, A: Allocator + Copy>(hub: &Hub<QuotaPorts<P>, A>) -> bool
     ensures { result ≡ any_moved hub.now.places }
 {
@@ -177,7 +178,7 @@ fn has_moved<P: Ports, A: Allocator + Copy>(hub: &Hub<QuotaPorts<P>, A>) -> bool
     made_progress
 }
 
-/// Whether an event is the one that was told first since the turns are spent.
+/// Returns true if an event is the first one reported beyond the quota.
 fn is_reported(told: Option<Ending>, ending: Ending) -> bool
     ensures { result ≡ is_reported told ending }
 {
@@ -188,7 +189,7 @@ fn is_reported(told: Option<Ending>, ending: Ending) -> bool
     }
 }
 
-/// Why a session ended by this event, where that was told first since its turns are spent.
+/// Returns the cause of an ending: spent turns if it is the first one reported beyond the quota, otherwise the event.
 fn cause_of(told: Option<Ending>, ending: Ending) -> Cause
     ensures { result ≡ cause_by told (Some ending) }
 {
@@ -199,7 +200,7 @@ fn cause_of(told: Option<Ending>, ending: Ending) -> Cause
     }
 }
 
-/// Lets ports go, with how their session ended, and tells where their turns are spent.
+/// Retires ports with the end of their session. Before that, reports spent turns if the quota is exceeded.
 fn part_with<P: Ports, S: System<P>>(removed: Removed<QuotaPorts<P>>, system: &mut S)
     ensures { TransitsBy S.transition system.old (parting removed.ports
         (end_by removed.ports.first_synthetic_end (Some removed.ending) removed.summary)) system.new }
@@ -219,8 +220,7 @@ fn part_with<P: Ports, S: System<P>>(removed: Removed<QuotaPorts<P>>, system: &m
     system.retire(ports.into_ports(), end);
 }
 
-/// Takes out the sessions that are over and of which nothing waits, from the last place to the first. Answers
-/// whether there were any.
+/// Removes the closed sessions, from the last place to the first. Returns true if there were any.
 fn remove_closed<P: Ports, A: Allocator + Copy, S: System<P>>(
     hub: &mut Hub<QuotaPorts<P>, A>,
     system: &mut S,
@@ -240,7 +240,7 @@ fn remove_closed<P: Ports, A: Allocator + Copy, S: System<P>>(
     removed
 }
 
-/// Waits, where nothing moved.
+/// Waits if no progress was made.
 fn rest<P: Ports, S: System<P>>(made_progress: bool, more: bool, system: &mut S)
     ensures { TransitsBy S.transition system.old (wait_where made_progress more) system.new }
 {
@@ -250,7 +250,9 @@ fn rest<P: Ports, S: System<P>>(made_progress: bool, more: bool, system: &mut S)
 }
 
 impl<P: Ports, A: Memory + Copy> Service<P, A> {
-    /// A run that no bot came to yet.
+    /// Creates a run with no bot yet.
+    ///
+    /// Fails with `Config`, then with `Sessions`, then with `Memory` if the allocator refused the places.
     pub fn new(alloc: A, settings: &Settings) -> Result<Service<P, A>, ServeFault>
         ensures opening { IfOk result (λ service. service ≡ initial_service settings.now) }
         ensures accepted { IfOk result (λ service. (config_fault settings.now.config ≡ Ok tt)
@@ -277,7 +279,7 @@ impl<P: Ports, A: Memory + Copy> Service<P, A> {
         }
     }
 
-    /// Whether all bots were served, and none is held.
+    /// Returns true if all bots were served and no session is left.
     pub fn is_done(&self) -> bool
         ensures { result ≡ is_done self.now }
     {

@@ -1,4 +1,4 @@
--- Allowed prefixes: their fronts, and what a reader's place says of one more token.
+-- Allowed prefixes: prefixes of them, and one more token in the terms of a reader's error place.
 use Rattle.std.proofs.Common.{◌≡◌, ℕ, ◌+◌, ◌*◌, ◌≤◌, ◌<◌, ◌==◌, Bool, true, false, List, [], ◌∷◌, ◌++◌, map, length}
 use Rattle.std.proofs.Common.{take, drop, Option, None, Some, MatchOption, IsTrue, is_some, not, ◌↔◌, refl, sym, ◌∙◌, ap, subst}
 use Rattle.std.proofs.Common.{arith, append_assoc, append-nil, if◌then◌else◌}
@@ -14,7 +14,7 @@ use Rattle.daide_grammar.specs.declared.symbol.Sym.{Sym}
 use Rattle.daide_grammar.specs.declared.predict.Predict.{Ghosts}
 use Rattle.daide_grammar.specs.Words.{Words}
 
--- more tokens are no less deep
+-- the depth of a list is at most that of a longer one
 deeper : (p q : List ℕ) → greatest (map excess (prefixes p)) ≤ greatest (map excess (prefixes (p ++ q)))
 deeper p [] = rw append-nil (omega arith)
 deeper p (t ∷ q) =
@@ -32,7 +32,7 @@ depth_front (x ∷ p) q = go (x == prn)
     go true = omega arith
     go false = deeper (x ∷ p) q
 
--- each front of an allowed prefix is one
+-- each prefix of an allowed prefix is allowed
 pub front_allowed : (message : List ℕ → Type 0) (max_depth k : ℕ) (q : List ℕ) → IsAllowedPrefix message max_depth q →
     IsAllowedPrefix message max_depth (take k q)
 front_allowed message max_depth k q h =
@@ -50,7 +50,7 @@ front_allowed message max_depth k q h =
           omega arith;
     }
 
--- the same messages have the same allowed prefixes
+-- equal sets of messages have the same allowed prefixes
 pub allowed_along : (a b : List ℕ → Type 0) → ((m : List ℕ) → a m → b m) → (max_depth : ℕ) (p : List ℕ) →
     IsAllowedPrefix a max_depth p → IsAllowedPrefix b max_depth p
 allowed_along a b there max_depth p h = record {
@@ -58,7 +58,7 @@ allowed_along a b there max_depth p h = record {
   shallow = h.shallow;
 }
 
--- tokens are allowed exactly where a reader found no place in them
+-- tokens are allowed exactly if a reader found no error place in them
 pub allowed_if_no_place : (language : List ℕ → Type 0) (max_depth : ℕ) (q : List ℕ) (place : Option ℕ) (none : Bool) →
     is_some place ≡ not none →
     MatchOption place (AreAllowed (IsMessageOf language) max_depth q) (HasErrorIndex language max_depth q) →
@@ -81,7 +81,7 @@ nothing_before [] h = refl
 nothing_before (x ∷ []) h = refl
 nothing_before (x ∷ y ∷ b) h = absurd (omega arith)
 
--- PRN alone is the front of a report
+-- PRN alone is a prefix of a report
 pub prn_allowed : (message : List ℕ → Type 0) (max_depth : ℕ) (b : List ℕ) (t : ℕ) → message (prn ∷ bra ∷ ket ∷ []) →
     length b < 2 → t ≡ prn → IsAllowedPrefix message max_depth (tokens_of b ++ t ∷ [])
 prn_allowed message max_depth b t report few same =
@@ -89,14 +89,14 @@ prn_allowed message max_depth b t report few same =
     (subst (λ (p : List ℕ). IsAllowedPrefix message max_depth (p ++ prn ∷ [])) (sym (nothing_before b few))
     (record { viable = (bra ∷ ket ∷ [], report); shallow = omega arith }))
 
--- one more token after some, or another than PRN by itself
+-- after one more token a list begins with PRN only if it did before, or if the token is PRN and the first
 pub plain_more : (b : List ℕ) (t : ℕ) → begins_with_prn (tokens_of b) ≡ false → (length b < 2 → (t == prn) ≡ false) →
     begins_with_prn (tokens_of b ++ t ∷ []) ≡ false
 plain_more [] t h k = k (omega arith)
 plain_more (x ∷ []) t h k = k (omega arith)
 plain_more (x ∷ y ∷ b) t h k = h
 
--- a reader that has read nothing has read as many tokens of any body as it counts
+-- a reader that has read nothing has read the first `tokens_read` tokens of any body
 pub read_nothing : {T : Type 0} (table : Ghosts T) (words : Words) (first : Sym) (max_depth : ℕ) (v : Reading T)
     (b : List ℕ) → HasReadPrefix table words first max_depth v [] →
     HasReadPrefix table words first max_depth v (tokens_of (take (2 * tokens_read v) b))

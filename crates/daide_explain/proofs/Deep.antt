@@ -1,4 +1,4 @@
--- Whether the token at a place is BRA, with as many brackets open before it as may be.
+-- Whether the token at a place is BRA while `max_depth` brackets are open before it.
 use Rattle.std.proofs.Common.{◌≡◌, ℕ, zero, suc, ◌+◌, ◌*◌, ◌≤◌, ◌==◌, List, [], ◌∷◌, length, take, drop}
 use Rattle.std.proofs.Common.{IsTrue, ◌↔◌, refl, sym, ◌∙◌, ap, arith}
 use Rattle.std.proofs.lemmas.Bool.{eqb-true, eq-eqb}

@@ -1,4 +1,4 @@
--- A filtered list of representatives decides of every token whether it is expected.
+-- A filtered list of representatives determines for every token whether it is expected.
 use Rattle.std.proofs.Common.{◌≡◌, ℕ, suc, ◌<◌, ◌==◌, ◌||◌, Bool, true, false, List, [], ◌∷◌, ◌++◌, ◌⊎◌, inl, inr}
 use Rattle.std.proofs.Common.{refl, sym, ◌∙◌, subst, arith, ◌↔◌}
 use Rattle.std.proofs.lemmas.Bool.{eqb-true}
@@ -57,7 +57,7 @@ found t (x ∷ xs) e = go (t == x) refl e (found t xs)
     go true same e next = inl (eqb-true t x same)
     go false same e next = inr (next e)
 
--- a class that tokens have by themselves is represented
+-- a class of the grammar without words is represented
 own_found : (c : Class) → is_standard c ≡ true →
     (list_any (λ x. token_of c == x) listed_tokens || list_any (λ x. token_of c == x) unlisted_tokens) ≡ true
 own_found (Word k) e = absurd cc
@@ -71,7 +71,7 @@ either : (a b : Bool) → (a || b) ≡ true → (a ≡ true) ⊎ (b ≡ true)
 either true b e = inl refl
 either false b e = inr e
 
--- a token is a word's code, or has the class that it has without words
+-- a token is a word's code, or has its class of the grammar without words
 word_or_own : (j : ℕ) (words : List code.Word) (t : ℕ) →
     IsIn t (codes_of (names_of words)) ⊎ ((dialect_from j (grammar_words words)).class_of t ≡ class_of t)
 word_or_own j [] t = inr refl

@@ -1,4 +1,4 @@
--- What some messages of docs/PROTOCOL.md are by the definitions, computed, so that a wrong row of theirs does not check.
+-- Explanations of some messages of docs/PROTOCOL.md, computed from the definitions, so that a wrong row fails to check.
 use Rattle.std.proofs.Common.{◌≡◌, ℕ, ◌<◌, get_or, List, [], ◌∷◌, ◌++◌, codes, refl, sym, ◌∙◌, ap, subst, arith}
 use Rattle.std.specs.Fmt.{digits}
 use Rattle.daide_token.specs.Token.{bra, ket}
@@ -39,7 +39,7 @@ At0 = IsMessage Client L0
 abbrev pub At10 : List ℕ → Type 0
 At10 = IsMessage Client L10
 
--- ---- what explains `GOF (`
+-- ---- the explanation of `GOF (`
 
 not_before : (m : List ℕ) (j : ℕ) → m ≡ gof ∷ bra ∷ [] → j < 1 → ¬ IsNeverClosed m j
 not_before m j e less ([], after, at, open_still) =
@@ -60,7 +60,7 @@ gof_open = (
   refl,
 )
 
--- ---- `OBS GOF` is refused at 1
+-- ---- `OBS GOF` is refused at index 1
 
 obs_gof : plain_verdict Client L0 254 (obs ∷ gof ∷ []) ≡ Huh 1
 unfolding entries may_end_of table_answer class_of
@@ -77,7 +77,7 @@ place_of h = h.2
 pub obs_gof_place : IsErrorPlace At0 254 (obs ∷ gof ∷ []) 1
 obs_gof_place = place_of refused_at_1
 
--- ---- the empty message is refused at its end
+-- ---- the empty message is refused at index 0, its end
 
 nothing_refused : plain_verdict Client L0 254 [] ≡ Huh 0
 unfolding entries may_end_of table_answer class_of

@@ -1,4 +1,4 @@
--- One token more of a list that is filtered.
+-- One more token of a list that is filtered.
 use Rattle.std.proofs.Common.{◌≡◌, ℕ, ◌+◌, ◌<◌, ◌≤◌, length, take, get_or, append_assoc, List, [], ◌∷◌, ◌++◌, inl, inr, refl, sym, ◌∙◌, ap, subst}
 use Rattle.daide_token.specs.Names.{Named}
 use Rattle.std.proofs.lemmas.List.{take_more, take_all, map-append}
@@ -23,7 +23,7 @@ module _ (P : ℕ → Type 0) where
   one_more ts old new t h (inl (here, e)) = subst (IsFilteredBy P (ts ++ t ∷ [])) (sym e) (with_it ts old t here h)
   one_more ts old new t h (inr (gone, e)) = subst (IsFilteredBy P (ts ++ t ∷ [])) (sym e) (without_it ts old t gone h)
 
-  -- the next of some tokens
+  -- one more token of a list
   pub one_more_at : (done all : List ℕ) (i t : ℕ) (old new : List ℕ) → i < length all → t ≡ get_or all i 0 →
       IsFilteredBy P (done ++ take i all) old → IsAppendedIf P t old new → IsFilteredBy P (done ++ take (i + 1) all) new
   one_more_at done all i t old new inside same h k =
@@ -37,7 +37,7 @@ module _ (P : ℕ → Type 0) where
   unfolding IsFilteredBy
   filtered_none kept e = e
 
-  -- the same of codes beside names
+  -- the same for a list of names with their codes
   pub named_more : (done : List ℕ) (all : List Named) (i : ℕ) (item : Named) (old new : List ℕ) → i < length all →
       item ≡ get_or all i item → IsFilteredBy P (done ++ codes_of (take i all)) old → IsAppendedIf P item.0 old new →
       IsFilteredBy P (done ++ codes_of (take (i + 1) all)) new

@@ -1,4 +1,4 @@
--- The items of tokens' classes, one after the other.
+-- The items of tokens' classes, in sequence.
 use Rattle.std.proofs.Common.{◌≡◌, ℕ, ◌+◌, ◌*◌, ◌/◌, ◌%◌, ◌<◌, ◌==◌, ◌||◌, ◌&&◌, not, ◌⊎◌, ◌≢◌, inl, inr, Bool, true, false, if◌then◌else◌, List, [], ◌∷◌, ◌++◌, length, take, get_or}
 use Rattle.std.proofs.Common.{codes, Option, None, Some, unwrap_or, refl, sym, ◌∙◌, ap, subst, arith, append_assoc, append-nil}
 use Rattle.std.proofs.lemmas.Bool.{eqb-true}
@@ -59,7 +59,7 @@ items_more words (x ∷ xs) t =
     ap (λ (l : List ℕ). (32 ∷ item words x) ++ l) (items_more words xs t)
     ∙ sym (append_assoc (32 ∷ item words x) (items words xs) (32 ∷ item words t))
 
--- one item more was written after a space
+-- one more item was written after a space
 pub item_after : (words : List Word) (xs : List ℕ) (t : ℕ) (start old mid new : List ℕ) →
     old ≡ start ++ items words xs → mid ≡ old ++ 32 ∷ [] → new ≡ mid ++ item words t →
     new ≡ start ++ items words (xs ++ t ∷ [])
@@ -81,7 +81,7 @@ item_next words all i t start old mid new inside same before space more =
     subst (λ (xs : List ℕ). new ≡ start ++ items words xs) (sym (next_one all i t inside same))
     (item_after words (take i all) t start old mid new before space more)
 
--- a bracket more
+-- one more bracket
 pub bracket_next : (words : List Word) (all : List ℕ) (i t : ℕ) (start old mid new : List ℕ) → i < length all →
     t ≡ get_or all i t → (t ≡ bra) ⊎ (t ≡ ket) → old ≡ start ++ items words (brackets_in (take i all)) →
     mid ≡ old ++ 32 ∷ [] → new ≡ mid ++ item words t → new ≡ start ++ items words (brackets_in (take (i + 1) all))
@@ -99,7 +99,7 @@ bracket_next words all i t start old mid new inside same bracket before space mo
     is_bracket (inl e) = ap (λ (x : ℕ). (x == bra) || (x == ket)) e
     is_bracket (inr e) = ap (λ (x : ℕ). (x == bra) || (x == ket)) e
 
--- another token more
+-- one more token that is not a bracket
 pub no_bracket_next : (words : List Word) (all : List ℕ) (i t : ℕ) (start old : List ℕ) → i < length all →
     t ≡ get_or all i t → t ≢ bra → t ≢ ket → old ≡ start ++ items words (brackets_in (take i all)) →
     old ≡ start ++ items words (brackets_in (take (i + 1) all))
@@ -117,7 +117,7 @@ no_bracket_next words all i t start old inside same no_bra no_ket before =
     no_bracket false true e f = absurd (no_ket (eqb-true t ket f))
     no_bracket false false e f = refl
 
--- the classes, by whether a token of an unknown category is among the tokens
+-- the items of the classes, by whether the list contains a token of an unknown category
 pub with_unknown : (words : List Word) (ts : List ℕ) (unknown : Bool) → unknown ≡ has_unknown ts → unknown ≡ true →
     class_items words ts ≡ items words (brackets_in ts) ++ codes " <any>"
 unfolding class_items
@@ -159,7 +159,7 @@ end_there ts ends none at_end = ap (λ (b : Bool). b && not ends) (sym none) ∙
 pub tokens_there : (ts : List ℕ) (ends : Bool) → false ≡ (length ts == 0) → ((length ts == 0) && not ends) ≡ false
 tokens_there ts ends some = ap (λ (b : Bool). b && not ends) (sym some)
 
--- three texts written one after the other
+-- three texts written in sequence
 pub three : (old a b c first second third : List ℕ) → first ≡ old ++ a → second ≡ first ++ b → third ≡ second ++ c →
     third ≡ old ++ ((a ++ b) ++ c)
 three old a b c first second third x y z =

@@ -1,9 +1,9 @@
--- The levels with press by their places in ascending order.
+-- The levels with press by their index in ascending order.
 use Rattle.std.proofs.Common.{ℕ}
 use Rattle.daide_grammar.specs.declared.level.Level.{Level}
 use Rattle.daide_grammar.specs.declared.level.Level.TheVariants.{L0, L10, L20, L30, L40, L50, L60}
 
--- the level's place among those with press; L0 is none of them
+-- the level's index among those with press; L0 is not among them
 abbrev pub level_place : Level → ℕ
 level_place L0 = 0
 level_place L10 = 0

@@ -1,5 +1,5 @@
--- A token may replace another that is like it: one of the same class, or, for one of an unknown category, any token but
--- the brackets.
+-- Replacement of a token by a similar one: by one of the same class, or, for a token of an unknown category, by any
+-- token but a bracket.
 use Rattle.std.proofs.Common.{◌≡◌, ◌≢◌, ℕ, suc, ◌+◌, ◌-◌, ◌≤◌, max, ◌==◌, Bool, true, false, not, ◌&&◌, nat_le, List, []}
 use Rattle.std.proofs.Common.{◌∷◌, ◌++◌, map, IsTrue, cond, refl, sym, ◌∙◌, ap, subst, arith, ◌⊎◌}
 use Rattle.std.proofs.Common.{inl, inr, if◌then◌else◌}
@@ -33,9 +33,9 @@ use Rattle.daide_words.specs.Table.Proved.WordDialect.{free-codes, keeps}
 use Rattle.daide_words.specs.Table.Proved.WordLaws.{laws_over}
 use Rattle.daide_reader.specs.ErrorPlace.{IsAllowedPrefix}
 
--- ---- no form names the tokens of an unknown category
+-- ---- no form names tokens of an unknown category
 
--- none of a form's single tokens is one of an unknown category
+-- no single-token test of a form names the class of an unknown category
 unfoldable names_known : Form → Bool
 names_known (one (is c)) = not (same_class c Alien)
 names_known (one any_but_brackets) = true
@@ -120,7 +120,7 @@ words_known place (word ∷ words) s l =
     (form_known place (operand_in word.operand s l) (operand_known word.operand s l))))
     (words_known (suc place) words s l)
 
--- ---- lists of like tokens
+-- ---- lists of similar tokens
 
 module _ (d : Dialect) where
   -- the second token may replace the first
@@ -128,7 +128,7 @@ module _ (d : Dialect) where
   IsLike x y =
       (d.class_of x ≡ d.class_of y) ⊎ ((d.class_of x ≡ Alien) × (d.class_of y ≢ Bra) × (d.class_of y ≢ Ket))
 
-  -- two lists with like tokens at each place
+  -- two lists with similar tokens at each index
   abbrev pub AreLike : List ℕ → List ℕ → Type 0
   AreLike [] [] = Unit {0}
   AreLike [] (y ∷ n) = ⊥
@@ -166,7 +166,7 @@ module _ (d : Dialect) where
   same_append (x ∷ a) [] u v h k = absurd h
   same_append (x ∷ a) (y ∷ b) u v h k = (h.0, same_append a b u v h.1 k)
 
-  -- a kind that accepts a token accepts each like it
+  -- a test that accepts a token accepts each similar one
   accepted : (k : TokenTest) (x y : ℕ) → names_known (one k) ≡ true → IsLike x y → IsTrue (is_of_kind k (d.class_of x)) →
       IsTrue (is_of_kind k (d.class_of y))
   unfolding names_known
@@ -260,7 +260,7 @@ module _ (words : Words) (free : are_free words ≡ true) where
   only_ket t (inl e) = ((laws_over words free).only_ket t).0 (sym e ∙ ket_class)
   only_ket t (inr (unknown, no_bra, no_ket)) = absurd (let f : Ket ≡ Alien = sym ket_class ∙ unknown in cc)
 
-  -- a token that a bracket may replace is that bracket
+  -- a bracket may replace no other token
   bra_replaces : (t : ℕ) → IsLike (dialect_of words) t bra → t ≡ bra
   bra_replaces t (inl e) = ((laws_over words free).only_bra t).0 (e ∙ bra_class)
   bra_replaces t (inr (unknown, no_bra, no_ket)) = absurd (no_bra bra_class)
@@ -269,7 +269,7 @@ module _ (words : Words) (free : are_free words ≡ true) where
   ket_replaces t (inl e) = ((laws_over words free).only_ket t).0 (e ∙ ket_class)
   ket_replaces t (inr (unknown, no_bra, no_ket)) = absurd (no_ket ket_class)
 
-  -- a report stays one
+  -- a report with similar tokens is a report
   report_along : (m n : List ℕ) → IsPrnWrapped m → AreLike (dialect_of words) m n → IsPrnWrapped n
   report_along m n (x, e) same =
       go n (subst (λ (l : List ℕ). AreLike (dialect_of words) l n) e same)
@@ -292,7 +292,7 @@ module _ (words : Words) (free : are_free words ≡ true) where
   message_along end l m n same (inr h) = inr (matches_along (dialect_of words) (rules_known (dialect_of words) (words_known 0 words)) (message_form end l) m n
       (messages_known end l) h same)
 
-  -- like tokens are both a bracket or both none
+  -- of two similar tokens both are the same bracket, or neither is
   test_along : (b t u : ℕ) → (t ≡ b → u ≡ b) → (u ≡ b → t ≡ b) → (t == b) ≡ (u == b)
   test_along b t u there back = go (t == b) (u == b) refl refl
     where
@@ -302,7 +302,7 @@ module _ (words : Words) (free : are_free words ≡ true) where
       go true false f g = absurd (let e : (u == b) ≡ true = eq-eqb u b (there (eqb-true t b f)) in cc)
       go false true f g = absurd (let e : (t == b) ≡ true = eq-eqb t b (back (eqb-true u b g)) in cc)
 
-  -- a token that replaces another opens no bracket more
+  -- replacing a token does not increase the depth
   depth_along : (p : List ℕ) (t u : ℕ) → IsLike (dialect_of words) t u → depth_of (p ++ u ∷ []) ≤ depth_of (p ++ t ∷ [])
   depth_along p t u like = by_begin p
     where
@@ -344,7 +344,7 @@ module _ (words : Words) (free : are_free words ≡ true) where
           (λ e. eq-eqb u prn (only_prn u (subst (λ (x : ℕ). IsLike (dialect_of words) x u) (eqb-true t prn e) like)))
       by_begin (x ∷ p) = by_test (x == prn) (x == prn) _ _ (same_greatest (x ∷ p)) (λ e. e)
 
-  -- a token that may replace one that is expected is expected
+  -- a token that may replace an expected one is expected
   pub expected_along : (end : Side2) (l : Level) (max_depth : ℕ) (p : List ℕ) (t u : ℕ) →
       IsLike (dialect_of words) t u →
       IsAllowedPrefix (IsMessageOver words end l) max_depth (p ++ t ∷ []) →

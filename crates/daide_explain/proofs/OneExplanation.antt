@@ -28,7 +28,7 @@ use Rattle.daide_explain.specs.LowestLevel.{IsLowestAbove}
 use Rattle.daide_explain.specs.Unpaired.{IsFirstKet, IsNeverClosed, IsUnpairedIn}
 use Rattle.daide_explain.proofs.Scans.{none_on, no_value, between, closes_after_bra}
 
--- a list is filtered in one way
+-- the result of filtering is unique
 one_filtered : (P : ℕ → Type 0) (ts one other : List ℕ) → IsFilteredBy P ts one → IsFilteredBy P ts other → one ≡ other
 unfolding IsFilteredBy
 one_filtered P [] one other f g = f ∙ sym g
@@ -38,7 +38,7 @@ one_filtered P (t ∷ ts) one other (inl (here, rest, e, h)) (inr (gone, h')) = 
 one_filtered P (t ∷ ts) one other (inr (gone, h)) (inl (here, rest, e, h')) = absurd (gone here)
 one_filtered P (t ∷ ts) one other (inr (gone, h)) (inr (gone', h')) = one_filtered P ts one other h h'
 
--- two tests of one fact
+-- two tests of the same proposition agree
 one_test : (Q : Type 0) (a b : Bool) → (IsTrue a ↔ Q) → (IsTrue b ↔ Q) → a ≡ b
 one_test Q true true f g = refl
 one_test Q false false f g = refl
@@ -81,7 +81,7 @@ one_place i j no_less no_more = go (cases_order i j)
     go (inr (inl less)) = absurd (no_less less)
     go (inr (inr less)) = absurd (no_more less)
 
--- once a KET closed nothing, the count is lost
+-- after a KET that closes nothing the count stays undefined
 lost : (m before after : List ℕ) → m ≡ before ++ ket ∷ after → excess_or_none before ≡ Some 0 → excess_or_none m ≡ None
 lost m before after whole closed =
     counted_on m
@@ -89,7 +89,7 @@ lost m before after whole closed =
     ∙ (count_on-append (Some 0) before (ket ∷ after)
     ∙ (ap (λ (o : Option ℕ). count_on o (ket ∷ after)) (sym (counted_on before) ∙ closed) ∙ none_on after)))
 
--- no KET that closes nothing comes before the first one
+-- no KET that closes nothing precedes the first one
 first_ket_once : (m : List ℕ) (i j : ℕ) → IsFirstKet m i → IsFirstKet m j → i < j → ⊥
 first_ket_once m i j (a, b, at, closed) (before, after, at', closed') less =
     let left = at.place in
@@ -145,7 +145,7 @@ one_line words message max_depth p one other f g =
     ∙ (ap (λ (l : List ℕ). expected_line words p l f.1) kept
     ∙ (ap (λ (b : Bool). expected_line words p g.0 b) ends ∙ sym g.3))
 
--- the line of an error place, by whether its bracket is too deep
+-- the line for an error place, by whether its bracket is too deep
 abbrev PlaceLine : List Word → (List ℕ → Type 0) → ℕ → List ℕ → ℕ → Bool → List ℕ → Type 0
 PlaceLine words message max_depth m place deep text =
     MatchBool deep (text ≡ codes "too deep: ( at " ++ decimal place ++ 10 ∷ [])

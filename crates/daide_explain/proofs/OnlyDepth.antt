@@ -1,4 +1,4 @@
--- At an error place nothing is expected only if as many brackets are open before it as may be.
+-- At an error place nothing is expected only if `max_depth` brackets are open before it.
 use Rattle.std.proofs.Common.{◌≡◌, ℕ, zero, suc, ◌+◌, ◌-◌, ◌≤◌, ◌<◌, max, ◌==◌, ◌||◌, Bool, true, false, cond, List, []}
 use Rattle.std.proofs.Common.{◌∷◌, ◌++◌, map, take, Option, None, Some, ◌⊎◌, inl, inr, refl, sym, ◌∙◌, ap}
 use Rattle.std.proofs.Common.{subst, arith, append_assoc, append-nil, if◌then◌else◌}
@@ -33,7 +33,7 @@ before_allowed message max_depth m (suc i) report h =
     subst (λ (k : ℕ). IsAllowedPrefix message max_depth (take k m)) (let e : i + 1 ≡ suc i = omega arith in e)
     (h.before i (omega arith))
 
--- no more brackets are open at the end of some tokens than at some time
+-- the excess of a list is at most the greatest excess of its prefixes
 excess_at_most : (p : List ℕ) → excess p ≤ greatest (map excess (prefixes p))
 excess_at_most p =
     from_the_end (λ p. excess p ≤ greatest (map excess (prefixes p))) (omega arith)
@@ -43,7 +43,7 @@ plain_front : (p : List ℕ) (t : ℕ) → begins_with_prn (p ++ t ∷ []) ≡ f
 plain_front [] t e = refl
 plain_front (x ∷ p) t e = e
 
--- the excess of one token more, by whether it is BRA
+-- a token that is not BRA does not increase the excess
 one_more : (opens closes : Bool) (b k : ℕ) → opens ≡ false → (b + cond opens 1 0) - (k + cond closes 1 0) ≤ b - k
 one_more true closes b k e = absurd cc
 one_more false true b k e = omega arith
@@ -62,7 +62,7 @@ full g x y d a b c deep = go (cases_lt d y)
     go (inl less) = (less, omega arith)
     go (inr few) = absurd (deep (omega arith))
 
--- a token that makes allowed tokens too deep is BRA, and as many brackets are open before it as may be
+-- a token that makes an allowed prefix too deep is BRA, and `max_depth` brackets are open before it
 pub too_deep : (max_depth : ℕ) (p : List ℕ) (t : ℕ) → depth_of p ≤ max_depth → (depth_of (p ++ t ∷ []) ≤ max_depth → ⊥) →
     (begins_with_prn p ≡ false) × (t ≡ bra) × (excess p ≡ max_depth)
 too_deep max_depth p t few deep = go (begins_with_prn (p ++ t ∷ [])) refl
@@ -99,7 +99,7 @@ too_deep max_depth p t few deep = go (begins_with_prn (p ++ t ∷ [])) refl
             subst (λ (n : ℕ). n ≤ excess p) (sym sum) (one_more (is_bra t) (is_ket t) (bras p) (kets p) same) in
             absurd (let a = less in let b = over in let c = at in omega arith)
 
--- ---- what is open before
+-- ---- brackets open before an index
 
 not_lost : (o : Option ℕ) (r : List ℕ) → count_on o r ≡ Some 0 → o ≡ None → ⊥
 not_lost o r e f =
@@ -117,7 +117,7 @@ balanced_front p r h =
     go true e all = absurd (not_lost (excess_or_none p) r all (ap (λ b. if b then None else Some (excess p)) e))
     go false e all = e
 
--- tokens with which a paired message begins, but not with PRN, close no bracket early
+-- a prefix of a paired message, unless it begins with PRN, has no unmatched KET
 paired_front : (p r : List ℕ) → begins_with_prn p ≡ false → IsPaired (p ++ r) → has_unmatched_ket p ≡ false
 paired_front [] r plain h = refl
 paired_front (x ∷ p) r plain (inl (a, e)) =

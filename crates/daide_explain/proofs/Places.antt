@@ -1,4 +1,4 @@
--- A message that is answered with HUH does not begin with PRN, nor does a front of it.
+-- A message with the verdict HUH does not begin with PRN, nor does a prefix of it.
 use Rattle.std.proofs.Common.{◌≡◌, ℕ, ◌≤◌, true, false, List, [], ◌∷◌, take, suc, zero, inl, inr, refl, arith}
 use Rattle.daide_token.specs.Token.{tokens_of}
 use Rattle.daide_grammar.specs.Paired.{begins_with_prn}
@@ -25,7 +25,7 @@ huh_plain words side l max_depth m place (inl report, no_relay, at) =
     }))
 huh_plain words side l max_depth m place (inr plain, no_relay, at) = plain.0
 
--- nor does a front of it
+-- nor does a prefix of it
 pub front_plain : (b : List ℕ) (k : ℕ) → begins_with_prn (tokens_of b) ≡ false →
     begins_with_prn (tokens_of (take k b)) ≡ false
 front_plain b zero e = refl

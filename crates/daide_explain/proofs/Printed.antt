@@ -1,4 +1,4 @@
--- What is printed of expected classes is exact.
+-- The printed items of expected classes are exact.
 use Rattle.std.proofs.Common.{◌≡◌, ◌≢◌, ℕ, ◌==◌, ◌||◌, Bool, true, false, List, [], ◌∷◌, ◌++◌, length, take, drop, IsTrue}
 use Rattle.std.proofs.Common.{◌↔◌, inl, inr, refl, sym, ◌∙◌, ap, subst, arith}
 use Rattle.std.proofs.lemmas.Bool.{eqb-true}
@@ -87,7 +87,7 @@ module _ (words : List Word) (end : Side2) (l : Level) (max_depth : ℕ) (p : Li
             λ f. by_bracket any ((t == bra) || (t == ket)) refl f,
           )
 
-  -- the class of a token that is not expected is not listed, and not printed
+  -- the class of a token that is not expected is neither listed nor printed
   pub never_listed : (kept : List ℕ) → IsFilteredBy Expected (representatives words) kept → (t : ℕ) →
       (Expected t → ⊥) → (¬ IsListed words kept t) × (¬ IsPrinted words kept t)
   never_listed kept h t refused = (
@@ -95,7 +95,7 @@ module _ (words : List Word) (end : Side2) (l : Level) (max_depth : ℕ) (p : Li
     λ shown. refused ((printed kept h t).1 shown),
   )
 
--- the end is not expected after a whole message that is not relayed
+-- the end is not expected after a complete message that is not relayed
 pub no_end : (words : List Word) (message : List ℕ → Type 0) (max_depth : ℕ) (m kept : List ℕ) (place : ℕ)
     (ends : Bool) → AreExpected words message max_depth (take place m) kept ends → place ≡ length m →
     (IsRelayed message max_depth m → ⊥) → ends ≡ false

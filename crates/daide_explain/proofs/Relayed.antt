@@ -1,4 +1,4 @@
--- A message is relayed if and only if its verdict is relay.
+-- A message is relayed if and only if its verdict is `Relay`.
 use Rattle.std.proofs.Common.{◌≡◌, ℕ, List, refl}
 use Rattle.daide_grammar.specs.Paired.{IsPaired}
 use Rattle.daide_reader.specs.Verdict.{HasVerdict, IsRelayed}

@@ -1,4 +1,4 @@
--- A scan for brackets that are not paired, a token at a time.
+-- A scan for unpaired brackets, one token at a time.
 use Rattle.std.proofs.Common.{◌≡◌, ◌≢◌, ℕ, zero, suc, ◌+◌, ◌-◌, ◌≤◌, ◌<◌, ◌==◌, Bool, true, false, List, [], ◌∷◌, ◌++◌, length, take}
 use Rattle.std.proofs.Common.{drop, Option, None, Some, IsSome, refl, sym, ◌∙◌, ap, subst, arith, append_assoc}
 use Rattle.std.proofs.Common.{◌⊎◌, inl, inr}
@@ -9,12 +9,12 @@ use Rattle.daide_grammar.specs.Table.Brackets.{is_bra, is_ket, excess_or_none, c
 use Rattle.daide_grammar.proofs.Counting.{count_on, count_on-append, counted_on, excess_or_none-snoc}
 use Rattle.daide_explain.specs.Unpaired.{IsTokenAt, IsFirstKet, IsNeverClosed}
 
--- a lost count stays lost
+-- an undefined count stays undefined
 pub none_on : (m : List ℕ) → count_on None m ≡ None
 none_on [] = refl
 none_on (t ∷ m) = none_on m
 
--- a BRA is at the place, nothing is open before it, and `more` brackets open after it
+-- a BRA is at this index, nothing is open before it, and `more` brackets are open after it
 pub record OpenedAt (p : List ℕ) (more first : ℕ) : Type 0 where
   pub before : List ℕ
   pub after : List ℕ
@@ -22,7 +22,7 @@ pub record OpenedAt (p : List ℕ) (more first : ℕ) : Type 0 where
   pub closed : excess_or_none before ≡ Some 0
   pub left : excess_or_none after ≡ Some more
 
--- as many brackets as the number are open after these tokens, the first of them at the place
+-- `n` brackets are open after these tokens, the first of them at this index
 abbrev pub Scan : List ℕ → ℕ → ℕ → Type 0
 Scan p zero first = excess_or_none p ≡ Some 0
 Scan p (suc more) first = (excess_or_none p ≡ Some (suc more)) × OpenedAt p more first
@@ -41,7 +41,7 @@ next_count p t n opens closes e f h =
     ∙ (ap (λ (b : Bool). count_one b (is_ket t) (excess_or_none p)) e
     ∙ (ap (λ (b : Bool). count_one opens b (excess_or_none p)) f ∙ ap (count_one opens closes) h))
 
--- one token more after the first BRA that is open
+-- one more token after the first open BRA
 later : (p : List ℕ) (t more now first : ℕ) (opens closes : Bool) → is_bra t ≡ opens → is_ket t ≡ closes →
     count_one opens closes (Some more) ≡ Some now → OpenedAt p more first → OpenedAt (p ++ t ∷ []) now first
 later p t more now first opens closes e f step h = record {
@@ -68,12 +68,12 @@ differs t b apart = go (t == b) refl
     go true e = absurd (apart (eqb-true t b e))
     go false e = refl
 
--- a token more of a body
+-- one more token of a body
 pub scan_next : (m : List ℕ) (i t n first : ℕ) → take (i + 1) m ≡ take i m ++ t ∷ [] → Scan (take i m ++ t ∷ []) n first →
     Scan (take (i + 1) m) n first
 scan_next m i t n first e h = subst (λ (p : List ℕ). Scan p n first) (sym e) h
 
--- a BRA with nothing open is the first that is open then
+-- a BRA read while no bracket is open is then the first open one
 pub first_opened : (p : List ℕ) (t first : ℕ) → t ≡ bra → Scan p 0 first → Scan (p ++ t ∷ []) 1 (length p)
 first_opened p t first e h =
     let k = bra_only t e in (
@@ -109,7 +109,7 @@ passed p t (suc n) first b k h = (
   later p t n n first false false (differs t bra b) (differs t ket k) refl h.1,
 )
 
--- a KET with nothing open is the first that closes nothing
+-- a KET while no bracket is open is the first that closes nothing
 pub first_ket : (m : List ℕ) (t i first : ℕ) → t ≡ ket → i ≤ length m → drop i m ≡ t ∷ drop (i + 1) m →
     Scan (take i m) 0 first → IsFirstKet m i
 first_ket m t i first e inside rest h = (
@@ -123,7 +123,7 @@ first_ket m t i first e inside rest h = (
   h,
 )
 
--- what closes as many as are open closes one more than are open after a BRA
+-- tokens that leave at most x of x + 1 + k open brackets close one too many if only k are open
 closes_it : (c : List ℕ) (x k y : ℕ) → count_on (Some (x + 1 + k)) c ≡ Some y → y ≤ x → count_on (Some k) c ≡ None
 closes_it [] x k y e few = let same : x + 1 + k ≡ y = cc in absurd (omega arith)
 closes_it (t ∷ c) x k y e few =
@@ -140,7 +140,7 @@ closes_it (t ∷ c) x k y e few =
         next k y (subst (λ (n : ℕ). count_on (count_one false true (Some n)) c ≡ Some y) (let s : x + 1 + suc k ≡ suc (x + 1 + k) = omega arith in s) e) few
     go false false k next e = next k y e few
 
--- two places of one list, the first before the second
+-- two indices of one list, the first before the second
 pub between : (x y : ℕ) (a b before after : List ℕ) → length a < length before → a ++ x ∷ b ≡ before ++ y ∷ after →
     (c : List ℕ) × (before ≡ a ++ x ∷ c) × (b ≡ c ++ y ∷ after)
 between x y [] b [] after less e = absurd (omega arith)
@@ -166,7 +166,7 @@ pub no_value : (o : Option ℕ) → o ≡ None → IsSome o → ⊥
 no_value None e h = let f : false ≡ true = h in absurd cc
 no_value (Some x) e h = absurd cc
 
--- each BRA before the first that is open is closed
+-- every BRA before the first open one is closed
 closed_before : (m before after a b : List ℕ) (j : ℕ) → excess_or_none before ≡ Some 0 → m ≡ before ++ bra ∷ after →
     j < length before → IsTokenAt m bra j a b → IsSome (excess_or_none b) → ⊥
 closed_before m before after a b j closed whole less at open_still =
@@ -186,7 +186,7 @@ some_value : (o : Option ℕ) (n : ℕ) → o ≡ Some n → IsSome o
 some_value None n e = absurd cc
 some_value (Some x) n e = refl
 
--- the first BRA that is open at the end is never closed, and each before it is
+-- the first BRA that is open at the end is never closed, and every earlier one is
 pub first_bra : (m : List ℕ) (n first : ℕ) → Scan m (suc n) first →
     IsSome (excess_or_none m) × IsNeverClosed m first × ((j : ℕ) → j < first → ¬ IsNeverClosed m j)
 first_bra m n first h =

@@ -46,7 +46,7 @@ item words t =
     if t == other_token then codes "<other>" else
     unwrap_or (kind_name (class_of t)) (text_with (names_of words) (t ∷ []))
 
--- a space before each item
+-- the items of tokens, with a space before each
 unfoldable pub items : List Word → List ℕ → List ℕ
 items words [] = []
 items words (t ∷ ts) = (32 ∷ item words t) ++ items words ts
@@ -55,38 +55,38 @@ items words (t ∷ ts) = (32 ∷ item words t) ++ items words ts
 abbrev pub brackets_in : List ℕ → List ℕ
 brackets_in ts = filter (λ t. (t == bra) || (t == ket)) ts
 
--- a token of an unknown category is among them
+-- a token of an unknown category is in the list
 abbrev pub has_unknown : List ℕ → Bool
 has_unknown ts = list_any (λ t. t == unknown_token) ts
 
--- the items of the expected classes; if a token of an unknown category is expected, each class but the brackets is:
--- then the brackets, and `<any>` for the rest
+-- the items of the expected classes; if a token of an unknown category is expected, so is every class but the brackets:
+-- then the brackets that are expected, and `<any>` for the rest
 unfoldable pub class_items : List Word → List ℕ → List ℕ
 class_items words kept =
     if has_unknown kept then items words (brackets_in kept) ++ codes " <any>" else items words kept
 
--- the items of these classes print the token's class: its own item, or `<any>` for a token that is no bracket
+-- the printed items cover the token's class: by its own item, or by `<any>` if the token is not a bracket
 abbrev pub IsPrinted : List Word → List ℕ → ℕ → Type 0
 IsPrinted words kept t =
     MatchBool (has_unknown kept) (((t == bra) || (t == ket)) ≡ true → IsIn t kept) (IsListed words kept t)
 
--- the item of the end, if it is expected, and the line's end
+-- the item of the end, if it is expected, and the line feed
 abbrev pub end_item : Bool → List ℕ
 end_item ends = (if ends then codes " <end>" else []) ++ 10 ∷ []
 
--- the line of what is expected after the tokens; if nothing is, how many brackets they open
+-- the line of what is expected after the prefix; if nothing is, the number of open brackets
 unfoldable pub expected_line : List Word → List ℕ → List ℕ → Bool → List ℕ
 expected_line words p kept ends =
     if (length kept == 0) && not ends then codes "too deep: " ++ decimal (open_brackets p) ++ codes " brackets are open" ++ 10 ∷ []
     else (codes "expected:" ++ class_items words kept) ++ end_item ends
 
--- the line lists exactly what is expected after the tokens
+-- the line lists exactly what is expected after the prefix
 abbrev pub IsExpectedLine : List Word → (List ℕ → Type 0) → ℕ → List ℕ → List ℕ → Type 0
 IsExpectedLine words message max_depth p text =
     (kept : List ℕ) × (ends : Bool) × AreExpected words message max_depth p kept ends
     × (text ≡ expected_line words p kept ends)
 
--- the line of the level from which a message is relayed, if there is one
+-- the line with the level from which a message is relayed, if there is one
 abbrev pub level_line : Option Level → List ℕ
 level_line None = []
 level_line (Some least) = codes "relayed from level " ++ decimal (level_number least) ++ 10 ∷ []
@@ -95,50 +95,50 @@ abbrev pub other_side : Side2 → Side2
 other_side Client = ServerEnd
 other_side ServerEnd = Client
 
--- the line of the other side, if its grammar relays the message
+-- the line for the other side, if the message is relayed as one of that side
 unfoldable pub side_line : Side2 → Bool → List ℕ
 side_line Client true = codes "relayed with --side server" ++ 10 ∷ []
 side_line ServerEnd true = codes "relayed with --side bot" ++ 10 ∷ []
 side_line end false = []
 
--- the lines of a message that is relayed at a higher level, or as the other side's at this level
+-- the lines for a message that is relayed at a higher level, or as the other side's message at this level
 abbrev pub AreElsewhere : List Word → Side2 → Level → ℕ → List ℕ → List ℕ → Type 0
 AreElsewhere words end level max_depth m text =
     (least : Option Level) × (other : Bool) × IsLowestAbove (grammar_words words) end level max_depth m least
     × (IsTrue other ↔ IsRelayedAt (grammar_words words) (other_side end) level max_depth m)
     × (text ≡ level_line least ++ side_line end other)
 
--- the token at the place is BRA, and as many brackets are open before it as may be
+-- the token at the place is BRA, and `max_depth` brackets are open before it
 abbrev pub IsTooDeepAt : ℕ → List ℕ → ℕ → Type 0
 IsTooDeepAt max_depth m place =
     (after : List ℕ) × (drop place m ≡ bra ∷ after) × (open_brackets (take place m) ≡ max_depth)
 
--- the line of the error place: that its bracket is too deep, or else what is expected there
+-- the line for the error place: its bracket is too deep, or else what is expected there
 abbrev pub IsPlaceCause : List Word → Side2 → Level → ℕ → List ℕ → ℕ → List ℕ → Type 0
 IsPlaceCause words end level max_depth m place text =
     (deep : Bool) × (IsTrue deep ↔ IsTooDeepAt max_depth m place)
     × MatchBool deep (text ≡ codes "too deep: ( at " ++ decimal place ++ 10 ∷ [])
     (IsExpectedLine words (IsMessageOver (grammar_words words) end level) max_depth (take place m) text)
 
--- the lines of a message with an error place
+-- the lines for a message with an error place
 abbrev pub IsPlaceExplained : List Word → Side2 → Level → ℕ → List ℕ → ℕ → List ℕ → Type 0
 IsPlaceExplained words end level max_depth m place text =
     (cause : List ℕ) × (elsewhere : List ℕ) × IsPlaceCause words end level max_depth m place cause
     × AreElsewhere words end level max_depth m elsewhere × (text ≡ cause ++ elsewhere)
 
--- the line of a bracket that is not paired
+-- the line for an unpaired bracket
 abbrev pub unpaired_line : Unpaired → List ℕ
 unpaired_line (Ket place) = codes "unpaired: ) at " ++ decimal place ++ 10 ∷ []
 unpaired_line (Bra place) = codes "unpaired: ( at " ++ decimal place ++ 10 ∷ []
 unpaired_line Nothing = []
 
--- the line of a message that is not paired
+-- the line for a message that is not paired
 abbrev pub IsUnpairedExplained : List ℕ → List ℕ → Type 0
 IsUnpairedExplained m text =
     MatchBool (begins_with_prn m) (text ≡ codes "unpaired: PRN" ++ 10 ∷ [])
     ((unpaired : Unpaired) × IsUnpairedIn m unpaired × (text ≡ unpaired_line unpaired))
 
--- the lines that explain a verdict; a message that is relayed has none
+-- the lines that explain a verdict; a relayed message has none
 abbrev pub IsExplained : List Word → Side2 → Level → ℕ → List ℕ → Verdict → List ℕ → Type 0
 IsExplained words end level max_depth m Relay text = text ≡ []
 IsExplained words end level max_depth m Prn text = IsUnpairedExplained m text

@@ -1,4 +1,4 @@
--- The classes of tokens in the order in which they are printed, each by a token of it. (own)
+-- The classes of tokens in printing order, each represented by one of its tokens. (own)
 use Rattle.std.specs.Prelude.{◌≡◌, ℕ, List, [], ◌∷◌, ◌++◌, map, ◌⊎◌, Bool, IsTrue, ◌↔◌}
 use Rattle.daide_token.specs.Names.{Named}
 use Rattle.daide_grammar.specs.SideMessages.{dialect_of}
@@ -6,8 +6,8 @@ use Rattle.daide_words.specs.declared.word.Word.{Word}
 use Rattle.daide_words.specs.Word.{grammar_words, names_of}
 use Rattle.daide_explain.specs.Expected.{IsExpected, IsEndExpected}
 
--- a token of each listed class: the kinds first, brackets among them, then the tokens that are alone in their class by
--- their codes
+-- a token of each listed class: first the kinds and the brackets, then the tokens that are alone in their class, by
+-- code
 abbrev pub listed_tokens : List ℕ
 listed_tokens =
     0x0000 ∷ 0x4000 ∷ 0x4001 ∷ 0x4100 ∷ 0x4400 ∷ 0x4500 ∷ 0x4600 ∷ 0x4700 ∷ 0x4B61 ∷ 0x5000 ∷ 0x4900 ∷ 0x4200 ∷
@@ -29,11 +29,12 @@ unknown_token = 0x5800
 abbrev pub unlisted_tokens : List ℕ
 unlisted_tokens = other_token ∷ unknown_token ∷ []
 
--- the codes of some names
+-- the codes of a list of names
 abbrev pub codes_of : List Named → List ℕ
 codes_of names = map (λ named. named.0) names
 
--- a token of each class: listed classes, an operator's words in the order in which they were added, unlisted tokens
+-- a token of each class: the listed classes, then an operator's words in the order of their addition, then unlisted
+-- tokens
 abbrev pub representatives : List Word → List ℕ
 representatives words = (listed_tokens ++ codes_of (names_of words)) ++ unlisted_tokens
 
@@ -52,13 +53,13 @@ abbrev pub IsIn : ℕ → List ℕ → Type 0
 IsIn t [] = ⊥
 IsIn t (x ∷ xs) = (t ≡ x) ⊎ IsIn t xs
 
--- a token of its class is in the list
+-- some token of its class is in the list
 abbrev pub IsListed : List Word → List ℕ → ℕ → Type 0
 IsListed words kept t =
     (u : ℕ) × IsIn u kept
     × ((dialect_of (grammar_words words)).class_of u ≡ (dialect_of (grammar_words words)).class_of t)
 
--- exactly what is expected after the tokens p: a token of each class, in order, and whether the end is
+-- exactly what is expected after the prefix p: one token of each class, in order, and whether the end is
 pub record AreExpected (words : List Word) (message : List ℕ → Type 0) (max_depth : ℕ) (p kept : List ℕ)
     (ends : Bool) : Type 0 where
   pub tokens : IsFilteredBy (IsExpected message max_depth p) (representatives words) kept

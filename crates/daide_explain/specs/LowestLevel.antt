@@ -15,7 +15,7 @@ IsBelow low high = level_number low < level_number high
 abbrev pub IsRelayedAt : Words → Side2 → Level → ℕ → List ℕ → Type 0
 IsRelayedAt words end level max_depth m = IsRelayed (IsMessageOver words end level) max_depth m
 
--- with a level: it is above the given one, the message is relayed there, and at no level between; without one: the
+-- with a level: it is above the given one, and the message is relayed there but at no level between; without one: the
 -- message is relayed at no level above the given one
 abbrev pub IsLowestAbove : Words → Side2 → Level → ℕ → List ℕ → Option Level → Type 0
 IsLowestAbove words end level max_depth m None =

@@ -1,4 +1,4 @@
-//! The bracket that is not paired.
+//! The first unpaired bracket of a message.
 
 ghost use Rattle.std.specs.Prelude.{◌≡◌, ◌≤◌, ◌<◌, ◌+◌, ◌*◌, ◌++◌, ◌∷◌, [], length, take, drop};
 ghost use Rattle.daide_token.specs.Token.{tokens_of};
@@ -7,14 +7,14 @@ ghost use Rattle.daide_explain.specs.Unpaired.{IsUnpairedIn};
 
 use daide_token::Token;
 
-/// The first bracket of a message that is not paired.
+/// The first unpaired bracket of a message, with the index of its token.
 #[derive(Clone, Copy)]
 pub enum Unpaired {
     /// The first KET that closes nothing.
     Ket(usize),
     /// The first BRA that is never closed; each KET closes one.
     Bra(usize),
-    /// Each bracket is paired.
+    /// All brackets are paired.
     Nothing,
 }
 
@@ -28,7 +28,7 @@ pub(crate) fn token_at(body: &[u8], place: usize) -> Token
     Token::from_be([body[2 * place], body[2 * place + 1]])
 }
 
-/// Returns the first bracket of a body that is not paired.
+/// Returns the first unpaired bracket of a body.
 pub fn find_unpaired(body: &[u8]) -> Unpaired
     requires { length body.now ≤ longest_body }
     ensures { IsUnpairedIn (tokens_of body.now) result }

@@ -17,7 +17,7 @@ use daide_token::Token;
 use daide_words::Extended;
 use daide_words::laws::laws_hold_over;
 
-/// Returns whether a token is expected after the tokens of a body, which do not begin with PRN.
+/// Returns whether a token is expected after the tokens of a body. These must not begin with PRN.
 pub fn is_expected(rules: &Rules<'_>, before: &[u8], token: Token) -> bool
     requires low { least_depth ≤ rules.now.max_depth }
     requires high { rules.now.max_depth ≤ greatest_depth }
@@ -27,11 +27,11 @@ pub fn is_expected(rules: &Rules<'_>, before: &[u8], token: Token) -> bool
         ↔ IsExpected (IsMessageOver (grammar_words (words_of rules.now.words.now)) rules.now.end rules.now.level)
         rules.now.max_depth (tokens_of before.now) token }
 {
-    // PRN alone begins a report, of which a table says nothing.
+    // Only PRN begins a report, and the table does not cover reports.
     if before.len() < 2 && token.code() == 0x4813 {
         return true;
     }
-    // Where a reader is made over words, the prover needs their codes' type among the function's own.
+    // The prover needs the type of the words' codes in scope to build a reader over words.
     let _names = rules.words.names();
     let mut reader: Reader<Extended, STACK_ENTRIES> = Reader::new(
         Extended::new(*rules.words),

@@ -1,5 +1,5 @@
-//! Each law of `laws`, used once at messages that were worked out by hand, so that a weaker law does not check. Nothing
-//! here is called.
+//! One application of each law of `laws`, to messages with known results, so that a weakened law fails to check.
+//! Nothing here is called.
 
 ghost use Rattle.std.specs.Prelude.{◌≡◌, ◌++◌, [], ◌∷◌, ℕ, Bool, List, codes, false, true};
 ghost use Rattle.daide_token.specs.Token.{bra, ket};
@@ -13,7 +13,7 @@ ghost use Rattle.daide_explain.specs.Listed.{AreExpected, IsFilteredBy, IsListed
 
 use crate::laws;
 
-/// `GOF (` has no other explanation than that its bracket is not paired.
+/// `GOF (` has exactly one explanation: its bracket is unpaired.
 fn one_explanation_at_a_message()
     ensures { (text : List ℕ) → IsExplained [] Client L0 254 (0x4803 ∷ bra ∷ []) Prn text →
         text ≡ codes "unpaired: ( at 1" ++ 10 ∷ [] }
@@ -21,7 +21,7 @@ fn one_explanation_at_a_message()
     laws::explained_in_one_way();
 }
 
-/// Where one power is expected, another is.
+/// If one power is expected, so is any other.
 fn class_at_a_power()
     ensures { IsExpected (IsMessage Client L10) 254 (0x4817 ∷ bra ∷ []) 0x4101 →
         IsExpected (IsMessage Client L10) 254 (0x4817 ∷ bra ∷ []) 0x4102 }
@@ -29,7 +29,7 @@ fn class_at_a_power()
     laws::class_decides_what_is_expected();
 }
 
-/// At the start of a message the list has the class of OBS, and after OBS not that of GOF.
+/// At the start of a message the list contains the class of OBS. After OBS it does not contain the class of GOF.
 fn list_at_two_places()
     ensures listed { (kept : List ℕ) →
         IsFilteredBy (IsExpected (IsMessage Client L0) 254 []) (representatives []) kept →
@@ -41,14 +41,14 @@ fn list_at_two_places()
     laws::list_is_exact();
 }
 
-/// After `SND ( FRA ) ( TRY (` each token but the brackets is expected, GOF among them.
+/// After `SND ( FRA ) ( TRY (` every token but the brackets is expected, including GOF.
 fn any_at_a_message()
     ensures { IsExpected (IsMessage Client L10) 254 (0x4817 ∷ bra ∷ 0x4102 ∷ ket ∷ bra ∷ 0x4A1A ∷ bra ∷ []) 0x4803 }
 {
     laws::any_is_each_token_but_brackets();
 }
 
-/// The line of what is expected at the start prints OBS. After OBS it prints the end, and GOF not.
+/// At the start, the line of expected items contains OBS. After OBS it contains the end, but not GOF.
 fn line_at_two_places()
     ensures start { (text : List ℕ) → IsExpectedLine [] (IsMessage Client L0) 254 [] text →
         (kept : List ℕ) × (ends : Bool) × (text ≡ expected_line [] [] kept ends) × IsPrinted [] kept 0x480F }
@@ -65,7 +65,7 @@ fn refused_at_a_message()
     laws::refused_token_is_not_expected();
 }
 
-/// In `OBS GOF` the class of GOF is neither listed nor printed; and of the empty message the end is not expected.
+/// In `OBS GOF` the class of GOF is neither listed nor printed. In the empty message the end is not expected.
 fn never_listed_at_two_messages()
     ensures token { (kept : List ℕ) (ends : Bool) → AreExpected [] (IsMessage Client L0) 254 (0x480F ∷ []) kept ends →
         (¬ IsListed [] kept 0x4803) × (¬ IsPrinted [] kept 0x4803) }
@@ -74,7 +74,7 @@ fn never_listed_at_two_messages()
     laws::refused_class_is_never_listed();
 }
 
-/// Something is expected after OBS, since no bracket is open there.
+/// After OBS something is expected, because no bracket is open.
 fn something_expected_at_a_message()
     ensures { ¬ AreExpected [] (IsMessage Client L0) 254 (0x480F ∷ []) [] false }
 {

@@ -1,7 +1,7 @@
-//! Why a message was refused, exactly: what was expected at its error place, from which level it is relayed, and
-//! which bracket is not paired.
+//! The exact reason why a message was refused: what was expected at its error place, from which level it is relayed,
+//! and which bracket is unpaired.
 //!
-//! No session calls this: it reads the tokens before the error place again for each class of tokens.
+//! No session calls this crate. It reads the tokens before the error place once for each class of tokens.
 #![tactic(auto)]
 
 pub mod brackets;

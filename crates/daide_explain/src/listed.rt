@@ -1,4 +1,4 @@
-//! The tokens that are expected after some tokens, one of each class, in order.
+//! The tokens expected after a prefix, one of each class, in printing order.
 
 ghost use Rattle.std.specs.Prelude.{◌≡◌, ◌≤◌, ◌++◌, false, List, ℕ, length, IfOk, OnOk};
 ghost use Rattle.daide_token.specs.Token.{tokens_of};
@@ -15,8 +15,8 @@ use crate::rules::Rules;
 use daide_token::Token;
 use std::alloc::{AllocError, Allocator};
 
-/// A token of each listed class, in the order in which they are printed: the kinds, then the tokens that are alone in
-/// their class by their codes.
+/// A token of each listed class, in printing order: first the kinds, then the tokens that are alone in their class, by
+/// code.
 #[rattlefmt::skip]
 const LISTED: [u16; 77] = [
     0x0000, 0x4000, 0x4001, 0x4100, 0x4400, 0x4500, 0x4600, 0x4700, 0x4B61, 0x5000, 0x4900,
@@ -54,7 +54,7 @@ fn append_if_expected<A: Allocator>(
     Ok(())
 }
 
-/// Appends the tokens of some codes that are expected.
+/// Appends those of the codes' tokens that are expected.
 fn append_codes<A: Allocator>(
     rules: &Rules<'_>,
     before: &[u8],

@@ -1,9 +1,9 @@
-//! What a message is judged by.
+//! The rules by which a message is judged.
 
 use daide_grammar::{Level, Side2};
 use daide_words::Words;
 
-/// What a message is judged by.
+/// The rules by which a message is judged.
 #[derive(Clone, Copy)]
 pub struct Rules<'a> {
     /// The words that an operator added.

@@ -75,7 +75,7 @@ fn write_items<A: Allocator>(
     Ok(())
 }
 
-/// Writes the items of the brackets among some tokens.
+/// Writes the items of the brackets among some tokens, with a space before each.
 fn write_brackets<A: Allocator>(
     words: &Words,
     tokens: &[Token],
@@ -99,7 +99,8 @@ fn has_unknown(tokens: &[Token]) -> bool
     tokens.iter().any(|token| token.code() == 0x5800)
 }
 
-/// Writes the items of the expected classes: if a token of an unknown category is expected, the brackets and `<any>`.
+/// Writes the items of the expected classes. If a token of an unknown category is expected, writes the brackets and
+/// `<any>`.
 fn write_classes<A: Allocator>(
     words: &Words,
     tokens: &[Token],
@@ -114,7 +115,7 @@ fn write_classes<A: Allocator>(
     write_items(words, tokens, text)
 }
 
-/// Writes the item of the end, if it is expected, and the line's end.
+/// Writes the item of the end, if it is expected, and the line feed.
 fn write_end<A: Allocator>(ends: bool, text: &mut Vec<u8, A>) -> io::Result<()>
     ensures { OnOk result (text.new.items ≡ text.old.items ++ end_item ends) }
 {
@@ -139,7 +140,7 @@ fn open_before(rules: &Rules<'_>, before: &[u8]) -> usize
     reader.open()
 }
 
-/// Writes the line of what is expected, or, if nothing is, how many brackets are open.
+/// Writes the line of the expected items, or, if nothing is expected, the number of open brackets.
 fn write_line<A: Allocator>(
     rules: &Rules<'_>,
     before: &[u8],
@@ -160,7 +161,7 @@ fn write_line<A: Allocator>(
     write_end(ends, text)
 }
 
-/// Writes what is expected after the tokens of a body.
+/// Writes the line of what is expected after the tokens of a body.
 fn write_expected<A: Allocator + Copy>(
     alloc: A,
     rules: &Rules<'_>,
@@ -181,7 +182,7 @@ fn write_expected<A: Allocator + Copy>(
     write_line(rules, before, tokens.as_slice(), ends, text)
 }
 
-/// Returns whether the token at a place of a body is BRA and as many brackets are open before it as may be.
+/// Returns whether the token at a place of a body is BRA while `max_depth` brackets are open before it.
 fn is_too_deep(rules: &Rules<'_>, body: &[u8], place: usize) -> bool
     requires capped { length body.now ≤ longest_body }
     requires within { 2 * place ≤ length body.now }
@@ -206,7 +207,7 @@ fn begins_with_prn(body: &[u8]) -> bool
     }
 }
 
-/// Writes the line of a bracket that is not paired.
+/// Writes the line of an unpaired bracket; nothing if all are paired.
 fn write_bracket<A: Allocator>(unpaired: Unpaired, text: &mut Vec<u8, A>) -> io::Result<()>
     ensures { OnOk result (text.new.items ≡ text.old.items ++ unpaired_line unpaired) }
 {
@@ -217,7 +218,7 @@ fn write_bracket<A: Allocator>(unpaired: Unpaired, text: &mut Vec<u8, A>) -> io:
     }
 }
 
-/// Writes which bracket of a message is not paired.
+/// Writes which bracket of a message is unpaired.
 fn write_unpaired<A: Allocator>(body: &[u8], text: &mut Vec<u8, A>) -> io::Result<()>
     requires { length body.now ≤ longest_body }
     ensures { OnOk result ((line : List ℕ) × IsUnpairedExplained (tokens_of body.now) line
@@ -229,7 +230,7 @@ fn write_unpaired<A: Allocator>(body: &[u8], text: &mut Vec<u8, A>) -> io::Resul
     write_bracket(find_unpaired(body), text)
 }
 
-/// Writes from which level a message is relayed, if from any.
+/// Writes the level from which a message is relayed, if there is one.
 fn write_level<A: Allocator>(least: Option<Level>, text: &mut Vec<u8, A>) -> io::Result<()>
     ensures { OnOk result (text.new.items ≡ text.old.items ++ level_line least) }
 {
@@ -264,7 +265,7 @@ fn write_side<A: Allocator>(end: Side2, other: bool, text: &mut Vec<u8, A>) -> i
     }
 }
 
-/// Writes from which level a message is relayed, and whether it is relayed as the other side's.
+/// Writes the level from which a message is relayed, and whether it is relayed as the other side's.
 fn write_elsewhere<A: Allocator>(
     rules: &Rules<'_>,
     body: &[u8],
@@ -289,7 +290,7 @@ fn write_elsewhere<A: Allocator>(
     write_side(rules.end, is_other, text)
 }
 
-/// Writes the line of the error place of a message.
+/// Writes the line for the error place of a message.
 fn write_cause<A: Allocator + Copy>(
     alloc: A,
     rules: &Rules<'_>,
@@ -312,7 +313,7 @@ fn write_cause<A: Allocator + Copy>(
     write_expected(alloc, rules, &body[..2 * place], text)
 }
 
-/// Writes what is wrong at the error place of a message, and under which other rules it is relayed.
+/// Writes what is wrong at the error place of a message, and the other level or side with which it is relayed.
 fn write_place<A: Allocator + Copy>(
     alloc: A,
     rules: &Rules<'_>,

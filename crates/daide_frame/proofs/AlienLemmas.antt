@@ -1,4 +1,4 @@
--- The first alien token of a body that grows.
+-- The first alien token of a growing body.
 use Rattle.std.proofs.Common.{◌≡◌, ℕ, zero, suc, ◌+◌, ◌-◌, ◌*◌, ◌%◌, ◌<◌, ◌≤◌, Bool, true, false, cond, List, [], ◌∷◌, ◌++◌, length}
 use Rattle.std.proofs.Common.{get_or, take, drop, Option, Some, None, refl, sym, ap, ◌∙◌, arith, length-drop}
 use Rattle.std.proofs.Common.{length-take, drop-cons, subst, leb, inl, inr, ◌⊎◌}
@@ -22,7 +22,7 @@ shifted_place-none : (by : ℕ) (o : Option ℕ) → shifted_place by o ≡ None
 shifted_place-none by None e = refl
 shifted_place-none by (Some n) e = absurd (cc)
 
--- what is known of a token and the rest, where there is no alien one
+-- what holds of a token and of the rest, if there is no alien token
 none_first : (b : Bool) (o : Option ℕ) → cond b (Some 2) (shifted_place 2 o) ≡ None → (b ≡ false) × (o ≡ None)
 none_first true o e = absurd (cc)
 none_first false o e = (refl, shifted_place-none 2 o e)
@@ -31,7 +31,7 @@ abbrev some_of : Option ℕ → ℕ
 some_of None = 0
 some_of (Some n) = n
 
--- a place in a list, and what is there before it
+-- an offset in a list, and the bytes before it
 pub record IsEndOf (v : List ℕ) (n : ℕ) : Type 0 where
   pub within : n ≤ length v
   pub told : first_alien (take n v) ≡ Some n
@@ -41,7 +41,7 @@ later_end : (high low : ℕ) (rest : List ℕ) (n k : ℕ) → is_alien high low
 later_end high low rest n k b h e =
     rw e (record { within = omega (arith, h.within); told = rw b (ap (shifted_place 2) h.told ∙ ap Some (omega arith)) })
 
--- where an alien token ends, it is the first of the bytes up to there
+-- an alien token is the first one of the bytes up to its end
 pub first_alien-end : (v : List ℕ) (n : ℕ) → first_alien v ≡ Some n → IsEndOf v n
 first_alien-end [] n e = absurd (cc)
 first_alien-end (high ∷ []) n e = absurd (cc)
@@ -64,7 +64,7 @@ first_alien-end (high ∷ low ∷ rest) n e =
         sym (ap (λ (t : Bool). cond t (Some 2) (shifted_place 2 (first_alien rest))) b ∙ ap (shifted_place 2) q) ∙ e in
         later_end high low rest n k b (later k q) (let same : 2 + k ≡ n = ap some_of some in omega arith)
 
--- more bytes leave the first alien token where it is
+-- further bytes do not move the first alien token
 pub first_alien-grown : (v more : List ℕ) (n : ℕ) → first_alien v ≡ Some n → first_alien (v ++ more) ≡ Some n
 first_alien-grown [] more n e = absurd (cc)
 first_alien-grown (high ∷ []) more n e = absurd (cc)
@@ -88,7 +88,7 @@ pub shifted_place-zero : (o : Option ℕ) → o ≡ shifted_place 0 o
 shifted_place-zero None = refl
 shifted_place-zero (Some n) = ap Some (omega arith)
 
--- where the first tokens are not alien, only the others are looked at
+-- if the first tokens are not alien, only the others matter
 pub first_alien-past : (v more : List ℕ) → length v % 2 ≡ 0 → first_alien v ≡ None →
     first_alien (v ++ more) ≡ shifted_place (length v) (first_alien more)
 first_alien-past [] more h e = shifted_place-zero (first_alien more)
@@ -99,7 +99,7 @@ first_alien-past (high ∷ low ∷ rest) more h e =
     ∙ shifted_place-shifted_place 2 (length rest) (first_alien more)
     ∙ ap (λ (n : ℕ). shifted_place n (first_alien more)) (omega arith))
 
--- the same of a list in two parts
+-- the same for a list in two parts
 pub first_alien-known : (v : List ℕ) (n : ℕ) → n % 2 ≡ 0 → n ≤ length v → first_alien (take n v) ≡ None →
     first_alien v ≡ shifted_place n (first_alien (drop n v))
 first_alien-known v n h l e =
@@ -107,7 +107,7 @@ first_alien-known v n h l e =
     ap first_alien (sym (take-append-drop n v)) ∙ first_alien-past (take n v) (drop n v) (omega arith) e
     ∙ ap (λ (m : ℕ). shifted_place m (first_alien (drop n v))) size
 
--- what the token at a place is to the first alien one from there on
+-- the first alien token from an index on, by the token at that index
 pub first_alien-drop : (v : List ℕ) (n : ℕ) → n + 1 < length v →
     first_alien (drop n v)
     ≡ cond (is_alien (get_or v n 0) (get_or v (n + 1) 0)) (Some 2) (shifted_place 2 (first_alien (drop (n + 2) v)))
@@ -122,7 +122,7 @@ first_alien-drop v n h =
     ∙ ap (λ (m : ℕ). cond (is_alien (get_or v n 0) (get_or v (n + 1) 0)) (Some 2) (shifted_place 2 (first_alien (drop m v))))
     after
 
--- what a look at one token after the other finds: where all before a place are not alien
+-- what a check of one token after the other finds, if no earlier token is alien
 
 pub first_alien-here : (v : List ℕ) (n : ℕ) → n + 1 < length v → is_alien (get_or v n 0) (get_or v (n + 1) 0) ≡ true →
     first_alien v ≡ shifted_place n (first_alien (drop n v)) → Some (n + 2) ≡ first_alien v
@@ -138,7 +138,7 @@ first_alien-next v n m q h a e =
     ∙ ap (λ (b : Bool). cond b (Some 2) (shifted_place 2 (first_alien (drop (n + 2) v)))) a)
     ∙ shifted_place-shifted_place n 2 (first_alien (drop (n + 2) v)) ∙ ap (λ (k : ℕ). shifted_place k (first_alien (drop k v))) (sym q)
 
--- the same of as many tokens as are known
+-- the same for a run of known tokens
 pub first_alien-known_run : (v : List ℕ) (first n : ℕ) → 2 * (first + n) ≤ length v → AreKnown v first n →
     first_alien v ≡ shifted_place (2 * first) (first_alien (drop (2 * first) v)) →
     first_alien v ≡ shifted_place (2 * (first + n)) (first_alien (drop (2 * (first + n)) v))
@@ -162,7 +162,7 @@ known_more v first n known here k less = by_place (leb_tells (k + 1) n)
         let same : n ≡ k = omega (arith, t.1, less) in
         subst (λ (p : ℕ). is_alien (get_or v (2 * (first + p)) 0) (get_or v (2 * (first + p) + 1) 0) ≡ false) same here
 
--- tokens that are known are so from any of them on
+-- a part of a run of known tokens is a run of known tokens
 pub known_from : (v : List ℕ) (first n later m : ℕ) → AreKnown v first n → first ≤ later → later + m ≡ first + n →
     AreKnown v later m
 known_from v first n later m known below end k less =
@@ -180,7 +180,7 @@ pub first_alien-none : (v : List ℕ) (n : ℕ) → length v ≤ n + 1 → first
 first_alien-none v n h e =
     sym (e ∙ ap (shifted_place n) (first_alien-short (drop n v) (omega (arith, length-drop n v))))
 
--- no token of a part is alien where none of the whole is
+-- a part has no alien token if the whole has none
 pub first_alien-part : (v more : List ℕ) → first_alien (v ++ more) ≡ None → first_alien v ≡ None
 first_alien-part v more e = by_place (first_alien v) refl
   where
@@ -188,7 +188,7 @@ first_alien-part v more e = by_place (first_alien v) refl
     by_place None q = q
     by_place (Some n) q = absurd (let k = first_alien-grown v more n q in cc)
 
--- whether an alien token ends at the end
+-- whether the last token of a list is alien
 abbrev pub ends_alien : List ℕ → Bool
 ends_alien [] = false
 ends_alien (high ∷ []) = false
@@ -204,7 +204,7 @@ shifted_place-cond : (b : Bool) (n : ℕ) → shifted_place 2 (cond b (Some (n +
 shifted_place-cond true n = ap Some (omega arith)
 shifted_place-cond false n = refl
 
--- a byte can only end an alien token at the end
+-- one more byte can complete an alien token only at the end
 pub alien-push : (w : List ℕ) (x : ℕ) → first_alien w ≡ None →
     first_alien (w ++ x ∷ []) ≡ cond (ends_alien (w ++ x ∷ [])) (Some (length w + 1)) None
 alien-push [] x e = refl

@@ -1,4 +1,4 @@
--- The frames of all bytes are those that are found byte by byte.
+-- The cut of all bytes is what a byte-by-byte reading finds.
 use Rattle.std.proofs.Common.{◌≡◌, ℕ, zero, suc, inl, inr, ◌+◌, ◌<◌, ◌≤◌, ◌||◌, Bool, true, false, cond, List, [], ◌∷◌}
 use Rattle.std.proofs.Common.{◌++◌, length, drop, Option, Some, None, refl, sym, ap, ◌∙◌, arith, length-append}
 use Rattle.std.proofs.Common.{length-drop, append_assoc, append-nil}
@@ -9,7 +9,7 @@ use Rattle.daide_frame.specs.Frames.{fed_items}
 use Rattle.daide_frame.proofs.FramesLemmas.{first_items-short, missing-short}
 use Rattle.daide_frame.proofs.OneByte.{IsTold, IsOver, ByteTells, byte_tells}
 
--- Items and their places
+-- Events and their offsets
 
 frame_events_of-append : (a b : List EventAtOffset) → frame_events_of (a ++ b) ≡ frame_events_of a ++ frame_events_of b
 frame_events_of-append [] b = refl
@@ -41,7 +41,7 @@ moved-nowhere (placed ∷ a) =
     ap (λ (t : List EventAtOffset). record { item = placed.item; at = 0 + placed.at } ∷ t) (moved-nowhere a)
     ∙ ap (λ (k : ℕ). record { item = placed.item; at = k } ∷ a) (omega arith)
 
--- What is told of the first frame
+-- The events of the first frame
 
 told_before : (limit : ℕ) (b : List ℕ) (x : ℕ) → ByteTells limit b x →
     frame_events_of (first_items limit (b ++ x ∷ [])) ≡ frame_events_of (first_items limit b) ++ last_items limit (b ++ x ∷ [])
@@ -97,14 +97,14 @@ cut_piece limit b (x ∷ piece) h = by_last (is_nothing (last_items limit (b ++ 
 
 -- The frames of all bytes
 
--- those of bytes that begin with a frame which more bytes do not change
+-- the frames of bytes that begin with a frame, if further bytes do not change that frame
 cut-over : (m limit : ℕ) (b bytes : List ℕ) (end : Option ℕ) → first_items limit (b ++ bytes) ≡ first_items limit b →
     frame_end (first_items limit b) ≡ end →
     cut_frames (suc m) limit (b ++ bytes)
     ≡ first_items limit b ++ or_nothing (λ len. moved len (cut_frames m limit (drop len (b ++ bytes)))) end
 cut-over m limit b bytes end s e = rw s (rw e refl)
 
--- the items by byte, from a byte on
+-- the events byte by byte, from one byte on
 
 next-on : (limit place : ℕ) (pending : List ℕ) (x : ℕ) (bytes : List ℕ) (whole : Bool) →
     IsTold limit pending x false whole →
@@ -119,7 +119,7 @@ next-wrong : (limit place : ℕ) (pending : List ℕ) (x : ℕ) (bytes : List �
     ≡ event_at_offset (place + 1) (last_items limit (pending ++ x ∷ [])) ++ []
 next-wrong limit place pending x bytes whole h = rw (h.wrong_is) refl
 
--- the items of a frame up to a byte, some bytes further on
+-- the events of a frame up to a byte, at a later offset
 told_at : (limit place k : ℕ) (pending : List ℕ) (x : ℕ) (wrong whole : Bool) → IsTold limit pending x wrong whole →
     k ≡ place + length pending →
     moved place (first_items limit (pending ++ x ∷ []))
@@ -130,7 +130,7 @@ told_at limit place k pending x wrong whole h e =
     ∙ ap (λ (t : List EventAtOffset). moved place (first_items limit pending) ++ t)
     (moved-event_at_offset place (length pending + 1) items ∙ ap (λ (n : ℕ). event_at_offset n items) (omega (arith, e)))
 
--- what was told of the frame that is pending, then what is told of the rest, is the cut of them all
+-- the events of the pending frame and then those of the rest are the cut of all bytes
 abbrev Agrees : ℕ → ℕ → ℕ → ℕ → List ℕ → List ℕ → Type 0
 Agrees n limit place k pending bytes =
     moved place (first_items limit pending) ++ items_by_byte limit k pending bytes
@@ -185,7 +185,7 @@ agrees-whole m limit place k pending x bytes e h later =
     ∙ ap (moved place) (sym (cut-over m limit front bytes (Some len) (h.stays bytes) h.end_is))
     ∙ ap (λ (t : List ℕ). moved place (cut_frames (suc m) limit t)) (append_assoc pending (x ∷ []) bytes)
 
--- items that are not whole bodies end no frame
+-- events without a whole body end no frame
 
 no_whole : (b rest : Bool) → (b || rest) ≡ false → (b ≡ false) × (rest ≡ false)
 no_whole true rest e = absurd (cc)
@@ -214,7 +214,7 @@ still_open limit b x h e =
     ap frame_end h.items ∙ frame_end-append (first_items limit b) (event_at_offset (length b + 1) items) e
     (frame_end-items (length b + 1) items h.whole_is)
 
--- at the end of the bytes the frame that is pending is all that is left
+-- at the end of the bytes only the pending frame is left
 at_end : (n limit place k : ℕ) (pending : List ℕ) → length pending ≤ n → frame_end (first_items limit pending) ≡ None →
     Agrees n limit place k pending []
 at_end zero limit place k [] l e =
@@ -262,11 +262,11 @@ pub by_byte-cut : (limit : ℕ) (bytes : List ℕ) → items_by_byte limit 0 [] 
 unfolding cut
 by_byte-cut limit bytes = by_byte-frames (length bytes) limit bytes (omega arith)
 
--- more steps than there are bytes find nothing more
+-- a higher limit on the number of frames than there are bytes finds no more frames
 cut_frames-enough : (n limit : ℕ) (bytes : List ℕ) → length bytes ≤ n → cut_frames n limit bytes ≡ cut limit bytes
 cut_frames-enough n limit bytes l = sym (by_byte-frames n limit bytes l) ∙ by_byte-cut limit bytes
 
--- the cut of some bytes is that of their first frame, and then that of what follows it
+-- the cut of some bytes is that of their first frame, and then that of the rest
 pub cut-follows : (limit : ℕ) (bytes : List ℕ) →
     cut limit bytes ≡ first_items limit bytes ++ or_nothing (λ len. moved len (cut limit (drop len bytes)))
     (frame_end (first_items limit bytes))

@@ -1,4 +1,4 @@
--- What a cutter's fields tell of the bytes that it holds.
+-- What the fields of a cutter say about the bytes that it holds.
 use Rattle.std.proofs.Common.{◌≡◌, ℕ, inl, inr, ◌-◌, ◌<◌, ◌≤◌, Bool, true, false, leb, List, [], ◌++◌, length}
 use Rattle.std.proofs.Common.{take, drop, Option, Some, None, Result, Ok, Err, refl, sym, ap, ◌∙◌, subst, arith}
 use Rattle.std.proofs.Common.{length-append, length-take, append-nil}
@@ -192,7 +192,7 @@ body_of limit have header head f body capacity i = by_have (leb_tells 4 have)
         (drop_past 4 (take have header ++ [])
         (omega (arith, length-append (take have header) [], length-take have header, i.four)))
 
--- what the header's last byte tells, by the fields
+-- the step at the header's last byte, by the fields
 pub header_step : (limit have : ℕ) (header body : List ℕ) → have ≡ 4 → length header ≡ 4 → body ≡ [] →
     step_of_events (last_items limit (take have header ++ body)) ≡ step_of_events (at_head (parse_head header limit))
 header_step limit have header body l e b =
@@ -204,7 +204,7 @@ header_left limit have header body r l e q =
     missing-body limit have header (head_part r) body l e
     (sym (head_in-bytes limit have header body l e ∙ ap head_part q))
 
--- nothing is missing after a header that is refused, or that announces nothing
+-- nothing is missing after a refused header, or a header with length 0
 pub refused_closed : (limit have : ℕ) (header body : List ℕ) (code : Code) → have ≡ 4 → length header ≡ 4 →
     parse_head header limit ≡ Err code → missing limit (take have header ++ body) ≡ 0
 refused_closed limit have header body code l e q = header_left limit have header body (Err code) l e q
@@ -215,7 +215,7 @@ empty_closed limit have header body head l e b q z =
     header_left limit have header body (Ok head) l e q ∙ ap (missing_of_body (Some head)) b
     ∙ rw (alien_in-nothing head) (omega (arith, z))
 
--- and its body is whole
+-- with length 0, the body is whole
 pub empty_whole : (limit have : ℕ) (header body : List ℕ) (head : Head) → have ≡ 4 → length header ≡ 4 → body ≡ [] →
     parse_head header limit ≡ Ok head → head.len ≡ 0 →
     IsWholeBody (head_in limit (take have header ++ body)) (drop 4 (take have header ++ body))

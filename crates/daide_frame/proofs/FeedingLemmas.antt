@@ -1,4 +1,4 @@
--- What becomes of a piece of a body that is taken all at once.
+-- A piece of a body that is fed all at once.
 use Rattle.std.proofs.Common.{◌≡◌, ℕ, inl, inr, ◌⊎◌, ◌+◌, ◌-◌, ◌<◌, ◌≤◌, Bool, true, false, cond, eqb, List, [], ◌∷◌}
 use Rattle.std.proofs.Common.{◌++◌, length, take, drop, Option, Some, None, Ok, refl, sym, ap, ◌∙◌, subst, arith}
 use Rattle.std.proofs.Common.{length-append, length-take, append_assoc}
@@ -21,7 +21,7 @@ use Rattle.daide_frame.proofs.ListLemmas.{take_whole, take_whole', eqb_same, eqb
 use Rattle.daide_frame.proofs.HeadLemmas.{IsGood}
 use Rattle.daide_frame.proofs.CutterLemmas.{whole_header, in_body, missing-body, consistent_body}
 
--- the first alien token of a body that is no longer than announced
+-- the first alien token of a body that is not longer than announced
 abbrev pub alien_by : Bool → List ℕ → Option ℕ
 alien_by dm v = cond dm (first_alien v) None
 
@@ -65,7 +65,7 @@ alien_in-end head v n e l =
     let h = by-end (is_dm head) v n (sym (alien_in-within head v l) ∙ e) in
     (h.0, alien_in-within head (take n v) (omega (arith, length-take n v, h.0)) ∙ h.1)
 
--- a byte that ends nothing, and one that ends something
+-- a byte that ends no event, and one that ends an event
 
 pub fed-on : (limit : ℕ) (b : List ℕ) (x : ℕ) (piece : List ℕ) → last_items limit (b ++ x ∷ []) ≡ [] →
     (fed limit b (x ∷ piece) ≡ fed limit (b ++ x ∷ []) piece)
@@ -86,7 +86,7 @@ fed-one limit b x = by_items (last_items limit (b ++ x ∷ [])) refl
     by_items [] e = let h = fed-on limit b x [] e in (h.0, h.1 ∙ sym e)
     by_items (item ∷ items) e = let h = fed-stop limit b x [] item items e in (h.0, h.1 ∙ sym e)
 
--- the bytes that are kept, and what is told, by where the first alien token ends
+-- the bytes that are kept, and the events, by the end of the first alien token
 abbrev pub kept : Option ℕ → List ℕ → List ℕ
 kept None v = v
 kept (Some n) v = take n v
@@ -170,7 +170,7 @@ fed_body limit header head w x (y ∷ piece) e q n l =
 pub not_empty : (n : ℕ) → eqb n 0 ≡ false → 0 < n
 not_empty n e = grind (arith, nat_tests)
 
--- what is known before a piece of a body is taken
+-- what holds before a piece of a body is fed
 pub record IsReady (limit have : ℕ) (header : List ℕ) (f : Bool) (body : List ℕ) (capacity : ℕ) (piece : List ℕ)
     (head : Head) : Type 0 where
   pub four : length header ≡ 4
@@ -216,7 +216,7 @@ ready limit have header head f body capacity piece good i h l p m =
       reserved = i.reserved;
     }
 
--- the first tokens of a body are not alien where none of it is
+-- if a body has no alien token, its first tokens are not alien
 pub known_front : (head : Head) (body piece v : List ℕ) (n : ℕ) → alien_in head body ≡ None →
     length (body ++ piece) ≤ head.len → v ≡ body ++ piece → n ≤ length body → alien_in head (take n v) ≡ None
 known_front head body piece v n e l q h =
@@ -271,7 +271,7 @@ wrong_at limit header head w piece n e q none p l a =
           ∙ ap (λ (o : Option ℕ). cond (is_some o) 0 (head.len - length (take n v))) (alien_in-end head v n a l).1;
     }
 
--- without one, the body is whole or goes on
+-- without an alien token, the body is whole or incomplete
 abbrev pub IsRightStep : List ℕ → Head → Step → Type 0
 IsRightStep v head step = ((length v ≡ head.len) × (step ≡ Bodied)) ⊎ ((length v ≡ head.len → ⊥) × (step ≡ More))
 

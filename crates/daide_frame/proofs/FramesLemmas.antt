@@ -1,4 +1,4 @@
--- What the definitions of the first frame come to, by how much of it there is.
+-- The definitions of the first frame, by how much of it has arrived.
 use Rattle.std.proofs.Common.{◌≡◌, ℕ, zero, suc, ◌+◌, ◌-◌, ◌<◌, ◌≤◌, true, false, cond, leb, eqb, List, [], ◌∷◌, ◌++◌}
 use Rattle.std.proofs.Common.{length, take, drop, Option, Some, None, Result, Ok, Err, refl, sym, ap, ◌∙◌, subst, arith}
 use Rattle.std.proofs.Common.{length-append}
@@ -19,7 +19,7 @@ use Rattle.daide_frame.specs.Frames.{first_items, events_ending_at, last_items, 
 use Rattle.daide_frame.specs.Frames.{head_part, head_in, missing_of_body, missing}
 use Rattle.daide_frame.proofs.ListLemmas.{ltb_no, eqb_no, take_whole}
 
--- before the header is whole nothing ends
+-- before the header is whole no event ends
 pub last_items-short : (limit : ℕ) (b : List ℕ) → length b < 4 → last_items limit b ≡ []
 unfolding last_items first_items
 last_items-short limit b h = rw (lt-ltb (length b) 4 h) refl
@@ -32,7 +32,7 @@ pub head_in-whole : (limit : ℕ) (b : List ℕ) → 4 ≤ length b → head_in 
 unfolding head_in
 head_in-whole limit b h = rw (ltb_no (length b) 4 h) refl
 
--- what the header's last byte tells
+-- the events at the header's last byte
 abbrev pub at_head : Result Head Code → List FrameEvent
 at_head (Err code) = Wrong code ∷ []
 at_head (Ok head) = Begun head ∷ (cond (eqb head.len 0) (Whole head [] ∷ []) [])
@@ -64,7 +64,7 @@ last_items-head limit (p ∷ q ∷ r ∷ []) e = absurd (omega arith)
 last_items-head limit (p ∷ q ∷ r ∷ s ∷ []) e = last_items-head4 limit p q r s
 last_items-head limit (p ∷ q ∷ r ∷ s ∷ t ∷ u) e = absurd (omega arith)
 
--- what a byte of the body tells
+-- the events at a byte of the body
 abbrev pub at_body : Head → List ℕ → Option ℕ → List FrameEvent
 at_body head v (Some n) = cond (eqb n (length v)) (Wrong InvalidToken ∷ []) []
 at_body head v None = cond (eqb head.len (length v)) (Whole head v ∷ []) []
@@ -85,7 +85,7 @@ pub parse_head-append4 : (limit p q r s : ℕ) (v : List ℕ) →
 unfolding parse_head
 parse_head-append4 limit p q r s v = refl
 
--- headers say the same, whatever follows them
+-- bytes after a header do not change how it is read
 pub parse_head-append : (limit : ℕ) (a v : List ℕ) → length a ≡ 4 → parse_head (a ++ v) limit ≡ parse_head a limit
 parse_head-append limit [] v e = absurd (omega arith)
 parse_head-append limit (p ∷ []) v e = absurd (omega arith)
@@ -94,7 +94,7 @@ parse_head-append limit (p ∷ q ∷ r ∷ []) v e = absurd (omega arith)
 parse_head-append limit (p ∷ q ∷ r ∷ s ∷ []) v e = parse_head-append4 limit p q r s v
 parse_head-append limit (p ∷ q ∷ r ∷ s ∷ t ∷ u) v e = absurd (omega arith)
 
--- a body's byte ends nothing of the header
+-- a byte of the body ends no event of the header
 items_past_head : (head : Head) (v : List ℕ) (o : Option ℕ) (n : ℕ) → n ≡ 4 + length v → 0 < length v →
     events_ending_at n (record { item = Begun head; at = 4 } ∷ items_of_body head v o) ≡ at_body head v o
 items_past_head head v o n e f =
@@ -118,7 +118,7 @@ last_items-body limit (p ∷ q ∷ r ∷ []) v head e h f = absurd (omega arith)
 last_items-body limit (p ∷ q ∷ r ∷ s ∷ []) v head e h f = last_items-body4 limit p q r s v head h f
 last_items-body limit (p ∷ q ∷ r ∷ s ∷ t ∷ u) v head e h f = absurd (omega arith)
 
--- where a byte of the body is wanted, no token was alien
+-- while bytes of the body are missing, no token was alien
 pub wanted : (head : Head) (w : List ℕ) → 0 < missing_of_body (Some head) w →
     (alien_in head w ≡ None) × (length w < head.len)
 wanted head w h = by_alien (alien_in head w) h
@@ -127,7 +127,7 @@ wanted head w h = by_alien (alien_in head w) h
     by_alien None h = (refl, omega arith)
     by_alien (Some n) h = absurd (omega arith)
 
--- tokens matter in a DM alone
+-- only the tokens of a DM are checked
 pub alien_in-dm : (head : Head) (v : List ℕ) → head.kind ≡ Dm → length v ≤ head.len → alien_in head v ≡ first_alien v
 alien_in-dm head v e l = rw e (ap first_alien (take_whole head.len v l))
 

@@ -1,4 +1,4 @@
--- What reading makes of a header: what is known of a good one, and of one that was written.
+-- Reading a header: what holds of a good one, and of one that was written.
 use Rattle.std.proofs.Common.{◌≡◌, ℕ, ◌<◌, ◌≤◌, true, false, ltb, eqb, Option, Some, Ok, refl, ap, ◌∙◌, arith, suc, inl}
 use Rattle.std.proofs.Common.{inr, Bool, cond, List, [], ◌∷◌, None, Result, Err, sym, subst, ◌⊎◌}
 use Rattle.std.specs.Prelude.{◌^◌, ◌&&◌, slice_index}
@@ -76,7 +76,7 @@ kind_of-kind_number Dm = refl
 kind_of-kind_number Fm = refl
 kind_of-kind_number Em = refl
 
--- a right length is not the one that tells the other byte order
+-- a right length of an IM is not the one with its bytes swapped
 not_swapped : (kind : Kind) (n : ℕ) → has_right_length kind n ≡ true → (is_im kind && eqb n 0x0400) ≡ false
 not_swapped Im n h = grind (arith, nat_tests)
 not_swapped Rm n h = refl

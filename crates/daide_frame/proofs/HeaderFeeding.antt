@@ -1,4 +1,4 @@
--- What becomes of a piece of a header that is taken all at once.
+-- A piece of a header that is fed all at once.
 use Rattle.std.proofs.Common.{◌≡◌, ℕ, inr, ◌+◌, ◌<◌, ◌≤◌, List, [], ◌∷◌, ◌++◌, length, take, drop, refl, sym, ap, ◌∙◌}
 use Rattle.std.proofs.Common.{arith, length-append, append_assoc, append-nil}
 use Rattle.daide_frame.specs.declared.cutter.Step.{Step}
@@ -8,13 +8,13 @@ use Rattle.daide_frame.specs.Cutter.{IsFed}
 use Rattle.daide_frame.proofs.FramesLemmas.{last_items-short}
 use Rattle.daide_frame.proofs.FeedingLemmas.{fed-on, fed-one}
 
--- bytes are put behind those that are held, while there is no body
+-- bytes are appended to the held ones, while there is no body
 pub bytes_put : (have n : ℕ) (header new body piece : List ℕ) → body ≡ [] →
     take (have + n) new ≡ take have header ++ piece → take (have + n) new ++ body ≡ (take have header ++ body) ++ piece
 bytes_put have n header new body piece b e =
     rw b (rw (append-nil (take (have + n) new)) (rw (append-nil (take have header)) e))
 
--- no byte before the fourth tells anything
+-- no event ends before the fourth byte
 fed_header : (limit : ℕ) (old : List ℕ) (x : ℕ) (piece : List ℕ) → length old + length (x ∷ piece) ≤ 4 →
     (fed limit old (x ∷ piece) ≡ old ++ x ∷ piece) × (fed_items limit old (x ∷ piece) ≡ last_items limit (old ++ x ∷ piece))
 fed_header limit old x [] h = fed-one limit old x
@@ -25,7 +25,7 @@ fed_header limit old x (y ∷ piece) h =
     let joined = append_assoc old (x ∷ []) (y ∷ piece) in
     (on.0 ∙ next.0 ∙ joined, on.1 ∙ next.1 ∙ ap (last_items limit) joined)
 
--- where the header isn't whole yet
+-- if the header is still incomplete
 pub short_fed : (limit : ℕ) (old piece new : List ℕ) → new ≡ old ++ piece → length new < 4 →
     IsFed limit old piece More new
 short_fed limit old [] new e h = record {
@@ -48,7 +48,7 @@ short_fed limit old (x ∷ piece) new e h =
       closed = λ k. absurd k;
     }
 
--- where it is, and what its last byte tells is known
+-- if the header is whole, by the event at its last byte
 pub fourth_fed : (limit : ℕ) (old piece new : List ℕ) (step : Step) → length old < 4 → new ≡ old ++ piece →
     length new ≡ 4 → step_of_events (last_items limit new) ≡ step →
     last_items limit new ≡ items_of_step step (head_in limit new) (drop 4 new) →

@@ -1,4 +1,4 @@
--- Tests of numbers that are known, and lists that are cut where they end.
+-- Tests of numbers with a known result, and lists cut at their end.
 use Rattle.std.proofs.Common.{◌≡◌, ℕ, ◌<◌, ◌≤◌, true, false, ltb, leb, eqb, List, [], length}
 use Rattle.std.proofs.Common.{take, drop, arith, length-take}
 use Rattle.std.proofs.lemmas.Bool.Decides.{nat_tests}

@@ -1,4 +1,4 @@
--- What one more byte of a frame tells, and what it leaves of the frame.
+-- The effect of one more byte of a frame: the events that it ends, and the state of the frame after it.
 use Rattle.std.proofs.Common.{◌≡◌, ℕ, inl, inr, ◌⊎◌, ◌+◌, ◌-◌, ◌<◌, ◌≤◌, Bool, true, false, cond, eqb, List, [], ◌∷◌}
 use Rattle.std.proofs.Common.{◌++◌, length, take, Option, Some, None, Result, Ok, Err, refl, sym, ap, ◌∙◌, subst, arith}
 use Rattle.std.proofs.Common.{length-append, append-nil}
@@ -19,7 +19,7 @@ use Rattle.daide_frame.proofs.FramesLemmas.{missing-of4, wanted}
 use Rattle.daide_frame.proofs.ListLemmas.{ltb_no, leb_no, leb_yes, eqb_same, eqb_is, eqb_apart}
 use Rattle.daide_frame.proofs.FeedingLemmas.{alien_by, by-grown, is_dm, alien_in-within, alien_in-push}
 
--- The items of the first frame, by how far it has come
+-- The events of the first frame, by its progress
 
 abbrev begun_at : Head → EventAtOffset
 begun_at head = record { item = Begun head; at = 4 }
@@ -40,7 +40,7 @@ body_goes_on : (head : Head) (w : List ℕ) → alien_in head w ≡ None → len
     items_of_body head w (alien_in head w) ≡ []
 body_goes_on head w e l = ap (items_of_body head w) e ∙ rw (leb_no head.len (length w) l) refl
 
--- a body with what follows it
+-- a whole body and the bytes after it
 body_ends : (head : Head) (w more : List ℕ) → alien_in head w ≡ None → length w ≡ head.len →
     items_of_body head (w ++ more) (alien_in head (w ++ more)) ≡ record { item = Whole head w; at = 4 + head.len } ∷ []
 body_ends head w more e l =
@@ -62,22 +62,22 @@ body_fails head v more n e l =
     ∙ by-grown (is_dm head) v (take (head.len - length v) more) n (sym (alien_in-within head v l) ∙ e) in
     ap (items_of_body head (v ++ more)) some
 
--- What a byte tells
+-- The events at a byte
 
--- the items that end with the byte are told, and follow those that were told before
+-- the events that end with the byte follow the earlier ones
 pub record IsTold (limit : ℕ) (b : List ℕ) (x : ℕ) (wrong whole : Bool) : Type 0 where
   pub wrong_is : any_item is_wrong (last_items limit (b ++ x ∷ [])) ≡ wrong
   pub whole_is : any_item is_whole_frame (last_items limit (b ++ x ∷ [])) ≡ whole
   pub items : first_items limit (b ++ x ∷ [])
       ≡ first_items limit b ++ event_at_offset (length b + 1) (last_items limit (b ++ x ∷ []))
 
--- the frame goes on
+-- the frame is still incomplete
 pub record GoesOn (limit : ℕ) (b : List ℕ) (x : ℕ) : Type 0 where
   pub told : IsTold limit b x false false
   pub left : 0 < missing limit (b ++ x ∷ [])
   pub less : last_items limit (b ++ x ∷ []) ≡ [] → missing limit (b ++ x ∷ []) + 1 ≡ missing limit b
 
--- or it is whole or at fault, and more bytes change nothing of it
+-- or it is whole or has a fault, and further bytes do not change it
 pub record IsOver (limit : ℕ) (b : List ℕ) (x : ℕ) (wrong whole : Bool) (end : Option ℕ) : Type 0 where
   pub told : IsTold limit b x wrong whole
   pub loud : last_items limit (b ++ x ∷ []) ≡ [] → ⊥
@@ -309,7 +309,7 @@ read_byte limit p q r s w x (Ok head) e h =
     let n = wanted head w h in
     body_byte limit p q r s w x head (record { read = e; no_alien = n.0; less = n.1 })
 
--- what a byte tells for which there is room
+-- the events at a byte that is still missing
 pub byte_tells : (limit : ℕ) (b : List ℕ) (x : ℕ) → 0 < missing limit b → ByteTells limit b x
 byte_tells limit [] x h = short limit [] x (omega arith)
 byte_tells limit (p ∷ []) x h = short limit (p ∷ []) x (omega arith)

@@ -9,7 +9,7 @@ use Rattle.daide_frame.specs.InitialMessage.{im_of}
 use Rattle.daide_frame.specs.Frames.{step_of_events, is_alien, Begun, Whole, Wrong, cut, fed, first_items, head_in}
 use Rattle.daide_frame.specs.Frames.{last_items, missing}
 
--- a frame's items end at its header and at its body's last byte, and the next frame follows
+-- a frame's events are at the end of its header and of its body, and the next frame follows
 dm_then_fm : cut 1024 (0x02 ∷ 0x00 ∷ 0x00 ∷ 0x02 ∷ 0x48 ∷ 0x0F ∷ 0x03 ∷ 0x00 ∷ 0x00 ∷ 0x00 ∷ []) ≡
     record { item = Begun (record { kind = Dm; len = 2 }); at = 4 }
     ∷ record { item = Whole (record { kind = Dm; len = 2 }) (0x48 ∷ 0x0F ∷ []); at = 6 }
@@ -18,7 +18,7 @@ dm_then_fm : cut 1024 (0x02 ∷ 0x00 ∷ 0x00 ∷ 0x02 ∷ 0x48 ∷ 0x0F ∷ 0x0
 unfolding cut first_items parse_head is_alien
 dm_then_fm = refl
 
--- an alien token is told at its second byte, and then nothing follows
+-- the fault of an alien token is at its second byte, and nothing follows
 alien_in_second_frame : cut 1024
     (0x03 ∷ 0x00 ∷ 0x00 ∷ 0x00 ∷ 0x02 ∷ 0x00 ∷ 0x00 ∷ 0x06 ∷ 0x48 ∷ 0x03 ∷ 0x58 ∷ 0x00 ∷ 0x48 ∷ []) ≡
     record { item = Begun (record { kind = Fm; len = 0 }); at = 4 }
@@ -28,20 +28,20 @@ alien_in_second_frame : cut 1024
 unfolding cut first_items parse_head is_alien
 alien_in_second_frame = refl
 
--- an alien token that ends a frame is told in place of its body
+-- an alien token at the end of a frame is a fault, and its body is no event
 alien_at_the_end : cut 1024 (0x02 ∷ 0x00 ∷ 0x00 ∷ 0x02 ∷ 0x4C ∷ 0x00 ∷ 0x03 ∷ 0x00 ∷ 0x00 ∷ 0x00 ∷ []) ≡
     record { item = Begun (record { kind = Dm; len = 2 }); at = 4 }
     ∷ record { item = Wrong InvalidToken; at = 6 } ∷ []
 unfolding cut first_items parse_head is_alien
 alien_at_the_end = refl
 
--- half a token is none
+-- half a token is no token
 half_an_alien : cut 1024 (0x02 ∷ 0x00 ∷ 0x00 ∷ 0x04 ∷ 0x48 ∷ 0x03 ∷ 0x58 ∷ []) ≡
     record { item = Begun (record { kind = Dm; len = 4 }); at = 4 } ∷ []
 unfolding cut first_items parse_head is_alien
 half_an_alien = refl
 
--- only a DM is made of tokens
+-- only a DM consists of tokens
 block_of_a_map : cut 1024 (0x01 ∷ 0x00 ∷ 0x00 ∷ 0x06 ∷ 0xFF ∷ 0xFF ∷ 0x42 ∷ 0x4F ∷ 0x48 ∷ 0x00 ∷ []) ≡
     record { item = Begun (record { kind = Rm; len = 6 }); at = 4 }
     ∷ record {
@@ -52,17 +52,17 @@ block_of_a_map : cut 1024 (0x01 ∷ 0x00 ∷ 0x00 ∷ 0x06 ∷ 0xFF ∷ 0xFF ∷
 unfolding cut first_items parse_head is_alien
 block_of_a_map = refl
 
--- fewer than four bytes are no frame yet
+-- fewer than four bytes have no event
 part_of_a_header : cut 1024 (0x05 ∷ 0x00 ∷ 0x00 ∷ []) ≡ []
 unfolding cut first_items
 part_of_a_header = refl
 
--- a refused header is told at its fourth byte
+-- a header is refused at its fourth byte
 odd_length : cut 65526 (0x02 ∷ 0x00 ∷ 0x00 ∷ 0x03 ∷ 0x48 ∷ 0x0F ∷ []) ≡ record { item = Wrong WrongLength; at = 4 } ∷ []
 unfolding cut first_items parse_head is_alien
 odd_length = refl
 
--- the right lengths of each kind, whatever the pad; a body may be as long as the cap
+-- the right lengths of each kind, with any pad; a body may be as long as the cap
 right_lengths : (parse_head (0x00 ∷ 0xFF ∷ 0x00 ∷ 0x04 ∷ []) 4 ≡ Ok (record { kind = Im; len = 4 }))
     × (parse_head (0x01 ∷ 0x00 ∷ 0x00 ∷ 0x00 ∷ []) 0 ≡ Ok (record { kind = Rm; len = 0 }))
     × (parse_head (0x02 ∷ 0x01 ∷ 0x04 ∷ 0x00 ∷ []) 1024 ≡ Ok (record { kind = Dm; len = 1024 }))
@@ -99,7 +99,7 @@ written_header : head_bytes (record { kind = Dm; len = 0xFFF6 }) ≡ 0x02 ∷ 0x
 unfolding head_bytes
 written_header = refl
 
--- what is missing: of the header, then of the body, and nothing after a fault
+-- the missing bytes: of the header, then of the body; none after a fault
 missing_bytes : (missing 1024 [] ≡ 4)
     × (missing 1024 (0x02 ∷ 0x00 ∷ 0x00 ∷ 0x04 ∷ 0x48 ∷ []) ≡ 3)
     × (missing 1024 (0x02 ∷ 0x00 ∷ 0x00 ∷ 0x04 ∷ 0x58 ∷ 0x00 ∷ []) ≡ 0)
@@ -107,13 +107,13 @@ missing_bytes : (missing 1024 [] ≡ 4)
 unfolding missing head_in parse_head is_alien
 missing_bytes = (refl, refl, refl, refl)
 
--- the bytes behind a fault are not taken
+-- bytes after a fault are not taken
 behind_a_fault : fed 1024 (0x02 ∷ 0x00 ∷ 0x00 ∷ 0x06 ∷ []) (0x58 ∷ 0x00 ∷ 0x48 ∷ 0x03 ∷ [])
     ≡ 0x02 ∷ 0x00 ∷ 0x00 ∷ 0x06 ∷ 0x58 ∷ 0x00 ∷ []
 unfolding last_items first_items parse_head is_alien
 behind_a_fault = refl
 
--- an empty frame is told as whole
+-- an empty frame is reported as whole
 empty_frame : step_of_events (last_items 1024 (0x03 ∷ 0x00 ∷ 0x00 ∷ 0x00 ∷ [])) ≡ Bodied
 unfolding last_items first_items parse_head is_alien
 empty_frame = refl

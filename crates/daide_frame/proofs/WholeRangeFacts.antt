@@ -1,5 +1,5 @@
--- Headers and initial messages over the whole range of their bytes. Written from the protocol's table of frames, so
--- that a rule that is right in one row and wrong in its neighbour does not check.
+-- Headers and initial messages over the whole range of their bytes. Written from the protocol's table of frames. A rule
+-- that is right for one value and wrong for the next does not check.
 use Rattle.std.proofs.Common.{◌≡◌, ℕ, zero, suc, ◌+◌, List, [], ◌∷◌, ◌++◌, map, replicate, refl}
 use Rattle.std.specs.Prelude.{Result, Ok, Err, codes}
 use Rattle.std.specs.List.{range_with_len}
@@ -17,11 +17,11 @@ use Rattle.daide_frame.specs.InitialMessage.{im_of}
 
 -- ---- headers
 
--- what a type byte and a length say, under the longest body that there is
+-- the reading of a type byte and a length, under the greatest cap
 abbrev at_length : ℕ → ℕ → ℕ → Result Head Code
 at_length number high low = parse_head (number ∷ 0x00 ∷ high ∷ low ∷ []) 65526
 
--- a type byte with each low byte of a length
+-- the readings of a type byte with each low byte of the length
 abbrev lengths : ℕ → ℕ → List (Result Head Code)
 lengths number high = map (at_length number high) (range_with_len 0 256)
 
@@ -34,13 +34,13 @@ wrong n = replicate n (Err WrongLength)
 abbrev unknown : ℕ → List (Result Head Code)
 unknown n = replicate n (Err UnknownMessage)
 
--- so many right lengths from one on, each with so many wrong ones behind it
+-- n right lengths from a first one on, each followed by a number of wrong ones
 abbrev every : ℕ → Kind → ℕ → ℕ → List (Result Head Code)
 every gap kind first zero = []
 every gap kind first (suc n) = whole kind first ++ wrong gap ++ every gap kind (first + gap + 1) n
 
--- of the lengths below 256: an IM's is 4, an RM's is of whole blocks of six bytes, also of none, a DM's is of whole
--- tokens, also of none, an FM's is 0 and an EM's is 2
+-- the right lengths below 256: 4 for an IM, whole blocks of six bytes or none for an RM, whole tokens or none for a DM,
+-- 0 for an FM, 2 for an EM
 short_lengths : (lengths 0 0x00 ≡ wrong 4 ++ whole Im 4 ++ wrong 251)
     × (lengths 1 0x00 ≡ every 5 Rm 0 42 ++ whole Rm 252 ++ wrong 3)
     × (lengths 2 0x00 ≡ every 1 Dm 0 128)
@@ -57,7 +57,7 @@ middle_lengths : (lengths 0 0x04 ≡ Err WrongEndian ∷ wrong 255)
 unfolding parse_head
 middle_lengths = (refl, refl, refl, refl, refl)
 
--- from 65,280 on: 65,526 is the longest body, and what is longer and of no wrong length is unknown
+-- from 65,280 on: 65,526 is the longest body; a longer one with a right length is unknown
 long_lengths : (lengths 0 0xFF ≡ wrong 256)
     × (lengths 1 0xFF ≡ every 5 Rm 65280 41 ++ whole Rm 65526 ++ wrong 5 ++ unknown 1 ++ wrong 3)
     × (lengths 2 0xFF ≡ every 1 Dm 65280 123 ++ whole Dm 65526
@@ -66,7 +66,7 @@ long_lengths : (lengths 0 0xFF ≡ wrong 256)
 unfolding parse_head
 long_lengths = (refl, refl, refl, refl, refl)
 
--- no other type is a frame's, of whatever length: 5 to 255 with each length to 13, and from 65,522 on
+-- no other type belongs to a frame, at any length: 5 to 255 with each length to 13, and from 65,522 on
 other_types : (map (λ n. map (λ t. at_length t 0x00 n) (range_with_len 5 251)) (range_with_len 0 14)
     ≡ replicate 14 (unknown 251))
     × (map (λ n. map (λ t. at_length t 0xFF n) (range_with_len 5 251)) (range_with_len 0xF2 14)
@@ -83,7 +83,8 @@ any_pad : (map (λ pad. parse_head (0x00 ∷ pad ∷ 0x00 ∷ 0x04 ∷ []) 512) 
 unfolding parse_head
 any_pad = (refl, refl)
 
--- the operator's cap: a body as long as it, and the next ones, of which the wrong lengths are told first
+-- the operator's cap: a body as long as the cap, and the next lengths; a wrong length is reported before one above the
+-- cap
 abbrev round_cap : ℕ → List (Result Head Code)
 round_cap number = map (λ low. parse_head (number ∷ 0x00 ∷ 0x02 ∷ low ∷ []) 516) (range_with_len 0 8)
 
@@ -103,7 +104,7 @@ right = Ok tt ∷ []
 abbrev fault : ℕ → Code → List (Result (Unit {0}) Code)
 fault n code = replicate n (Err code)
 
--- the version is 0001: each other high byte and each other low byte is another version
+-- the version is 0001: every other high byte and every other low byte is another version
 versions : (map (λ high. im_of (high ∷ 0x01 ∷ 0xDA ∷ 0x10 ∷ [])) (range_with_len 0 256) ≡ right ++ fault 255 WrongVersion)
     × (map (λ low. im_of (0x00 ∷ low ∷ 0xDA ∷ 0x10 ∷ [])) (range_with_len 0 256)
     ≡ fault 1 WrongVersion ++ right ++ fault 254 WrongVersion)
@@ -111,7 +112,7 @@ versions : (map (λ high. im_of (high ∷ 0x01 ∷ 0xDA ∷ 0x10 ∷ [])) (range
 unfolding im_of
 versions = (refl, refl, refl)
 
--- the magic number is DA10, and 10DA the other byte order of it: each byte beside the right other one
+-- the magic number is DA10, and 10DA is its other byte order: every byte beside the right other byte
 magic_numbers : (map (λ high. im_of (0x00 ∷ 0x01 ∷ high ∷ 0x10 ∷ [])) (range_with_len 0 256)
     ≡ fault 0xDA WrongMagic ++ right ++ fault 37 WrongMagic)
     × (map (λ low. im_of (0x00 ∷ 0x01 ∷ 0xDA ∷ low ∷ [])) (range_with_len 0 256)
@@ -123,7 +124,7 @@ magic_numbers : (map (λ high. im_of (0x00 ∷ 0x01 ∷ high ∷ 0x10 ∷ [])) (
 unfolding im_of
 magic_numbers = (refl, refl, refl, refl)
 
--- and it is told before the version: of version 0100 the same, but for the right one
+-- and it is judged before the version: with version 0100 the same faults, except for the right magic number
 magic_before_versions : (map (λ low. im_of (0x01 ∷ 0x00 ∷ 0xDA ∷ low ∷ [])) (range_with_len 0 256)
     ≡ fault 0x10 WrongMagic ++ fault 1 WrongVersion ++ fault 239 WrongMagic)
     × (map (λ low. im_of (0x01 ∷ 0x00 ∷ 0x10 ∷ low ∷ [])) (range_with_len 0 256)
@@ -141,7 +142,7 @@ codes_in_order : map code_number all_codes
     ≡ 0x01 ∷ 0x02 ∷ 0x03 ∷ 0x04 ∷ 0x05 ∷ 0x06 ∷ 0x07 ∷ 0x08 ∷ 0x09 ∷ 0x0A ∷ 0x0B ∷ 0x0C ∷ 0x0D ∷ 0x0E ∷ []
 codes_in_order = refl
 
--- as people read them, with letters of upper case
+-- as text, with upper-case letters
 digits_in_order : map code_digits all_codes ≡ codes "01" ∷ codes "02" ∷ codes "03" ∷ codes "04" ∷ codes "05" ∷ codes "06"
     ∷ codes "07" ∷ codes "08" ∷ codes "09" ∷ codes "0A" ∷ codes "0B" ∷ codes "0C" ∷ codes "0D" ∷ codes "0E" ∷ []
 digits_in_order = refl

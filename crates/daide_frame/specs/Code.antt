@@ -6,7 +6,7 @@ use Rattle.daide_frame.specs.declared.code.Code.TheVariants.{WrongVersion, Secon
 use Rattle.daide_frame.specs.declared.code.Code.TheVariants.{WrongLength, DmBeforeRm, RmNotFirst, SecondRm}
 use Rattle.daide_frame.specs.declared.code.Code.TheVariants.{RmFromClient, InvalidToken}
 
--- the number that an error message tells, by the protocol's table of errors
+-- the number that an error message carries, by the protocol's table of errors
 abbrev pub code_number : Code → ℕ
 code_number ImTimeout = 0x01
 code_number ImNotFirst = 0x02
@@ -23,15 +23,15 @@ code_number SecondRm = 0x0C
 code_number RmFromClient = 0x0D
 code_number InvalidToken = 0x0E
 
--- one hexadecimal digit, with upper-case letters
+-- the hexadecimal digit of a value, with upper-case letters
 abbrev pub digit_of : ℕ → ℕ
 digit_of n = slice_index (codes "0123456789ABCDEF") n
 
--- the number as people read it, in two digits
+-- the number as text, in two digits
 abbrev pub code_digits : Code → List ℕ
 code_digits code = digit_of (code_number code / 16) ∷ digit_of (code_number code % 16) ∷ []
 
--- what the code says, in a few words (own)
+-- the meaning of a code, in a few words (own)
 abbrev pub code_name : Code → List ℕ
 code_name ImTimeout = codes "no IM in time"
 code_name ImNotFirst = codes "first frame is no IM"

@@ -1,4 +1,4 @@
--- What a cutter keeps of a frame.
+-- What a cutter holds of a frame.
 use Rattle.std.specs.Prelude.{ℕ, ◌≡◌, ◌+◌, ◌*◌, ◌<◌, ◌≤◌, ◌⊎◌, Bool, false, List, [], ◌++◌, length, take, slice_index}
 use Rattle.std.specs.Prelude.{drop, Option, None, Some, is_some, MatchOption}
 use Rattle.daide_frame.specs.declared.head.Head.{Head}
@@ -12,8 +12,8 @@ abbrev pub has_alien : Option Head → List ℕ → Bool
 has_alien None body = false
 has_alien (Some head) body = is_some (alien_in head body)
 
--- how the fields belong together: the header's bytes so far, what they were read as, whether there was
--- a fault in the body, the body's bytes so far, and room for the longest body
+-- The fields agree: the header's bytes so far, what they were read as, whether the body had a fault, and the body's
+-- bytes so far. The capacity is enough for the longest body.
 pub record IsConsistent (cap have : ℕ) (header : List ℕ) (head : Option Head) (is_faulty : Bool) (body : List ℕ)
     (capacity : ℕ) : Type 0 where
   pub four : length header ≡ 4
@@ -24,7 +24,7 @@ pub record IsConsistent (cap have : ℕ) (header : List ℕ) (head : Option Head
   pub faulty : is_faulty ≡ has_alien head body
   pub reserved : cap ≤ capacity
 
--- what a step owes that takes a piece: the clauses of a cutter's feed, in its words
+-- the postconditions of a cutter's `feed`, for a step that takes a piece
 pub record IsFed (cap : ℕ) (old piece : List ℕ) (step : Step) (new : List ℕ) : Type 0 where
   pub bytes : new ≡ fed cap old piece
   pub answer : step ≡ step_of_events (fed_items cap old piece)
@@ -33,7 +33,7 @@ pub record IsFed (cap : ℕ) (old piece : List ℕ) (step : Step) (new : List �
   pub full : step ≡ Bodied → IsWholeBody (head_in cap new) (drop 4 new)
   pub closed : IsEnd step → missing cap new ≡ 0
 
--- whether none of so many tokens of a body, from a place on, is alien
+-- none of n tokens of a body, from an index on, is alien
 abbrev pub AreKnown : List ℕ → ℕ → ℕ → Type 0
 AreKnown body first n =
     (k : ℕ) → k < n →

@@ -1,4 +1,4 @@
--- The frames of one side's bytes, and what is told of them as the bytes come.
+-- The frames in the bytes from one side, and the events at each byte.
 use Rattle.std.specs.Prelude.{ℕ, zero, suc, ◌≡◌, ◌+◌, ◌-◌, Bool, true, false, ◌||◌, not, nat_lt}
 use Rattle.std.specs.Prelude.{nat_le, List, [], ◌∷◌, ◌++◌, length, take, drop, Option, Some, None}
 use Rattle.std.specs.Prelude.{is_some, Result, Ok, Err, if◌then◌else◌, ◌==◌}
@@ -11,42 +11,42 @@ use Rattle.daide_frame.specs.declared.cutter.Step.{Step}
 use Rattle.daide_frame.specs.declared.cutter.Step.TheVariants.{More, Headed, Bodied, Fault}
 use Rattle.daide_frame.specs.Head.{kind_number, has_right_length, parse_head}
 
--- Alien tokens: those that a DM must not have
+-- Alien tokens, which a DM must not contain
 
--- whether the token of these two bytes is of no category that the protocol knows
+-- whether two bytes are a token of no known category
 unfoldable pub is_alien : ℕ → ℕ → Bool
 is_alien high low = not (has_known_category (token_of_bytes (high ∷ low ∷ [])))
 
--- a place that is counted from further on
+-- an offset, if there is one, plus a distance
 abbrev pub shifted_place : ℕ → Option ℕ → Option ℕ
 shifted_place by None = None
 shifted_place by (Some place) = Some (by + place)
 
--- how many bytes there are up to the end of the first alien token, if one is whole
+-- the offset of the end of the first alien token, if its two bytes are there
 abbrev pub first_alien : List ℕ → Option ℕ
 first_alien [] = None
 first_alien (high ∷ []) = None
 first_alien (high ∷ low ∷ rest) = if is_alien high low then Some 2 else shifted_place 2 (first_alien rest)
 
--- the same in the body of a frame, which more bytes may follow; only a DM is made of tokens
+-- the same in the body of a frame, which more bytes may follow; only a DM consists of tokens
 abbrev pub alien_in : Head → List ℕ → Option ℕ
 alien_in head bytes = if kind_number head.kind == 2 then first_alien (take head.len bytes) else None
 
--- The first frame of some bytes
+-- The first frame of a list of bytes
 
--- what is told of a side's bytes: a good header, a frame with its body, or a fault
+-- an event in the bytes from one side: a good header, a frame with its body, or a fault
 pub data FrameEvent : Type 0 where
   Begun : Head → FrameEvent
   Whole : Head → List ℕ → FrameEvent
   Wrong : Code → FrameEvent
 
--- an item, and how many bytes there are up to its end
+-- an event, and the offset of its end
 pub record EventAtOffset : Type 0 where
   pub item : FrameEvent
   pub at : ℕ
 
--- after a good header: a fault at the second byte of the first alien token, else the body once it is whole. That the
--- fault is told there, and not at the frame's end, is (own).
+-- After a good header: a fault at the second byte of the first alien token, or else the body once it is whole. That the
+-- fault is at that byte, and not at the frame's end, is (own).
 abbrev pub items_of_body : Head → List ℕ → Option ℕ → List EventAtOffset
 items_of_body head bytes (Some n) = record { item = Wrong InvalidToken; at = 4 + n } ∷ []
 items_of_body head bytes None =
@@ -54,22 +54,22 @@ items_of_body head bytes None =
     then record { item = Whole head (take head.len bytes); at = 4 + head.len } ∷ []
     else []
 
--- a header is refused at its fourth byte, and then nothing follows; a good one is told there
+-- at the fourth byte a header is refused and nothing follows, or it is good
 abbrev pub items_from_head : Result Head Code → List ℕ → List EventAtOffset
 items_from_head (Err code) bytes = record { item = Wrong code; at = 4 } ∷ []
 items_from_head (Ok head) bytes =
     record { item = Begun head; at = 4 } ∷ items_of_body head bytes (alien_in head bytes)
 
--- the items of the frame that the bytes begin with; fewer than four bytes have none
+-- the events of the first frame; fewer than four bytes have none
 unfoldable pub first_items : ℕ → List ℕ → List EventAtOffset
 first_items cap bytes = if nat_lt (length bytes) 4 then [] else items_from_head (parse_head bytes cap) (drop 4 bytes)
 
--- items without their places
+-- events without their offsets
 abbrev pub frame_events_of : List EventAtOffset → List FrameEvent
 frame_events_of [] = []
 frame_events_of (placed ∷ more) = placed.item ∷ frame_events_of more
 
--- All the frames of a side's bytes
+-- All the frames in the bytes from one side
 
 abbrev pub is_whole_frame : FrameEvent → Bool
 is_whole_frame (Begun head) = false
@@ -81,12 +81,12 @@ is_wrong (Begun head) = false
 is_wrong (Whole head body) = false
 is_wrong (Wrong code) = true
 
--- where a frame with these items ends, if it is whole
+-- the end of a frame with these events, if it is whole
 abbrev pub frame_end : List EventAtOffset → Option ℕ
 frame_end [] = None
 frame_end (placed ∷ more) = if is_whole_frame placed.item then Some placed.at else frame_end more
 
--- items that begin so many bytes further on
+-- events that begin `by` bytes further on
 abbrev pub moved : ℕ → List EventAtOffset → List EventAtOffset
 moved by [] = []
 moved by (placed ∷ more) = record { item = placed.item; at = by + placed.at } ∷ moved by more
@@ -95,27 +95,27 @@ abbrev pub or_nothing : (ℕ → List EventAtOffset) → Option ℕ → List Eve
 or_nothing next None = []
 or_nothing next (Some place) = next place
 
--- the items of at most so many frames: those of the first, then those of what follows it. After a
--- fault, or in a frame that is not whole yet, nothing follows.
+-- The events of at most n frames: those of the first, then those of the rest. After a fault or an incomplete frame
+-- nothing follows.
 abbrev pub cut_frames : ℕ → ℕ → List ℕ → List EventAtOffset
 cut_frames zero cap bytes = []
 cut_frames (suc n) cap bytes =
     first_items cap bytes
     ++ or_nothing (λ len. moved len (cut_frames n cap (drop len bytes))) (frame_end (first_items cap bytes))
 
--- the frames and faults of all the bytes of one side, each with its place. A frame has four bytes at
--- least, so there are no more frames than bytes. It is a function: each list has exactly one cut.
+-- The events of all bytes from one side, each with its offset. A frame has at least four bytes, so there are fewer frames
+-- than bytes. Each list of bytes has exactly one cut.
 unfoldable pub cut : ℕ → List ℕ → List EventAtOffset
 cut cap bytes = cut_frames (length bytes) cap bytes
 
--- What is told of the first frame as its bytes come
+-- The events of the first frame as its bytes arrive
 
--- those items that end at a place
+-- the events that end at an offset
 abbrev pub events_ending_at : ℕ → List EventAtOffset → List FrameEvent
 events_ending_at n [] = []
 events_ending_at n (placed ∷ more) = if placed.at == n then placed.item ∷ events_ending_at n more else events_ending_at n more
 
--- the items of the first frame that end with the last of the bytes
+-- the events of the first frame that end with the last byte
 unfoldable pub last_items : ℕ → List ℕ → List FrameEvent
 last_items cap bytes = events_ending_at (length bytes) (first_items cap bytes)
 
@@ -123,7 +123,7 @@ abbrev pub is_nothing : List FrameEvent → Bool
 is_nothing [] = true
 is_nothing (item ∷ items) = false
 
--- the bytes so far as a piece comes, up to the first byte that ends an item
+-- the bytes so far when a piece arrives, up to the first byte that ends an event
 abbrev pub fed : ℕ → List ℕ → List ℕ → List ℕ
 fed cap bytes [] = bytes
 fed cap bytes (x ∷ piece) =
@@ -131,7 +131,7 @@ fed cap bytes (x ∷ piece) =
     then fed cap (bytes ++ x ∷ []) piece
     else bytes ++ x ∷ []
 
--- the items that end there
+-- the events that end at that byte
 abbrev pub fed_items : ℕ → List ℕ → List ℕ → List FrameEvent
 fed_items cap bytes [] = []
 fed_items cap bytes (x ∷ piece) =
@@ -143,13 +143,13 @@ abbrev pub any_item : (FrameEvent → Bool) → List FrameEvent → Bool
 any_item test [] = false
 any_item test (item ∷ items) = test item || any_item test items
 
--- items that end together, with their place
+-- events that end at the same offset, with that offset
 abbrev pub event_at_offset : ℕ → List FrameEvent → List EventAtOffset
 event_at_offset place [] = []
 event_at_offset place (item ∷ items) = record { item = item; at = place } ∷ event_at_offset place items
 
--- the items as all the bytes of a side come one by one, after so many bytes, of which those since the
--- last whole frame are pending; nothing after a fault
+-- The events when all bytes from one side arrive one by one. `place` bytes came before, and `pending` are those since the
+-- last whole frame. After a fault nothing follows.
 abbrev pub items_by_byte : ℕ → ℕ → List ℕ → List ℕ → List EventAtOffset
 items_by_byte cap place pending [] = []
 items_by_byte cap place pending (x ∷ bytes) =
@@ -159,9 +159,9 @@ items_by_byte cap place pending (x ∷ bytes) =
     then []
     else items_by_byte cap (place + 1) (if any_item is_whole_frame items then [] else pending ++ x ∷ []) bytes)
 
--- How a cutter tells it
+-- The steps of a cutter
 
--- the answer that tells items; of a header and a body that end together the body is told
+-- the step that reports some events; if a header and a body end together, it reports the body
 abbrev pub step_of_events : List FrameEvent → Step
 step_of_events [] = More
 step_of_events (Begun head ∷ []) = Headed
@@ -169,7 +169,7 @@ step_of_events (Begun head ∷ item ∷ items) = Bodied
 step_of_events (Whole head body ∷ items) = Bodied
 step_of_events (Wrong code ∷ items) = Fault code
 
--- the items that an answer tells, by the header and the body after it
+-- the events that a step reports, by the header and the body after it
 abbrev pub items_of_step : Step → Option Head → List ℕ → List FrameEvent
 items_of_step More head body = []
 items_of_step (Fault code) head body = Wrong code ∷ []
@@ -185,7 +185,7 @@ IsFault Headed = ⊥
 IsFault Bodied = ⊥
 IsFault (Fault code) = Unit {0}
 
--- whether nothing more of the frame is taken: it is whole, or at fault
+-- the step ends the frame: it is whole, or has a fault
 abbrev pub IsEnd : Step → Type 0
 IsEnd More = ⊥
 IsEnd Headed = ⊥
@@ -198,7 +198,7 @@ abbrev pub head_part : Result Head Code → Option Head
 head_part (Ok head) = Some head
 head_part (Err code) = None
 
--- the header that the bytes begin with, once it is whole and good
+-- the header of the frame, once it is whole and good
 unfoldable pub head_in : ℕ → List ℕ → Option Head
 head_in cap bytes = if nat_lt (length bytes) 4 then None else head_part (parse_head bytes cap)
 
@@ -206,7 +206,7 @@ abbrev pub announced_by : Option Head → ℕ
 announced_by None = 0
 announced_by (Some head) = head.len
 
--- the length that the header announces, 0 until it is whole
+-- the length that the header announces; 0 until it is whole
 unfoldable pub announced : ℕ → List ℕ → ℕ
 announced cap bytes = announced_by (head_in cap bytes)
 
@@ -214,17 +214,17 @@ abbrev pub missing_of_body : Option Head → List ℕ → ℕ
 missing_of_body None body = 0
 missing_of_body (Some head) body = if is_some (alien_in head body) then 0 else head.len - length body
 
--- how many bytes are missing of the header or, once that is whole, of the body; none after a fault
+-- how many bytes of the header are missing or, once it is whole, of the body; none after a fault
 unfoldable pub missing : ℕ → List ℕ → ℕ
 missing cap bytes =
     if nat_lt (length bytes) 4 then 4 - length bytes else missing_of_body (head_in cap bytes) (drop 4 bytes)
 
--- a body of the length that its header announces, which is right for the header's kind: an IM's body has four bytes
+-- a body with the length that its header announces, which is right for the header's kind: an IM's body has four bytes
 abbrev pub IsWholeBody : Option Head → List ℕ → Type 0
 IsWholeBody None body = ⊥
 IsWholeBody (Some head) body = (has_right_length head.kind head.len ≡ true) × (length body ≡ head.len)
 
--- a cutter as its callers see it: the cap, and the bytes of the frame so far
+-- the abstract value of a cutter: the cap, and the bytes of the frame so far
 pub record Cut : Type 0 where
   pub cap : ℕ
   pub bytes : List ℕ

@@ -16,7 +16,7 @@ kind_number Dm = 2
 kind_number Fm = 3
 kind_number Em = 4
 
--- the kind with a type byte; the other types are no message's
+-- the kind with a type byte; no message has another type
 abbrev pub kind_of : ℕ → Option Kind
 kind_of n =
     if n == 0 then Some Im
@@ -26,8 +26,8 @@ kind_of n =
     else if n == 4 then Some Em
     else None
 
--- which lengths a body of a kind may have: an IM has a version and a magic number, an RM blocks of
--- six bytes, a DM tokens of two, an FM nothing, an EM one error code
+-- the lengths of a body, by kind: an IM has a version and a magic number, an RM blocks of six bytes, a DM tokens of two
+-- bytes, an FM nothing, an EM one error code
 abbrev pub has_right_length : Kind → ℕ → Bool
 has_right_length Im n = n == 4
 has_right_length Rm n = n % 6 == 0
@@ -38,9 +38,8 @@ has_right_length Em n = n == 2
 abbrev pub is_im : Kind → Bool
 is_im kind = kind_number kind == 0
 
--- a kind with a length, or the first thing that is wrong of them. The order is (own), and so is that a length 0400
--- of an IM is the other byte order, that each wrong length is one error, and that a length above the cap is an
--- unknown message.
+-- A kind with a length, or its first fault. These are (own): the order; that an IM's length 0400 is the other byte
+-- order; that each wrong length is one error; that a length above the cap is an unknown message.
 abbrev pub judged : Option Kind → ℕ → ℕ → Result Head Code
 judged None n cap = Err UnknownMessage
 judged (Some kind) n cap =
@@ -49,7 +48,7 @@ judged (Some kind) n cap =
     then (if nat_lt cap n then Err UnknownMessage else Ok (record { kind = kind; len = n }))
     else Err WrongLength
 
--- what the first four of some bytes say; the second, the pad, is ignored
+-- the header in the first four bytes; the second byte, the pad, is ignored
 unfoldable pub parse_head : List ℕ → ℕ → Result Head Code
 parse_head bytes cap =
     judged (kind_of (slice_index bytes 0)) (from_be_bytes w16 (slice_index bytes 2 ∷ slice_index bytes 3 ∷ [])) cap

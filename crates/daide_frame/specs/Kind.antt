@@ -3,7 +3,7 @@ use Rattle.std.specs.Prelude.{ℕ, List, codes}
 use Rattle.daide_frame.specs.declared.head.Kind.{Kind}
 use Rattle.daide_frame.specs.declared.head.Kind.TheVariants.{Im, Rm, Dm, Fm, Em}
 
--- a kind by the two letters of the protocol
+-- the two letters of a kind, as in the protocol
 abbrev pub name_of_kind : Kind → List ℕ
 name_of_kind Im = codes "IM"
 name_of_kind Rm = codes "RM"

@@ -1,41 +1,41 @@
 //! The error codes of the protocol.
 //!
-//! A code says what the peer did wrong, and an error message (EM) tells it to the peer. The variants
-//! stand in the order of their numbers.
+//! A code says what the peer did wrong, and an error message (EM) carries it to the peer. The variants are in the order
+//! of their numbers.
 
 ghost use Rattle.std.specs.Prelude.{◌≡◌, length};
 ghost use Rattle.daide_frame.specs.Code.{code_digits, code_name, code_number};
 
-/// What was wrong of a frame, or of a missing one.
+/// What was wrong with a frame, or that a frame is missing.
 #[derive(Clone, Copy, Debug, PartialEq, Eq)]
 pub enum Code {
-    /// 01: the initial message did not come in time.
+    /// 01: the initial message did not arrive in time.
     ImTimeout,
-    /// 02: the client's first frame is no initial message.
+    /// 02: the client's first frame is not an initial message.
     ImNotFirst,
     /// 03: an initial message is in the other byte order.
     WrongEndian,
     /// 04: an initial message has another magic number.
     WrongMagic,
-    /// 05: an initial message is of another version of the protocol.
+    /// 05: an initial message has another version of the protocol.
     WrongVersion,
     /// 06: the client sent more than one initial message.
     SecondIm,
     /// 07: the server sent an initial message.
     ImFromServer,
-    /// 08: a frame of a type that is not known; also one that is longer than the cap.
+    /// 08: a frame has an unknown type, or is longer than the cap.
     UnknownMessage,
-    /// 09: a frame's length is wrong for its type.
+    /// 09: the length of a frame is wrong for its type.
     WrongLength,
-    /// 0A: a diplomacy message came before the representation message.
+    /// 0A: a diplomacy message arrived before the representation message.
     DmBeforeRm,
-    /// 0B: the server's first frame is no representation message.
+    /// 0B: the server's first frame is not a representation message.
     RmNotFirst,
     /// 0C: the server sent more than one representation message.
     SecondRm,
     /// 0D: the client sent a representation message.
     RmFromClient,
-    /// 0E: a diplomacy message has a token of a category that is not known.
+    /// 0E: a diplomacy message has a token of an unknown category.
     InvalidToken,
 }
 
@@ -62,7 +62,7 @@ impl Code {
         }
     }
 
-    /// The number as people read it: two hexadecimal digits, with upper-case letters.
+    /// Returns the number as text: two hexadecimal digits, with upper-case letters.
     pub fn digits(self) -> &'static str
         ensures digits { result.now ≡ code_digits self }
         ensures two { length result.now ≡ 2 }
@@ -85,7 +85,7 @@ impl Code {
         }
     }
 
-    /// Returns what the code says, in a few words.
+    /// Returns the meaning of the code, in a few words.
     pub fn name(self) -> &'static str
         ensures { result.now ≡ code_name self }
     {

@@ -1,7 +1,7 @@
-//! Finding one frame in the bytes of a side, in whatever pieces they come.
+//! Finds one frame in the bytes from one side, in whatever pieces they arrive.
 //!
-//! A cutter holds one frame at a time, and never more of it than its cap allows: it says at each moment
-//! how many bytes it takes. Its memory is taken once, in `new`; no later call can want for any.
+//! A cutter holds one frame at a time, and never more of it than its cap allows: `room` returns how many bytes it takes
+//! now. It allocates its memory in `new`; no later call allocates.
 
 ghost use Rattle.std.specs.Prelude.{◌≡◌, ◌+◌, ◌*◌, ◌<◌, ◌≤◌, [], ◌∷◌, ◌++◌, length, take, drop, slice_index, ◌⊎◌, IfOk, OnErr, None, true};
 ghost use Rattle.daide_token.specs.Token.{token_of_bytes};
@@ -16,26 +16,26 @@ use daide_token::token::Token;
 use std::alloc::{AllocError, Allocator, Global};
 use std::marker::Model;
 
-/// How many bytes a header has.
+/// The length of a header, in bytes.
 const HEADER: usize = 4;
 
-/// How many tokens of a body are looked at together.
+/// How many tokens of a body are checked together.
 const TOGETHER: usize = 8;
 
-/// What the last byte of a piece made of the frame.
+/// What the last byte of a piece completed.
 #[derive(Clone, Copy, Debug, PartialEq, Eq)]
 pub enum Step {
-    /// Neither the header nor the frame ended.
+    /// Neither the header nor the frame.
     More,
-    /// The header is whole and good, and a body is to come.
+    /// A good header; its body is not empty.
     Headed,
-    /// The frame is whole. For an empty body this is answered in place of `Headed`.
+    /// The whole frame. For an empty body this is returned in place of `Headed`.
     Bodied,
-    /// The header is refused, or a token of a diplomacy message is of a category that is not known.
+    /// A fault: the header is refused, or a token of a diplomacy message has an unknown category.
     Fault(Code),
 }
 
-/// Finds one frame in the bytes of one side. Contracts see its cap and the frame's bytes so far.
+/// Finds one frame in the bytes from one side. Its abstract value is the cap and the frame's bytes so far.
 ///
 /// Feed it at most `room` bytes at a time. After `Bodied` or `Fault` its room is 0 until `reset`.
 #[derive(Drop)]
@@ -60,13 +60,13 @@ impl<A: Allocator> Model for Cutter<A> {
     ghost invariant = { λ c. IsConsistent c.cap c.have c.header c.head c.is_faulty c.body.items (vec_capacity c.body) };
 }
 
-/// Writes bytes of a header behind those that are held.
+/// Writes bytes of a header after the `have` bytes that are held.
 fn put(header: &mut [u8; 4], have: usize, piece: &[u8])
     requires room { have + length piece.now ≤ 4 }
     ensures four { length header.new ≡ 4 }
     ensures bytes { take (have + length piece.now) header.new ≡ take have header.old ++ piece.now }
 {
-    // most headers come whole
+    // Most headers arrive whole.
     if let [kind, pad, high, low] = piece {
         *header = [*kind, *pad, *high, *low];
         return;
@@ -76,7 +76,6 @@ fn put(header: &mut [u8; 4], have: usize, piece: &[u8])
     }
 }
 
-/// A token of a body.
 #[inline(always)]
 fn token_at(body: &[u8], place: usize) -> Token
     requires { 2 * place + 1 < length body.now }
@@ -85,8 +84,8 @@ fn token_at(body: &[u8], place: usize) -> Token
     Token::from_be([body[2 * place], body[2 * place + 1]])
 }
 
-/// Whether eight tokens of a body, one after the other, all have a known category. Each is looked at, whatever the
-/// others are, so that the processor takes several at a time.
+/// Returns whether eight consecutive tokens of a body all have a known category. The loop has no early exit, so that
+/// the processor can check several tokens at a time.
 #[inline(always)]
 fn are_known(body: &[u8], first: usize) -> bool
     requires { 2 * (first + 8) ≤ length body.now }
@@ -99,8 +98,9 @@ fn are_known(body: &[u8], first: usize) -> bool
     known
 }
 
-/// How many tokens of a body have a known category, at least: those that were looked at before, eight by eight those
-/// behind them, as long as all eight have one, and then the last eight at once, some of them again.
+/// Returns a number `n` such that the first `n` tokens of a body have known categories. It checks eight tokens at a
+/// time from `known` on, as long as all eight have one. If fewer than eight are left, it checks the last eight of the
+/// body, some of them again.
 fn known_front(body: &[u8], known: usize) -> usize
     requires counted { 2 * known ≤ length body.now }
     requires none { first_alien body.now ≡ shifted_place (2 * known) (first_alien (drop (2 * known) body.now)) }
@@ -121,8 +121,8 @@ fn known_front(body: &[u8], known: usize) -> usize
     i
 }
 
-/// Where the first token of a category that is not known ends in a body, of which more may come. Only a
-/// diplomacy message is made of tokens. The first `known` tokens were looked at before.
+/// Returns the offset of the end of the first token with an unknown category in a body, of which more bytes may follow.
+/// Only a diplomacy message consists of tokens. The first `known` tokens were checked before.
 fn alien_end(head: Head, body: &[u8], known: usize) -> Option<usize>
     requires within { length body.now ≤ head.len }
     requires counted { 2 * known ≤ length body.now }
@@ -193,7 +193,7 @@ impl<A: Allocator> Cutter<A> {
         self.body.as_slice()
     }
 
-    /// Returns the header's bytes so far, good or not: four at most.
+    /// Returns the header's bytes so far, at most four, whether the header is good or not.
     pub fn header(&self) -> &[u8]
         ensures { result.now ≡ take 4 self.now.bytes }
     {
@@ -212,7 +212,7 @@ impl<A: Allocator> Cutter<A> {
         self.body.clear();
     }
 
-    /// Takes bytes of the header, and judges it once it is whole.
+    /// Feeds bytes of the header, and judges it once it is whole.
     fn feed_header(&mut self, piece: &[u8]) -> Step
         requires header { length self.old.bytes < 4 }
         requires room { length piece.now ≤ missing self.old.cap self.old.bytes }
@@ -237,8 +237,8 @@ impl<A: Allocator> Cutter<A> {
         }
     }
 
-    /// Takes bytes of the body all at once, and then looks at the tokens that they end. After a fault
-    /// the bytes behind it are let go.
+    /// Feeds bytes of the body all at once, and then checks the tokens that they complete. After a fault it drops the
+    /// bytes after the wrong token.
     fn feed_body(&mut self, piece: &[u8]) -> Step
         requires header { 4 ≤ length self.old.bytes }
         requires room { length piece.now ≤ missing self.old.cap self.old.bytes }
@@ -281,7 +281,7 @@ impl<A: Allocator> Cutter<A> {
         // Without a fault the whole piece is taken.
         ensures whole { IsFault result ⊎ (self.new.bytes ≡ self.old.bytes ++ piece.now) }
 
-        // A body is told when it has just the length that the header announces.
+        // `Bodied` is returned when the body has exactly the length that the header announces.
         ensures full { result ≡ Bodied → IsWholeBody (head_in self.new.cap self.new.bytes) (drop 4 self.new.bytes) }
         ensures closed { IsEnd result → missing self.new.cap self.new.bytes ≡ 0 }
     {

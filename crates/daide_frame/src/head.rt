@@ -1,14 +1,14 @@
 //! The four bytes before every frame: its type, a pad byte, and the length of its body.
 //!
-//! A header is judged when its fourth byte comes, so that a frame of a wrong length is refused
-//! before any of its body is kept.
+//! A header is judged when its fourth byte arrives, so that a frame of a wrong length is refused before any of its body
+//! is kept.
 
 ghost use Rattle.std.specs.Prelude.{◌≡◌, ◌==◌, ◌%◌};
 ghost use Rattle.daide_frame.specs.Head.{has_right_length, parse_head, head_bytes};
 
 use crate::code::Code;
 
-/// What a frame is, by the first byte of its header.
+/// The kind of a frame, by the first byte of its header.
 #[derive(Clone, Copy, Debug, PartialEq, Eq)]
 pub enum Kind {
     /// Type 0: the initial message, which the client sends first.
@@ -24,7 +24,7 @@ pub enum Kind {
 }
 
 impl Kind {
-    /// Whether a frame of this kind may have a body of `len` bytes.
+    /// Returns whether a frame of this kind may have a body of `len` bytes.
     fn may_have_length(self, len: u16) -> bool
         ensures { result ≡ has_right_length self len }
     {
@@ -41,9 +41,9 @@ impl Kind {
 /// The header of a frame.
 #[derive(Clone, Copy, Debug, PartialEq, Eq)]
 pub struct Head {
-    /// What the frame is.
+    /// The kind of the frame.
     pub kind: Kind,
-    /// How many bytes of body follow.
+    /// The length of the body, in bytes.
     pub len: u16,
 }
 

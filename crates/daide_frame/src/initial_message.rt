@@ -11,10 +11,10 @@ const VERSION: u16 = 1;
 /// The protocol's magic number.
 const MAGIC: u16 = 0xDA10;
 
-/// The magic number as it comes from a client that writes the low byte first.
+/// The magic number of a client that writes the low byte first.
 const SWAPPED_MAGIC: u16 = 0x10DA;
 
-/// Checks the body of an initial message: two bytes of version, two of magic number.
+/// Checks the body of an initial message: two bytes of version, then two of magic number, each high byte first.
 ///
 /// Returns the first of these faults. A magic number in the other byte order is `WrongEndian`, and any other wrong one
 /// `WrongMagic`. A version other than 1 is `WrongVersion`.

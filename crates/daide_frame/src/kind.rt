@@ -6,7 +6,7 @@ ghost use Rattle.daide_frame.specs.Kind.{name_of_kind};
 use crate::head::Kind;
 
 impl Kind {
-    /// A kind by the two letters of the protocol.
+    /// Returns the two letters of the kind, as in the protocol.
     pub fn name(self) -> &'static str
         ensures { result.now ≡ name_of_kind self }
     {

@@ -1,5 +1,4 @@
-//! Each law of `laws`, used once at values that were worked out by hand, so that a weaker law does not check. Nothing
-//! here is called.
+//! Uses each law of `laws` once, at concrete values, so that a weaker law does not check. Nothing here is called.
 
 ghost use Rattle.std.specs.Prelude.{◌≡◌, ◌≤◌, ℕ, [], ◌∷◌, Ok};
 ghost use Rattle.daide_frame.specs.Frames.{Begun, Whole, cut, fed, fed_items, first_items, items_by_byte, frame_events_of};
@@ -8,8 +7,9 @@ ghost use Rattle.daide_frame.specs.declared.head.Kind.TheVariants.{Dm, Fm};
 
 use crate::laws;
 
-/// The header of a message of 65,526 bytes is read back under each cap that allows it. Two bytes more of a header are
-/// told as the piece of two bytes; and two final messages are two frames, found at once or byte by byte.
+/// The header of a message of 65,526 bytes is read back under each cap that allows it. The last two bytes of a header
+/// give the same events as one piece of two bytes. Two final messages are two frames, whether the list is cut at once
+/// or byte by byte.
 fn frames_at_values()
     ensures head { (cap : ℕ) → 65526 ≤ cap →
         parse_head (0x02 ∷ 0x00 ∷ 0xFF ∷ 0xF6 ∷ []) cap ≡ Ok (record { kind = Dm; len = 65526 }) }

@@ -1,6 +1,5 @@
-//! The frames of the client-server protocol: their headers, the error codes, the check of an
-//! initial message, and a cutter that finds the frames in one side's bytes, in whatever pieces
-//! those come.
+//! The frames of the client-server protocol: their headers, the error codes, and the check of an initial message. A
+//! cutter finds the frames in the bytes from one side, in whatever pieces they arrive.
 #![tactic(auto)]
 
 pub mod code;

@@ -1,4 +1,4 @@
-//! Memory that may be refused, so that a contract can say that it was.
+//! Allocation that can be refused, in a form that a contract can name.
 
 ghost use Rattle.std.specs.Prelude.{◌≡◌, ℕ, ◌≤◌, [], IfOk, OnErr, vec_capacity};
 
@@ -11,10 +11,10 @@ use std::alloc::{AllocError, Allocator};
 /// Not said: how large a refused element was; nor that ample memory is never refused, since no clause of std says when
 /// `Vec::with_capacity` fails. Tests show the latter.
 pub trait Memory: Allocator {
-    /// Room for so many elements was refused.
+    /// An allocation for this number of elements was refused.
     ghost Refuses: { ℕ → Type 0 };
 
-    /// Returns an empty vector with room for so many elements.
+    /// Returns an empty vector with room for this number of elements.
     fn with_capacity<T>(self, capacity: usize) -> Result<Vec<T, Self>, AllocError>
         ensures items { IfOk result (λ v. v.items ≡ []) }
         ensures capacity { IfOk result (λ v. capacity ≤ vec_capacity v) }

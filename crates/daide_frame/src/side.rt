@@ -1,6 +1,6 @@
-//! The two ends that the gateway stands between.
+//! The two peers of the gateway.
 
-/// A side of the gateway: who sent a frame, or who is to get one.
+/// A side of the gateway: the sender of a frame, or its receiver.
 #[derive(Clone, Copy, Debug, PartialEq, Eq)]
 pub enum Side {
     /// The player's program, which connected to the gateway.

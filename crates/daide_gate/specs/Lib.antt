@@ -1,4 +1,4 @@
--- what the contracts of the names that are handed on speak of
+-- the modules that the contracts of the exported names use
 pub use Rattle.daide_protocol.specs.Config
 pub use Rattle.daide_protocol.specs.Wires
 pub use Rattle.daide_protocol.specs.Ports

@@ -1,9 +1,9 @@
-//! The gateway as one library: each public name that a caller needs, of whichever crate it is.
+//! The gateway as one library: each public name that a caller needs, of all crates.
 //!
-//! Nothing stands here but names. A token, a frame, the grammar and the reader; a session, what turns it, and many in
-//! one loop; and what the program does with its input. Nothing here opens a file or a socket: readers, writers, ports
-//! and the allocator are parameters, so that what is written can be stated as a function of what was read, and each
-//! refusal can be tried. The gateway over sockets is `daide_commands`'s.
+//! This crate has names only: tokens, frames, the grammar and the reader; a session, its driver, and the event loop;
+//! and the commands on their inputs. It opens no file and no socket: readers, writers, ports and the allocator are
+//! parameters. So the output can be stated as a function of the input, and tests can try each refusal. `daide_commands`
+//! has the gateway over sockets.
 #![tactic(auto)]
 
 // Tokens, and their text.
@@ -18,10 +18,10 @@ pub use daide_frame::{
 pub use daide_grammar::{Dense, Level, Move, Plain, Predict, Side2, Sym};
 pub use daide_words::{Extended, Operand, Slot, Word, WordError, Words};
 
-// What becomes of a message.
+// The verdict on a message.
 pub use daide_reader::{Reader, Verdict};
 
-// A session, and what turns it.
+// A session, and its driver.
 pub use daide_driver::{
     AddFault, Hub, HubError, RelayEnd, Removed, hub, relay, relaying, turn, turn_io,
 };
@@ -31,7 +31,7 @@ pub use daide_protocol::{
 };
 pub use daide_session::{Session, SessionError};
 
-// What the program does with its input.
+// The event loop, and the commands on their inputs.
 pub use daide_event_loop::{ServeFault, Service, quota_ports, serve, serving};
 pub use daide_log::{
     LogFault, LogReader, Record, RecordEnd, Recording, Sink, check_log, check_stream, record,

@@ -1,7 +1,7 @@
 //! The program `daide-gate`.
 //!
-//! `main` only gathers the words and the streams; what is done with them stands in `daide_commands`, over any streams,
-//! so that each run is a row of a test.
+//! `main` only collects the arguments and the streams. `daide_commands` does the rest, over any streams, so that each
+//! run can be a row of a test.
 #![tactic(auto)]
 
 use daide_commands::answer;
@@ -11,7 +11,7 @@ use std::io::ErrorKind;
 use std::process::ExitCode;
 use std::{env, io};
 
-/// The words of the command line, or the status of a run that has none.
+/// Returns the arguments of the command line. Fails with the exit status, after a line on standard error.
 fn words(rt: &HostRuntime) -> Result<Vec<String>, u8> {
     let failed = match env::args(rt) {
         Ok(args) => match args.collect(rt.alloc()) {
@@ -28,7 +28,7 @@ fn words(rt: &HostRuntime) -> Result<Vec<String>, u8> {
     Err(status)
 }
 
-/// Does what the words ask for, and gives the exit status.
+/// Carries out the command of the arguments, and returns the exit status.
 fn run(rt: &HostRuntime) -> u8 {
     let words = match words(rt) {
         Ok(words) => words,

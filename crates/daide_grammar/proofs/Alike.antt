@@ -1,4 +1,4 @@
--- How a test that computes over a constant table says something of each of its places.
+-- From a test over a constant table to a statement about each of its indices.
 use Rattle.std.proofs.Common.{◌≡◌, ℕ, zero, suc, ◌+◌, ◌<◌, Bool, true, List, [], ◌∷◌, length, get_or, map, refl, sym}
 use Rattle.std.proofs.Common.{ap, ◌∙◌, arith}
 use Rattle.std.proofs.Math.ListN.{get_or-map}
@@ -6,13 +6,13 @@ use Rattle.std.proofs.lemmas.Bool.{and_parts}
 use Rattle.std.proofs.lemmas.List.FromFn.{get_or-range_with_len, length-map-range_with_len}
 use Rattle.std.specs.List.{list_all, range_with_len}
 
--- a list's item is the same whatever stands for items past its end
+-- an item of a list does not depend on the default past its end
 pub any_default : {X : Type 0} (k : ℕ) (xs : List X) (d e : X) → k < length xs → get_or xs k d ≡ get_or xs k e
 any_default k [] d e less = absurd (omega arith)
 any_default zero (x ∷ xs) d e less = refl
 any_default (suc k) (x ∷ xs) d e less = any_default k xs d e (omega arith)
 
--- functions that agree on a list of the numbers below a bound agree on each
+-- functions that agree on the list of numbers below a bound agree on each of them
 pub alike : {X : Type 0} (f g : ℕ → X) (bound : ℕ) →
     map f (range_with_len 0 bound) ≡ map g (range_with_len 0 bound) → (n : ℕ) → n < bound → f n ≡ g n
 alike {X} f g bound same n less =
@@ -24,14 +24,14 @@ alike {X} f g bound same n less =
     ∙ ap (λ (xs : List X). get_or xs n (f 0)) same ∙ any_default n (map g numbers) (f 0) (g 0) inside
     ∙ get_or-map g numbers n 0 ∙ ap g at
 
--- what passes for each item of a list, and for what stands past its end, passes at each place
+-- a test that each item of a list and the default pass, passes at each index
 pub passes_at : {X : Type 0} (p : X → Bool) (xs : List X) (k : ℕ) (d : X) →
     list_all p xs ≡ true → p d ≡ true → p (get_or xs k d) ≡ true
 passes_at p [] k d all past = past
 passes_at p (x ∷ xs) zero d all past = (and_parts (p x) (list_all p xs) all).0
 passes_at p (x ∷ xs) (suc k) d all past = passes_at p xs k d (and_parts (p x) (list_all p xs) all).1 past
 
--- an item of a list, as it is seen in another list of as many
+-- an item of a list, seen through a map, in another list of the same length
 pub row_seen : {R X : Type 0} (seen : R → X) (rows : List R) (told : List X) (k : ℕ) (d : R) (e : X) →
     map seen rows ≡ told → k < length told → seen (get_or rows k d) ≡ get_or told k e
 row_seen {R} {X} seen rows told k d e same less =

@@ -1,4 +1,4 @@
--- Numbers that a test tells apart.
+-- Numbers that a test distinguishes.
 use Rattle.std.proofs.Common.{◌≡◌, ℕ, Bool, true, false, ◌==◌}
 use Rattle.std.proofs.lemmas.Bool.{eq-eqb}
 

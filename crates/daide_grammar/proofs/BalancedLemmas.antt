@@ -1,4 +1,4 @@
--- Every message's brackets balance, and `any` is every list whose brackets balance.
+-- The brackets of every message balance, and `any` is every list whose brackets balance.
 use Rattle.std.proofs.Common.{◌≡◌, ◌≢◌, ℕ, Bool, true, false, not, ◌&&◌, List, [], ◌∷◌, ◌++◌, ◌↔◌, refl, sym, ◌∙◌, ap}
 use Rattle.std.proofs.Common.{subst, append_assoc, append-nil}
 use Rattle.std.proofs.lemmas.Bool.{eqb-true, eq-eqb}
@@ -28,7 +28,7 @@ pub record KeepsBrackets (d : Dialect) : Type 0 where
   pub bras : (t : ℕ) → (d.class_of t ≡ Bra) ↔ (t ≡ bra)
   pub kets : (t : ℕ) → (d.class_of t ≡ Ket) ↔ (t ≡ ket)
 
--- a form whose brackets stand in pairs: none of its single tokens is a bracket
+-- a form with paired brackets: none of its single tokens is a bracket
 unfoldable pub paired : Form → Bool
 paired (one (is c)) = is_of_kind any_but_brackets c
 paired (one any_but_brackets) = true
@@ -40,7 +40,7 @@ paired (many f) = paired f
 paired (group f) = paired f
 paired (named n) = true
 
--- a token that any word may be is no bracket
+-- a token that passes `any_but_brackets` is no bracket
 no-bracket : (d : Dialect) → KeepsBrackets d → (t : ℕ) → is_of_kind any_but_brackets (d.class_of t) ≡ true → (t ≢ bra) × (t ≢ ket)
 no-bracket d keeps t h =
     let p = both-pass (not (same_class Bra (d.class_of t))) (not (same_class Ket (d.class_of t))) h in
@@ -59,17 +59,17 @@ word-balanced d keeps t h = let p = no-bracket d keeps t h in Rules.plain t p.0 
 the-bra : (d : Dialect) → KeepsBrackets d → (t : ℕ) → is_of_kind (is Bra) (d.class_of t) ≡ true → t ≡ bra
 the-bra d keeps t h = (keeps.bras t).0 (number-Bra (d.class_of t) (sym (eqb-true 0 (class_number (d.class_of t)) h)))
 
--- and the same for KET
+-- the same for KET
 the-ket : (d : Dialect) → KeepsBrackets d → (t : ℕ) → is_of_kind (is Ket) (d.class_of t) ≡ true → t ≡ ket
 the-ket d keeps t h = (keeps.kets t).0 (number-Ket (d.class_of t) (sym (eqb-true 1 (class_number (d.class_of t)) h)))
 
--- a balanced list between two tokens that are the brackets
+-- a balanced list between two tokens that are brackets
 in-brackets : (b k : ℕ) (u : List ℕ) → b ≡ bra → k ≡ ket → IsBalanced u → IsBalanced (b ∷ (u ++ k ∷ []))
 in-brackets b k u e f h =
     subst (λ (x : ℕ). IsBalanced (x ∷ (u ++ k ∷ []))) (sym e)
     (subst (λ (x : ℕ). IsBalanced (bra ∷ (u ++ x ∷ []))) (sym f) (Rules.bracketed u h))
 
--- what matches a form whose brackets stand in pairs balances
+-- a list that matches a form with paired brackets balances
 pub matches-balance : (d : Dialect) → KeepsBrackets d → ((n : Nonterminal) → paired (rule d n) ≡ true) →
     (f : Form) (w : List ℕ) →
     paired f ≡ true → Matches d f w → IsBalanced w
@@ -94,7 +94,7 @@ matches-balance d keeps all (group f) w e (bracketed {u = u} b k h m i) =
     in-brackets b k u (the-bra d keeps b h) (the-ket d keeps k i) (matches-balance d keeps all f u e m)
 matches-balance d keeps all (named n) w e (by_name m) = matches-balance d keeps all (rule d n) w (all n) m
 
--- every rule's brackets stand in pairs, where those of the added words do
+-- every rule has paired brackets if the added words have
 pub rules_paired : (d : Dialect) → ((s : Slot) (l : Level) → paired (d.added s l) ≡ true) → (n : Nonterminal) →
     paired (rule d n) ≡ true
 unfolding paired
@@ -107,14 +107,14 @@ rules_paired d h (Send_name L60) = refl
 rules_paired d h (Request_name L60) = refl
 rules_paired d h _ = refl
 
--- and so are those of the messages
+-- and so do the forms of messages
 messages_paired : (side : Side2) (l : Level) → paired (message_form side l) ≡ true
 unfolding paired
 messages_paired Client L60 = refl
 messages_paired ServerEnd L60 = refl
 messages_paired _ _ = refl
 
--- the brackets of a message other than PRN's report balance
+-- the brackets of a message other than the report PRN balance
 pub message-balanced : (d : Dialect) → KeepsBrackets d → ((s : Slot) (l : Level) → paired (d.added s l) ≡ true) →
     (side : Side2) (l : Level) (w : List ℕ) → Matches d (message_form side l) w → IsBalanced w
 message-balanced d keeps h side l w m =
@@ -122,7 +122,7 @@ message-balanced d keeps h side l w m =
 
 -- ---- `any` is every list whose brackets balance
 
--- two lists of a repetition, one after the other, are one of it
+-- two lists of a repetition, concatenated, are a list of it
 many-join : (d : Dialect) (f : Form) (u v : List ℕ) → Matches d (many f) u → Matches d (many f) v →
     Matches d (many f) (u ++ v)
 many-join d f u v no_more n = n
@@ -133,7 +133,7 @@ many-join d f u v (one_more {u = a} {v = b} m r) n =
 some-one : (d : Dialect) (f : Form) (u : List ℕ) → Matches d f u → Matches d (many f) u
 some-one d f u m = subst (Matches d (many f)) (append-nil u) (one_more m no_more)
 
--- a token that is no bracket is a word
+-- a token other than a bracket is a word
 any-word : (d : Dialect) → KeepsBrackets d → (t : ℕ) → t ≢ bra → t ≢ ket → is_of_kind any_but_brackets (d.class_of t) ≡ true
 any-word d keeps t b k =
     neither (same_class Bra (d.class_of t)) (same_class Ket (d.class_of t)) (λ e. b (the-bra d keeps t e))
@@ -148,11 +148,11 @@ any-word d keeps t b k =
 pub bra-accepted : (d : Dialect) → KeepsBrackets d → is_of_kind (is Bra) (d.class_of bra) ≡ true
 bra-accepted d keeps = ap (is_of_kind (is Bra)) ((keeps.bras bra).1 refl)
 
--- and so is KET
+-- KET is a token of its own class
 pub ket-accepted : (d : Dialect) → KeepsBrackets d → is_of_kind (is Ket) (d.class_of ket) ≡ true
 ket-accepted d keeps = ap (is_of_kind (is Ket)) ((keeps.kets ket).1 refl)
 
--- a balanced list is words, and lists in brackets, in some order
+-- a balanced list consists of words and lists in brackets
 balanced-anything : (d : Dialect) → KeepsBrackets d → {w : List ℕ} → IsBalanced w → Matches d anything w
 balanced-anything d keeps Rules.empty = no_more
 balanced-anything d keeps (Rules.plain t b k) =

@@ -1,4 +1,4 @@
--- What the definitions of brackets say of single lists. Which is which was worked out by hand from the protocol.
+-- The definitions of brackets at single lists. The expected results were worked out from the protocol.
 use Rattle.std.proofs.Common.{◌≡◌, ℕ, true, false, None, List, [], ◌∷◌, ◌++◌, get_or, inl, inr, refl, sym, ap}
 use Rattle.std.proofs.Common.{◌∙◌, arith}
 use Rattle.daide_token.specs.Token.{bra, ket, prn, huh}
@@ -6,14 +6,15 @@ use Rattle.daide_grammar.specs.Paired.{IsPaired, IsPrnWrapped, begins_with_prn}
 use Rattle.daide_grammar.specs.Depth.{open_brackets, depth_of}
 use Rattle.daide_grammar.specs.Table.Brackets.{excess_or_none}
 
--- nothing is open in the empty list, and it has no depth
+-- the empty list has no open bracket and depth 0
 nothing-open : open_brackets [] ≡ 0
 nothing-open = refl
 
 nothing-deep : depth_of [] ≡ 0
 nothing-deep = refl
 
--- what was opened and not closed is open; the depth is the greatest on the way, and not what is left
+-- a bracket that was opened and not closed is open; the depth is the maximum over all prefixes, not the count at the
+-- end
 two-open : open_brackets (huh ∷ bra ∷ bra ∷ ket ∷ bra ∷ []) ≡ 2
 two-open = refl
 
@@ -23,7 +24,7 @@ deepest-on-the-way = refl
 side-by-side : depth_of (bra ∷ ket ∷ bra ∷ ket ∷ []) ≡ 1
 side-by-side = refl
 
--- once a KET came with nothing open, nothing is open, whatever comes after; such a list still has a depth
+-- after a KET with nothing open, the number of open brackets is 0, whatever follows; such a list still has a depth
 closed-early : open_brackets (huh ∷ ket ∷ bra ∷ bra ∷ []) ≡ 0
 closed-early = refl
 
@@ -33,7 +34,7 @@ closed-early-counts = refl
 closed-early-deep : depth_of (huh ∷ ket ∷ bra ∷ bra ∷ []) ≡ 1
 closed-early-deep = refl
 
--- in what begins with PRN nothing is open, and it has no depth; elsewhere PRN is a token like any other
+-- a list that begins with PRN has no open bracket and depth 0; elsewhere PRN is an ordinary token
 prn-open : open_brackets (prn ∷ bra ∷ bra ∷ []) ≡ 0
 prn-open = refl
 
@@ -45,14 +46,14 @@ prn-inside = refl
 
 -- ---- reports PRN
 
--- a report has a BRA second and a KET last, whatever stands between, also nothing or what doesn't balance
+-- a report has BRA second and KET last, with any tokens between, also none or unbalanced ones
 shortest-report : IsPaired (prn ∷ bra ∷ ket ∷ [])
 shortest-report = inl ([], refl)
 
 unbalanced-report : IsPaired (prn ∷ bra ∷ ket ∷ bra ∷ bra ∷ ket ∷ [])
 unbalanced-report = inl (ket ∷ bra ∷ bra ∷ [], refl)
 
--- what begins with PRN and is no report is not paired, even where its brackets balance
+-- a list that begins with PRN and is no report is not paired, even if its brackets balance
 unpaired : (m : List ℕ) → begins_with_prn m ≡ true → (IsPrnWrapped m → ⊥) → IsPaired m → ⊥
 unpaired m begins none (inl report) = none report
 unpaired m begins none (inr other) = let never : true ≡ false = sym begins ∙ other.0 in cc
@@ -68,14 +69,14 @@ prn-alone = unpaired (prn ∷ []) refl (λ report. by_middle report.0 report.1)
     by_middle : (x : List ℕ) → prn ∷ [] ≡ prn ∷ bra ∷ x ++ ket ∷ [] → ⊥
     by_middle x e = cc
 
--- PRN and two tokens are needed
+-- PRN and one token are too few
 prn-and-bra : IsPaired (prn ∷ bra ∷ []) → ⊥
 prn-and-bra = unpaired (prn ∷ bra ∷ []) refl (λ report. by_middle report.0 report.1)
   where
     by_middle : (x : List ℕ) → prn ∷ bra ∷ [] ≡ prn ∷ bra ∷ x ++ ket ∷ [] → ⊥
     by_middle x e = let rest : [] ≡ x ++ ket ∷ [] = cc in not-empty x ket rest
 
--- the last of them is KET: PRN ( ) HUH is none
+-- the last token must be KET: PRN ( ) HUH is no report
 prn-and-more : IsPaired (prn ∷ bra ∷ ket ∷ huh ∷ []) → ⊥
 prn-and-more = unpaired (prn ∷ bra ∷ ket ∷ huh ∷ []) refl (λ report. by_middle report.0 report.1)
   where
@@ -84,7 +85,7 @@ prn-and-more = unpaired (prn ∷ bra ∷ ket ∷ huh ∷ []) refl (λ report. by
     by_middle (t ∷ []) e = let last : huh ≡ ket = ap (λ m. get_or m 3 0) e in absurd (omega arith)
     by_middle (t ∷ u ∷ x) e = let rest : [] ≡ x ++ ket ∷ [] = cc in not-empty x ket rest
 
--- and the second is BRA: PRN HUH ( ) is none
+-- the second token must be BRA: PRN HUH ( ) is no report
 prn-and-other : IsPaired (prn ∷ huh ∷ bra ∷ ket ∷ []) → ⊥
 prn-and-other = unpaired (prn ∷ huh ∷ bra ∷ ket ∷ []) refl (λ report. by_middle report.0 report.1)
   where

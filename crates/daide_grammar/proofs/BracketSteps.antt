@@ -1,4 +1,4 @@
--- The table's column of brackets counts them.
+-- The table's column of bracket steps agrees with the definition.
 use Rattle.std.proofs.Common.{◌≡◌, ℕ, ◌<◌, Bool, true, false, map, refl, sym, ap, ◌∙◌}
 use Rattle.std.specs.List.{range_with_len}
 use Rattle.std.specs.Prelude.{if◌then◌else◌}

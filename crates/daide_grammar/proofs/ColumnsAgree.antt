@@ -1,4 +1,4 @@
--- The list of classes is that of the definition.
+-- The table's list of classes is that of the definition.
 use Rattle.std.proofs.Common.{◌≡◌, ℕ, zero, suc, ◌+◌, ◌*◌, ◌/◌, ◌%◌, ◌<◌, Bool, true, false, ◌&&◌, nat_eq, List, []}
 use Rattle.std.proofs.Common.{◌∷◌, ◌++◌, map, drop, length, get_or, refl, ap, sym, ◌∙◌, subst, arith}
 use Rattle.std.proofs.lemmas.Bool.{and_parts, eqb-true}
@@ -16,7 +16,8 @@ use Rattle.daide_grammar.specs.Classes.{class_number}
 use Rattle.daide_grammar.specs.Table.Numbers.{all_classes, class_at}
 use Rattle.daide_grammar.proofs.WordColumns.{class_told, own_class}
 
--- A code's classes, category by category. Six categories alone tell their codes apart, so a row is short to compute.
+-- The classes of a code, category by category. Only six categories distinguish their codes, so a row is quick to
+-- compute.
 unfoldable classes_of : ℕ → List Class
 classes_of code =
     replicate 64 Num
@@ -36,13 +37,13 @@ whole_row : (code : ℕ) → length (row_of code) ≡ 256
 unfolding classes_of
 whole_row code = refl
 
--- a test that computes: a list begins with a row, and what follows it passes
+-- A test that computes: a list begins with a row, and the rest passes.
 abbrev begins : List ℕ → List ℕ → (List ℕ → Bool) → Bool
 begins [] ns passes = passes ns
 begins (r ∷ row) [] passes = false
 begins (r ∷ row) (n ∷ ns) passes = nat_eq n r && begins row ns passes
 
--- and so on, row by row
+-- the same for all rows in order
 abbrev rows_follow : (ℕ → List ℕ) → ℕ → ℕ → List ℕ → Bool
 rows_follow row zero code ns = true
 rows_follow row (suc count) code ns = begins (row code) ns (rows_follow row count (suc code))

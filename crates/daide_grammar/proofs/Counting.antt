@@ -24,14 +24,14 @@ from_the_end P none more p = go [] p none
     go done [] h = rw append-nil h
     go done (t ∷ left) h = subst P (append_assoc done (t ∷ []) left) (go (done ++ t ∷ []) left (more done t h))
 
--- the fronts of a list with one more token
+-- the prefixes of a list with one more token
 pub prefixes-snoc : (p : List ℕ) (t : ℕ) → prefixes (p ++ t ∷ []) ≡ prefixes p ++ (p ++ t ∷ []) ∷ []
 prefixes-snoc [] t = refl
 prefixes-snoc (x ∷ p) t =
     ap (λ (ps : List (List ℕ)). [] ∷ map (λ q. x ∷ q) ps) (prefixes-snoc p t)
     ∙ ap (λ (ps : List (List ℕ)). [] ∷ ps) (map-append (λ q. x ∷ q) (prefixes p) ((p ++ t ∷ []) ∷ []))
 
--- one more token closes early where the tokens before did, or where it makes KET outnumber BRA
+-- a list with one more token has an unmatched KET if the list had one, or if KET now outnumber BRA
 pub has_unmatched_ket-snoc : (p : List ℕ) (t : ℕ) →
     has_unmatched_ket (p ++ t ∷ []) ≡ (has_unmatched_ket p || nat_lt (bras (p ++ t ∷ [])) (kets (p ++ t ∷ [])))
 has_unmatched_ket-snoc p t =
@@ -45,7 +45,7 @@ greatest-snoc : (ns : List ℕ) (n : ℕ) → greatest (ns ++ n ∷ []) ≡ max 
 greatest-snoc [] n = omega arith
 greatest-snoc (m ∷ ns) n = omega (arith, greatest-snoc ns n)
 
--- the greatest excess of all fronts of a list with one more token
+-- the greatest excess of all prefixes of a list with one more token
 pub greatest_prefixes-snoc : (p : List ℕ) (t : ℕ) →
     greatest (map excess (prefixes (p ++ t ∷ []))) ≡ max (greatest (map excess (prefixes p))) (excess (p ++ t ∷ []))
 greatest_prefixes-snoc p t =
@@ -59,14 +59,14 @@ pub depth_of-snoc : (p : List ℕ) (t : ℕ) → begins_with_prn (p ++ t ∷ [])
 depth_of-snoc p t h =
     ap (λ b. if b then 0 else greatest (map excess (prefixes (p ++ t ∷ [])))) h ∙ greatest_prefixes-snoc p t
 
--- how many BRA and how many KET there are with one more token
+-- the numbers of BRA and KET with one more token
 pub bras-snoc : (p : List ℕ) (t : ℕ) → bras (p ++ t ∷ []) ≡ bras p + cond (is_bra t) 1 0
 bras-snoc p t = fold-append _ _ p (t ∷ [])
 
 pub kets-snoc : (p : List ℕ) (t : ℕ) → kets (p ++ t ∷ []) ≡ kets p + cond (is_ket t) 1 0
 kets-snoc p t = fold-append _ _ p (t ∷ [])
 
--- no more KET than BRA where no front has
+-- a list without an unmatched KET has at most as many KET as BRA
 pub kets_le_bras : (p : List ℕ) → has_unmatched_ket p ≡ false → kets p ≤ bras p
 kets_le_bras p = from_the_end (λ p. has_unmatched_ket p ≡ false → kets p ≤ bras p) (λ _. omega arith) (λ p t _ h. go p t h) p
   where
@@ -80,7 +80,7 @@ kets_le_bras p = from_the_end (λ p. has_unmatched_ket p ≡ false → kets p �
         at_most a b true e = absurd cc
         at_most a b false e = grind (arith, nat_tests)
 
--- the count of one more token, over plain numbers and tests
+-- the count after one more token, over plain numbers and tests
 counted_numbers : (early opens closes : Bool) (b k : ℕ) → (early ≡ false → k ≤ b) → (opens ≡ true → closes ≡ false)
     → (if (early || nat_lt (b + cond opens 1 0) (k + cond closes 1 0)) then None
     else Some ((b + cond opens 1 0) - (k + cond closes 1 0)))
@@ -97,11 +97,11 @@ counted_numbers false false true b k le one = go (b - k) refl
     go (suc n) e = rw e (grind (arith, nat_tests, le refl))
 counted_numbers false false false b k le one = grind (arith, nat_tests, le refl)
 
--- no token is both
+-- no token is both brackets
 pub one_bracket : (t : ℕ) → is_bra t ≡ true → is_ket t ≡ false
 one_bracket t e = grind (arith, nat_tests)
 
--- one more token counts as `count_one` says
+-- one more token counts as in `count_one`
 pub excess_or_none-snoc : (p : List ℕ) (t : ℕ) → excess_or_none (p ++ t ∷ []) ≡ count_one (is_bra t) (is_ket t) (excess_or_none p)
 excess_or_none-snoc p t =
     rw (has_unmatched_ket-snoc p t, bras-snoc p t, kets-snoc p t)
@@ -112,17 +112,17 @@ abbrev pub count_on : Option ℕ → List ℕ → Option ℕ
 count_on n [] = n
 count_on n (t ∷ m) = count_on (count_one (is_bra t) (is_ket t) n) m
 
--- the count after two lists, one after the other
+-- the count after two lists, concatenated
 pub count_on-append : (n : Option ℕ) (a b : List ℕ) → count_on n (a ++ b) ≡ count_on (count_on n a) b
 count_on-append n [] b = refl
 count_on-append n (t ∷ a) b = count_on-append (count_one (is_bra t) (is_ket t) n) a b
 
--- what is lost stays lost
+-- a count of None stays None
 count_on_none : (m : List ℕ) → count_on None m ≡ None
 count_on_none [] = refl
 count_on_none (t ∷ m) = count_on_none m
 
--- counting by fronts is counting from left to right
+-- the count by prefixes equals the count from left to right
 pub counted_on : (p : List ℕ) → excess_or_none p ≡ count_on (Some 0) p
 counted_on p =
     from_the_end (λ p. excess_or_none p ≡ count_on (Some 0) p) refl more p
@@ -132,7 +132,7 @@ counted_on p =
     more p t h =
         excess_or_none-snoc p t ∙ (ap (count_one (is_bra t) (is_ket t)) h ∙ sym (count_on-append (Some 0) p (t ∷ [])))
 
--- a token that is no bracket leaves the count as it is
+-- a token other than a bracket does not change the count
 plain_counts : (t n : ℕ) → t ≢ bra → t ≢ ket → count_on (Some n) (t ∷ []) ≡ Some n
 plain_counts t n b k = go (is_bra t) (is_ket t) refl refl
   where
@@ -141,7 +141,7 @@ plain_counts t n b k = go (is_bra t) (is_ket t) refl refl
     go false true x y = absurd (k (eqb-true t ket y))
     go false false x y = refl
 
--- a balanced list leaves the count as it is
+-- a balanced list does not change the count
 pub balanced_counts : {m : List ℕ} → IsBalanced m → (n : ℕ) → count_on (Some n) m ≡ Some n
 balanced_counts empty n = refl
 balanced_counts (plain t b k) n = plain_counts t n b k
@@ -151,18 +151,18 @@ balanced_counts (bracketed a x) n =
     count_on-append (Some (n + 1)) a (ket ∷ [])
     ∙ (ap (λ c. count_on c (ket ∷ [])) (balanced_counts x (n + 1)) ∙ rw add-one refl)
 
--- balanced lists, the first k of them each with a KET after it
+-- balanced lists, the first k of them each followed by a KET
 abbrev Parts : ℕ → List ℕ → Type 0
 Parts zero m = IsBalanced m
 Parts (suc k) m = (a b : List ℕ) × (m ≡ a ++ ket ∷ b) × IsBalanced a × Parts k b
 
--- a balanced list in front joins the first of the balanced lists
+-- a balanced list in front extends the first of the balanced lists
 joined_parts : (k : ℕ) (c m : List ℕ) → IsBalanced c → Parts k m → Parts k (c ++ m)
 joined_parts zero c m x y = joined c m x y
 joined_parts (suc k) c m x (a, b, e, y, more) =
     (c ++ a, b, ap (λ z. c ++ z) e ∙ sym (append_assoc c a (ket ∷ b)), joined c a x y, more)
 
--- what counts down to nothing is such a list
+-- a list that counts down from k to 0 has this form
 counts_parts : (m : List ℕ) (k : ℕ) → count_on (Some k) m ≡ Some 0 → Parts k m
 counts_parts [] zero e = empty
 counts_parts [] (suc k) e = absurd cc
@@ -189,6 +189,6 @@ counts_parts (t ∷ m) k e = go (is_bra t) (is_ket t) refl refl k e (counts_part
         plain t (λ q. no-yes (is_bra t) (eq-eqb t bra q) x) (λ q. no-yes (is_ket t) (eq-eqb t ket q) y) in
         joined_parts k (t ∷ []) m word (ih k (rw (x, y, count_on) at e))
 
--- balanced exactly where no front closes what isn't open, and nothing is left open
+-- a list is balanced exactly if no prefix has an unmatched KET and nothing is left open
 pub balanced_counted : (m : List ℕ) → IsBalanced m ↔ (excess_or_none m ≡ Some 0)
 balanced_counted m = ((λ x. counted_on m ∙ balanced_counts x 0), (λ e. counts_parts m 0 (sym (counted_on m) ∙ e)))

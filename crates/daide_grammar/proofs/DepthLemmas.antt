@@ -1,4 +1,4 @@
--- How deep a bracketed list is.
+-- The depth of a bracketed list.
 use Rattle.std.proofs.Common.{◌≡◌, ℕ, ◌+◌, max, Bool, true, false, ◌||◌, ◌==◌, cond, List, [], ◌∷◌, ◌++◌, map, Option}
 use Rattle.std.proofs.Common.{None, Some, refl, sym, ◌∙◌, ap, arith, if◌then◌else◌}
 use Rattle.std.proofs.lemmas.List.Sums.{sum_by-cons}
@@ -9,11 +9,11 @@ use Rattle.daide_grammar.specs.Depth.{bras, kets, excess, prefixes, has_unmatche
 use Rattle.daide_grammar.proofs.Counting.{from_the_end, greatest_prefixes-snoc, has_unmatched_ket-snoc, kets_le_bras}
 use Rattle.daide_grammar.proofs.Counting.{bras-snoc, kets-snoc, balanced_counted}
 
--- the greatest excess of all fronts
+-- the greatest excess of all prefixes
 abbrev pub peak : List ℕ → ℕ
 peak m = greatest (map excess (prefixes m))
 
--- a list whose brackets balance closes nothing early and leaves nothing open
+-- a balanced list has no unmatched KET and leaves nothing open
 no-early : (b : Bool) (n : ℕ) → ◌≡◌ {A = Option ℕ} (if b then None else Some n) (Some 0) → (b ≡ false) × (n ≡ 0)
 no-early true n e = cc
 no-early false n e = (refl, (cc))
@@ -21,19 +21,19 @@ no-early false n e = (refl, (cc))
 pub balanced-closes : (a : List ℕ) → IsBalanced a → (has_unmatched_ket a ≡ false) × (excess a ≡ 0)
 balanced-closes a h = no-early (has_unmatched_ket a) (excess a) ((balanced_counted a).0 h)
 
--- a front of a list that closes nothing early does not either
+-- a prefix of a list without an unmatched KET has none
 not-early : (b c : Bool) → (b || c) ≡ false → b ≡ false
 not-early false c e = refl
 not-early true c e = cc
 
--- BRA in front is one BRA more and no KET more
+-- BRA in front adds one BRA and no KET
 bras-bra : (p : List ℕ) → bras (bra ∷ p) ≡ bras p + 1
 bras-bra p = omega (arith, sum_by-cons (λ t. cond (t == bra) 1 0) bra p)
 
 kets-bra : (p : List ℕ) → kets (bra ∷ p) ≡ kets p
 kets-bra p = refl
 
--- a BRA in front makes every front one deeper
+-- a BRA in front makes every prefix one deeper
 pub peak-bra : (p : List ℕ) → has_unmatched_ket p ≡ false → peak (bra ∷ p) ≡ peak p + 1
 peak-bra p = from_the_end (λ p. has_unmatched_ket p ≡ false →
     peak (bra ∷ p) ≡ peak p + 1) (λ e. refl) (λ p t ih e. more p t ih e) p
@@ -53,7 +53,7 @@ peak-bra p = from_the_end (λ p. has_unmatched_ket p ≡ false →
           kets_le_bras (p ++ t ∷ []) e,
         )
 
--- HUH in front changes no depth
+-- HUH in front does not change the depth
 pub peak-huh : (p : List ℕ) → peak (huh ∷ p) ≡ peak p
 peak-huh p =
     from_the_end (λ p. peak (huh ∷ p) ≡ peak p) refl (λ p t ih. greatest_prefixes-snoc (huh ∷ p) t
@@ -68,7 +68,7 @@ peak-bracketed a h =
     in
     omega (arith, greatest_prefixes-snoc (bra ∷ a) ket, peak-bra a b.0, after)
 
--- HUH round a balanced list that has a depth is one deeper
+-- HUH around a balanced list that has a depth is one deeper
 pub huh_depth : (a : List ℕ) → IsBalanced a → begins_with_prn a ≡ false →
     depth_of (huh ∷ bra ∷ (a ++ ket ∷ [])) ≡ depth_of a + 1
 huh_depth a h n =

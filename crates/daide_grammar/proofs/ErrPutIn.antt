@@ -1,4 +1,4 @@
--- A list with ERR put in at some place balances as before, and is as deep.
+-- Inserting ERR at any index keeps the balance and the depth of a list.
 use Rattle.std.proofs.Common.{◌≡◌, ℕ, ◌≤◌, cond, ◌==◌, List, [], ◌∷◌, ◌++◌, take, drop, Option, None, Some}
 use Rattle.std.proofs.Common.{refl, sym, ◌∙◌, ap, subst, arith, append_assoc, append-nil}
 use Rattle.std.specs.List.{sum_by}
@@ -13,29 +13,29 @@ use Rattle.daide_grammar.proofs.DepthLemmas.{peak}
 
 -- ---- the brackets
 
--- ERR leaves the count as it is
+-- ERR does not change the count
 err-counts : (n : Option ℕ) (b : List ℕ) → count_on n (err ∷ b) ≡ count_on n b
 err-counts None b = refl
 err-counts (Some n) b = refl
 
--- so a list with ERR put in counts as the list
+-- so the list with ERR counts as the list without it
 counts-alike : (a b : List ℕ) → count_on (Some 0) (a ++ err ∷ b) ≡ count_on (Some 0) (a ++ b)
 counts-alike a b =
     count_on-append (Some 0) a (err ∷ b) ∙ (err-counts (count_on (Some 0) a) b ∙ sym (count_on-append (Some 0) a b))
 
--- and balances where the list does
+-- and balances if the list does
 err-balanced : (a b : List ℕ) → IsBalanced (a ++ b) → IsBalanced (a ++ err ∷ b)
 err-balanced a b h =
     let without = sym (counted_on (a ++ b)) ∙ (balanced_counted (a ++ b)).0 h in
     (balanced_counted (a ++ err ∷ b)).1 (counted_on (a ++ err ∷ b) ∙ (counts-alike a b ∙ without))
 
--- ERR put in at a place
+-- ERR inserted at an index
 pub err-put-in : (place : ℕ) (m : List ℕ) → IsBalanced m → IsBalanced (take place m ++ err ∷ drop place m)
 err-put-in place m h = err-balanced (take place m) (drop place m) (subst IsBalanced (sym (take-append-drop place m)) h)
 
 -- ---- the depth
 
--- a count in which ERR is nothing
+-- a sum to which ERR adds 0
 sum-err : (f : ℕ → ℕ) → f err ≡ 0 → (a b : List ℕ) → sum_by f (a ++ err ∷ b) ≡ sum_by f (a ++ b)
 sum-err f e a b = omega (arith, e, sum_by-append f a (err ∷ b), sum_by-cons f err b, sum_by-append f a b)
 
@@ -49,16 +49,16 @@ kets-err = sum-err (λ t. cond (t == ket) 1 0) refl
 excess-err : (a b : List ℕ) → excess (a ++ err ∷ b) ≡ excess (a ++ b)
 excess-err a b = omega (arith, bras-err a b, kets-err a b)
 
--- one more token makes of equal counts equal counts
+-- one more token keeps equal counts equal
 excess-snoc : (p q : List ℕ) (t : ℕ) → bras p ≡ bras q → kets p ≡ kets q → excess (p ++ t ∷ []) ≡ excess (q ++ t ∷ [])
 excess-snoc p q t b k = omega (arith, b, k, bras-snoc p t, bras-snoc q t, kets-snoc p t, kets-snoc q t)
 
--- the whole is a front of itself
+-- a list is a prefix of itself
 excess-peak : (p : List ℕ) → excess p ≤ peak p
 excess-peak p =
     from_the_end (λ p. excess p ≤ peak p) (omega arith) (λ p t _. omega (arith, greatest_prefixes-snoc p t)) p
 
--- so the greatest excess of all fronts is as before
+-- so the greatest excess of all prefixes is unchanged
 peak-err : (a b : List ℕ) → peak (a ++ err ∷ b) ≡ peak (a ++ b)
 peak-err a b = from_the_end (λ b. peak (a ++ err ∷ b) ≡ peak (a ++ b)) last more b
   where
@@ -77,7 +77,7 @@ peak-err a b = from_the_end (λ b. peak (a ++ err ∷ b) ≡ peak (a ++ b)) last
         omega (arith, ih, greatest_prefixes-snoc with t, greatest_prefixes-snoc without t, after) in
         ap peak (sym (append_assoc a (err ∷ b) (t ∷ []))) ∙ (next ∙ ap peak (append_assoc a b (t ∷ [])))
 
--- and HUH round the list is as deep with ERR as without it
+-- and HUH around the list has the same depth with ERR as without it
 pub huh-err-depth : (place : ℕ) (m : List ℕ) →
     depth_of (huh ∷ bra ∷ ((take place m ++ err ∷ drop place m) ++ ket ∷ [])) ≡ depth_of (huh ∷ bra ∷ (m ++ ket ∷ []))
 huh-err-depth place m =

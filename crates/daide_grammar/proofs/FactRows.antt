@@ -1,4 +1,4 @@
--- Facts about single messages, written as the protocol writes them: at which levels a side says a message, computed by
+-- Facts about single messages, in the protocol's notation: the levels at which a side may send a message, computed by
 -- following the table.
 use Prim.Native.String.{String}
 use Rattle.std.proofs.Common.{◌≡◌, ℕ, ◌+◌, ◌*◌, ◌≤◌, ◌<◌, ◌==◌, nat_le, Bool, true, false, not, ◌&&◌, ◌||◌}
@@ -27,13 +27,13 @@ use Rattle.daide_grammar.proofs.LevelsGrow.{levels-only-add}
 use Rattle.daide_grammar.proofs.MessageText.{tokens_of_text}
 use Rattle.daide_grammar.proofs.Walks.{follows, follows-exactly}
 
--- a message by its text form, and whether a side says it: from a level on, or never
+-- a message in its text form, with the level from which a side may send it, or never
 pub data Row : Type 0 where
   said_from : Side2 → Level → String → Row
   never_said : Side2 → String → Row
 
--- what a row states of the definitions: the text is that of a message which the side says at the level and at every
--- higher one, and at no lower one; or at no level
+-- the statement of a row: the text is that of a message that the side may send at this level, at every higher one and
+-- at no lower one; or at no level
 abbrev pub Holds : Row → Type 0
 Holds (said_from side from text) =
     (m : List ℕ) × (text_of m ≡ codes text)
@@ -47,7 +47,7 @@ AllHold (row ∷ rows) = Holds row × AllHold rows
 
 -- ---- the test of a row
 
--- whether the table follows the list from the opening symbol to its end
+-- whether the table follows the list from the start symbol to its end
 abbrev is_followed : Side2 → Level → List ℕ → Bool
 is_followed side l m = follows (start_symbol_of side l ∷ []) m
 
@@ -61,11 +61,12 @@ lower L40 = L30
 lower L50 = L40
 lower L60 = L50
 
--- whether the text was read right, and a report PRN, of which the table says nothing, is none
+-- whether the text was read right, and is no report PRN, which the table does not cover
 abbrev is_read : String → List ℕ → Bool
 is_read text m = bytes_eq (text_of m) (codes text) && not (begins_with_prn m)
 
--- a message that a level has and the next lower one has not enters at this level; one that the highest has not has none
+-- a message enters at a level if the table accepts it there and not at the next lower one; a message that L60 refuses
+-- enters nowhere
 abbrev enters_at : Side2 → Level → List ℕ → Bool
 enters_at side l m = is_followed side l m && (level_number l == 0 || not (is_followed side (lower l) m))
 
@@ -73,33 +74,33 @@ abbrev is_right : Row → Bool
 is_right (said_from side l text) = let m = tokens_of_text (codes text) in is_read text m && enters_at side l m
 is_right (never_said side text) = let m = tokens_of_text (codes text) in is_read text m && not (is_followed side L60 m)
 
--- the row where its test fails, else the first wrong one of the rest
+-- the row if its test fails, or else the first wrong one of the rest
 abbrev if_wrong : Bool → Row → Option Row → Option Row
 if_wrong true row rest = rest
 if_wrong false row rest = Some row
 
--- the first row that is not right
+-- the first wrong row
 abbrev pub first_wrong : List Row → Option Row
 first_wrong [] = None
 first_wrong (row ∷ rows) = if_wrong (is_right row) row (first_wrong rows)
 
--- ---- a row that is right holds
+-- ---- a right row holds
 
--- the stack of one symbol stands for what the symbol stands for
+-- the stack of one symbol has the language of the symbol
 alone : (s : Sym) (m : List ℕ) → StackMatches SymbolMatches (s ∷ []) m ↔ SymbolMatches s m
 alone s m = (
   λ h. subst (SymbolMatches s) (sym (h.2 ∙ (ap (λ x. h.0 ++ x) h.4 ∙ append-nil h.0))) h.3,
   λ h. (m, [], sym (append-nil m), h, refl),
 )
 
--- what the table follows is a message
+-- a list that the table follows is a message
 followed-said : (side : Side2) (l : Level) (m : List ℕ) → is_followed side l m ≡ true → IsMessage side l m
 followed-said side l m e =
     let s = start_symbol_of side l in
     let walk = follows-exactly m (s ∷ []) (0, plain_begins side l) in
     ((start_symbol-language side l m).0 ((alone s m).0 (walk.0 e))).0
 
--- what it doesn't follow is none, unless it begins with PRN
+-- a list that it does not follow is no message, unless it begins with PRN
 unfollowed-unsaid : (side : Side2) (l : Level) (m : List ℕ) → begins_with_prn m ≡ false → is_followed side l m ≡ false →
     ¬ IsMessage side l m
 unfollowed-unsaid side l m n e h =
@@ -107,7 +108,7 @@ unfollowed-unsaid side l m n e h =
     let walk = follows-exactly m (s ∷ []) (0, plain_begins side l) in
     no-yes (is_followed side l m) (walk.1 ((alone s m).1 ((start_symbol-language side l m).1 (h, n)))) e
 
--- no level is above the highest
+-- no level is above L60
 at-most-highest : (l : Level) → level_number l ≤ 60
 at-most-highest L60 = omega arith
 at-most-highest _ = omega arith
@@ -130,12 +131,12 @@ ten-apart low high h =
     next L0 = inl refl
     next _ = inr refl
 
--- a test whose opposite passes fails
+-- a test fails if its negation passes
 opposite : (b : Bool) → not b ≡ true → b ≡ false
 opposite true e = cc
 opposite false e = refl
 
--- a message that enters at a level is one exactly at the levels from there on
+-- a message that enters at a level is one exactly from that level on
 entered : (side : Side2) (from : Level) (m : List ℕ) → begins_with_prn m ≡ false → enters_at side from m ≡ true →
     (level : Level) → (level_number from ≤ level_number level) ↔ IsMessage side level m
 entered side from m n e level =
@@ -159,14 +160,14 @@ entered side from m n e level =
               absurd (none (levels-only-add side level (lower from) m (ten-apart level from less) said))
         ]
 
--- a list that is no message at the highest level is none at any
+-- a list that is no message at L60 is none at any level
 never : (side : Side2) (m : List ℕ) → begins_with_prn m ≡ false → not (is_followed side L60 m) ≡ true →
     (level : Level) → ¬ IsMessage side level m
 never side m n e level said =
     let none = unfollowed-unsaid side L60 m n (opposite (is_followed side L60 m) e) in
     none (levels-only-add side level L60 m (at-most-highest level) said)
 
--- a text that was read right is the message's
+-- a text that was read right is the text of the message
 read-right : (text : String) (m : List ℕ) → is_read text m ≡ true →
     (text_of m ≡ codes text) × (begins_with_prn m ≡ false)
 read-right text m e =
@@ -186,12 +187,12 @@ right-holds (never_said side text) e =
     let q = read-right text m p.0 in
     (m, q.0, never side m q.1 p.1)
 
--- where no row is wrong, the first is right and none of the rest is wrong
+-- if no row is wrong, the first is right and none of the rest is wrong
 none-wrong : (b : Bool) (row : Row) (rest : Option Row) → if_wrong b row rest ≡ None → (b ≡ true) × (rest ≡ None)
 none-wrong true row rest e = (refl, e)
 none-wrong false row rest e = cc
 
--- where no row is wrong, each holds
+-- if no row is wrong, each row holds
 pub rows-hold : (rows : List Row) → first_wrong rows ≡ None → AllHold rows
 rows-hold [] e = tt
 rows-hold (row ∷ rows) e =

@@ -1,4 +1,4 @@
--- What an opening symbol stands for, and the messages by which a gateway answers.
+-- The language of a start symbol, and the messages that a gateway sends in reply.
 use Rattle.std.proofs.Common.{◌≡◌, ℕ, Bool, true, false, ◌==◌, List, [], ◌∷◌, ◌++◌, inl, inr, ◌↔◌, refl, sym, ◌∙◌, ap}
 use Rattle.std.proofs.Common.{subst, append-nil}
 use Rattle.std.proofs.lemmas.Bool.{eqb-true}
@@ -24,17 +24,17 @@ use Rattle.daide_grammar.specs.Table.Proved.PlainLaws.{only_bra, only_ket, plain
 use Rattle.daide_grammar.proofs.BalancedLemmas.{KeepsBrackets, message-balanced, any-balanced, paired, bra-accepted}
 use Rattle.daide_grammar.proofs.BalancedLemmas.{ket-accepted}
 
--- the standard's brackets are the only tokens of their classes
+-- in the standard dialect each bracket is the only token of its class
 pub standard-brackets : KeepsBrackets standard
 standard-brackets = record { bras = only_bra; kets = only_ket }
 
--- an opening symbol's form is that of its side's messages
+-- the form of a start symbol is that of the messages of its side
 pub start_symbol-form : (side : Side2) (l : Level) → form_of (start_symbol_of side l) ≡ message_form side l
 unfolding form_of
 start_symbol-form Client l = refl
 start_symbol-form ServerEnd l = refl
 
--- PRN begins none of the forms: it is the reader's own case
+-- no form begins with PRN: the reader handles PRN itself
 start_symbol-stops : (side : Side2) (l : Level) → table_answer (start_symbol_of side l) Prn ≡ Stop
 unfolding table_answer entries may_end_of
 start_symbol-stops Client L60 = refl
@@ -45,19 +45,19 @@ start_symbol-stops _ _ = refl
 class-prn : (t : ℕ) → (t == prn) ≡ true → class_of t ≡ Prn
 class-prn t e = ap class_of (eqb-true t prn e) ∙ class_of-prn
 
--- a test that cannot pass fails
+-- a test that cannot pass is false
 pub begins-false : (b : Bool) → (b ≡ true → ⊥) → b ≡ false
 begins-false true f = absurd (f refl)
 begins-false false f = refl
 
--- so no list of an opening symbol begins with PRN
+-- so no list of a start symbol begins with PRN
 form-not-prn : (side : Side2) (l : Level) (m : List ℕ) → SymbolMatches (start_symbol_of side l) m → begins_with_prn m ≡ false
 form-not-prn side l [] h = refl
 form-not-prn side l (t ∷ m) h =
     begins-false (t == prn) (λ e. plain_laws.stops_none (start_symbol_of side l) t
     (ap (table_answer (start_symbol_of side l)) (class-prn t e) ∙ start_symbol-stops side l) m h)
 
--- a list of an opening symbol matches its side's form, and the other way round
+-- a list of a start symbol matches the form of its side, and conversely
 to-form : (side : Side2) (l : Level) (m : List ℕ) → SymbolMatches (start_symbol_of side l) m →
     Matches standard (message_form side l) m
 to-form side l m h = subst (λ (f : Form). Matches standard f m) (start_symbol-form side l) h
@@ -70,7 +70,7 @@ from-form side l m h = subst (λ (f : Form). Matches standard f m) (sym (start_s
 pub report-begins : (m : List ℕ) → IsPrnWrapped m → begins_with_prn m ≡ false → ⊥
 report-begins m r e = let f : true ≡ false = sym (ap begins_with_prn r.1) ∙ e in cc
 
--- an opening symbol stands for the messages that don't begin with PRN
+-- a start symbol derives the messages that don't begin with PRN
 pub start_symbol-language : (side : Side2) (l : Level) (m : List ℕ) →
     SymbolMatches (start_symbol_of side l) m ↔ (IsMessage side l m × (begins_with_prn m ≡ false))
 start_symbol-language side l m = (
@@ -97,14 +97,14 @@ pub any-is-balanced : (m : List ℕ) → Matches standard any m ↔ IsBalanced m
 unfolding paired
 any-is-balanced m = any-balanced standard standard-brackets (λ s k. refl) m
 
--- HUH may come at every level from either side
+-- either side may send HUH at every level
 huh-taken : (side : Side2) (l : Level) → table_answer (start_symbol_of side l) Huh ≡ Take (AnyGroup ∷ [])
 unfolding table_answer entries may_end_of
 huh-taken Client L60 = refl
 huh-taken ServerEnd L60 = refl
 huh-taken _ _ = refl
 
--- a balanced list in brackets is one of the symbol for `any` in brackets
+-- a balanced list in brackets is a list of the symbol for `any` in brackets
 any-grouped : (a : List ℕ) → IsBalanced a → SymbolMatches AnyGroup (bra ∷ (a ++ ket ∷ []))
 unfolding form_of
 any-grouped a h =
@@ -116,7 +116,7 @@ pub class-huh : class_of huh ≡ Huh
 unfolding class_of
 class-huh = refl
 
--- HUH, and balanced tokens in brackets
+-- HUH, with balanced tokens in brackets
 pub huh-answer : (side : Side2) (l : Level) (a : List ℕ) → IsBalanced a → IsMessage side l (huh ∷ bra ∷ (a ++ ket ∷ []))
 huh-answer side l a h =
     let s = start_symbol_of side l in

@@ -1,5 +1,5 @@
--- A message of a level is one of every higher level: each rule of the higher level has the alternatives of the lower
--- one, with forms of the higher level in the places of those of the lower one.
+-- A message of a level is a message of every higher level. Each rule of the higher level has the alternatives of the
+-- lower one, with forms of the higher level in place of those of the lower one.
 use Rattle.std.proofs.Common.{◌≡◌, ◌≤◌, ℕ, Bool, true, false, nat_le, List, inl, inr, refl, arith}
 use Rattle.std.proofs.lemmas.Bool.Decides.{nat_tests}
 use Rattle.daide_grammar.specs.declared.level.Level.{Level}
@@ -16,19 +16,19 @@ use Rattle.daide_grammar.specs.Message.Server.{press_message}
 use Rattle.daide_grammar.specs.Matches.{rule, Matches, both, first, second, no_more, one_more, bracketed, by_name}
 use Rattle.daide_grammar.specs.SideMessages.{standard, message_form, IsMessageIn, IsMessage}
 
--- ---- forms that a higher level only widens
+-- ---- forms that grow with the level
 
 -- the first level is not above the second
 infixl 20 ◌⊑◌
 abbrev pub ◌⊑◌ : Level → Level → Type 0
 low ⊑ high = level_number low ≤ level_number high
 
--- a place for an operator's word that is within another
+-- a slot of an operator's word that is contained in another
 pub data SlotWithin : Slot → Slot → Type 0 where
   same_slot : {s : Slot} → SlotWithin s s
   flat_slot : SlotWithin Flat_slot Arrangement_slot
 
--- a name that stands for less than another: the same of a lower level, or a flat arrangement for any
+-- a name with a smaller language: the same name at a lower level, or a flat arrangement for any arrangement
 pub data NameWithin : Nonterminal → Nonterminal → Type 0 where
   arrangements : {a b : Level} → a ⊑ b → NameWithin (Arrangement_name a) (Arrangement_name b)
   flats : {a b : Level} → a ⊑ b → NameWithin (Flat_name a) (Flat_name b)
@@ -39,7 +39,7 @@ pub data NameWithin : Nonterminal → Nonterminal → Type 0 where
   requests : {a b : Level} → a ⊑ b → NameWithin (Request_name a) (Request_name b)
   words : {s t : Slot} {a b : Level} → SlotWithin s t → a ⊑ b → NameWithin (Added s a) (Added t b)
 
--- a form that is built as another, part for part, but for names that stand for less and alternatives that are missing
+-- a form with the structure of another, except for names with smaller languages and missing alternatives
 infixr 60 ◌··◌
 infixr 55 ◌∣∣◌
 pub data Within : Form → Form → Type 0 where
@@ -52,14 +52,14 @@ pub data Within : Form → Form → Type 0 where
   inside : {f f' : Form} → Within f f' → Within (group f) (group f')
   name : {n n' : Nonterminal} → NameWithin n n' → Within (named n) (named n')
 
--- the words of a dialect stand at a level where they stand at a lower one
+-- a word that is allowed in a slot at a level is allowed in every larger slot at every higher level
 abbrev pub WordsGrow : Dialect → Type 0
 WordsGrow d = (s t : Slot) (a b : Level) → SlotWithin s t → a ⊑ b → Within (d.added s a) (d.added t b)
 
--- ---- every rule is one of them
+-- ---- every rule is one of these forms
 
--- a form that depends on whether the level reaches a number is within that of a higher level, where each branch is, and
--- the second is within the first
+-- a form with a branch by level is contained in that of a higher level if each branch is, and the second is contained
+-- in the first
 by-level : (n : ℕ) (a b : Level) {f f' g g' : Form} → a ⊑ b → Within f g → Within f' g' → Within f' g →
     Within
     (elim (nat_le n (level_number a)) [ true ↦ f | false ↦ f' ])
@@ -74,11 +74,11 @@ by-level n a b {f} {f'} {g} {g'} h x y z =
     go false true e = z
     go false false e = y
 
--- what stands from a level on stands at every higher one
+-- a form that is allowed from a level on is allowed at every higher one
 pub from_level-within : (x a b : Level) {f g : Form} → a ⊑ b → Within f g → Within (from_level x a f) (from_level x b g)
 from_level-within x a b h k = by-level (level_number x) a b h k missing missing
 
--- operands are flat arrangements at first, and then any
+-- an operand is a flat arrangement at low levels, and any arrangement at higher ones
 operand-within : (a b : Level) → a ⊑ b → Within (joinable a) (joinable b)
 operand-within a b h = by-level _ a b h (name (arrangements h)) (name (flats h)) (name (flat_arrangements h))
 
@@ -107,7 +107,7 @@ press-message-within a b h =
     let send = inside (name (sends h)) in
     same ·· same ·· same ·· inside (name (presses h)) ∣∣ same ·· same ·· send ∣∣ same ·· same ·· send
 
--- the rule of a name is within that of every name for more
+-- the rule of a name is contained in that of every larger name
 rule-within : (d : Dialect) → WordsGrow d → {n n' : Nonterminal} → NameWithin n n' → Within (rule d n) (rule d n')
 rule-within d grow (arrangements {a} {b} h) =
     simple-within a b h (name (arrangements h))
@@ -136,7 +136,7 @@ rule-within d grow (requests {a} {b} h) =
     ∣∣ same ∣∣ same ∣∣ same ∣∣ same ∣∣ same ∣∣ same ∣∣ same ∣∣ from_level-within L10 a b h (name (sends h))
 rule-within d grow (words {s} {t} {a} {b} k h) = grow s t a b k h
 
--- so is what a side says
+-- and so are the forms of messages
 message-within : (side : Side2) (a b : Level) → a ⊑ b → Within (message_form side a) (message_form side b)
 message-within Client a b h = name (requests h) ∣∣ same
 message-within ServerEnd a b h =
@@ -148,7 +148,7 @@ message-within ServerEnd a b h =
     ∣∣ from_level-within L10 a b h (press-message-within a b h)
     ∣∣ same
 
--- ---- what matches a form matches every form that it is within
+-- ---- a list that matches a form matches every form that contains it
 
 matches-grow : (d : Dialect) → WordsGrow d → {f g : Form} {w : List ℕ} → Within f g → Matches d f w → Matches d g w
 matches-grow d grow same m = m
@@ -163,13 +163,13 @@ matches-grow d grow (each h) (one_more m n) = one_more (matches-grow d grow h m)
 matches-grow d grow (inside h) (bracketed b k o m c) = bracketed b k o (matches-grow d grow h m) c
 matches-grow d grow (name h) (by_name m) = by_name (matches-grow d grow (rule-within d grow h) m)
 
--- in any dialect whose words stand on, a message of a level is one of every higher level
+-- in a dialect whose words grow, a message of a level is one of every higher level
 pub message-grows : (d : Dialect) → WordsGrow d → (side : Side2) (a b : Level) (m : List ℕ) → a ⊑ b →
     IsMessageIn d side a m → IsMessageIn d side b m
 message-grows d grow side a b m h (inl report) = inl report
 message-grows d grow side a b m h (inr f) = inr (matches-grow d grow (message-within side a b h) f)
 
--- and so in the protocol's own, which has no words
+-- and so in the protocol's own dialect, which has no words
 pub levels-only-add : (side : Side2) (low high : Level) (m : List ℕ) → level_number low ≤ level_number high →
     IsMessage side low m → IsMessage side high m
 levels-only-add = message-grows standard (λ s t a b k h. missing)

@@ -1,11 +1,11 @@
--- A message read from its text form, so that facts of single messages can be written as the protocol writes them. What
--- is read wrong makes no fact: there the message's own text form is held against the text.
+-- Reads a message from its text form, so that facts about single messages can use the protocol's notation. A text that
+-- is misread makes no fact, since the message's own text is compared with it.
 use Rattle.std.specs.Prelude.{ℕ, ◌+◌, ◌-◌, ◌*◌, ◌==◌, nat_le, Bool, true, false, ◌&&◌}
 use Rattle.std.specs.Prelude.{List, [], ◌∷◌, ◌++◌, Option, None, Some}
 use Rattle.daide_token.specs.Token.{bra, ket}
 use Rattle.daide_token.specs.Names.{token_named}
 
--- a text cut at its spaces
+-- the words of a text, separated by spaces
 abbrev with_letter : Bool → ℕ → List (List ℕ) → List (List ℕ)
 with_letter true c words = [] ∷ words
 with_letter false c [] = (c ∷ []) ∷ []
@@ -15,7 +15,7 @@ abbrev words_of : List ℕ → List (List ℕ)
 words_of [] = []
 words_of (c ∷ text) = with_letter (c == 32) c (words_of text)
 
--- the number of some digits, after those before
+-- the number of some digits, after earlier ones
 abbrev decimal : ℕ → List ℕ → ℕ
 decimal n [] = n
 decimal n (c ∷ digits) = decimal (10 * n + (c - 48)) digits
@@ -25,12 +25,13 @@ abbrev characters : List ℕ → List ℕ
 characters [] = []
 characters (c ∷ word) = elim (c == 39) [ true ↦ [] | false ↦ (0x4B00 + c) ∷ characters word ]
 
--- the token of a name; none where nothing is named so
+-- the token of a name; none if no token has it
 abbrev named : Option ℕ → List ℕ
 named None = []
 named (Some t) = t ∷ []
 
--- the tokens of a word, by whether it begins with (, with ), with a quote, with a minus, or with a digit: else a name
+-- the tokens of a word, by whether it begins with (, with ), with a quote, with a minus, or with a digit; any other
+-- word is a name
 abbrev by_sign : Bool → Bool → Bool → Bool → Bool → List ℕ → List ℕ → List ℕ
 by_sign true k q m d word rest = bra ∷ []
 by_sign false true q m d word rest = ket ∷ []

@@ -1,5 +1,5 @@
--- What the numbers that the code gives out by name stand for. Some are read by other crates alone, so that nothing here
--- would miss a wrong one: the rules by which a word's operand is left, and the class of tokens without a meaning.
+-- The numbers that the code exports by name. Only other crates read some of them, so that no other proof here would
+-- notice a wrong one: the rules that leave a word's operand, and the class of tokens without a meaning.
 use Rattle.std.proofs.Common.{◌≡◌, ℕ, ◌+◌, List, [], ◌∷◌, map, length, refl}
 use Rattle.daide_token.specs.declared.class.Class.TheVariants.{Ket, Other}
 use Rattle.daide_grammar.specs.declared.level.Level.{Level}
@@ -25,7 +25,7 @@ without_a_rest : (action STOP ≡ Stop) × (action SKIP ≡ Skip)
 unfolding action rest_of_action
 without_a_rest = (refl, refl)
 
--- a power, powers, provinces or an order in brackets
+-- a power, powers, provinces or an order, each in brackets
 without_a_level : (action LEAVES_POWER_GROUP ≡ Take (PowerGroup ∷ []))
     × (action LEAVES_POWERS_GROUP ≡ Take (PowersGroup ∷ []))
     × (action LEAVES_PROVINCES_GROUP ≡ Take (ProvincesGroup ∷ []))
@@ -33,21 +33,21 @@ without_a_level : (action LEAVES_POWER_GROUP ≡ Take (PowerGroup ∷ []))
 unfolding action rest_of_action
 without_a_level = (refl, refl, refl, refl)
 
--- seven rules from one on, which leave a symbol of level 0, of level 10, and so on to level 60
+-- seven rules from a first one on, which leave a symbol of level 0, of level 10, and so on to level 60
 abbrev seven_from : ℕ → List TableEntry
 seven_from rule = map (λ n. action (rule + n)) (0 ∷ 1 ∷ 2 ∷ 3 ∷ 4 ∷ 5 ∷ 6 ∷ [])
 
 abbrev leaving : (Level → Sym) → List TableEntry
 leaving symbol = map (λ l. Take (symbol l ∷ [])) (L0 ∷ L10 ∷ L20 ∷ L30 ∷ L40 ∷ L50 ∷ L60 ∷ [])
 
--- an arrangement, an operand of AND and ORR, or a press in brackets
+-- an arrangement, an operand of AND and ORR, or a press, each in brackets
 with_a_level : (seven_from LEAVES_ARRANGEMENT_GROUP ≡ leaving ArrangementGroup)
     × (seven_from LEAVES_OPERAND_GROUP ≡ leaving OperandGroup)
     × (seven_from LEAVES_PRESS_GROUP ≡ leaving PressGroup)
 unfolding action rest_of_action
 with_a_level = (refl, refl, refl)
 
--- ---- classes, and how many there are
+-- ---- classes, and their number
 
 brackets_and_others : (class_at KET ≡ Ket) × (class_at OTHER ≡ Other) × (class_number Ket ≡ KET)
     × (class_number Other ≡ OTHER)

@@ -1,4 +1,4 @@
--- The code's lists of symbols and classes are those of the definitions, and a symbol is that of its number.
+-- The code's lists of symbols and classes are those of the definitions, and a symbol's number determines it.
 use Rattle.std.proofs.Common.{◌≡◌, ◌<◌, refl, arith}
 use Rattle.daide_grammar.specs.declared.level.Level.TheVariants.{L60}
 use Rattle.daide_grammar.specs.declared.symbol.Sym.{Sym}

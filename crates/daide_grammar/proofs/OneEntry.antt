@@ -1,4 +1,4 @@
--- What a symbol with one entry means: that entry's class takes its token, and no other does.
+-- A symbol with one entry: the class of the entry takes its token, and no other class does.
 use Rattle.std.proofs.Common.{◌≡◌, Bool, true, false, None, List, [], ◌∷◌, refl, sym, ap, ◌∙◌}
 use Rattle.std.specs.Prelude.{if◌then◌else◌}
 use Rattle.daide_token.specs.declared.class.Class.{Class}
@@ -28,13 +28,13 @@ pub must_told : {a : TableEntry} {s : Sym} (t : Sym) (wanted c : Class) (rest : 
 must_told t wanted c rest is one end says =
     says ∙ one_told t wanted c rest false one end ∙ ap (λ (s : Sym). table_answer s c) (sym is)
 
--- a symbol that may be empty
+-- a nullable symbol
 pub may_told : {a : TableEntry} {s : Sym} (t : Sym) (wanted c : Class) (rest : List Sym) → s ≡ t →
     entries t ≡ on wanted rest ∷ [] → may_end_of t ≡ true →
     a ≡ (if same_class wanted c then Take rest else Skip) → a ≡ table_answer s c
 may_told t wanted c rest is one end says =
     says ∙ one_told t wanted c rest true one end ∙ ap (λ (s : Sym). table_answer s c) (sym is)
 
--- what a symbol means is meant by its name
+-- a symbol's entry is that of its name
 pub by_name : {s t : Sym} (c : Class) → s ≡ t → table_answer t c ≡ table_answer s c
 by_name c is = ap (λ (s : Sym). table_answer s c) (sym is)

@@ -1,5 +1,5 @@
--- What the plain table says of the classes that no arm lists: nothing but what its default says. Each is shown once here,
--- and not for each class and each level again.
+-- The classes that no arm of the plain table lists have the arm's default. Each symbol is shown once here, instead of
+-- once for each class and level.
 use Rattle.std.proofs.Common.{◌≡◌, ◌≢◌, ◌<◌, Bool, true, false, nat_le, List, [], ◌∷◌, ◌++◌, Option, None, refl, sym}
 use Rattle.std.proofs.Common.{ap, subst, ◌∙◌, arith}
 use Rattle.daide_token.specs.declared.class.Class.{Class}
@@ -25,7 +25,7 @@ use Rattle.daide_grammar.specs.Table.Answers.{TableEntry, Stop}
 use Rattle.daide_grammar.specs.Table.Symbols.{Alternative, on, answer_by, asking_entries, entries, entry_at, joining_entries}
 use Rattle.daide_grammar.specs.Table.Symbols.{may_end_of, only_from, request_entries, simple_entries, table_answer, this_or}
 
--- no class of these entries is the class
+-- no entry of the list takes the class
 abbrev NoneTakes : Class → List Alternative → Type 0
 NoneTakes c [] = Unit {0}
 NoneTakes c (e ∷ es) = (is_of_kind e.kind c ≡ false) × NoneTakes c es
@@ -52,7 +52,7 @@ apart {c} k n = by_test (same_class k c) refl
     by_test true e = absurd (n (sym ((told-apart k c).0 e)))
     by_test false e = e
 
--- without an entry nothing is taken, and entries without one may be left out behind others
+-- without an entry nothing is taken, and entries that do not take the class may be left out
 stopped : (c : Class) (es : List Alternative) → NoneTakes c es → Stop ≡ answer_by (entry_at c es) false
 stopped c es h = ap (λ (o : Option Alternative). answer_by o false) (sym (none_of c es h))
 
@@ -60,7 +60,7 @@ dropped : (c : Class) (xs ys : List Alternative) → entry_at c ys ≡ None → 
 dropped c [] ys h = h
 dropped c (x ∷ xs) ys h = ap (λ (o : Option Alternative). this_or (is_of_kind x.kind c) x o) (dropped c xs ys h)
 
--- an entry may stand in the place of another where neither takes the class
+-- an entry may replace another if neither takes the class
 in_place : (c : Class) (xs : List Alternative) (e f : Alternative) (ys : List Alternative) → is_of_kind e.kind c ≡ false →
     is_of_kind f.kind c ≡ false → entry_at c (xs ++ e ∷ ys) ≡ entry_at c (xs ++ f ∷ ys)
 in_place c [] e f ys p q =
@@ -85,7 +85,7 @@ simple_other l inside c pce aly drw slo not xdo dmz scd occ =
     stopped c (simple_entries l inside)
     (apart Pce pce, (apart Aly aly, (apart Drw drw, (apart Slo slo, (apart Not not, new)))))
 
--- an arrangement that begins with neither AND nor ORR, or at a level that has neither, is a simple one
+-- an arrangement that begins with neither AND nor ORR, or is at a level without them, is a simple one
 pub arrangement_other : {a : TableEntry} (l : Level) (c : Class) → c ≢ And → c ≢ Orr →
     a ≡ answer_by (entry_at c (simple_entries l (ArrangementGroup l))) false → a ≡ table_answer (Arrangement l) c
 unfolding table_answer entries may_end_of
@@ -305,7 +305,7 @@ server_other l c map mdf hlo sco now thx mis ord tme yea rej ccd not out slo drw
       ),
     )
 
--- ---- what comes at a higher level alone
+-- ---- classes that enter at a higher level
 
 pub simple_xdo : (l : Level) (inside : Sym) (c : Class) → c ≡ Xdo → level_number l < 20 → Stop ≡ answer_by
     (entry_at c (simple_entries l inside)) false

@@ -1,4 +1,4 @@
--- A rule that leaves a meaning's symbols is found by comparing their numbers.
+-- The rule for an entry is found by comparing the numbers of its symbols.
 use Rattle.std.proofs.Common.{◌≡◌, ℕ, zero, suc, ◌+◌, ◌-◌, ◌<◌, ◌≤◌, nat_eq, Bool, true, false, List, length, get_or}
 use Rattle.std.proofs.Common.{take, reverse, refl, sym, ap, subst, ◌∙◌, arith}
 use Rattle.std.proofs.Math.Seq.{take-suc}
@@ -11,11 +11,11 @@ use Rattle.daide_grammar.specs.Table.Numbers.{symbol_at, symbol_number}
 use Rattle.daide_grammar.specs.Table.ParseActions.{action, rest_of}
 use Rattle.daide_grammar.proofs.NumberLemmas.{symbol_back}
 
--- symbols of one number are one symbol
+-- symbols with the same number are equal
 pub same_symbol : (s t : Sym) → symbol_number s ≡ symbol_number t → s ≡ t
 same_symbol s t e = sym (symbol_back s) ∙ ap symbol_at e ∙ symbol_back t
 
--- the cells hold the rest from its end
+-- the cells have the rest in reverse order
 pub turned : (cells rest : List Sym) (place : ℕ) (d : Sym) →
     take (length rest) cells ≡ reverse rest → place < length rest →
     get_or cells (length rest - 1 - place) d ≡ get_or rest place d
@@ -26,7 +26,7 @@ turned cells rest place d h less =
     sym (get_or-take (length rest) cells k d low) ∙ ap (λ xs. get_or xs k d) h
     ∙ get_or-reverse rest k d low ∙ ap (λ i. get_or rest i d) back
 
--- one symbol more is the same
+-- one more symbol is equal
 pub one_more : (xs ys : List Sym) (place : ℕ) (d : Sym) → length xs ≡ length ys → place < length xs →
     take place xs ≡ take place ys → get_or xs place d ≡ get_or ys place d → take (place + 1) xs ≡ take (place + 1) ys
 one_more xs ys place d many less same next =
@@ -34,7 +34,7 @@ one_more xs ys place d many less same next =
     let there : place < length ys = omega (arith, many) in
     rw one (take-suc xs place d less ∙ rw same (rw next (sym (take-suc ys place d there))))
 
--- and all are the same
+-- all symbols are equal
 pub all_same : (xs ys : List Sym) (place : ℕ) → length xs ≡ length ys → length xs ≤ place →
     take place xs ≡ take place ys → xs ≡ ys
 all_same xs ys place many less same = sym (take_all place xs less) ∙ same ∙ take_all place ys (omega (arith, many))
@@ -47,14 +47,14 @@ takes_rest n h =
     let not_one : nat_eq n 1 ≡ false = grind (arith, nat_tests) in
     rw not_none (rw not_one refl)
 
--- and one that takes is from 2 on
+-- and a rule that takes is from 2 on
 pub from_two : (n : ℕ) (rest : List Sym) → action n ≡ Take rest → 2 ≤ n
 unfolding action
 from_two zero rest e = absurd cc
 from_two (suc zero) rest e = absurd cc
 from_two (suc (suc n)) rest e = omega arith
 
--- what no number so far has, and the next has not either, no number up to it has
+-- a property that no number so far has, and the next one has not, no number up to it has
 pub none_yet : (P : ℕ → Type 0) (next : ℕ) → ((n : ℕ) → 2 ≤ n → n < next → ¬ P n) → ¬ P next →
     (n : ℕ) → 2 ≤ n → n < next + 1 → ¬ P n
 none_yet P next before not_here n low less p = by_test (nat_eq n next) refl

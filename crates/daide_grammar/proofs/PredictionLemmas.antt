@@ -1,4 +1,4 @@
--- The laws of prediction that the trait does not state, of the protocol's own grammar.
+-- The laws of prediction that the trait does not state, for the protocol's own grammar.
 use Rattle.std.proofs.Common.{◌≡◌, ℕ, ◌+◌, ◌≤◌, Bool, true, false, nat_le, cond, List, [], ◌∷◌, ◌++◌, length, Option}
 use Rattle.std.proofs.Common.{None, Some, refl, sym, ◌∙◌, ap, subst, arith}
 use Rattle.std.specs.List.{list_all, count_by}
@@ -24,15 +24,15 @@ use Rattle.daide_grammar.specs.Table.Proved.PlainLaws.{plain_laws}
 
 -- ---- two alternatives never begin with the same class
 
--- how many of the entries take the class
+-- the number of entries that take the class
 abbrev taking : Class → List Alternative → ℕ
 taking c es = count_by (λ e. is_of_kind e.kind c) es
 
--- the count, with one more entry in front
+-- that number, with one more entry in front
 taking-cons : (c : Class) (e : Alternative) (es : List Alternative) → taking c (e ∷ es) ≡ cond (is_of_kind e.kind c) 1 0 + taking c es
 taking-cons c e es = sum_by-cons (λ (x : Alternative). cond (is_of_kind x.kind c) 1 0) e es
 
--- where one entry takes the class, none that is apart from it does
+-- if one entry takes the class, no entry apart from it does
 others-none : (c : Class) (e : Alternative) (es : List Alternative) → is_of_kind e.kind c ≡ true →
     list_all (λ f. apart e.kind f.kind) es ≡ true →
     taking c es ≡ 0
@@ -46,7 +46,7 @@ others-none c e (f ∷ es) h a =
     none true k = absurd (k refl)
     none false k = refl
 
--- of entries that are pairwise apart at most one takes a class
+-- of entries that are pairwise apart, at most one takes a class
 at-most-one : (c : Class) (es : List Alternative) → all_apart es ≡ true → taking c es ≤ 1
 unfolding all_apart
 at-most-one c [] a = omega arith
@@ -69,7 +69,7 @@ alternatives-differ s c = at-most-one c (entries s) (right_parts standard s).kin
 
 -- ---- rests are short
 
--- a test that computes: no entry of a symbol has more than twelve symbols in its rest
+-- A test that computes: no entry has more than twelve symbols in its rest.
 rests-short : (s : Sym) → list_all (λ e. nat_le (length e.rest) 12) (entries s) ≡ true
 unfolding entries
 rests-short (Request L60) = refl
@@ -82,7 +82,7 @@ rests-short (Operand L60) = refl
 rests-short (Fact L60) = refl
 rests-short _ = refl
 
--- so no Take has
+-- so no Take has more
 pub short-rest : (s : Sym) (c : Class) (rest : List Sym) → table_answer s c ≡ Take rest → length rest ≤ 12
 unfolding table_answer
 short-rest s c rest a =
@@ -93,7 +93,7 @@ short-rest s c rest a =
 
 -- ---- neighbours never begin with the same token
 
--- where no symbol of the stack takes the token, no list of the stack begins with it
+-- if no symbol of the stack takes the token, no list of the stack begins with it
 pub none-begins : (stack : List Sym) (t : ℕ) (m : List ℕ) →
     ◌≡◌ {A = Option (List Sym)} (stack_after table_answer (class_of t) stack) None →
     StackMatches SymbolMatches stack (t ∷ m) → ⊥
@@ -118,7 +118,7 @@ none-begins (s ∷ stack) t m e h =
     by_answer go Stop a e (v ∷ u) q x y =
         plain_laws.stops_none s t a u (subst (λ (z : ℕ). SymbolMatches s (z ∷ u)) (cc) x)
 
--- on a lawful stack no token begins both a symbol that may be empty and what follows it
+-- on a lawful stack no token begins both a nullable symbol and what follows it
 pub neighbours-differ : (s : Sym) (below : List Sym) (k t : ℕ) (m n : List ℕ) → IsLawful table_answer (s ∷ below) k →
     may_end_of s ≡ true →
     SymbolMatches s (t ∷ m) → StackMatches SymbolMatches below (t ∷ n) → ⊥

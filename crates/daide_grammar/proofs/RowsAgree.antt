@@ -1,4 +1,4 @@
--- The constant table says what the entries of each symbol say.
+-- The constant table agrees with the entries of each symbol.
 use Rattle.std.proofs.Common.{◌≡◌, ℕ, zero, suc, ◌+◌, ◌<◌, Bool, true, false, ◌&&◌, nat_eq, nat_lt, ltb-true, List, []}
 use Rattle.std.proofs.Common.{◌∷◌}
 use Rattle.std.proofs.Common.{Option, Some, None, length, map, get_or, refl, sym, ap, subst, ◌∙◌, arith}
@@ -38,13 +38,13 @@ same_truth true b = b
 same_truth false true = false
 same_truth false false = true
 
--- whether rules do what entries say, class by class
+-- whether rules agree with entries, for each class
 abbrev all_told : List Alternative → Bool → List ℕ → List Class → Bool
 all_told es b (rule ∷ rules) (c ∷ cs) = same_answer (action rule) (answer_by (entry_at c es) b) && all_told es b rules cs
 all_told es b [] [] = true
 all_told es b _ _ = false
 
--- the first cells of the columns, which are the rules of one symbol, and what lies below them
+-- the first cells of the columns, which are the rules of one symbol, and the cells below them
 abbrev tops : List (List ℕ) → List ℕ
 tops [] = []
 tops ([] ∷ columns) = 0 ∷ tops columns
@@ -55,19 +55,19 @@ below [] = []
 below ([] ∷ columns) = [] ∷ below columns
 below ((rule ∷ column) ∷ columns) = column ∷ below columns
 
--- whether a symbol's rules do what its entries say; a closing bracket skips it exactly where it may be empty
+-- whether a symbol's rules agree with its entries; a closing bracket skips it exactly if it is nullable
 abbrev is_right : Sym → List ℕ → Bool
 is_right s rules =
     let es = entries s in
     let b = may_end_of s in
     all_told es b rules classes && same_truth (nat_eq (get_or rules 1 0) 1) b
 
--- the symbol where its test fails, else the first wrong one of the rest
+-- the symbol if its test fails, or else the first wrong one of the rest
 abbrev if_wrong : Bool → Sym → Option Sym → Option Sym
 if_wrong true s rest = rest
 if_wrong false s rest = Some s
 
--- the first symbol whose cells are not right; columns are gone through together, each cell once
+-- the first symbol with a wrong cell; the columns are traversed together, each cell once
 abbrev first_wrong : List Sym → List (List ℕ) → Option Sym
 first_wrong [] columns = None
 first_wrong (s ∷ ss) columns =
@@ -75,8 +75,7 @@ first_wrong (s ∷ ss) columns =
     let others = below columns in
     if_wrong (is_right s rules) s (first_wrong ss others)
 
--- A test that computes: each rule of each symbol does what the entries say. A wrong cell is refused by its symbol's
--- name.
+-- A test that computes: each rule of each symbol agrees with the entries. A wrong cell fails with its symbol's name.
 rows_agree : first_wrong symbols TABLE.rows ≡ None
 unfolding action rest_of_action entries may_end_of
 rows_agree = refl
@@ -112,7 +111,7 @@ none_wrong : (b : Bool) (s : Sym) (rest : Option Sym) → if_wrong b s rest ≡ 
 none_wrong true s rest e = (refl, e)
 none_wrong false s rest e = absurd (cc)
 
--- each place of the first cells, and of what lies below
+-- each index of the first cells, and of the cells below
 top_at : (columns : List (List ℕ)) (n : ℕ) → get_or (tops columns) n 0 ≡ get_or (get_or columns n []) 0 0
 top_at [] n = refl
 top_at ([] ∷ columns) zero = refl
@@ -138,7 +137,7 @@ told_at es b (rule ∷ rules) (c ∷ cs) h (suc n) less =
     let told = same_answer (action rule) (answer_by (entry_at c es) b) in
     told_at es b rules cs (and_parts told (all_told es b rules cs) h).1 n (omega arith)
 
--- a symbol's rules, by its place in the list
+-- a symbol's rules, by its index in the list
 right_at : (ss : List Sym) (columns : List (List ℕ)) → first_wrong ss columns ≡ None → (k : ℕ) → k < length ss →
     (rules : List ℕ) × (is_right (get_or ss k Closing) rules ≡ true)
     × ((n : ℕ) → get_or rules n 0 ≡ get_or (get_or columns n []) k 0)
@@ -159,7 +158,7 @@ right s =
     let there = right_at symbols TABLE.rows rows_agree (symbol_number s) (symbol_small s) in
     (there.0, subst (λ (x : Sym). is_right x there.0 ≡ true) (symbol_back s) there.1, there.2)
 
--- and a look-up answers what the table of the definitions answers
+-- and a look-up returns the entry of the definitions
 pub looked_up : (s : Sym) (n : ℕ) → n < all_classes → action (rule_at n (symbol_number s)) ≡ table_answer s (class_at n)
 unfolding table_answer
 looked_up s n less =
@@ -179,14 +178,14 @@ small_rule c s =
     let column = passes_at (list_all (λ rule. nat_lt rule all_rules)) TABLE.rows c [] in_a_byte refl in
     ltb-true (rule_at c s) all_rules (passes_at (λ rule. nat_lt rule all_rules) (slice_index_or TABLE.rows c []) s 0 column refl)
 
--- whatever the entries say is said by a rule
+-- each entry has a rule
 pub has_rule : (s : Sym) (c : Class) → class_number c < all_classes → HasRule (table_answer s c)
 has_rule s c less =
     let n = class_number c in
     let rule = rule_at n (symbol_number s) in
     (rule, small_rule n (symbol_number s), looked_up s n less ∙ ap (table_answer s) (class_told c less))
 
--- a symbol may be empty exactly where a closing bracket skips it
+-- a symbol is nullable exactly if a closing bracket skips it
 pub ends_told : (s : Sym) → nat_eq (rule_at (class_number Ket) (symbol_number s)) 1 ≡ may_end_of s
 ends_told s =
     let there = right s in
@@ -200,7 +199,7 @@ repeated : map (λ k. slice_index_or TABLE.rows (own_classes + k) []) (range_wit
     ≡ map (λ k. slice_index_or TABLE.rows (class_number Other) []) (range_with_len 0 most_words)
 repeated = refl
 
--- so the table doesn't know it
+-- so the table does not know the word
 pub word_unknown : (s : Sym) (k : ℕ) → k < most_words → table_answer s (Word k) ≡ table_answer s Other
 unfolding rule_at
 word_unknown s k less =

@@ -1,4 +1,4 @@
--- Each rule's row of the table holds its rest, the last symbol first.
+-- The row of each rule has its rest, the last symbol first.
 use Rattle.std.proofs.Common.{◌≡◌, ℕ, zero, suc, ◌<◌, ◌≤◌, ◌+◌, ◌-◌, ◌%◌, ◌^◌, Bool, true, false, nat_eq, nat_le}
 use Rattle.std.proofs.Common.{nat_lt, leb-true}
 use Rattle.std.proofs.Common.{ltb-true, List, [], ◌∷◌, length, map, take, reverse, refl, arith}
@@ -56,7 +56,7 @@ pub cells_hold : (n : ℕ) → n < all_rules → take (length (rest_of (action n
 unfolding front turned
 cells_hold n less = alike front turned all_rules fronts n less
 
--- a cell's number is a symbol's
+-- a cell's number is that of a symbol
 few : list_all (list_all (λ n. nat_lt n all_symbols)) TABLE.rests ≡ true
 few = refl
 
@@ -85,7 +85,7 @@ stop_told (suc (suc n)) =
     let not_one : nat_eq (suc (suc n)) 1 ≡ false = grind (arith, nat_tests) in
     rw not_none (rw not_one refl)
 
--- a rule's growth is the length of its rest less one, wrapping
+-- a rule's growth is the length of its rest less one, modulo 2^64
 growths : map growth_at (range_with_len 0 all_rules) ≡ map (λ n. (length_at n + (2 ^ 64 - 1)) % 2 ^ 64) (range_with_len 0 all_rules)
 unfolding growth_at length_at
 growths = refl
@@ -93,7 +93,7 @@ growths = refl
 growth_fits : (n : ℕ) → n < all_rules → growth_at n ≡ (length_at n + (2 ^ 64 - 1)) % 2 ^ 64
 growth_fits n less = alike growth_at (λ n. (length_at n + (2 ^ 64 - 1)) % 2 ^ 64) all_rules growths n less
 
--- the height that a growth makes of a top's place
+-- the height of a stack after its growth
 pub grown : (n top : ℕ) → n < all_rules → top ≤ 65535
     → ((top + growth_at n) % 2 ^ 64 + 1) % 2 ^ 64 ≡ top + length (rest_of (action n))
 grown n top less few =

@@ -1,7 +1,7 @@
--- The productions of the messages, listed a second time: with which classes of tokens each symbol begins, and which
--- symbols must follow, over all classes and at each level. Written from the rules of docs/PROTOCOL.md; what a symbol
--- stands for says its comment in src/symbol.rt. A form, an entry or a cell with a class too many or too few, or with
--- another rest, does not check, even where all of them have the same mistake.
+-- The productions of the messages, listed a second time: the classes with which each symbol begins, and the symbols
+-- that must follow, over all classes and levels. Written from the rules of docs/PROTOCOL.md; src/symbol.rt describes
+-- the symbols. A form, an entry or a cell with a missing or extra class, or with another rest, does not check, even if
+-- all of them have the same mistake.
 use Rattle.std.proofs.Common.{◌≡◌, true, false, List, [], ◌∷◌, ◌++◌, map, take, refl}
 use Rattle.daide_token.specs.declared.class.Class.{Class}
 use Rattle.daide_token.specs.declared.class.Class.TheVariants.{Bra, Ket, Num, Power, Note, Outcome, Coast, Season}
@@ -42,27 +42,27 @@ use Rattle.daide_grammar.specs.Table.Answers.{TableEntry, Take, Skip, Stop}
 use Rattle.daide_grammar.specs.Table.Numbers.{classes, symbols}
 use Rattle.daide_grammar.specs.Table.Symbols.{entries, may_end_of, table_answer}
 
--- at a class: mostly, that the token is taken and these symbols must follow
+-- an entry at a class: usually, the token is taken and these symbols must follow
 abbrev Line : Type 0
 Line = Class × TableEntry
 
 abbrev on : Class → List Sym → Line
 on c rest = (c, Take rest)
 
--- the same at each of some classes
+-- the same entry at each of several classes
 abbrev each_of : List Class → List Sym → List Line
 each_of cs rest = map (λ c. on c rest) cs
 
--- a symbol, what it means at every class that no line names, and its lines
+-- a symbol, its entry at every class that no line names, and its lines
 abbrev Listed : Type 0
 Listed = Sym × TableEntry × List Line
 
--- what the lines say of a class
+-- the entry that the lines give for a class
 abbrev said : TableEntry → List Line → Class → TableEntry
 said other [] c = other
 said other (line ∷ lines) c = elim (same_class line.0 c) [ true ↦ line.1 | false ↦ said other lines c ]
 
--- each symbol means what its lines say, over all classes, those of an operator's words among them
+-- each symbol has the entries of its lines, over all classes, including those of an operator's words
 abbrev AllSaid : List Listed → Type 0
 AllSaid rows =
     map (λ row. map (table_answer row.0) classes) rows ≡ map (λ row. map (said row.1 row.2) classes) rows
@@ -89,7 +89,7 @@ tokens_said : AllSaid tokens
 unfolding table_answer entries may_end_of
 tokens_said = refl
 
--- lists of texts, powers, numbers, provinces; a turn; any words; any lists whose brackets balance
+-- lists of texts, powers, numbers, provinces; a turn; any words; lists whose brackets balance
 abbrev lists : List Listed
 lists =
     (TextGroup, Stop, on Bra (Texts ∷ Closing ∷ []) ∷ [])
@@ -116,7 +116,7 @@ lists_said : AllSaid lists
 unfolding table_answer entries may_end_of
 lists_said = refl
 
--- a place, which may be a province and its coast in brackets; a unit, which is a power, a type and a place
+-- a place, which may be a province and its coast in brackets; a unit: a power, a type and a place
 abbrev places : List Listed
 places =
     (OnePlace, Stop, on Province [] ∷ on Bra (OneProvince ∷ OneCoast ∷ Closing ∷ []) ∷ [])
@@ -132,7 +132,7 @@ places_said : AllSaid places
 unfolding table_answer entries may_end_of
 places_said = refl
 
--- what a unit shall do
+-- what a unit is ordered to do
 abbrev order_tail_lines : List Line
 order_tail_lines =
     each_of (Hld ∷ Dsb ∷ Bld ∷ Rem ∷ []) []
@@ -142,7 +142,7 @@ order_tail_lines =
     ∷ on Cto (OneProvince ∷ Through ∷ ProvincesGroup ∷ [])
     ∷ []
 
--- orders: ( unit ) and what it shall do, or power WVE
+-- orders: ( unit ) and what it is ordered to do, or power WVE
 abbrev orders : List Listed
 orders =
     (OrderGroup, Stop, on Bra (OneOrder ∷ Closing ∷ []) ∷ [])
@@ -167,7 +167,7 @@ shares_said : AllSaid shares
 unfolding table_answer entries may_end_of
 shares_said = refl
 
--- what follows the first bracket of SUB: its turn, or already an order
+-- what follows the first bracket of SUB: its turn, or its first order
 abbrev submit_first_lines : List Line
 submit_first_lines =
     on Season (OneNumber ∷ Closing ∷ Orders ∷ [])
@@ -175,7 +175,7 @@ submit_first_lines =
     ∷ on Power (Waived ∷ Closing ∷ Orders ∷ [])
     ∷ []
 
--- what a client may take back
+-- a client's earlier request that it may take back
 abbrev cancel_lines : List Line
 cancel_lines =
     on Sub (SubmitTail ∷ [])
@@ -184,7 +184,7 @@ cancel_lines =
     ∷ on Drw (MaybePowersGroup ∷ [])
     ∷ []
 
--- parts of a client's messages: what SUB holds, what NOT takes back, what YES and REJ answer
+-- parts of a client's messages: the content of SUB, of NOT, and of YES and REJ
 abbrev of_clients : List Listed
 of_clients =
     (SubmitTail, Skip, on Bra (SubmitFirst ∷ []) ∷ [])
@@ -206,7 +206,7 @@ owned_lines =
     ++ on Bra (OnePower ∷ Powers ∷ Closing ∷ Provinces ∷ [])
     ∷ []
 
--- a kind of unit, or a fleet at a coast, and the places to which it can go
+-- a kind of unit, or a fleet at a coast, and the places that it can reach
 abbrev kind_places_lines : List Line
 kind_places_lines =
     each_of (Amy ∷ Flt ∷ []) (Places ∷ [])
@@ -236,7 +236,7 @@ of_servers_said : AllSaid of_servers
 unfolding table_answer entries may_end_of
 of_servers_said = refl
 
--- what follows the first bracket of MIS: a number, or already a unit
+-- what follows the first bracket of MIS: a number, or a unit
 abbrev missing_first_lines : List Line
 missing_first_lines =
     on Num (Closing ∷ [])
@@ -287,7 +287,7 @@ joining_levels = L30 ∷ L40 ∷ L50 ∷ L60 ∷ []
 abbrev at_each : List Level → (Level → Sym) → TableEntry → (Level → List Line) → List Listed
 at_each levels symbol other lines = map (λ l. (symbol l, other, lines l)) levels
 
--- what stands in brackets, and what SND leaves
+-- symbols in brackets, and the rest of SND
 groups_said : AllSaid (at_each all_levels ArrangementGroup Stop (λ l. on Bra (Arrangement l ∷ Closing ∷ []) ∷ []))
     × AllSaid (at_each all_levels FactGroup Stop (λ l. on Bra (Fact l ∷ Closing ∷ []) ∷ []))
     × AllSaid (at_each all_levels OperandGroup Stop (λ l. on Bra (Operand l ∷ Closing ∷ []) ∷ []))
@@ -300,7 +300,7 @@ groups_said : AllSaid (at_each all_levels ArrangementGroup Stop (λ l. on Bra (A
 unfolding table_answer entries may_end_of
 groups_said = (refl, refl, refl, refl, refl, refl, refl, refl, refl)
 
--- a send that a server hands back, from level 10 on; the turn of a send, or already its powers
+-- a send that a server returns, from level 10 on; the turn of a send, or its first power
 sends_said : AllSaid ((MaybeSendGroup L0, Skip, []) ∷ [])
     × AllSaid (at_each press_levels MaybeSendGroup Skip (λ l. on Bra (Send l ∷ Closing ∷ []) ∷ []))
     × AllSaid (at_each all_levels SendFirst Stop (λ l. on Season (OneNumber ∷ Closing ∷ PowersGroup ∷ PressGroup l ∷ [])
@@ -310,7 +310,7 @@ sends_said = (refl, refl, refl)
 
 -- ---- arrangements and facts
 
--- peace and alliances of level 10, with what a NOT holds; order proposals of 20; sharing out of 40
+-- peace and alliances from level 10, with the operand of a NOT; order proposals from 20; sharing out from 40
 abbrev peace : Sym → List Line
 peace inside =
     on Pce (PowersGroup ∷ [])
@@ -340,7 +340,7 @@ arrangement_lines L40 = peace (ArrangementGroup L40) ++ proposals ++ multipart L
 arrangement_lines L50 = peace (ArrangementGroup L50) ++ proposals ++ multipart L50 ++ sharing
 arrangement_lines L60 = peace (ArrangementGroup L60) ++ proposals ++ multipart L60 ++ sharing
 
--- what AND and ORR join: AND and ORR themselves from 50 on
+-- the operands of AND and ORR: from 50 on also AND and ORR
 abbrev operand_lines : Level → List Line
 operand_lines L30 = peace (OperandGroup L30) ++ proposals
 operand_lines L40 = peace (OperandGroup L40) ++ proposals ++ sharing
@@ -348,7 +348,7 @@ operand_lines L50 = peace (OperandGroup L50) ++ proposals ++ sharing ++ multipar
 operand_lines L60 = peace (OperandGroup L60) ++ proposals ++ sharing ++ multipart L60
 operand_lines _ = []
 
--- a fact: an arrangement, at 60 also a query and the negation of a fact
+-- a fact: an arrangement; at 60 also a query and the negation of a fact
 abbrev fact_lines : Level → List Line
 fact_lines L60 = on Qry (ArrangementGroup L60 ∷ []) ∷ on Not (FactGroup L60 ∷ []) ∷ arrangement_lines L60
 fact_lines l = arrangement_lines l
@@ -361,7 +361,7 @@ arrangements_said = (refl, refl, refl)
 
 -- ---- press
 
--- of level 10, and of level 60
+-- press from level 10, and from level 60
 abbrev statements : Level → List Line
 statements l =
     on Prp (ArrangementGroup l ∷ [])
@@ -387,7 +387,7 @@ press_said = refl
 
 -- ---- messages
 
--- what a client asks, and from level 10 on the sending of press
+-- the requests of a client, and from level 10 on the sending of press
 abbrev asked : List Line
 asked =
     each_of (Nme ∷ Adm ∷ []) (TextGroup ∷ TextGroup ∷ [])
@@ -404,11 +404,11 @@ abbrev request_lines : Level → List Line
 request_lines L0 = asked
 request_lines l = on Snd (SendTail l ∷ []) ∷ asked
 
--- a client asks, or says yes or no, or reports
+-- a client requests, accepts, refuses, or reports
 abbrev client_lines : Level → List Line
 client_lines l = request_lines l ++ each_of (Yes ∷ Rej ∷ []) (ReplyGroup ∷ []) ++ on Huh (AnyGroup ∷ []) ∷ []
 
--- what a server tells, and from level 10 on what it passes on
+-- the server's own messages, and from level 10 on the press that it passes on
 abbrev told_by_server : Level → List Line
 told_by_server l =
     each_of (Map ∷ Sve ∷ Lod ∷ []) (TextGroup ∷ [])

@@ -1,6 +1,6 @@
--- What the definitions say of single messages: for each rule of either side at least one message, with the level at
--- which it enters, and one near it that is none. Which is which was worked out by hand from the protocol's tables, so
--- a wrong definition does not check.
+-- The definitions at single messages: for each rule of both sides at least one message, with the level at which it
+-- enters, and a similar list that is no message. The expected results were worked out from the protocol's tables, so a
+-- wrong definition does not check.
 use Rattle.std.proofs.Common.{List, [], ◌∷◌, refl}
 use Rattle.std.specs.Fmt.{digits}
 use Rattle.daide_token.specs.Class.{class_of}
@@ -11,7 +11,7 @@ use Rattle.daide_grammar.specs.declared.side.Side2.TheVariants.{Client, ServerEn
 use Rattle.daide_grammar.specs.Table.Symbols.{entries, may_end_of, table_answer}
 use Rattle.daide_grammar.proofs.FactRows.{Row, said_from, never_said, AllHold, rows-hold}
 
--- What a client asks. From the protocol's list of client requests.
+-- The requests of a client. From the protocol's list of client requests.
 abbrev pub requests : List Row
 requests =
     said_from Client L0 "NME ( 'a' ) ( 'b' )"
@@ -80,8 +80,8 @@ pub requests_hold : AllHold requests
 unfolding class_of table_answer entries may_end_of text_of names name_of token_named digits
 requests_hold = rows-hold requests refl
 
--- What else a client says: yes or no to the server's MAP, SVE and LOD, and a report. What is
--- the server's alone, it doesn't say.
+-- The other messages of a client: yes or no to the server's MAP, SVE and LOD, and a report. It may not send the
+-- server's own messages.
 abbrev pub client : List Row
 client =
     said_from Client L0 "YES ( MAP ( 'a' ) )"
@@ -110,7 +110,7 @@ pub client_hold : AllHold client
 unfolding class_of table_answer entries may_end_of text_of names name_of token_named digits
 client_hold = rows-hold client refl
 
--- Orders, which SUB holds.
+-- Orders, in SUB.
 abbrev pub orders : List Row
 orders =
     said_from Client L0 "SUB ( SPR 1901 ) ( ( ENG FLT NTH ) MTO ( STP NCS ) )"
@@ -244,7 +244,7 @@ pub server_hold : AllHold server
 unfolding class_of table_answer entries may_end_of text_of names name_of token_named digits
 server_hold = rows-hold server refl
 
--- The requests to which a server says yes or no.
+-- The requests that a server accepts or refuses.
 abbrev pub answered_requests : List Row
 answered_requests =
     said_from ServerEnd L0 "YES ( NME ( 'a' ) ( 'b' ) )"
@@ -305,7 +305,7 @@ pub sends_hold : AllHold sends
 unfolding class_of table_answer entries may_end_of text_of names name_of token_named digits
 sends_hold = rows-hold sends refl
 
--- Press of level 10 and, from 60, the presses that ask and insist.
+-- Press from level 10 and, from 60, the press that queries and insists.
 abbrev pub press : List Row
 press =
     said_from Client L10 "SND ( FRA ) ( PRP ( DRW ) )"
@@ -418,7 +418,7 @@ pub facts_hold : AllHold facts
 unfolding class_of table_answer entries may_end_of text_of names name_of token_named digits
 facts_hold = rows-hold facts refl
 
--- Press that a server passes on, FRM: each press, arrangement and fact at the level at which it enters.
+-- Press that a server passes on, FRM: each press, arrangement and fact at its level.
 abbrev pub passed_on : List Row
 passed_on =
     said_from ServerEnd L10 "FRM ( FRA ) ( ENG ) ( PRP ( PCE ( ENG FRA ) ) )"
@@ -467,7 +467,7 @@ pub passed_on_hold : AllHold passed_on
 unfolding class_of table_answer entries may_end_of text_of names name_of token_named digits
 passed_on_hold = rows-hold passed_on refl
 
--- Press that a server hands back, since a power is in civil disorder or out of the game, and press that it takes or
+-- Press that a server returns, since a power is in civil disorder or out of the game, and press that it accepts or
 -- refuses.
 abbrev pub handed_back : List Row
 handed_back =

@@ -1,5 +1,5 @@
--- Cells of the constant table, worked out by hand from the protocol's tables, so that a wrong table does not check even
--- where the entries have the same mistake: a level's row and the one before, a row that levels share, and whole rests.
+-- Cells of the constant table, worked out from the protocol's tables. A wrong table does not check even if the entries
+-- have the same mistake. The cells: the row of a level and the previous one, a row that levels share, and whole rests.
 use Rattle.std.proofs.Common.{◌≡◌, [], ◌∷◌, refl}
 use Rattle.daide_token.specs.declared.class.Class.{Class}
 use Rattle.daide_token.specs.declared.class.Class.TheVariants.{Bra, Ket, Power, Text, And, Thx, Tme, Frm, Snd, Qry, Not}
@@ -17,11 +17,11 @@ use Rattle.daide_grammar.specs.Classes.{class_number}
 use Rattle.daide_grammar.specs.Table.Numbers.{class_at, symbol_number}
 use Rattle.daide_grammar.specs.Table.ParseActions.{action, rest_of_action}
 
--- what the table says to a symbol and a class
+-- the table's entry for a symbol and a class
 abbrev says : Sym → Class → TableEntry
 says s c = action (rule_at (class_number c) (symbol_number s))
 
--- KET closes what is open, and BRA does not
+-- KET closes an open bracket, and BRA does not
 closing-ket : says Closing Ket ≡ Take []
 unfolding action rest_of_action rule_at
 closing-ket = refl
@@ -30,7 +30,7 @@ closing-bra : says Closing Bra ≡ Stop
 unfolding action rest_of_action rule_at
 closing-bra = refl
 
--- characters go on until the bracket closes
+-- a text continues until the bracket closes
 texts-text : says Texts Text ≡ Take (Texts ∷ [])
 unfolding action rest_of_action rule_at
 texts-text = refl
@@ -39,7 +39,7 @@ texts-ket : says Texts Ket ≡ Skip
 unfolding action rest_of_action rule_at
 texts-ket = refl
 
--- AND joins from level 30 on, with what level 30 has at each level above
+-- AND joins from level 30 on, with the same rest at each level above
 and-20 : says (Arrangement L20) And ≡ Stop
 unfolding action rest_of_action rule_at
 and-20 = refl
@@ -52,7 +52,7 @@ and-60 : says (Arrangement L60) And ≡ Take (OperandGroup L60 ∷ OperandGroup 
 unfolding action rest_of_action rule_at
 and-60 = refl
 
--- inside an AND another may stand from level 50 on
+-- an AND may contain another from level 50 on
 operand-30 : says (Operand L30) And ≡ Stop
 unfolding action rest_of_action rule_at
 operand-30 = refl
@@ -61,7 +61,7 @@ operand-50 : says (Operand L50) And ≡ Take (OperandGroup L50 ∷ OperandGroup 
 unfolding action rest_of_action rule_at
 operand-50 = refl
 
--- a query is a fact at level 60 alone, where NOT holds a fact
+-- a query is a fact only at level 60; there a NOT contains a fact
 query-50 : says (Fact L50) Qry ≡ Stop
 unfolding action rest_of_action rule_at
 query-50 = refl
@@ -78,7 +78,7 @@ not-60 : says (Fact L60) Not ≡ Take (FactGroup L60 ∷ [])
 unfolding action rest_of_action rule_at
 not-60 = refl
 
--- press is sent and handed on from level 10 on
+-- press is sent and passed on from level 10 on
 send-0 : says (Client L0) Snd ≡ Stop
 unfolding action rest_of_action rule_at
 send-0 = refl
@@ -104,7 +104,8 @@ first-order : says SubmitFirst Bra ≡ Take (OneUnit ∷ Closing ∷ OrderTail �
 unfolding action rest_of_action rule_at
 first-order = refl
 
--- an operator's word means what a token without a meaning does: nothing to a message, a token to any list of tokens
+-- an operator's word has the entries of a token without a meaning: no message begins with it, and any list of tokens
+-- may contain it
 word-client : says (Client L60) (Word 15) ≡ Stop
 unfolding action rest_of_action rule_at
 word-client = refl
@@ -113,12 +114,12 @@ word-any : says Any (Word 0) ≡ Take (Any ∷ [])
 unfolding action rest_of_action rule_at
 word-any = refl
 
--- PRN is the reader's own case
+-- the reader handles PRN itself
 prn : says (Client L60) Prn ≡ Stop
 unfolding action rest_of_action rule_at
 prn = refl
 
--- classes by category and code: THX, a power that no map lists, a press code without a token, a character
+-- classes by category and code: THX, an unlisted power, an unlisted press code, a character
 thx-class : class_at (column_at 0x48 0x1A) ≡ Thx
 unfolding class_cell
 thx-class = refl

@@ -1,5 +1,4 @@
--- Whether a list of tokens is one of a side's messages, computed by following the table: what the definitions say of
--- one list.
+-- Decides whether a list of tokens is a message from a given side, by following the table.
 use Rattle.std.proofs.Common.{◌≡◌, ◌≢◌, ℕ, ◌+◌, Bool, true, false, ◌&&◌, List, [], ◌∷◌, ◌++◌, Option, None, Some, ◌↔◌}
 use Rattle.std.proofs.Common.{refl, sym, ◌∙◌, ap, subst, append_assoc}
 use Rattle.std.proofs.lemmas.Bool.{eqb-true}
@@ -19,15 +18,15 @@ use Rattle.daide_grammar.specs.Table.Proved.MovesAgree.{no-yes}
 use Rattle.daide_grammar.specs.Table.Proved.PlainLaws.{plain_laws}
 use Rattle.daide_grammar.proofs.PredictionLemmas.{none-begins}
 
--- whether the table follows the whole list from the stack, and what is left may be empty
+-- whether the table follows the whole list from the stack, and the rest of the stack is nullable
 abbrev pub follows : List Sym → List ℕ → Bool
 follows [] [] = true
 follows (s ∷ stack) [] = may_end_of s && follows stack []
 follows stack (t ∷ m) = elim (stack_after table_answer (class_of t) stack) [ None ↦ false | Some next ↦ follows next m ]
 
--- ---- a stack's language is that of two stacks, one after the other
+-- ---- the language of two stacks, one on top of the other
 
--- lists of two stacks, one after the other, are a list of the one stack on top of the other
+-- a list of the upper stack followed by one of the lower stack is a list of the whole
 joined : (rest stack : List Sym) (u v : List ℕ) → StackMatches SymbolMatches rest u →
     StackMatches SymbolMatches stack v →
     StackMatches SymbolMatches (rest ++ stack) (u ++ v)
@@ -35,7 +34,7 @@ joined [] stack u v e h = subst (λ (x : List ℕ). StackMatches SymbolMatches s
 joined (s ∷ rest) stack u v h k =
     (h.0, h.1 ++ v, ap (λ x. x ++ v) h.2 ∙ append_assoc h.0 h.1 v, h.3, joined rest stack h.1 v h.4 k)
 
--- and a list of the whole is in two such parts
+-- and conversely
 divided : (rest stack : List Sym) (m : List ℕ) → StackMatches SymbolMatches (rest ++ stack) m →
     (u v : List ℕ) × (m ≡ u ++ v) × StackMatches SymbolMatches rest u × StackMatches SymbolMatches stack v
 divided [] stack m h = ([], m, refl, refl, h)
@@ -62,11 +61,11 @@ sort_of c = go (same_class Bra c) (same_class Ket c) refl refl
         neither (λ e. no-yes (same_class Bra c) (ap (same_class Bra) e) x)
         (λ e. no-yes (same_class Ket c) (ap (same_class Ket) e) y)
 
--- a lawful stack with some number of open brackets
+-- a stack that is lawful with some number of open brackets
 abbrev Arises : List Sym → Type 0
 Arises stack = (k : ℕ) × IsLawful table_answer stack k
 
--- a Take leaves a lawful stack lawful, whatever the class
+-- a Take keeps a stack lawful, whatever the class
 arises-taken : (s : Sym) (c : Class) (rest stack : List Sym) → Arises (s ∷ stack) → table_answer s c ≡ Take rest →
     Arises (rest ++ stack)
 arises-taken s c rest stack l a = by_sort (sort_of c)
@@ -82,7 +81,7 @@ arises-taken s c rest stack l a = by_sort (sort_of c)
         in (k.0, k.2)
     by_sort (neither b k) = (l.0, plain_laws.lawful_take s c rest stack l.0 l.1 a b k)
 
--- so does a token that skips some symbols first
+-- and so does a token that skips some symbols first
 arises-after : (c : Class) (stack next : List Sym) → Arises stack →
     ◌≡◌ {A = Option (List Sym)} (stack_after table_answer c stack) (Some next) → Arises next
 arises-after c [] next l e = cc
@@ -100,15 +99,15 @@ arises-after c (s ∷ stack) next l e = by_answer (λ h. arises-after c stack ne
     by_answer go Skip a e = go (l.0, plain_laws.lawful_skip s c stack l.0 l.1 a) e
     by_answer go Stop a e = cc
 
--- the lists that begin with the token go on as lists of the stack after it
+-- the lists that begin with the token continue as lists of the stack after it
 abbrev GoesOn : List Sym → List Sym → ℕ → List ℕ → Type 0
 GoesOn stack next t m = StackMatches SymbolMatches stack (t ∷ m) ↔ StackMatches SymbolMatches next m
 
--- a list that begins with the token, in two parts of which the first is not empty
+-- a list that begins with the token, in two parts, the first of which is not empty
 first-same : (t v : ℕ) (m u b : List ℕ) → t ∷ m ≡ (v ∷ u) ++ b → (v ≡ t) × (m ≡ u ++ b)
 first-same t v m u b e = ((cc), (cc))
 
--- where the first symbol takes the token
+-- if the first symbol takes the token
 goes-on-taken : (s : Sym) (rest stack : List Sym) (t : ℕ) (m : List ℕ) → Arises (s ∷ stack) →
     table_answer s (class_of t) ≡ Take rest →
     GoesOn (s ∷ stack) (rest ++ stack) t m
@@ -130,7 +129,7 @@ goes-on-taken s rest stack t m l a = (
         (joined rest stack u v ((plain_laws.takes s t rest a u).0
         (subst (λ (n : ℕ). SymbolMatches s (n ∷ u)) q.0 x)) y)
 
--- where the first symbol is skipped
+-- if the first symbol is skipped
 goes-on-skipped : (s : Sym) (stack : List Sym) (t : ℕ) (m : List ℕ) → table_answer s (class_of t) ≡ Skip →
     StackMatches SymbolMatches (s ∷ stack) (t ∷ m) ↔ StackMatches SymbolMatches stack (t ∷ m)
 goes-on-skipped s stack t m a =
@@ -142,7 +141,7 @@ goes-on-skipped s stack t m a =
     by_front (z ∷ u) v e x y =
         absurd (plain_laws.skips_none s t a u (subst (λ (n : ℕ). SymbolMatches s (n ∷ u)) (first-same t z m u v e).0 x))
 
--- whichever symbol takes the token
+-- for any symbol that takes the token
 goes-on : (stack next : List Sym) (t : ℕ) (m : List ℕ) → Arises stack →
     ◌≡◌ {A = Option (List Sym)} (stack_after table_answer (class_of t) stack) (Some next) → GoesOn stack next t m
 goes-on [] next t m l e = cc
@@ -168,7 +167,7 @@ goes-on (s ∷ stack) next t m l e = by_answer (λ h. goes-on stack next t m h) 
 
 -- ---- the whole list
 
--- at the end of the list all that is left must be able to end
+-- at the end of the list the rest of the stack must be nullable
 nothing-left : (stack : List Sym) → (follows stack [] ≡ true) ↔ StackMatches SymbolMatches stack []
 nothing-left [] = (λ e. refl, λ e. refl)
 nothing-left (s ∷ stack) =
@@ -184,7 +183,7 @@ nothing-left (s ∷ stack) =
         ∙ go (subst (StackMatches SymbolMatches stack) (sym e) y)
     by_front (z ∷ u) v e x y go = cc
 
--- the table follows exactly the lists that the stack stands for
+-- the table follows exactly the lists of the stack
 pub follows-exactly : (m : List ℕ) (stack : List Sym) → Arises stack →
     (follows stack m ≡ true) ↔ StackMatches SymbolMatches stack m
 follows-exactly [] stack l = nothing-left stack

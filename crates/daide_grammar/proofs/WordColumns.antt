@@ -1,5 +1,4 @@
--- A class that the table knows is that of its number: the protocol's own first, and last the words that an operator may
--- add.
+-- A class of the table is determined by its number: first the protocol's own classes, then the operator's words.
 use Rattle.std.proofs.Common.{◌≡◌, true, ℕ, ◌+◌, ◌-◌, ◌<◌, ◌≤◌, nat_le, Some, None, map, refl, ap, ◌∙◌, arith}
 use Rattle.std.specs.List.{range_with_len}
 use Rattle.daide_token.specs.Class.{class_of, is_standard}
@@ -17,7 +16,7 @@ words = refl
 pub word_at : (k : ℕ) → k < most_words → class_at (own_classes + k) ≡ Word k
 word_at k less = alike (λ k. class_at (own_classes + k)) Word most_words words k less
 
--- a class that has a number of the table is that of its number
+-- a class with a number of the table is determined by it
 pub class_told : (c : Class) → class_number c < all_classes → class_at (class_number c) ≡ c
 class_told (Word k) less = word_at k (omega arith)
 class_told _ less = refl
@@ -26,7 +25,7 @@ own_small : (c : Class) → is_standard c ≡ true → class_number c < all_clas
 own_small (Word k) h = absurd cc
 own_small _ h = omega arith
 
--- a token's own class has one
+-- the class of a token has a number of the table
 pub own_class : (t : ℕ) → class_number (class_of t) < all_classes
 own_class t = own_small (class_of t) (standard_class t)
 

@@ -1,5 +1,5 @@
--- What the definitions say of single messages with an operator's words: XYZ, a press of a power from level 20 on, and
--- QQQ, an arrangement of an arrangement from level 30 on. Worked out by hand from what a word stands for.
+-- The definitions at single messages with an operator's words: XYZ, a press about a power from level 20 on, and QQQ, an
+-- arrangement about an arrangement from level 30 on. Worked out from the meaning of a word.
 use Rattle.std.proofs.Common.{◌≡◌, ℕ, List, [], ◌∷◌, ◌++◌, inr, refl}
 use Rattle.daide_token.specs.Class.{class_of}
 use Rattle.std.specs.Prelude.{nat_le, true}
@@ -89,7 +89,7 @@ reached : (a l : Level) (f : Form) (w : List ℕ) → nat_le (level_number a) (l
     Matches d (from_level a l f) w
 reached a l f w e m = rw (e, from_level) m
 
--- as a request, whose last alternative it is
+-- as a request, the last alternative of the form
 request_of : (l : Level) (p : List ℕ) → nat_le 10 (level_number l) ≡ true → Matches d (press l) p →
     IsMessageOver added Client l (sent p)
 request_of l p e m = inr (first (by_name {n = Request_name l}
@@ -107,7 +107,7 @@ a_press_word = request_of L20 _ refl (by_name {n = Press_name L20}
     (by_name {n = Added Press_slot L20} (first (both {u = XYZ ∷ []} {v = BRA ∷ ENG ∷ KET ∷ []} (token refl)
     (in_brackets power (ENG ∷ []) (token refl))))))))))))))
 
--- where words are free it is one at any level: TRY ( XYZ )
+-- in a list of free words it is allowed at any level: TRY ( XYZ )
 a_free_word : IsMessageOver added Client L10 (sent (TRY ∷ BRA ∷ XYZ ∷ KET ∷ []))
 unfolding class_of
 a_free_word = request_of L10 _ refl (by_name {n = Press_name L10}
@@ -134,7 +134,7 @@ both_of x y = AND ∷ BRA ∷ (x ++ KET ∷ BRA ∷ (y ++ KET ∷ []))
 abbrev q : List ℕ → List ℕ
 q x = QQQ ∷ BRA ∷ (x ++ KET ∷ [])
 
--- AND ( DRW ) ( DRW ) is an arrangement of level 50, and so is QQQ round it
+-- AND ( DRW ) ( DRW ) is an arrangement of level 50, and so is QQQ around it
 and_50 : Matches d (arrangement L50) (both_of (DRW ∷ []) (DRW ∷ []))
 unfolding class_of
 and_50 = by_name {n = Arrangement_name L50} (second (first (first

@@ -1,4 +1,4 @@
--- What an operator's words change: lists with none of their codes are messages exactly where they were.
+-- What an operator's words change: a list without their codes is a message exactly if it is one without the words.
 use Rattle.std.proofs.Common.{◌≡◌, ℕ, suc, Bool, true, false, not, ◌==◌, ◌||◌, List, [], ◌∷◌, ◌++◌}
 use Rattle.std.proofs.Common.{refl, sym, ◌∙◌, ap, subst, inl, inr, ◌↔◌}
 use Rattle.std.specs.Prelude.{nat_le}
@@ -29,13 +29,13 @@ use Rattle.daide_token.proofs.ClassNumbers.{told-apart}
 abbrev HasNone : Words → List ℕ → Type 0
 HasNone words m = has_no_word words m ≡ true
 
--- neither has a part of it
+-- neither does a part of it
 parts-have-none : (words : Words) (u v : List ℕ) → HasNone words (u ++ v) → HasNone words u × HasNone words v
 parts-have-none words u v h =
     both-pass (list_all (λ t. not (is_code words t)) u) (list_all (λ t. not (is_code words t)) v)
     (sym (list_all-append (λ t. not (is_code words t)) u v) ∙ h)
 
--- what is not the one or the other is neither
+-- if a disjunction is false, both sides are
 neither : (a b : Bool) → not (a || b) ≡ true → (a ≡ false) × (not b ≡ true)
 neither true b e = absurd cc
 neither false b e = (refl, e)
@@ -53,7 +53,7 @@ module _ (words : Words) where
   abbrev spoken : Dialect
   spoken = dialect_of words
 
-  -- what a place of a form asks of a token that is no word
+  -- a test gives the same result for a token that is no word
   asks-the-same : (k : TokenTest) (t : ℕ) → not (is_code words t) ≡ true →
       IsTrue (is_of_kind k (class_of t)) → IsTrue (is_of_kind k (spoken.class_of t))
   asks-the-same k t h e = subst (λ c. IsTrue (is_of_kind k c)) (sym (class-stays 0 words t h)) e
@@ -62,7 +62,7 @@ module _ (words : Words) where
       IsTrue (is_of_kind k (spoken.class_of t)) → IsTrue (is_of_kind k (class_of t))
   asked-before k t h e = subst (λ c. IsTrue (is_of_kind k c)) (class-stays 0 words t h) e
 
-  -- a token alone, and the brackets round a list
+  -- a single token, and the brackets around a list
   one-has-none : (t : ℕ) → HasNone words (t ∷ []) → not (is_code words t) ≡ true
   one-has-none t h = (both-pass (not (is_code words t)) true h).0
 
@@ -99,7 +99,7 @@ module _ (words : Words) where
   kept f m h (by_name {n = Request_name l} x) = by_name {n = Request_name l} (kept _ m h x)
   kept f m h (by_name {n = Added s l} x) = elim x [ ]
 
-  -- a class that is no operator's word is none
+  -- a token that is no operator's word has no word's class
   no-word : (place : ℕ) (t : ℕ) → not (is_code words t) ≡ true →
       IsTrue (is_of_kind (is (Word place)) (spoken.class_of t)) → ⊥
   no-word place t h e =
@@ -108,7 +108,7 @@ module _ (words : Words) where
       let standard_word : is_standard (Word place) ≡ true = ap is_standard is_word ∙ standard_class t in
       absurd cc
 
-  -- no form of a word takes the list
+  -- no form of a word matches the list
   no-from_level : (place : ℕ) (b : Bool) (g : Form) (m : List ℕ) → HasNone words m →
       Matches spoken (elim b [ true ↦ tok (Word place) · g | false ↦ never ]) m → ⊥
   no-from_level place true g m h (both {v = v} (token {t = t} e) y) =
@@ -164,7 +164,7 @@ module _ (words : Words) where
   before f m h (by_name {n = Request_name l} x) = by_name {n = Request_name l} (before _ m h x)
   before f m h (by_name {n = Added s l} x) = absurd (no-added 0 words s l m h x)
 
-  -- so it is a message with the words exactly where it is one without
+  -- so it is a message with the words exactly if it is one without
   pub others-stay : (side : Side2) (l : Level) (m : List ℕ) → HasNone words m →
       IsMessageOver words side l m ↔ IsMessage side l m
   others-stay side l m h = (there, back)

@@ -1,9 +1,9 @@
--- Brackets that balance, whatever stands between them: from the verdicts of docs/PROTOCOL.md.
+-- Balanced brackets, with any other tokens between them: from the verdicts of docs/PROTOCOL.md.
 use Rattle.std.specs.Prelude.{◌≢◌, ℕ, List, [], ◌∷◌, ◌++◌}
 use Rattle.daide_token.specs.Token.{bra, ket}
 
--- the least set of lists that holds the empty list and every token but a bracket, and is closed
--- under joining and under a pair of brackets round a member
+-- the least set that contains the empty list and every token except a bracket, and is closed under concatenation and
+-- under brackets around a member
 pub data IsBalanced : List ℕ → Type 0 where
   empty : IsBalanced []
   plain : (t : ℕ) → t ≢ bra → t ≢ ket → IsBalanced (t ∷ [])

@@ -1,2 +1,2 @@
--- The numbers of classes, by which forms and table compare them, as the tokens' crate has them. (own)
+-- The numbers of classes, as the tokens' crate defines them. Forms and the table compare classes by number. (own)
 pub use Rattle.daide_token.specs.ClassNumbers.{class_number, own_classes, same_class}

@@ -1,5 +1,5 @@
--- Forms of messages: the notation in which the grammar is written. A form says which lists of tokens
--- there are, and nothing of how a list is read; `Matches` says which lists match it.
+-- Forms of messages: the notation of the grammar. A form describes a set of token lists, independent of any reading
+-- order; `Matches` defines which lists match it.
 use Rattle.std.specs.Prelude.{ℕ, Bool, true, false, ◌&&◌, not, nat_le}
 use Rattle.daide_token.specs.declared.class.Class.{Class}
 use Rattle.daide_token.specs.declared.class.Class.TheVariants.{Bra, Ket}
@@ -7,21 +7,21 @@ use Rattle.daide_grammar.specs.declared.level.Level.{Level}
 use Rattle.daide_grammar.specs.Level.{level_number}
 use Rattle.daide_grammar.specs.Classes.{same_class}
 
--- what one place of a form asks of its token
+-- the test of a single token in a form
 pub data TokenTest : Type 0 where
   is : Class → TokenTest  -- a token of this class
   any_but_brackets : TokenTest  -- any token but the two brackets
 
--- whether a token of the class is of the kind
+-- whether a token of the class passes the test
 abbrev pub is_of_kind : TokenTest → Class → Bool
 is_of_kind (is c) d = same_class c d
 is_of_kind any_but_brackets d = not (same_class Bra d) && not (same_class Ket d)
 
--- where an operator's word may stand: as a press, as an arrangement, and as an arrangement without AND and ORR
+-- the positions of an operator's word: as a press, as an arrangement, and as an arrangement without AND and ORR
 pub data Slot : Type 0 where
   Press_slot Arrangement_slot Flat_slot : Slot
 
--- the forms that have a name, since they hold themselves or are used in many places; `rule` says what each stands for
+-- the forms with a name, since they are recursive or used in many places; `rule` gives the definition of each
 pub data Nonterminal : Type 0 where
   Any_name Place_name Unit_name Order_name : Nonterminal
   Arrangement_name : Level → Nonterminal

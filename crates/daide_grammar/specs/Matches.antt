@@ -11,7 +11,7 @@ use Rattle.daide_grammar.specs.Message.Arrangements.{arrangement_rule, flat_rule
 use Rattle.daide_grammar.specs.Message.Press.{press_rule, send_rule}
 use Rattle.daide_grammar.specs.Message.Client.{request_rule}
 
--- what each name stands for
+-- the form of each name
 abbrev pub rule : Dialect → Nonterminal → Form
 rule d Any_name = anything
 rule d Place_name = place_rule
@@ -25,7 +25,7 @@ rule d (Send_name l) = send_rule l
 rule d (Request_name l) = request_rule l
 rule d (Added s l) = d.added s l
 
--- in a dialect: one line for each kind of form, and no order of reading
+-- matching in a dialect: one line for each kind of form, independent of any reading order
 pub data Matches (d : Dialect) : Form → List ℕ → Type 0 where
   token : {k : TokenTest} {t : ℕ} → IsTrue (is_of_kind k (d.class_of t)) → Matches d (one k) (t ∷ [])
   nothing : Matches d empty []
@@ -39,7 +39,7 @@ pub data Matches (d : Dialect) : Form → List ℕ → Type 0 where
       Matches d (group f) (b ∷ (u ++ k ∷ []))
   by_name : {n : Nonterminal} {w : List ℕ} → Matches d (rule d n) w → Matches d (named n) w
 
--- a list in parts that match the forms one after the other
+-- the list is a concatenation of parts that match the forms in order
 abbrev pub MatchAll : Dialect → List Form → List ℕ → Type 0
 MatchAll d [] w = w ≡ []
 MatchAll d (f ∷ fs) w = (u : List ℕ) × (v : List ℕ) × Matches d f u × MatchAll d fs v × (u ++ v ≡ w)

@@ -1,4 +1,4 @@
--- The messages of either side, rule by rule as docs/PROTOCOL.md lists them.
+-- The messages from either side, rule by rule as in docs/PROTOCOL.md.
 pub mod Lists
 pub mod Places
 pub mod Orders

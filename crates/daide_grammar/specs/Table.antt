@@ -1,5 +1,5 @@
--- The grammar as a table: symbols, their entries, numbers, what a reader may know of a table, and what is proved of it.
--- No message is defined here, so none of it need be believed.
+-- The grammar as a table: symbols, entries, numbers, the laws of a table, and their proofs. No message is defined here,
+-- so the main theorem does not depend on trust in it.
 pub mod Answers
 pub mod AnswersGiven
 pub mod Symbols

@@ -1,4 +1,4 @@
-//! A class of tokens, by its number.
+//! The class of a token, as a number.
 
 ghost use Rattle.std.specs.Prelude.{◌≡◌, ◌<◌};
 ghost use Rattle.daide_token.specs.declared.class.Class.TheVariants.{Word};
@@ -16,9 +16,9 @@ use daide_token::class::Class;
 use daide_token::token::Token;
 use std::marker::Model;
 
-/// A class, by its number, which is its column of the constant table. A contract sees the class. The brackets come
-/// first, and the sixteen words that an operator may add last. It is held as wide as an index: where two ways of
-/// finding it meet, a byte would be widened at every token.
+/// A class, by its number, which is its column of the constant table. Its abstract value is the class. The brackets
+/// come first, and the sixteen words that an operator may add last. The number has the width of an index: with a byte,
+/// the compiler would widen it at every token.
 #[derive(Clone, Copy)]
 pub struct Column {
     number: usize,
@@ -44,7 +44,7 @@ impl Model for Column {
 }
 
 impl Column {
-    /// The class of a number.
+    /// Returns the class with a number.
     #[inline(always)]
     pub fn of(number: u8) -> Column
         requires { number < all_classes }
@@ -55,7 +55,7 @@ impl Column {
         }
     }
 
-    /// The class of a name.
+    /// Returns the class with a name.
     #[tactic(auto, using(crate::proofs::WordColumns::class_told))]
     pub fn named(class: Class) -> Column
         requires { class_number class < all_classes }
@@ -66,7 +66,7 @@ impl Column {
         }
     }
 
-    /// The class of an added word, by its place among the words.
+    /// Returns the class of an added word, by its index among the words.
     #[inline(always)]
     #[tactic(auto, using(crate::proofs::WordColumns::word_at))]
     pub fn word(place: u8) -> Column
@@ -78,7 +78,7 @@ impl Column {
         }
     }
 
-    /// The class by its name.
+    /// Returns the class by name.
     pub fn class(self) -> Class
         ensures class { result ≡ self }
         ensures few { class_number result < all_classes }
@@ -86,7 +86,7 @@ impl Column {
         listed(self.number)
     }
 
-    /// The class's number.
+    /// Returns the class's number.
     #[inline(always)]
     pub fn number(self) -> usize
         ensures number { result ≡ class_number self }
@@ -96,7 +96,8 @@ impl Column {
         self.number
     }
 
-    /// The class of a token by the protocol's own table, in which an operator's word is a token without a meaning.
+    /// Returns the class of a token by the protocol's own table, in which an operator's word is a token without a
+    /// meaning.
     #[inline(always)]
     pub fn known(token: Token) -> Column
         ensures { result ≡ class_of token }
@@ -104,7 +105,7 @@ impl Column {
         class_of(token)
     }
 
-    /// What a token of the class adds to a count of open brackets, which wraps.
+    /// Returns what a token of the class adds to a count of open brackets, modulo 2^16.
     #[inline(always)]
     pub fn bracket_step(self) -> u16
         ensures { result ≡ bracket_step self }
@@ -112,7 +113,7 @@ impl Column {
         bracket_cell(self.number)
     }
 
-    /// Whether it is that of a bracket.
+    /// Returns whether the class is that of a bracket.
     #[inline(always)]
     pub fn is_bracket(self) -> bool
         ensures { result ≡ is_bracket self }
@@ -120,7 +121,7 @@ impl Column {
         self.number <= KET
     }
 
-    /// The place of the added word that it is the class of.
+    /// Returns the index of the added word with this class, or `None` for any other class.
     #[inline(always)]
     pub fn word_number(self) -> Option<u8>
         ensures { result ≡ word_number self }
@@ -132,7 +133,7 @@ impl Column {
     }
 }
 
-/// What a token of a class adds.
+/// Returns the bracket step of the class with a number.
 #[inline(always)]
 #[tactic(auto, unfolding(crate::specs::Table::Cells::bracket_cell))]
 fn bracket_cell(number: usize) -> u16
@@ -142,7 +143,6 @@ fn bracket_cell(number: usize) -> u16
     whole().brackets[number]
 }
 
-/// The class at a place of the list of classes.
 fn listed(number: usize) -> Class
     requires { number < all_classes }
     ensures { result ≡ class_at number }

@@ -1,7 +1,7 @@
 //! The grammar's predictions, by one look-up in a constant table.
 //!
-//! The table stands in `table`, laid out to be read; the check shows of each of its cells that it says what the
-//! entries of the symbol say, so the laws of prediction hold of it as they hold of `Plain`.
+//! The module `table` has the table in a readable layout. A proof shows of each cell that it agrees with the entries of
+//! its symbol. So the laws of prediction hold for this table as for `Plain`.
 
 ghost use Rattle.std.specs.Prelude.{◌≡◌, ◌<◌, ◌+◌, ◌%◌, ◌/◌, ◌^◌, [], slice_index_or};
 ghost use Rattle.daide_token.specs.Class.{class_of};
@@ -28,7 +28,7 @@ pub struct Dense {
 }
 
 impl Dense {
-    /// A table that was never asked.
+    /// Creates a table with no look-up counted.
     pub fn new() -> Dense
         ensures { look_ups result ≡ 0 }
     {
@@ -36,7 +36,7 @@ impl Dense {
     }
 }
 
-/// What a token of the class means to the symbol.
+/// Returns the entry for a symbol and a class.
 #[inline(always)]
 fn move_of(sym: Symbol, class: Column) -> Move
     ensures { result ≡ table_answer sym class }
@@ -44,7 +44,6 @@ fn move_of(sym: Symbol, class: Column) -> Move
     Move::of(rule_at(class.number(), sym.number()))
 }
 
-/// A rule of the table.
 #[inline(always)]
 #[tactic(auto, unfolding(crate::specs::Table::Cells::rule_at))]
 fn rule_at(class: usize, symbol: u8) -> u8
@@ -55,7 +54,7 @@ fn rule_at(class: usize, symbol: u8) -> u8
     rules_of(class)[symbol as usize]
 }
 
-/// The rules of a class, symbol by symbol.
+/// Returns the rules of a class, one for each symbol.
 #[inline(always)]
 fn rules_of(class: usize) -> &'static [u8; SYMBOL_COUNT]
     requires { class < all_classes }
@@ -64,7 +63,7 @@ fn rules_of(class: usize) -> &'static [u8; SYMBOL_COUNT]
     whole().rows[class]
 }
 
-/// The class of a token.
+/// Returns the class of a token.
 #[inline(always)]
 pub(crate) fn class_of(token: Token) -> Column
     ensures { result ≡ class_of token }
@@ -73,7 +72,7 @@ pub(crate) fn class_of(token: Token) -> Column
     Column::of(class_cell(bits % 256 * 256 + bits / 256))
 }
 
-/// The number of the class at a place of the list of classes.
+/// Returns the number of the class at an index of the list of classes.
 #[inline(always)]
 #[tactic(auto, unfolding(crate::specs::Table::Cells::class_cell))]
 fn class_cell(place: u16) -> u8
@@ -82,7 +81,7 @@ fn class_cell(place: u16) -> u8
     whole().classes.as_flattened()[place as usize]
 }
 
-/// Whether a symbol may be empty: whether a closing bracket skips it.
+/// Returns whether a symbol is nullable, which holds exactly if a closing bracket skips it.
 #[tactic(auto, using(crate::proofs::RowsAgree::ends_told))]
 fn is_optional(sym: Symbol) -> bool
     ensures { result ≡ may_end_of sym }
@@ -90,7 +89,7 @@ fn is_optional(sym: Symbol) -> bool
     rule_at(KET, sym.number()) == SKIP
 }
 
-/// The symbol of a side's messages.
+/// Returns the start symbol for a side's messages at a level.
 fn start_symbol(side: Side2, level: Level) -> Symbol
     ensures { result ≡ start_symbol_of side level }
 {

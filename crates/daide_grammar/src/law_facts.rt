@@ -1,5 +1,4 @@
-//! Each law of `laws`, used once at values that were worked out by hand, so that a weaker law does not check. Nothing
-//! here is called.
+//! Uses each law of `laws` once, at concrete values, so that a weaker law does not check. Nothing here is called.
 
 ghost use Rattle.std.specs.Prelude.{◌≡◌, ◌↔◌, ◌==◌, ℕ, ◌≤◌, List, [], ◌∷◌, ◌++◌, length, take, drop, false};
 ghost use Rattle.std.specs.List.{count_by};
@@ -25,9 +24,9 @@ ghost use Rattle.daide_grammar.specs.Words.{AddedWord};
 
 use crate::laws;
 
-/// No symbol of a bot's messages stands for a PRN; a word in brackets is any list of tokens; what a bot says that begins
-/// with GOF balances its brackets; what a server may say at level 10 it may say at level 60; and a word that isn't GOF
-/// changes nothing of GOF.
+/// No start symbol of a bot derives a PRN. `( GOF )` matches `any`, and a list that matches `any` is balanced. A bot's
+/// message that begins with GOF balances its brackets. A message of a server at level 10 is one at level 60. An added
+/// word other than GOF does not change GOF.
 fn messages_at_values()
     ensures start_symbol { (m : List ℕ) → ¬ SymbolMatches (Client L60) (prn ∷ m) }
     ensures any { Matches standard any (bra ∷ 0x4803 ∷ ket ∷ []) }
@@ -44,8 +43,8 @@ fn messages_at_values()
     laws::other_messages_stay();
 }
 
-/// `PRN ( ) )` is a message without press, and no PRN has a depth; `HUH ( ( ) )` is one, two brackets deep; and
-/// `HUH ( ERR GOF )` is one bracket deep, wherever ERR is.
+/// `PRN ( ) )` is a message at level 0, and no PRN has a depth. `HUH ( ( ) )` is a message of depth 2. `HUH ( ERR GOF
+/// )` has depth 1, whatever the index of ERR.
 fn answers_at_values()
     ensures prn { IsMessage BotSide L0 (prn ∷ bra ∷ ket ∷ ket ∷ []) }
     ensures prn_depth { (m : List ℕ) → depth_of (prn ∷ bra ∷ bra ∷ (m ++ ket ∷ [])) ≡ 0 }
@@ -60,9 +59,10 @@ fn answers_at_values()
     laws::huh_answer_with_err_is_a_message();
 }
 
-/// The closing bracket's symbol takes that bracket, after which nothing follows, and stops the other; a text is empty
-/// before a bracket, and so may be the operands of AND; each press has some list; and a number that may be missing takes
-/// what a closing bracket behind it does not.
+/// The symbol of the closing bracket takes that bracket and nothing after it, and stops at the other one. A text is no
+/// list that begins with a closing bracket, and the operands of AND may be empty. Each press has a derivation. At most
+/// one entry of `Any` takes an opening bracket. An optional number takes a token that the closing bracket after it does
+/// not take.
 fn moves_at_values()
     ensures takes { (m : List ℕ) → SymbolMatches Closing (ket ∷ m) → m ≡ [] }
     ensures skips { (m : List ℕ) → ¬ SymbolMatches Texts (ket ∷ m) }
@@ -79,8 +79,8 @@ fn moves_at_values()
     laws::neighbours_differ();
 }
 
-/// TME of a bot leaves a stack that can arise, and so do its bracket, its number and the other bracket, or nothing of
-/// these; with 254 open brackets a stack has 2,048 entries at most, and few symbols are asked.
+/// TME of a bot leaves a stack that can arise. So do its bracket, its number and the other bracket, or none of these.
+/// With 254 open brackets a stack has at most 2,048 entries, and each token needs few look-ups.
 fn stacks_at_values()
     ensures begins { IsLawful table_answer (Client L60 ∷ []) 0 }
     ensures take { IsLawful table_answer (Client L60 ∷ []) 0 → IsLawful table_answer (MaybeNumberGroup ∷ []) 0 }

@@ -3,7 +3,7 @@
 ghost use Rattle.std.specs.Prelude.{◌≡◌};
 ghost use Rattle.daide_grammar.specs.Level.{first_not_above, greatest_level, level_number, level_of_number, levels_down};
 
-/// A level of press: what the powers may say to one another.
+/// A level of press: what the powers may say to each other.
 #[derive(Clone, Copy, Debug, PartialEq, Eq, PartialOrd, Ord)]
 pub enum Level {
     /// No press.
@@ -66,7 +66,7 @@ impl Level {
     }
 }
 
-/// The greatest level whose number is not above this one.
+/// Returns the greatest level whose number is at most this one.
 fn highest(number: u16) -> Level
     ensures { result ≡ first_not_above number levels_down }
 {

@@ -1,8 +1,7 @@
-//! The grammar of messages at each level of press, and a table that predicts it with one token of
-//! look-ahead.
+//! The grammar of messages at each level of press, and a table that predicts it with one token of look-ahead.
 //!
-//! What a message is stands in `specs/`, with no order of reading. `plain` has the table as code,
-//! `predict` what a reader may know of any table, and `laws` what holds of the grammar as a whole.
+//! `specs/` defines the messages, independent of any reading order. `plain` has the table as code, `predict` the
+//! interface of a table, and `laws` the properties of the grammar as a whole.
 #![tactic(auto)]
 
 pub mod column;

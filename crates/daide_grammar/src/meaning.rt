@@ -1,11 +1,11 @@
-//! What a token means to a symbol, told in symbols: the answer of a table that a reader of the code understands.
+//! The entry for a token and a symbol, in readable form: with symbols instead of their numbers.
 
 ghost use Rattle.std.specs.Prelude.{◌≡◌, ◌≤◌};
 ghost use Rattle.daide_grammar.specs.Table.Answers.{symbols_of};
 
 use crate::symbol::Sym;
 
-/// At most five symbols, in the order in which they must follow. No rest of the grammar is longer.
+/// At most five symbols, in the order in which they must follow. The grammar has no longer rest.
 #[derive(Clone, Copy)]
 pub struct Rest {
     len: u8,
@@ -13,7 +13,7 @@ pub struct Rest {
 }
 
 impl Rest {
-    /// The symbols of an array.
+    /// Creates a rest from an array of symbols.
     pub fn of<const N: usize>(symbols: [Sym; N]) -> Rest
         requires { N ≤ 5 }
         ensures { symbols_of result ≡ symbols.entry }
@@ -28,7 +28,7 @@ impl Rest {
         }
     }
 
-    /// The symbols, the next one first.
+    /// Returns the symbols, the next one first.
     pub fn as_slice(&self) -> &[Sym]
         ensures { result.now ≡ symbols_of self.now }
     {
@@ -36,13 +36,13 @@ impl Rest {
     }
 }
 
-/// What a token means to the symbol that is expected.
+/// What a token means to the expected symbol: an entry of the parse table.
 #[derive(Clone, Copy)]
 pub enum Meaning {
-    /// The token begins the symbol, and these must follow.
+    /// The token begins the symbol, and these symbols must follow.
     Take(Rest),
     /// The symbol is empty here.
     Skip,
-    /// No message continues so.
+    /// No message continues with this token.
     Stop,
 }

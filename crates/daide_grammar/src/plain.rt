@@ -1,9 +1,8 @@
-//! The grammar's predictions, by matching.
+//! The grammar's predictions, by `match`.
 //!
-//! `entry_of` has an arm for each symbol, in the order of `Sym`. A symbol that only one class may
-//! begin stands there whole; the others have a function of their own in the module of their part of
-//! the grammar. Nothing is looked up in memory: the matches are jumps. That a `Move` is a rule's number
-//! is seen to last, in `rules`.
+//! `entry_of` has one arm for each symbol, in the order of `Sym`. A symbol with one entry is handled in its arm. Each
+//! of the others has a function in the module of its part of the grammar. These matches compile to jumps and read no
+//! table. Only `rules` turns an entry into the number of a `Move`.
 
 ghost use Rattle.std.specs.Prelude.{◌≡◌, ◌≤◌, ◌+◌, ◌%◌, ◌^◌, [], ◌∷◌, if◌then◌else◌};
 ghost use Rattle.daide_token.specs.declared.class.Class.TheVariants.{Bra};
@@ -43,7 +42,7 @@ pub struct Plain {
 }
 
 impl Plain {
-    /// A table that was never asked.
+    /// Creates a table with no look-up counted.
     pub fn new() -> Plain
         ensures { plain_look_ups result ≡ 0 }
     {
@@ -51,7 +50,7 @@ impl Plain {
     }
 }
 
-/// What a token of the class means to the symbol.
+/// Returns the entry for a symbol and a class.
 fn move_of(sym: Symbol, class: Column) -> Move
     ensures { result ≡ table_answer sym class }
 {
@@ -120,7 +119,7 @@ impl Predict for Plain {
     ghost begins = { λ _ side level. plain_begins side level };
 }
 
-/// What a symbol does that must begin with one class: that class takes it, no other does.
+/// Returns the entry of a symbol that must begin with one class: that class takes it, and any other stops.
 fn must<const N: usize>(wanted: Class, class: Class, rest: [Sym; N]) -> Meaning
     requires { N ≤ 5 }
     ensures { entry_of_meaning result ≡ (if same_class wanted class then Take rest.entry else Stop) }
@@ -132,7 +131,7 @@ fn must<const N: usize>(wanted: Class, class: Class, rest: [Sym; N]) -> Meaning
     }
 }
 
-/// What a symbol does that may be empty: one class takes it, at any other it is skipped.
+/// Returns the entry of a nullable symbol with one entry: one class takes it, and any other skips it.
 fn may<const N: usize>(wanted: Class, class: Class, rest: [Sym; N]) -> Meaning
     requires { N ≤ 5 }
     ensures { entry_of_meaning result ≡ (if same_class wanted class then Take rest.entry else Skip) }
@@ -144,29 +143,28 @@ fn may<const N: usize>(wanted: Class, class: Class, rest: [Sym; N]) -> Meaning
     }
 }
 
-/// What a symbol does that is one token.
+/// Returns the entry of a symbol that is one token.
 fn token(wanted: Class, class: Class) -> Meaning
     ensures { entry_of_meaning result ≡ (if same_class wanted class then Take [] else Stop) }
 {
     must(wanted, class, [])
 }
 
-/// What a symbol does that is a pair of brackets with another symbol in it.
+/// Returns the entry of a symbol that is another symbol in brackets.
 fn group(inside: Sym, class: Class) -> Meaning
     ensures { entry_of_meaning result ≡ (if same_class Bra class then Take (inside ∷ Closing ∷ []) else Stop) }
 {
     must(Class::Bra, class, [inside, Sym::Closing])
 }
 
-/// What a symbol does that is any number of such pairs: behind the first one it stands again.
+/// Returns the entry of a symbol that is a list of such pairs: after the first pair the list continues.
 fn groups(inside: Sym, all: Sym, class: Class) -> Meaning
     ensures { entry_of_meaning result ≡ (if same_class Bra class then Take (inside ∷ Closing ∷ all ∷ []) else Skip) }
 {
     may(Class::Bra, class, [inside, Sym::Closing, all])
 }
 
-/// What a token of the class means to the symbol. A closing bracket, the symbol that is met most
-/// often, is told before the jump.
+/// Returns the entry for a symbol and a class. The most frequent symbol, a closing bracket, is tested before the jump.
 #[tactic(auto, unfolding(crate::specs::Table::Symbols::table_answer, crate::specs::Table::Symbols::entries, crate::specs::Table::Symbols::may_end_of))]
 pub fn meaning_of(sym: Sym, class: Class) -> Meaning
     ensures { entry_of_meaning result ≡ table_answer sym class }
@@ -177,11 +175,11 @@ pub fn meaning_of(sym: Sym, class: Class) -> Meaning
     }
 }
 
-/// What a token of the class means to the symbol, by a jump.
+/// Returns the entry for a symbol and a class, by a jump.
 //
-// It stays out of line: inlined into a reader's loop over the symbols, the comparisons of all arms
-// would be made before the first symbol is looked at. What it calls is inlined and each arm returns
-// by itself, so that an answer is written where it is wanted and not copied on the way.
+// It stays out of line: inlined into a reader's loop over the symbols, the comparisons of all arms would be made before
+// the first symbol is known. Its callees are inlined and each arm returns directly, so that an entry is written to its
+// final place without a copy.
 #[inline(never)]
 #[rattlefmt::skip]
 #[tactic(
@@ -308,7 +306,7 @@ fn entry_of(sym: Sym, class: Class) -> Meaning
     }
 }
 
-/// Whether the symbol may be empty.
+/// Returns whether the symbol is nullable.
 #[tactic(auto, unfolding(crate::specs::Table::Symbols::may_end_of))]
 fn is_optional(sym: Sym) -> bool
     ensures { result ≡ may_end_of sym }

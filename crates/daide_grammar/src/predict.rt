@@ -1,9 +1,8 @@
-//! What a table of predictions answers, and what it promises.
+//! The interface of a table of predictions, and its laws.
 //!
-//! A table is asked with a symbol that is expected and the class of the next token. It knows no
-//! stack and no message: that its answers fit together is said by its laws, and a reader needs
-//! nothing else of it. What an operator added to the grammar is the table's `words`, which no
-//! answer changes; everything else that is said of a table is said of its words.
+//! A call passes the expected symbol and the class of the next token. The table has no stack and no message: its laws
+//! say that its results fit together, and a reader needs nothing else. `words` is what an operator added to the
+//! grammar. No call changes it, and every other clause depends on it.
 
 ghost use Rattle.std.specs.Prelude.{◌≡◌, ℕ, ◌+◌, ◌%◌, ◌^◌, ◌≤◌, ◌<◌, List, [], ◌∷◌, Bool, false, length, reverse, take};
 ghost use Rattle.daide_token.specs.declared.class.Class.{Class};
@@ -26,8 +25,8 @@ use crate::table::whole;
 use daide_token::token::Token;
 use std::marker::Model;
 
-/// What a token means to the symbol that is expected, by the number of a rule, as wide as an index. A contract sees the
-/// answer.
+/// What a token means to the expected symbol, as the number of a rule, with the width of an index. Its abstract value
+/// is the entry.
 #[derive(Drop)]
 pub struct Move {
     rule: usize,
@@ -46,7 +45,7 @@ impl Model for Move {
 }
 
 impl Move {
-    /// The answer of a rule.
+    /// Returns the entry of a rule.
     #[inline(always)]
     pub fn of(rule: u8) -> Move
         ensures { result ≡ action rule }
@@ -56,7 +55,7 @@ impl Move {
         }
     }
 
-    /// Whether the token begins the symbol.
+    /// Returns whether the token begins the symbol.
     #[inline(always)]
     pub fn is_take(&self) -> bool
         ensures { result ≡ is_take self.now }
@@ -64,7 +63,7 @@ impl Move {
         self.rule >= 2
     }
 
-    /// Whether no message continues so.
+    /// Returns whether no message continues with the token.
     #[inline(always)]
     pub fn is_stop(&self) -> bool
         ensures { result ≡ is_stop self.now }
@@ -72,7 +71,7 @@ impl Move {
         self.rule == 0
     }
 
-    /// How many symbols must follow; none where nothing is taken.
+    /// Returns how many symbols must follow: 0 unless the token is taken.
     #[inline(always)]
     pub fn len(&self) -> usize
         ensures len { result ≡ length (rest_of self.now) }
@@ -81,7 +80,7 @@ impl Move {
         length_at(self.rule) as usize
     }
 
-    /// How many symbols a stack has, where the one at this place was its top and took the token.
+    /// Returns the height of a stack after its top, at this index, took the token.
     #[inline(always)]
     pub fn height_after(&self, top: usize) -> usize
         requires { top ≤ 65535 }
@@ -90,7 +89,7 @@ impl Move {
         top.wrapping_add(growth_at(self.rule)).wrapping_add(1)
     }
 
-    /// The symbols that must follow, the last first; what lies behind them has no meaning.
+    /// Returns the symbols that must follow, the last one first. The cells after `len` have no meaning.
     #[inline(always)]
     pub fn cells(&self) -> [Symbol; 8]
         ensures { take (length (rest_of self.now)) result ≡ reverse (rest_of self.now) }
@@ -108,7 +107,6 @@ impl Move {
     }
 }
 
-/// A symbol of a rule's row.
 #[inline(always)]
 fn cell_of(rule: usize, place: usize) -> Symbol
     requires rule { rule < all_rules }
@@ -118,7 +116,6 @@ fn cell_of(rule: usize, place: usize) -> Symbol
     Symbol::of(cell_at(rule, place))
 }
 
-/// A number of a rule's row.
 #[inline(always)]
 #[tactic(auto, unfolding(crate::specs::Table::Cells::cell_at))]
 fn cell_at(rule: usize, place: usize) -> u8
@@ -129,7 +126,7 @@ fn cell_at(rule: usize, place: usize) -> u8
     whole().rests[rule][place]
 }
 
-/// How many symbols a rule leaves.
+/// Returns how many symbols a rule leaves.
 #[inline(always)]
 #[tactic(auto, unfolding(crate::specs::Table::Cells::length_at))]
 fn length_at(rule: usize) -> u8
@@ -139,7 +136,7 @@ fn length_at(rule: usize) -> u8
     whole().lengths[rule]
 }
 
-/// What a rule adds to the place of a stack's top, wrapping.
+/// Returns what a rule adds to the index of a stack's top, modulo 2^64.
 #[inline(always)]
 #[tactic(auto, unfolding(crate::specs::Table::Cells::growth_at))]
 fn growth_at(rule: usize) -> usize
@@ -160,32 +157,32 @@ pub trait Predict {
     /// The class of a token.
     ghost class_of: { Words → ℕ → Class };
 
-    /// The lists of tokens that a symbol stands for.
+    /// The lists of tokens that a symbol derives.
     ghost language: { Words → Sym → List ℕ → Type 0 };
 
-    /// The answer of `predict`.
+    /// The entry that `predict` returns.
     ghost moves: { Words → Sym → Class → TableEntry };
 
-    /// The answer of `may_end`.
+    /// The result of `may_end`.
     ghost ends: { Words → Sym → Bool };
 
-    /// The answer of `start`.
+    /// The result of `start`.
     ghost start_symbol: { Side2 → Level → Sym };
 
-    /// The stacks that can arise, the next symbol first, each with its number of open brackets.
+    /// The stacks that can arise, the next symbol first, with their number of open brackets.
     ghost lawful: { Words → List Sym → ℕ → Type 0 };
 
-    /// The answers so far, modulo 2^64.
+    /// The number of look-ups so far, modulo 2^64.
     ghost asked: { Self → ℕ };
 
-    /// What a token of the class means to the symbol.
+    /// Returns the entry for a symbol and a class.
     fn predict(&mut self, sym: Symbol, class: Column) -> Move
         ensures answer { result ≡ moves (words self.old) sym class }
         ensures words_stay { words self.new ≡ words self.old }
         ensures counts_each_answer { asked self.new ≡ (asked self.old + 1) % 2 ^ 64 };
 
-    /// What a token means to the symbol, as far as the protocol's own table says, which knows it by this class: where
-    /// this doesn't stop, it is the answer, and where it does, `predict_word` has the answer.
+    /// Returns the entry for a symbol and a token, by the token's class in the protocol's own table. Unless it is a
+    /// `Stop`, it is the entry for the token. After a `Stop`, `predict_word` returns that entry.
     fn predict_token(&mut self, sym: Symbol, token: Token, known: Column) -> Move
         requires { known ≡ known_class token }
         ensures answer { is_stop result ≡ false →
@@ -193,35 +190,35 @@ pub trait Predict {
         ensures words_stay { words self.new ≡ words self.old }
         ensures counts_each_answer { asked self.new ≡ (asked self.old + 1) % 2 ^ 64 };
 
-    /// What a token means to the symbol as an operator's word too: the answer where `predict_token` stopped. It is an
-    /// answer of its own, and counted as one.
+    /// Returns the entry for a symbol and a token that may be an operator's word. It is called after `predict_token`
+    /// stopped, and counts as a further look-up.
     fn predict_word(&mut self, sym: Symbol, token: Token, known: Column) -> Move
         requires { known ≡ known_class token }
         ensures answer { result ≡ moves (words self.old) sym (class_of (words self.old) token) }
         ensures words_stay { words self.new ≡ words self.old }
         ensures counts_each_answer { asked self.new ≡ (asked self.old + 1) % 2 ^ 64 };
 
-    /// Whether the symbol may be empty.
+    /// Returns whether the symbol is nullable.
     fn may_end(&mut self, sym: Symbol) -> bool
         ensures answer { result ≡ ends (words self.old) sym }
         ensures words_stay { words self.new ≡ words self.old }
         ensures counts_each_answer { asked self.new ≡ (asked self.old + 1) % 2 ^ 64 };
 
-    /// The class of a token. An operator's word has one of its own.
+    /// Returns the class of a token. An operator's word has a class of its own.
     fn class_of(&self, token: Token) -> Column
         ensures { result ≡ class_of (words self.now) token };
 
-    /// The symbol of a side's messages at a level.
+    /// Returns the start symbol for a side's messages at a level.
     fn start(&self, side: Side2, level: Level) -> Symbol
         ensures { result ≡ start_symbol side level };
 
-    /// How many answers `predict`, `predict_token`, `predict_word` and `may_end` gave so far, modulo 2^64.
+    /// Returns how many calls of `predict`, `predict_token`, `predict_word` and `may_end` were made, modulo 2^64.
     fn asked(&self) -> u64
         ensures { result ≡ asked self.now };
 
-    /// The answers agree with the languages, and the stacks that can arise stay small.
+    /// The entries agree with the languages, and the stacks that can arise stay small.
     ghost laws: { (w : Words) → IsCorrectPrediction (class_of w) (language w) (moves w) (ends w) (lawful w) };
 
-    /// A message's symbol alone is a stack that can arise.
+    /// A start symbol alone is a stack that can arise.
     ghost begins: { (w : Words) (side : Side2) (level : Level) → lawful w (start_symbol side level ∷ []) 0 };
 }

@@ -1,10 +1,10 @@
-//! The two sides of a session.
+//! The two roles in the grammar.
 
-/// Whose message is read.
+/// The role of a message's sender.
 #[derive(Clone, Copy, Debug, PartialEq, Eq)]
 pub enum Side2 {
-    /// The bot's.
+    /// The bot, which is the client.
     Client,
-    /// The server's.
+    /// The server.
     ServerEnd,
 }

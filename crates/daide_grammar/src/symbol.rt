@@ -1,9 +1,9 @@
 //! The symbols of the grammar's table.
 //!
-//! A symbol stands for lists of tokens that are still expected, as its comment says in the notation
-//! of docs/PROTOCOL.md: `x*` is none or more, `x+` one or more, `[x]` none or one. A pair of brackets
-//! is a symbol of its own, a `..Group`, so that no rest of a prediction holds an opening bracket. A
-//! symbol that may be empty stands last in its brackets, or last of all.
+//! A symbol represents the lists of tokens that are still expected. Its comment gives them in the notation of
+//! docs/PROTOCOL.md: `x*` is none or more, `x+` one or more, `[x]` none or one. A pair of brackets is a symbol of its
+//! own, a `..Group`, so that no rest of a prediction has an opening bracket. A nullable symbol is the last one in its
+//! brackets, or the last of all.
 
 ghost use Rattle.std.specs.Prelude.{◌≡◌, ◌+◌, ◌<◌, ◌≤◌};
 ghost use Rattle.daide_grammar.specs.Table.Numbers.{all_symbols, level_place, symbol_number, symbol_at};
@@ -12,7 +12,7 @@ use crate::level::Level;
 use crate::table::names::{SYMBOLS, number_of};
 use std::marker::Model;
 
-/// What the reader still expects. A symbol holds its level where the level matters.
+/// A symbol that a reader still expects. It has a level if its language depends on the level.
 #[derive(Clone, Copy)]
 pub enum Sym {
     // single tokens
@@ -100,7 +100,7 @@ pub enum Sym {
     Orders,
     /// `order`
     OneOrder,
-    /// what follows the unit of an order
+    /// the rest of an order after its unit
     OrderTail,
     /// `[MTO province]`, after a supported unit
     SupportTail,
@@ -118,7 +118,7 @@ pub enum Sym {
     OperandGroup(Level),
     /// `( operand )*`
     Operands(Level),
-    /// `operand`: what AND and ORR join
+    /// `operand`: an operand of AND or ORR
     Operand(Level),
     /// `( power province* )`
     ShareGroup,
@@ -132,7 +132,7 @@ pub enum Sym {
     Press(Level),
     /// `( send )`
     SendGroup(Level),
-    /// `[( send )]`, and nothing below level 10
+    /// `[( send )]`, and always empty below level 10
     MaybeSendGroup(Level),
     /// `send`
     Send(Level),
@@ -142,7 +142,7 @@ pub enum Sym {
     SendFirst(Level),
 
     // client messages
-    /// a client's message, but for the report PRN
+    /// a client's message, except for the report PRN
     Client(Level),
     /// `( request )`
     RequestGroup(Level),
@@ -152,17 +152,17 @@ pub enum Sym {
     SubmitTail,
     /// `turn ) ( order )*` or `order ) ( order )*`
     SubmitFirst,
-    /// what a client may take back, in brackets
+    /// a client's earlier request that it may take back, in brackets
     CancelGroup,
-    /// what a client may take back
+    /// a client's earlier request that it may take back
     Cancel,
-    /// what a client answers with YES or REJ, in brackets
+    /// a server's message that a client accepts or refuses, in brackets
     ReplyGroup,
-    /// what a client answers with YES or REJ
+    /// a server's message that a client accepts or refuses
     Reply,
 
     // server messages
-    /// a server's message, but for the report PRN
+    /// a server's message, except for the report PRN
     Server(Level),
     /// `( who )`
     WhoGroup,
@@ -220,7 +220,7 @@ pub enum Sym {
     OnePlayer,
 }
 
-/// A symbol of the table, by its number. A contract sees the symbol.
+/// A symbol of the table, by its number. Its abstract value is the symbol.
 #[derive(Clone, Copy)]
 pub struct Symbol {
     number: u8,
@@ -245,14 +245,14 @@ impl Model for Symbol {
 }
 
 impl Symbol {
-    /// The closing bracket.
+    /// Returns the closing bracket.
     pub fn closing() -> Symbol
         ensures { result ≡ Sym.Closing }
     {
         Symbol { number: 0 }
     }
 
-    /// The symbol of a name.
+    /// Returns the symbol with a name.
     #[tactic(auto, using(crate::proofs::NumberLemmas::symbol_back, crate::proofs::NumberLemmas::symbol_small))]
     pub fn named(sym: Sym) -> Symbol
         ensures { result ≡ sym }
@@ -262,14 +262,14 @@ impl Symbol {
         }
     }
 
-    /// The symbol by its name.
+    /// Returns the symbol by name.
     pub fn sym(self) -> Sym
         ensures { result ≡ self }
     {
         listed(self.number)
     }
 
-    /// The symbol of a number.
+    /// Returns the symbol with a number.
     #[inline(always)]
     pub fn of(number: u8) -> Symbol
         requires { number < all_symbols }
@@ -278,7 +278,7 @@ impl Symbol {
         Symbol { number }
     }
 
-    /// The symbol's number.
+    /// Returns the symbol's number.
     #[inline(always)]
     pub fn number(self) -> u8
         ensures number { result ≡ symbol_number self }
@@ -289,7 +289,6 @@ impl Symbol {
     }
 }
 
-/// The symbol at a place of the list of symbols.
 fn listed(number: u8) -> Sym
     requires { number < all_symbols }
     ensures { result ≡ symbol_at number }
@@ -297,7 +296,7 @@ fn listed(number: u8) -> Sym
     SYMBOLS[number as usize]
 }
 
-/// The level's place among the levels, from 0 to 6.
+/// Returns the index of a level among the levels, from 0 to 6.
 pub fn level_place(level: Level) -> u8
     ensures place { result ≡ level_place level }
     ensures few { result < 7 }

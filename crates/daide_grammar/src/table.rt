@@ -12,24 +12,24 @@ pub(crate) mod names;
 pub(crate) mod rows;
 pub(crate) mod rules;
 
-/// The constant table as it is read aloud, which no code looks into.
+/// The constant table in a readable layout, which only contracts and proofs name.
 pub(crate) struct Table {
-    /// The rule of each symbol at each class. An operator's word means what a token without a meaning does.
+    /// The rule of each symbol at each class. An operator's word has the rules of a token without a meaning.
     pub(crate) rows: [[u8; SYMBOL_COUNT]; CLASS_COUNT],
-    /// The symbols that each rule leaves, as they are put on a stack.
+    /// The symbols that each rule leaves, in the order in which they are pushed on a stack.
     pub(crate) rests: [[u8; 8]; RULE_COUNT],
     /// How many symbols each rule leaves.
     pub(crate) lengths: [u8; RULE_COUNT],
-    /// What each rule adds to the place of a stack's top, wrapping.
+    /// What each rule adds to the index of a stack's top, modulo 2^64.
     pub(crate) growths: [usize; RULE_COUNT],
-    /// What a token of each class adds to the open brackets, wrapping.
+    /// What a token of each class adds to the open brackets, modulo 2^16.
     pub(crate) brackets: [u16; CLASS_COUNT],
     /// The number of the class of each token, code by code.
     pub(crate) classes: [u8; TOKEN_COUNT],
 }
 
-/// The same in one piece, so that one address reaches all of it, with each row behind a reference, so that a class has
-/// its row by one load. The classes of a code stand in a row of their own: a proof reads short lists in less time.
+/// The same table in one piece, so that one address reaches all of it. Each row is a reference, so that a class reaches
+/// its row by one load. Each code has its own row of classes: short lists make the proofs faster.
 pub(crate) struct Linked {
     pub(crate) rows: [&'static [u8; SYMBOL_COUNT]; CLASS_COUNT],
     pub(crate) rests: [[u8; 8]; RULE_COUNT],
@@ -39,7 +39,7 @@ pub(crate) struct Linked {
     pub(crate) classes: [[u8; 256]; 256],
 }
 
-/// The whole table. It is named here alone: a proof reads all of it at each function that names it.
+/// Returns the whole table. Only this function names it: a proof reads the whole table for each function that names it.
 #[inline(always)]
 pub(crate) fn whole() -> &'static Linked
     ensures rows { map (λ row. row.now) result.now.rows ≡ TABLE.rows }

@@ -1,4 +1,4 @@
--- A session's own log tells what the log of a match tells of it.
+-- A session's own log has the same moves as the session has in the log of a match.
 use Rattle.std.proofs.Common.{◌≡◌, ℕ, zero, suc, ◌+◌, ◌-◌, ◌<◌, Bool, true, false, cond, eqb, leb, ◌⊎◌, inl, inr, ◌≢◌}
 use Rattle.std.proofs.Common.{List, [], ◌∷◌, ◌++◌, length, map, set, replicate, codes, Option, Some, None, Ok, Result}
 use Rattle.std.proofs.Common.{refl, sym, ap, ◌∙◌, subst, arith}
@@ -30,7 +30,7 @@ use Rattle.daide_log.specs.Log.{ReportsBy, IsReportBy, LogState, Opening, Playin
 use Rattle.daide_log.specs.Laws.{is_number, own_of, own_line, unnumbered, own_reported, SessionsAreAlone}
 use Rattle.daide_log.proofs.StepLemmas.{Steps, all_read, all_written}
 
--- ---- what a line tells
+-- ---- the event of a line
 
 not_quiet : (session : Option ℕ) (event : Option LogEvent) → event_of_session session event ≡ Some Quiet → ⊥
 not_quiet None event e = absurd (cc)
@@ -42,7 +42,7 @@ parts_not_quiet sessions None e = absurd (cc)
 parts_not_quiet sessions (Some parted) e =
     not_quiet (within 1 sessions (plain_number parted.word)) (loud (event_of_line parted.rest)) e
 
--- a line that tells no session anything is a comment
+-- a line without an event is a comment
 quiet_is_comment : (sessions : ℕ) (line : List ℕ) → match_event_of_line sessions line ≡ Some Quiet → is_comment line ≡ true
 unfolding match_event_of_line
 quiet_is_comment sessions line e = go (is_comment line) e
@@ -51,7 +51,7 @@ quiet_is_comment sessions line e = go (is_comment line) e
     go true k = refl
     go false k = absurd (parts_not_quiet sessions (parted_at_space line) k)
 
--- and tells nothing in version 1, too
+-- a line that begins with `#` has no event in version 1 either
 hash_is_silent : (cs : List ℕ) → event_of_line (35 ∷ cs) ≡ Some Silence
 unfolding event_of_line
 hash_is_silent cs = refl
@@ -122,7 +122,7 @@ is_reported sessions line session event e = go (is_comment line) refl e
     go true spoken k = absurd (cc)
     go false spoken k = parts spoken (parted_at_space line) refl k
 
--- a session's line without its number, and `#` for another's
+-- a session's line without its number, and `#` for another session's line
 own_is : (sessions : ℕ) (line : List ℕ) (k : ℕ) (event : LogEvent) (session : ℕ) (t : IsTold sessions line k event) →
     own_line session line ≡ cond (eqb k session) t.parted.rest (codes "#")
 own_is sessions line k event session t =
@@ -130,7 +130,7 @@ own_is sessions line k event session t =
     ∙ ap (own_of session) t.parts
     ∙ ap (λ (o : Option ℕ). cond (is_number session o) t.parted.rest (codes "#")) t.number
 
--- ---- what is told of a session
+-- ---- the entries of a session
 
 own_reported-append : (session : ℕ) (a b : List ReportEntry) → own_reported session (a ++ b) ≡ own_reported session a ++ own_reported session b
 own_reported-append session [] b = refl
@@ -189,7 +189,7 @@ get_replicate (suc n) (suc i) x h = get_replicate n i x (omega arith)
 
 -- ---- one line
 
--- by a line of the match the session goes on as by its own line
+-- a line of the match moves the session as its own line does
 record GoesAlone (session number : ℕ) (line : List ℕ) (reported : List ReportEntry) (new : LogState) (state : SessionState) : Type 0 where
   sessions : List SessionState
   next : SessionState
@@ -198,7 +198,7 @@ record GoesAlone (session number : ℕ) (line : List ℕ) (reported : List Repor
   own : AdvancesByLine number (Playing Single (state ∷ [])) (own_line session line) (own_reported session reported)
       (Playing Single (next ∷ []))
 
--- a line that tells nothing
+-- a line without an event
 silent : (session number : ℕ) (line : List ℕ) (reported : List ReportEntry) (new : LogState) (states : List SessionState)
     (state : SessionState) → new ≡ Playing Match states → slice_get states (session - 1) ≡ Some state →
     event_of_line (own_line session line) ≡ Some Silence → own_reported session reported ≡ [] →
@@ -316,13 +316,13 @@ lines_alone (line ∷ lines) session number reported states new state some place
 
 -- ---- the head
 
--- the head with a line more
+-- the head with one more line
 opens : (number : ℕ) (old heading : Heading) (line : List ℕ) (reported : List ReportEntry) (new : LogState) →
     AdvancesByLine number (Opening old) line reported new → heading_after old line ≡ Some heading →
     (reported ≡ []) × (new ≡ stage_at heading)
 opens number old heading line reported new on e = (on.2, on.3 ∙ ap stage_at (same_Some on.0 heading (sym on.1 ∙ e)))
 
--- what a match's second line sets, where there are no words
+-- the contents of a match's second line, without words
 match_head : MatchConfig → Preamble
 match_head limits = record { version = Match; limits = limits; words = [] }
 
@@ -333,7 +333,7 @@ match_begins limits none = ap (λ (n : ℕ). cond (eqb 0 n) (state_after_preambl
 start_symbol_of : MatchConfig → SessionState
 start_symbol_of limits = initial_state (limits_with limits.config [])
 
--- behind the first two lines of a match without words
+-- after the first two lines of a match without words
 match_opened : (second : List ℕ) (lines : List (List ℕ)) (limits : MatchConfig) (reported : List ReportEntry) (new : LogState) →
     match_config_of_line second ≡ Some limits → limits.words ≡ 0 →
     Steps 0 (Opening Unnamed) (codes "daide-log 2" ∷ second ∷ lines) reported new →
@@ -380,7 +380,7 @@ own_opened own_second lines config reported new e steps = (
 
 -- ---- the whole
 
--- a report without a fault is of a log that was read to its end
+-- a report without a fault belongs to a log that was read to its end
 record IsWhole (log text : List ℕ) (summary : Summary) : Type 0 where
   number : ℕ
   reported : List ReportEntry

@@ -1,4 +1,4 @@
--- The body of an answer, of the parts that it was put together of.
+-- The body of an answer as the concatenation of its parts.
 use Rattle.std.proofs.Common.{◌≡◌, ◌≤◌, ◌%◌, ◌*◌, ℕ, false, take, drop, List, [], ◌++◌, length, arith, refl, ap, ◌∙◌}
 use Rattle.std.proofs.Common.{length-append, append_assoc, append-nil, Result, Ok, Err, IfOk}
 use Rattle.std.specs.List.{AllZip}

@@ -1,4 +1,4 @@
--- The lines of a log behind its head.
+-- The lines of a log after its head.
 use Rattle.std.proofs.Common.{◌≡◌, ℕ, ◌+◌, ◌-◌, ◌*◌, ◌<◌, ◌≤◌, List, [], ◌++◌, length, get_or, set, Option, Some, None}
 use Rattle.std.proofs.Common.{Result, Ok, Err, refl, sym, ap, ◌∙◌, subst, arith, ◌⊎◌, inl, inr, IfOk, OnOk, ◌≢◌, ◌∷◌, true, false}
 use Rattle.std.specs.Prelude.{All, IsErrAnd, MatchResult, option_map, replicate}
@@ -55,7 +55,7 @@ pub late_of : {Answer : Type 0} → (form : ReportForm Answer) (fault : Unreport
 late_of form Unreporteds.Write h = inl refl
 late_of form Unreporteds.Memory h = inr (refl, h)
 
--- a report with explanations may want for memory
+-- a report with explanations may run out of memory
 pub any_cause : {A : Type 0} → (words : List Word) (r : Result A Unreported) → IfErr r (IsCauseIn (explained words))
 any_cause words (Ok x) = tt
 any_cause words (Err Unreporteds.Write) = tt
@@ -69,7 +69,7 @@ refused_late form (Ok x) answer e h =
 refused_late form (Err f) answer e h =
     subst (λ (r : Result Unit LogFault). IfErr r (IsLateFault form)) (sym e) (late_of form f h)
 
--- what holds of all sessions, with one that went on
+-- a property of all sessions, after one of them moved
 pub all_idle : (P : SessionView → Type 0) (items : List SessionView) (i : ℕ) (new : SessionView) → All P items → P new →
     All P (set items i new)
 all_idle P items i new idle h k d less = go k (cases_eq k i) less
@@ -91,7 +91,7 @@ new_is_ready config words session new right = record {
   under = record { limits = ap (λ (s : SessionState). s.limits) new.state; accepted = right };
 }
 
--- one session more was made
+-- one more session was created
 pub one_more_opened : (limits : Limits) (items : List SessionView) (n : ℕ) (session : SessionView) →
     states_of items ≡ replicate n (initial_state limits) → IsNew limits session →
     states_of (items ++ session ∷ []) ≡ replicate (n + 1) (initial_state limits)
@@ -101,7 +101,7 @@ one_more_opened limits items n session h new =
     ∙ ap (λ (s : SessionState). replicate n (initial_state limits) ++ s ∷ []) new.state
     ∙ replicate_more n (initial_state limits)
 
--- ---- what was found
+-- ---- the next line
 
 pub at_end : (found : LineEnd) → is_end_of_log found ≡ true → found ≡ End
 at_end (Held n) e = absurd (cc)
@@ -115,7 +115,7 @@ at_last_line Line e = absurd (cc)
 at_last_line Last e = refl
 at_last_line End e = absurd (cc)
 
--- any other that was found is a line with its line feed
+-- any other line that was found has its line feed
 pub as_line : (all : Option (List ℕ)) (now new : Reader) (held rest line : List ℕ) (n : ℕ) (found : LineEnd) → is_end_of_log found ≡ false →
     is_last_line found ≡ false → IsFound all now held n (Ok found) line new rest → IsFound all now held n (Ok Line) line new rest
 as_line all now new held rest line n (Held k) e l f = f
@@ -126,7 +126,7 @@ as_line all now new held rest line n End e l f = absurd (cc)
 module _ {Answer : Type 0} (form : ReportForm Answer) where
   -- ---- one line
 
-  -- a session was told what a line tells it
+  -- a session got the event of a line
   pub session_judged : (words : List Word) → IsWritableForm words form → (version : Version) (number session : ℕ) (event : LogEvent)
       (line : List ℕ) (items : List SessionView) (old new : SessionView) (source : ReportKey) (s t : Summary)
       (a b c : Option (List ℕ)) (quoted : List ℕ) →
@@ -162,7 +162,7 @@ module _ {Answer : Type 0} (form : ReportForm Answer) where
             (appends_more a b c quoted (texts_of form.text reported.1) written reported.5),
       )
 
-  -- a line tells nothing
+  -- a line without an event
   pub nothing_judged : (version : Version) (number : ℕ) (line : List ℕ) (items : List SessionView) (s : Summary)
       (a b : Option (List ℕ)) (quoted : List ℕ) → event_in version (length items) line ≡ Some Quiet →
       IsQuietWith form line quoted → Appends a b quoted →
@@ -182,7 +182,7 @@ module _ {Answer : Type 0} (form : ReportForm Answer) where
 
   -- ---- between two lines
 
-  -- what is so whatever came before, and how far the log has come
+  -- a property that does not depend on earlier lines, and the progress of the log
   pub record Plays (P : SessionView → Type 0) (start : Reader → Option (List ℕ) → Type 0) (now : Reader) (held : List ℕ) (number : ℕ) (version : Version)
       (sessions : List SessionView) (count : ℕ) (summary : Summary) (after : Option (List ℕ)) : Type 0 where
     pub ready : All P sessions
@@ -210,7 +210,7 @@ module _ {Answer : Type 0} (form : ReportForm Answer) where
       IsMoreBy (1024 * (n + 1)) nothing_counted t
   more_few n s t h k = record { relayed = omega arith; prn = omega arith; huh = omega arith; faults = omega arith }
 
-  -- what was told so far, with what a line told
+  -- the counts so far, with the entries of one more line
   more_counts : (reported more : List form.Entry) (s t : Summary) → s ≡ counted_over form.counted reported nothing_counted → t ≡ counted_over form.counted more s →
       t ≡ counted_over form.counted (reported ++ more) nothing_counted
   more_counts reported more s t h k = k ∙ ap (counted_over form.counted more) h ∙ sym (counted_over-append form.counted reported more nothing_counted)
@@ -299,7 +299,7 @@ module _ {Answer : Type 0} (form : ReportForm Answer) where
       q.written f)
       (λ other. appends_and_keeps before all c (texts_of form.text q.reported) q.written (k other))
 
-  -- and so at a fault that `?` hands on
+  -- the same at a fault that `?` returns
   pub fault_handed_on : (start : Reader → Option (List ℕ) → Type 0) (new : Reader) (c : Option (List ℕ)) (fault : LogFault)
       (result : Result Answer LogFault) → IsErrAnd result (λ reported. reported ≡ fault) →
       ((origin : Reader) (before : Option (List ℕ)) → start origin before → IsFaultAfter form origin new before c fault) →
@@ -309,7 +309,7 @@ module _ {Answer : Type 0} (form : ReportForm Answer) where
   fault_handed_on start new c fault (Err reported) e h origin before begins =
       subst (IsFaultAfter form origin new before c) (sym e) (h origin before begins)
 
-  -- a line of another form, or a failed write
+  -- a line without an allowed form, or a failed write
   pub bad_in_play : (P : SessionView → Type 0) (start : Reader → Option (List ℕ) → Type 0) (now new : Reader) (held rest line : List ℕ) (n : ℕ)
       (version : Version) (sessions : List SessionView) (count : ℕ) (s : Summary) (all b c : Option (List ℕ)) (found : LineEnd)
       (fault : LogFault) → Plays P start now held n version sessions count s all →

@@ -1,4 +1,4 @@
--- The items that end with the last of some bytes, with the body of the frame that they are.
+-- The items that end with the last of some bytes, each with the body of its frame.
 use Rattle.std.proofs.Common.{◌≡◌, ℕ, Bool, true, false, cond, eqb, List, [], ◌∷◌, length, drop}
 use Rattle.std.proofs.Common.{Option, Some, None, Result, Ok, Err, refl, sym, subst, arith}
 use Rattle.std.proofs.lemmas.Bool.{eqb-true}

@@ -1,5 +1,5 @@
--- The laws of `laws` that are definitions, each used once at values that were worked out by hand. Each fact takes the law
--- alone, so that a weaker one does not check.
+-- One application of each law of `laws` that is a definition, to known values. Each fact depends on the law alone, so
+-- that a weakened law fails to check.
 use Rattle.std.proofs.Common.{◌≡◌, ◌≢◌, ℕ, ◌+◌, ◌≤◌, List, [], ◌∷◌, ◌++◌, true, codes, Some, Ok, Err, refl, sym, ◌∙◌, arith}
 use Rattle.daide_protocol.specs.declared.summary.Summary.{Summary}
 use Rattle.daide_protocol.specs.declared.config.Config.{Config}
@@ -21,7 +21,7 @@ use Rattle.daide_log.specs.Recording.{Recorded, Records}
 use Rattle.daide_log.specs.Report.{ReportEntry, counted_all, lines_of, summary_line}
 use Rattle.daide_log.proofs.Played.{has_no_feed, unbroken}
 
--- a match of which no session has a line
+-- a match in which no session has a line
 alone : SessionsAreAlone → (log own second own_second : List ℕ) (limits : MatchConfig) (text : List ℕ)
     (summary : Summary) → IsLines log (codes "daide-log 2" ∷ second ∷ []) →
     match_config_of_line second ≡ Some limits → limits.words ≡ 0 → 1 ≤ limits.sessions →
@@ -33,7 +33,7 @@ alone : SessionsAreAlone → (log own second own_second : List ℕ) (limits : Ma
 alone law log own second own_second limits text summary lines is none some own_lines own_is reports =
     law log own second own_second [] limits 1 text summary lines is none (omega arith) some own_lines own_is reports
 
--- a first line of another form is a fault, whatever follows it
+-- a wrong first line is a fault, whatever follows it
 pub bad_first_line : HasFault (codes "x" ++ 10 ∷ []) (BadLine 1)
 unfolding has_no_feed
 bad_first_line more = (
@@ -45,14 +45,14 @@ bad_first_line more = (
 abbrev limits : Config
 limits = record { top_level = 60; max_body = 1024; max_depth = 16 }
 
--- the record of a session whose ports answered nothing
+-- the record of a session whose ports made no call
 nothing_recorded : RecordsAreReported → IsReported limits [] [] [] (initial_state (limits_with limits []))
 nothing_recorded law = law limits [] [] [] (initial_state (limits_with limits [])) refl refl tt tt (omega arith) (refl, refl)
 
 whole_or_failed : (end : RecordEnd) → end ≡ Whole → end ≢ Failed
 whole_or_failed end is other = absurd (let same : Whole ≡ Failed = sym is ∙ other in cc)
 
--- ports whose clock popped, and no other call
+-- ports whose timer expired, and that had no other call
 one_line : {P : Type 0} (transition : P → PortCall → P → Type 0) (failed : Type 0) → PortsAreRecorded transition failed →
     (old new : Recorded P) → old.record_of ≡ begun_record limits [] →
     EvolvesBy (Records transition failed) old (Clock true ∷ []) new → new.record_of.ending ≡ Whole →

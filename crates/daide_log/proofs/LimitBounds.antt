@@ -1,4 +1,4 @@
--- The limits that a session takes, as bounds.
+-- The limits that a session accepts, as bounds.
 use Rattle.std.proofs.Common.{◌≡◌, ℕ, ◌≤◌, Bool, true, false, cond, Result, Ok, Err, refl, arith}
 use Rattle.std.proofs.Common.{leb}
 use Rattle.std.specs.Prelude.{◌&&◌, ◌==◌, ◌%◌}

@@ -1,4 +1,4 @@
--- From line to line of a log.
+-- From one line of a log to the next.
 use Rattle.std.specs.Bool.{MatchBool}
 use Rattle.std.proofs.Common.{◌≡◌, ℕ, ◌+◌, ◌<◌, ◌≤◌, List, [], ◌∷◌, ◌++◌, length, Option, Some, None, Result, Ok, Err}
 use Rattle.std.proofs.Common.{Bool, true, false, refl, sym, ap, ◌∙◌, subst, arith, append-nil, append_assoc, length-append, ◌≢◌, IfSome, IfOk, IfErr, inl, inr}
@@ -29,9 +29,9 @@ use Rattle.daide_log_lines.proofs.PageLemmas.{keeps_more, keeps_appends, appends
 use Rattle.daide_log.proofs.PlayLemmas.{appends_more}
 
 module _ {Answer : Type 0} (form : ReportForm Answer) where
-  -- ---- what was looked at
+  -- ---- the bytes that were consumed
 
-  -- all that was given, up to behind the bytes that were looked at
+  -- all bytes read, up to the end of those that were consumed
   looked : (before all : Option (List ℕ)) (old now new : Reader) (held line rest : List ℕ) (n : ℕ) (reported : List form.Entry) (stage : LogState)
       (h : HasRead form before old now held n reported stage) (k : LooksAt all now held n line new rest) →
       h.given ++ k.0 ≡ (h.bytes ++ line) ++ rest
@@ -66,7 +66,7 @@ module _ {Answer : Type 0} (form : ReportForm Answer) where
       Consumes old.remaining new.remaining given
   given_bytes before old new given g = g.4
 
-  -- what is so of all that was given, and whatever follows it, is so of the log
+  -- a property of all bytes read, whatever follows them, holds of the log
   of_log : (P : List ℕ → Type 0) (old new : Option (List ℕ)) (given : List ℕ) → Consumes old new given →
       ((more : List ℕ) → P (given ++ more)) → IfSome old P
   of_log P None new given h p = tt
@@ -91,7 +91,7 @@ module _ {Answer : Type 0} (form : ReportForm Answer) where
     reports = ReportsBy.none;
   }
 
-  -- what was given, and by reads in time, up to behind what was found
+  -- the bytes read by reads in time, up to the end of the line that was found
   pub found_given : (before all : Option (List ℕ)) (old now new : Reader) (held rest line : List ℕ) (n : ℕ)
       (reported : List form.Entry) (stage : LogState) (found : LineEnd) → HasRead form before old now held n reported stage →
       Appends before all (texts_of form.text reported) → IsFound all now held n (Ok found) line new rest →
@@ -163,7 +163,7 @@ module _ {Answer : Type 0} (form : ReportForm Answer) where
     reports = h.reports;
   }
 
-  -- at the first byte of what is held
+  -- at the first byte of the block
   stops_at_first : (before all : Option (List ℕ)) (old now new : Reader) (held rest : List ℕ) (n : ℕ) (reported : List form.Entry)
       (stage : LogState) (h : HasRead form before old now held n reported stage) → Appends before all (texts_of form.text reported) → LooksAt all now held n [] new rest → 0 < length rest →
       length rest ≤ block_size → StopsBehind form before old new reported n 1
@@ -310,7 +310,7 @@ module _ {Answer : Type 0} (form : ReportForm Answer) where
         ),
   )
 
-  -- the counts were written behind all lines
+  -- the counts were written after all lines
   pub finished : (old new : Reader) (n : ℕ) (reported : List form.Entry) (version : Version) (sessions : List SessionState)
       (summary : Summary) (a b c : Option (List ℕ)) (result : Result Answer LogFault) →
       HasReadAll form a old new n reported (Playing version sessions) → summary ≡ counted_over form.counted reported nothing_counted →
@@ -320,7 +320,7 @@ module _ {Answer : Type 0} (form : ReportForm Answer) where
       subst (Reported form old new a c) (sym r.0) (log_reported old new n reported version sessions summary a b c h e w r.1)
   finished old new n reported version sessions summary a b c (Err fault) h e w r = tt
 
-  -- ---- faults, with what was written
+  -- ---- faults, and the text written before them
 
   pub fault_after : (old new : Reader) (reported : List form.Entry) (a b : Option (List ℕ)) (fault : LogFault) →
       IsFaultOf form a old new reported fault → (fault ≢ Faults.Write → Appends a b (texts_of form.text reported)) → IsFaultAfter form old new a b fault
@@ -331,7 +331,7 @@ module _ {Answer : Type 0} (form : ReportForm Answer) where
   fault_after old new reported a b Faults.Write h w = h
   fault_after old new reported a b Faults.Memory h w = absurd h
 
-  -- ---- what is held back
+  -- ---- the page
 
   pub fault_kept : (old new : Reader) (a b c : Option (List ℕ)) (fault : LogFault) → IsFaultAfter form old new a b fault → Keeps b c →
       IsFaultAfter form old new a c fault
@@ -356,7 +356,7 @@ module _ {Answer : Type 0} (form : ReportForm Answer) where
   refused_kept old new a b c (Ok summary) h k = tt
   refused_kept old new a b c (Err fault) h k = fault_kept old new a b c fault h k
 
-  -- the rest of a report was handed over
+  -- the page was written at the end of a report
   pub reported_kept : (old new : Reader) (a b c : Option (List ℕ)) (answer : Result Answer LogFault) →
       IfOk answer (λ summary. Reported form old new a b summary) → Keeps b c → IfOk answer (λ summary. Reported form old new a c summary)
   reported_kept old new a b c (Err fault) h k = tt
@@ -368,7 +368,7 @@ module _ {Answer : Type 0} (form : ReportForm Answer) where
       go None t = tt
       go (Some log) t = (t.0, t.1, appends_and_keeps a b c t.0 t.2 k)
 
-  -- nothing was held back at first, and nothing is
+  -- the page was empty at first, and is empty
   refused_at_last : (old new : Reader) (a b c : Option (List ℕ)) (first last : List ℕ) (answer : Result Answer LogFault) →
       IfErr answer (λ fault. IsFaultAfter form old new (append_known a first) b fault) → Keeps b (append_known c last) →
       first ≡ [] → last ≡ [] → IfErr answer (λ fault. IsFaultAfter form old new a c fault)
@@ -389,7 +389,7 @@ module _ {Answer : Type 0} (form : ReportForm Answer) where
       (ap (append_known c) f ∙ none_held c)
       (reported_kept old new (append_known a first) b (append_known c last) answer h k))
 
-  -- whatever was answered, what was given was given by reads in time
+  -- whatever the result, the bytes were returned by reads in time
   fault_given : (old new : Reader) (a b : Option (List ℕ)) (fault : LogFault) → IsFaultAfter form old new a b fault →
       (given : List ℕ) × GivesInTime form a old new given
   fault_given old new a b (Faults.BadLine n) h = go h.1.1
@@ -423,7 +423,7 @@ module _ {Answer : Type 0} (form : ReportForm Answer) where
   answer_given old new a b (Ok summary) h k = (h.0, h.1)
   answer_given old new a b (Err fault) h k = fault_given old new a b fault k
 
-  -- what was answered, with what was held back handed over, unless the writer failed
+  -- the result after the page was written, unless the writer failed
   of_other_than_write : (old new : Reader) (a b : Option (List ℕ)) (result : Result Answer LogFault) →
       (given : List ℕ) × GivesInTime form a old new given →
       (result ≢ Err Faults.Write → IfErr result (λ fault. IsFaultAfter form old new a b fault)) →
@@ -466,7 +466,7 @@ module _ {Answer : Type 0} (form : ReportForm Answer) where
       (fault ≢ Faults.Write → Keeps a b) → IsFaultAfter form old new a b fault
   fault_at_once old new a b fault h k = fault_after old new [] a b fault h (λ other. keeps_appends a b (k other))
 
-  -- of a failed write no more is said, nor where memory is refused late
+  -- nothing more is stated of a failed write, nor of memory that is refused late
   pub late_fault : (old new : Reader) (a b : Option (List ℕ)) (fault : LogFault) →
       (given : List ℕ) × GivesInTime form a old new given → IsLateFault form fault → IsFaultAfter form old new a b fault
   late_fault old new a b fault g (inl e) = subst (IsFaultAfter form old new a b) (sym e) g
@@ -484,7 +484,7 @@ module _ {Answer : Type 0} (form : ReportForm Answer) where
   write_failed old new a b (Ok summary) g e = tt
   write_failed old new a b (Err fault) g e = late_fault old new a b fault g e
 
--- of the same bytes the same is said
+-- equal bytes have the same result
 pub answered_alike : {Answer : Type 0} (form : List Word → ReportForm Answer) (old new : Reader) (a b : Option (List ℕ))
     (old2 new2 : Reader) (a2 b2 : Option (List ℕ)) (answer : Result Answer LogFault) →
     (words : List Word) × IsAnswered (form words) old2 new2 a2 b2 answer → old2 ≡ old → new2 ≡ new → a2 ≡ a → b2 ≡ b →

@@ -1,4 +1,4 @@
--- What a move was made of: the event that made it, the state before, and the frame that the session still holds.
+-- The cause of a move: its event, the state before it, and the frame that the session still holds.
 use Rattle.std.proofs.Common.{◌≡◌, ℕ, ◌+◌, ◌<◌, ◌≤◌, Bool, true, false, List, [], ◌∷◌, ◌++◌, length, Option, Some, None}
 use Rattle.std.proofs.Common.{refl, sym, ap, ◌∙◌, subst, arith, append_assoc, append-nil, length-append}
 use Rattle.daide_frame.specs.declared.side.Side.{Side}
@@ -60,7 +60,7 @@ use Rattle.daide_log.proofs.LimitBounds.{depth_within, body_within}
 use Rattle.daide_log.specs.Explained.{verdict_by}
 use Rattle.daide_log.proofs.OneMove.{Ending, ending_at, less_missing, over_moves, pending_phase, pending_missing, no_more}
 
--- the byte of a piece that made its move
+-- the byte of a piece that caused its move
 pub record Found (s : SessionState) (side : Side) (piece : List ℕ) (move : Effect) (new : SessionState) : Type 0 where
   pub front : List ℕ
   pub byte : ℕ
@@ -109,12 +109,12 @@ move_found (x ∷ piece) s side move new room run =
         length piece ≤ missing s'.limits.cap (coming s' side).pending → Runs s' (bytes_come side piece) (move ∷ []) new →
         Found s' side piece move new
 
-    -- what the byte made
+    -- the result of the byte
     made : is_over s.phase ≡ false →
         items_outcome next side (last_items cap (b ++ x ∷ [])) run.3.verdict ≡ record { state = run.0; effects = run.1 }
     made live = (let h = rw live at run.3.outcome in h)
 
-    -- it made the move
+    -- it caused the move
     here : is_nothing (last_items cap (b ++ x ∷ [])) ≡ false → run.2 ≡ [] → new ≡ run.0 → Found s side (x ∷ piece) move new
     here loud none last =
         let only : run.1 ≡ move ∷ [] =
@@ -191,9 +191,9 @@ move_found (x ∷ piece) s side move new room run =
     by_phase false live later =
         by_ending (last_items cap (b ++ x ∷ [])) refl (ending_at cap b x (omega arith)) live later
 
--- ---- the message that a byte ends
+-- ---- the message that ends with a byte
 
--- the lines of a frame are told by what the grammar is asked
+-- the question to the grammar determines the lines for a frame
 pub record IsFate (before : SessionState) (side : Side) (bytes : List ℕ) (q : Option Question) (level : Level) (deed : Deed) :
     Type 0 where
   pub asked : q ≡ Some (record { side = side; level = level; message = tokens_of (drop 4 bytes) })
@@ -204,7 +204,7 @@ pub record IsFate (before : SessionState) (side : Side) (bytes : List ℕ) (q : 
   pub by : Verdict
   pub made : deed ≡ deed_of true by
 
--- what a byte made that told of a frame: a message that was judged, or another frame, of which nothing is asked
+-- the result of a byte that completed a frame: a message that was judged, or another frame, which is not judged
 abbrev pub IsAsked : SessionState → Side → List ℕ → Option Question → Level → Head → Deed → Type 0
 IsAsked before side bytes q level head deed =
     MatchBool (is_dm head.kind) (IsFate before side bytes q level deed) (q ≡ None)
@@ -250,12 +250,12 @@ fate before side bytes h level v phase to deed w right e = go (is_dm h.kind) ref
         }
     go false dm = refl
 
--- what the moves tell first
+-- the note of the first move
 abbrev first_reported : List Effect → Note
 first_reported [] = Notes.Nothing
 first_reported (effect ∷ effects) = effect.reported
 
--- a frame was answered
+-- a complete frame had a verdict
 pub record IsWholeTold (s : SessionState) (side : Side) (h : Head) (body : List ℕ) (v : Verdict) (head : Head)
     (deed : Deed) : Type 0 where
   pub same_head : head ≡ h
@@ -318,7 +318,7 @@ module _ (before : SessionState) (side : Side) (bytes : List ℕ) (v : Verdict) 
   next_live : is_over next.phase ≡ false
   next_live = ap is_over (pending_phase before side bytes) ∙ live
 
-  -- the outcome of a frame that was whole
+  -- the outcome of a complete frame
   of_whole : (s : SessionState) (h : Head) (level : Level) (body : List ℕ) → (coming s side).noted ≡ level →
       body ≡ drop 4 bytes →
       ◌≡◌ {A = Successor} (record { state = (frame_outcome s side h body v).state; effects = (frame_outcome s side h body v).effects ++ [] })
@@ -464,7 +464,7 @@ module _ (config : Config) (words : List Word) (old : SessionView) (side : Side)
       runs_limits (bytes_come side piece) old.state before [] first
       ∙ sym (runs_limits events old.state new.state moves run) ∙ under.limits
 
-  -- a message that is held was judged rightly
+  -- a held message was judged correctly
   pub rightly_reported : (events : List Event) (reported : Note) → IsMade old events side reported new →
       IsRightlyReported words config side reported new
   rightly_reported events Notes.Nothing made = tt
@@ -530,7 +530,7 @@ module _ (config : Config) (words : List Word) (old : SessionView) (side : Side)
   abbrev shown_as : ReportKey → Effect → List ℕ → List ExplainedEntry
   shown_as source move lines = Moved (record { source = source; side = side; reported = move.reported }) (indented lines) ∷ []
 
-  -- a move that one byte of a piece made
+  -- a move that one byte of a piece caused
   shown_by_bytes : (source : ReportKey) (piece : List ℕ) (move : Effect) (lines : List ℕ) →
       (f : Found old.state side piece move new.state) →
       ExplainsMove words side f.before (Comes side f.byte) move.reported lines →
@@ -555,7 +555,7 @@ module _ (config : Config) (words : List Word) (old : SessionView) (side : Side)
         refl,
       )))
 
-  -- or one event alone
+  -- or one single event
   shown_by_one : (source : ReportKey) (event : Event) (move : Effect) (lines : List ℕ) →
       Runs old.state (event ∷ []) (move ∷ []) new.state → ExplainsMove words side old.state event move.reported lines →
       AreShownBy words source side old.state (event ∷ []) (move ∷ []) new.state (shown_as source move lines)
@@ -580,7 +580,7 @@ module _ (config : Config) (words : List Word) (old : SessionView) (side : Side)
       append-nil (move_line source side move.reported ++ indented lines)
       ∙ ap (λ (n : Note). move_line source side n ++ indented lines) e
 
-  -- what is written of a frame that is held is what its move is told with
+  -- the lines for a held frame are the ones that follow its move
   pub reported_with : (events : List Event) (reported : Note) (lines : List ℕ) (source : ReportKey) →
       (made : IsMade old events side reported new) → AreLinesBy words config.max_depth side reported new lines →
       (entries : List ExplainedEntry) × AreShownBy words source side old.state events (made.move ∷ []) new.state entries

@@ -1,4 +1,5 @@
--- Lines of the log of a match and of its report, computed from the definitions, so that a wrong one does not check.
+-- Lines of the log of a match and of its report, computed from the definitions, so that a wrong definition fails to
+-- check.
 use Rattle.std.proofs.Common.{◌≡◌, [], ◌∷◌, ◌++◌, Some, None, refl, codes}
 use Rattle.std.specs.Fmt.{digits}
 use Rattle.daide_frame.specs.declared.side.Side.TheVariants.{Bot, Server}
@@ -41,7 +42,7 @@ sessions_and_words = (refl, refl, refl, refl, refl, refl, refl, refl, refl, refl
 
 -- ---- words
 
--- a name of the protocol's is no operator's, and a word stands once
+-- a name of the protocol is not accepted as a word, and no word is accepted twice
 accepted : (append_word [] (Some xyz) ≡ Some (xyz ∷ [])) × (append_word [] (Some gof) ≡ None)
     × (append_word (xyz ∷ []) (Some xyz) ≡ None)
 unfolding name_of token_named names xyz gof
@@ -49,7 +50,7 @@ accepted = (refl, refl, refl)
 
 -- ---- lines
 
--- what is a session's own
+-- the lines of a session's own log
 own_lines : (own_line 2 (codes "2 timer") ≡ codes "timer") × (own_line 2 (codes "12 timer") ≡ codes "#")
     × (own_line 2 (codes "1 bot 00") ≡ codes "#") × (own_line 2 (codes "# 2 timer") ≡ codes "# 2 timer")
     × (own_line 2 [] ≡ [])

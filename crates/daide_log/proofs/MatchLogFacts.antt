@@ -1,5 +1,5 @@
--- A whole log of a match in which no message is judged, computed from the definitions, so that a wrong one does not
--- check. The tests have logs with messages.
+-- A whole log of a match in which no message is judged, computed from the definitions, so that a wrong definition fails
+-- to check. The tests have logs with messages.
 use Rattle.std.proofs.Common.{◌≡◌, ℕ, List, [], ◌∷◌, ◌++◌, codes}
 use Rattle.std.proofs.Common.{Some, Ok, Err, refl, arith}
 use Rattle.std.specs.Fmt.{digits}
@@ -49,11 +49,11 @@ head_with words = record {
   words = words;
 }
 
--- a session of these limits, with the word, in a phase
+-- a session with these limits and the word, in a phase
 abbrev session_in : Phase → SessionState
 session_in phase = state_at (limits_with limits (xyz ∷ [])) phase
 
--- the session of these limits, ended by this
+-- the session with these limits, which ended in this way
 abbrev session_ended : Ending → SessionState
 session_ended ending = over ending (session_in WaitIm)
 
@@ -105,7 +105,7 @@ im_relayed =
     (codes "1 bot 000000040001DA10") 1 im (session_in WaitIm) im_passes refl (omega arith) (omega arith) refl refl
     im_played
 
--- the initial message of the first session is passed on, and the second has none
+-- the initial message of the first session is forwarded, and the second session gets none
 two_sessions : IsReport (after_im ++ codes "2 timer" ++ 10 ∷ [])
     (((codes "4 1 bot IM 4 relay" ++ 10 ∷ []) ++ codes "5 2 bot fault 01" ++ 10 ∷ [])
     ++ codes "relayed 1 prn 0 huh 0 faults 1" ++ 10 ∷ [])
@@ -121,7 +121,7 @@ two_sessions =
     (line_played after_im 4 im_reported Match (session_in WaitRm ∷ session_in WaitIm ∷ []) im_relayed (codes "2 timer") 2
     ImTimerLine (session_in WaitIm) late refl (omega arith) (omega arith) refl refl refl))
 
--- a third session there is none, and the report of the lines before is out
+-- there is no third session, and the report of the lines before is written
 third_session : IsReport (after_im ++ codes "3 timer" ++ 10 ∷ []) (codes "4 1 bot IM 4 relay" ++ 10 ∷ []) (Err (BadLine 5))
 unfolding im_reported im_passes match_event_of_line parted_at_space plain_number move_line source_text reported_text digits
     entries_by has_no_feed
@@ -135,7 +135,7 @@ word_missing =
     IsReportBy.cut_short first_lines 2 [] (Opening (Headed (head_with [])))
     (ReportsAllBy.ended first_lines 2 [] (Opening (Headed (head_with []))) headed) tt
 
--- a word of a name of the protocol's
+-- a word with a name of the protocol
 word_of_the_protocol : IsReport (first_lines ++ codes "word GOF 4A40 press 20 power" ++ 10 ∷ []) [] (Err (BadLine 3))
 unfolding head_with word_of_line parted_at_space plain_number decode_pairs name_of token_named names has_no_feed
 word_of_the_protocol =

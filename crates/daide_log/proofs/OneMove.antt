@@ -1,4 +1,4 @@
--- Of the bytes for which a session has room it makes one move at most.
+-- The bytes for which a session has room cause at most one move.
 use Rattle.std.proofs.Common.{◌≡◌, ℕ, ◌+◌, ◌-◌, ◌<◌, ◌≤◌, Bool, true, false, cond, eqb, List, [], ◌∷◌, ◌++◌, length}
 use Rattle.std.proofs.Common.{Option, Some, None, Result, Ok, Err, refl, sym, ap, ◌∙◌, subst, arith, ◌⊎◌, inl, inr}
 use Rattle.std.proofs.Common.{length-append, append-nil}
@@ -100,7 +100,7 @@ ending_at limit (p ∷ q ∷ r ∷ s ∷ w) x h =
     body_byte limit p q r s w x (parse_head (p ∷ q ∷ r ∷ s ∷ []) limit) refl
     (subst (λ (n : ℕ). 0 < n) (missing-of4 limit p q r s w) h)
 
--- a byte that ends nothing leaves one byte less to come
+-- a byte that ends nothing reduces the number of missing bytes by one
 pub less_missing : (limit : ℕ) (b : List ℕ) (x : ℕ) → 0 < missing limit b → last_items limit (b ++ x ∷ []) ≡ [] →
     missing limit (b ++ x ∷ []) + 1 ≡ missing limit b
 less_missing limit b x h e = go (byte_tells limit b x h)
@@ -112,7 +112,7 @@ less_missing limit b x h e = go (byte_tells limit b x h)
 
 -- ---- the moves of items
 
--- at most one move, which tells something
+-- at most one move, which is not `Nothing`
 abbrev pub IsSingle : List Effect → Type 0
 IsSingle moves = IsOneEffect moves (note_of moves)
 
@@ -133,7 +133,7 @@ whole_single s side head body v = by_kind (is_im head.kind)
     by_kind true = by_check (im_of body)
     by_kind false = answered_single s side head body v
 
--- what one item makes, by itself
+-- the result of one item alone
 alone : (o : Successor) → IsSingle o.effects → IsSingle (o.effects ++ [])
 alone o h = subst IsSingle (sym (append-nil o.effects)) h
 
@@ -201,12 +201,12 @@ one_move_a_piece (x ∷ piece) s side moves new room run =
         length piece ≤ missing s'.limits.cap (coming s' side).pending → Runs s' (bytes_come side piece) moves' new' →
         IsSingle moves'
 
-    -- what the byte made
+    -- the result of the byte
     made : is_over s.phase ≡ false →
         items_outcome next side (last_items cap (b ++ x ∷ [])) run.3.verdict ≡ record { state = run.0; effects = run.1 }
     made live = (let h = rw live at run.3.outcome in h)
 
-    -- nothing comes after it
+    -- nothing follows it
     last_one : is_over s.phase ≡ false → run.2 ≡ [] → Ending cap b (last_items cap (b ++ x ∷ [])) → IsSingle moves
     last_one live none ending =
         subst IsSingle (sym (run.5 ∙ ap (λ (m : List Effect). run.1 ++ m) none ∙ append-nil run.1))

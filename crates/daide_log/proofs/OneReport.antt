@@ -1,4 +1,5 @@
--- A log has one report: its bytes say where its lines end, each line does one thing, and a log stops in one way.
+-- A log has one report: its bytes determine the ends of its lines, each line has one effect, and a log stops in one
+-- way.
 use Rattle.std.proofs.Common.{◌≡◌, ℕ, ◌+◌, ◌-◌, ◌<◌, ◌≤◌, ◌⊎◌, inl, inr, List, [], ◌∷◌, ◌++◌, length, Option, Some, None}
 use Rattle.std.proofs.Common.{Result, Ok, Err, refl, sym, ap, ◌∙◌, subst, arith, append-nil, append_assoc, length-append}
 use Rattle.std.specs.Prelude.{slice_set}
@@ -56,7 +57,7 @@ abbrev pub feeds : List (List ℕ) → List ℕ
 feeds [] = []
 feeds (line ∷ lines) = line ++ 10 ∷ feeds lines
 
--- by these lines, behind so many, a log goes on, with these moves told
+-- these lines, after this number of lines, take the log to the new state with these entries
 abbrev pub Goes : ℕ → LogState → List (List ℕ) → List ReportEntry → LogState → Type 0
 Goes number old [] reported new = (reported ≡ []) × (new ≡ old)
 Goes number old (line ∷ lines) reported new =
@@ -120,7 +121,7 @@ from_front _ _ _ _ (ReportsBy.line bytes number reported old reports line more n
 
 -- ---- how it stops
 
--- behind so many lines nothing more comes
+-- nothing follows this number of lines
 abbrev Closes : ℕ → LogState → Option LogFault → Type 0
 Closes n (Opening heading) fault = fault ≡ Some (BadLine (n + 1))
 Closes n (Playing version sessions) fault = fault ≡ None
@@ -131,7 +132,7 @@ LastOf n stage line more fault =
     ((new : LogState) × AdvancesByLine (n + 1) stage line more new × Closes (n + 1) new fault)
     ⊎ (IsBad stage line × (more ≡ []) × (fault ≡ Some (BadLine (n + 1))))
 
--- what is left behind so many lines, what is told of it, and the fault, if it has one
+-- the rest after this number of lines, its entries, and its fault, if it has one
 data End (n : ℕ) (stage : LogState) (rest : List ℕ) (more : List ReportEntry) (fault : Option LogFault) : Type 0 where
   at_end : rest ≡ [] → more ≡ [] → Closes n stage fault → End n stage rest more fault
   at_last : n < most_lines → 0 < length rest → IsUnbroken rest → length rest ≤ longest_line →
@@ -162,13 +163,13 @@ not_empty : (a b : List ℕ) → ◌≡◌ {A = List ℕ} (a ++ 10 ∷ b) [] →
 not_empty [] b e = absurd (cc)
 not_empty (x ∷ a) b e = absurd (cc)
 
--- a line feed lies within bytes that are longer than what is before it
+-- bytes that are longer than those before a line feed contain it
 feed_within : (k l a b : List ℕ) → IsUnbroken k → length l < length k → k ++ a ≡ l ++ 10 ∷ b → ⊥
 feed_within [] l a b h longer e = absurd (omega (arith, longer))
 feed_within (x ∷ k) [] a b h longer e = absurd (h.0 (cc))
 feed_within (x ∷ k) (y ∷ l) a b h longer e = feed_within k l a b h.1 (omega (arith, longer)) (cc)
 
--- where a line that goes on stands next, a log does not stop
+-- a log does not stop before a line that moves it on
 goes_past : (n : ℕ) (stage : LogState) (rest : List ℕ) (more : List ReportEntry) (fault : Option LogFault)
     (line after : List ℕ) (first : List ReportEntry) (mid : LogState) → n < most_lines → IsUnbroken line →
     length line ≤ longest_line → AdvancesByLine (n + 1) stage (without_cr line) first mid → rest ≡ line ++ 10 ∷ after →
@@ -301,7 +302,7 @@ record Walk (log text : List ℕ) (answer : Result Summary LogFault) : Type 0 wh
   written : text_by (reported ++ more) fault ≡ text
   answered : answer_by (reported ++ more) fault ≡ answer
 
--- lines were read, and then it stops with nothing told of what is left
+-- lines were read, and then the log stops without an entry for the rest
 stopped : (bytes : List ℕ) (number : ℕ) (reported : List ReportEntry) (stage : LogState) (rest : List ℕ) (fault : Option LogFault) →
     Reports bytes number reported stage → End number stage rest [] fault →
     Walk (bytes ++ rest) (text_by reported fault) (answer_by reported fault)

@@ -1,4 +1,4 @@
--- A message's text stands on one line, whatever words an operator added.
+-- A message's text is on one line, whatever words an operator added.
 use Rattle.std.proofs.Common.{◌≡◌, ◌==◌, ◌&&◌, ◌%◌, nat_le, not, ℕ, Bool, true, false, List, [], ◌∷◌, ◌++◌, codes, drop, length}
 use Rattle.std.proofs.Common.{Result, Err, is_ok, is_none, bytes_eq, if◌then◌else◌, refl, sym, ap, ◌∙◌, arith}
 use Rattle.std.proofs.Common.{Option, append_assoc, subst}
@@ -87,7 +87,7 @@ unfolding indented
 message_line words tokens e =
     one_line (message_text words tokens) (text_inner (names_of words) tokens (accepted_inner words e))
 
--- ---- a message of which nothing is said but its text
+-- ---- a message for which only its text is written
 
 pub text_alone : (words : List Word) (max_depth : ℕ) (side : Side) (head : Head) (deed : Deed) (new : SessionView)
     (body : List ℕ) → is_dm head.kind ≡ true → verdict_by deed ≡ Relay → body ≡ drop 4 (holding new side).held →
@@ -101,7 +101,7 @@ pub body_even : (words : List Word) (config : Config) (side : Side) (head : Head
 body_even words config side head deed new body k b right =
     let right = rw k at right in ap (λ (l : List ℕ). length l % 2) b ∙ right.ruled.even
 
--- ---- a message that is put in parts
+-- ---- a message that is printed in parts
 
 parts_line : (words : List Word) (tokens : List ℕ) (place : PrinterState) → are_accepted words ≡ true →
     place ≡ place_past Start tokens →

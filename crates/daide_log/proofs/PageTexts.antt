@@ -1,4 +1,4 @@
--- A text on its way to a page, byte by byte.
+-- A text that is appended to a page byte by byte.
 use Rattle.std.proofs.Common.{◌≡◌, ℕ, Bool, List, [], ◌∷◌, ◌++◌, length, Option, Some, None, refl, sym, ap, ◌∙◌, subst}
 use Rattle.std.proofs.Common.{append_assoc, append-nil, ◌≤◌, ◌-◌, true, take, drop, get_or, arith}
 use Rattle.std.specs.Prelude.{◌==◌}
@@ -7,7 +7,7 @@ use Rattle.daide_log.specs.Explained.{indented, indented_byte, indented_from}
 use Rattle.std.specs.Io.KnownBytes.{Appends}
 use Rattle.daide_log.proofs.PlayLemmas.{appends_more, appends_none}
 
--- a front of the text is written, and this is left
+-- a prefix of the text is written, and this is left
 pub record Puts (a b : Option (List ℕ)) (all left : List ℕ) : Type 0 where
   pub done : List ℕ
   pub whole : done ++ left ≡ all
@@ -28,7 +28,7 @@ pub puts_all : (a b : Option (List ℕ)) (all left : List ℕ) → Puts a b all 
 puts_all a b all left p e =
     subst (Appends a b) (sym (append-nil p.done) ∙ ap (λ (l : List ℕ). p.done ++ l) (sym e) ∙ p.whole) p.text
 
--- ---- a byte of a slice at a time
+-- ---- one byte of a slice at a time
 
 pub puts_next : (a b c : Option (List ℕ)) (all rest : List ℕ) (n : ℕ) → Puts a b all rest → 1 ≤ length rest →
     length rest - 1 ≤ n → Appends b c (get_or rest 0 0 ∷ []) → Puts a c all (take n (drop 1 rest))

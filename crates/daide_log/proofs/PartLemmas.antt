@@ -1,4 +1,4 @@
--- The lines of frames that are not whole, one after the other.
+-- The lines for incomplete frames, in order.
 use Rattle.std.proofs.Common.{◌≡◌, ℕ, ◌+◌, List, [], ◌∷◌, ◌++◌, length, Option, refl, sym, ap, ◌∙◌, subst, arith}
 use Rattle.std.proofs.Common.{append_assoc, append-nil, length-append, zero, suc, ◌-◌, ◌≤◌, get_or, All}
 use Rattle.daide_protocol.specs.Wires.{SessionView}
@@ -17,7 +17,7 @@ use Rattle.daide_log.specs.Explained.{Part, part_of, part_text, unfinished_parts
 use Rattle.daide_log.specs.Explaining.{HasPut, part_by, part_with}
 use Rattle.daide_log.proofs.PlayLemmas.{appends_more, appends_none, texts_of-append}
 
--- a front of the lines is written and counted, and these are left
+-- a prefix of the lines is written and counted, and these are left
 pub record PutsParts (all left : List Part) (count : ℕ) (a b : Option (List ℕ)) : Type 0 where
   pub done : List Part
   pub whole : done ++ left ≡ all
@@ -85,7 +85,7 @@ part_found number side cap at_fault held pending header body fault size part e f
     ∙ part_is number side cap at_fault held
     ∙ ap (part_of number side cap at_fault) tied
 
--- ---- a session of a slice at a time
+-- ---- one session of a slice at a time
 
 take_all : {A : Type 0} → (n : ℕ) (v : List A) → length v ≤ n → take n v ≡ v
 take_all zero [] h = refl

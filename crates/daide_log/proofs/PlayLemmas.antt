@@ -1,4 +1,4 @@
--- How a session goes through the lines of a log.
+-- A session's moves at the lines of a log.
 use Rattle.std.proofs.Common.{◌≡◌, ℕ, ◌+◌, ◌<◌, ◌≤◌, Bool, true, false, List, [], ◌∷◌, ◌++◌, length, Option}
 use Rattle.std.proofs.Common.{Some, None, refl, sym, ap, ◌∙◌, subst, arith, length-append, append-nil, append_assoc}
 use Rattle.std.proofs.Common.{◌⊎◌, inl, inr, cond}
@@ -47,7 +47,7 @@ no_move [] reported one e = refl
 no_move (move ∷ []) reported one e = absurd (one.1 e)
 no_move (move ∷ another ∷ moves) reported one e = absurd one
 
--- where a piece made no move, nothing was answered
+-- without a move nothing is queued
 pub idle_still : (old new : SessionView) (side : Side) (piece : List ℕ) (reported : Note) → length piece ≤ room_of old side →
     Refines old (bytes_come side piece) reported new → IsIdle old → reported ≡ Notes.Nothing → IsIdle new
 idle_still old new side piece reported room g idle e =
@@ -61,7 +61,7 @@ idle_still old new side piece reported room g idle e =
           ∙ ap (λ (l : List Sent). l ++ []) idle.server;
     }
 
--- a move that was told is the only one
+-- a move with a note is the only one
 pub record IsOnly (effects : List Effect) (reported : Note) : Type 0 where
   pub move : Effect
   pub only : effects ≡ move ∷ []
@@ -73,7 +73,7 @@ only_one [] reported one some = absurd (some one)
 only_one (move ∷ []) reported one some = record { move = move; only = refl; same = one.0 }
 only_one (move ∷ another ∷ moves) reported one some = absurd one
 
--- bytes that make a move
+-- bytes that cause a move
 pub piece_made : (old new : SessionView) (side : Side) (piece : List ℕ) (reported : Note) → length piece ≤ room_of old side →
     (holding old side).held ≡ (coming old.state side).pending → Refines old (bytes_come side piece) reported new →
     ReceivesBytes old side piece reported new → (reported ≡ Notes.Nothing → ⊥) → IsMade old (bytes_come side piece) side reported new
@@ -89,7 +89,7 @@ piece_made old new side piece reported room tied g takes some =
       caused = IsCaused.by_bytes piece refl room tied takes;
     }
 
--- and bytes that make none
+-- bytes that cause none
 pub piece_silent : (old new : SessionView) (side : Side) (piece : List ℕ) (reported : Note) → length piece ≤ room_of old side →
     Refines old (bytes_come side piece) reported new → reported ≡ Notes.Nothing → Runs old.state (bytes_come side piece) [] new.state
 piece_silent old new side piece reported room g e =
@@ -119,7 +119,7 @@ timer_silent old new reported g e =
     (no_move g.effects reported (subst (IsOneEffect g.effects) (sym g.note)
     (one_move_a_timer old.state g.effects new.state g.run)) e) g.run
 
--- the end of a side
+-- a side's end
 end_effects : (old new : SessionView) (side : Side) (g : Refines old (Ends side ∷ []) Notes.Nothing new) →
     g.effects ≡ (event_outcome old.state (Ends side) g.run.3.verdict).effects
 end_effects old new side g =
@@ -168,7 +168,7 @@ pub ready_after : (config : Config) (words : List Word) (old mid new : SessionVi
 ready_after config words old mid new events reported ready g same idle =
     ready_again config words mid new (under_after config words old mid events reported ready.under g) same idle
 
--- ---- one after another
+-- ---- sequences
 
 pub texts_of-append : {E : Type 0} → (text : E → List ℕ) (a b : List E) →
     texts_of text (a ++ b) ≡ texts_of text a ++ texts_of text b
@@ -223,7 +223,7 @@ less_room m n s h less = record {
 }
 
 module _ {Answer : Type 0} (form : ReportForm Answer) where
-  -- events in a row
+  -- consecutive events
   pub tells_more : (words : List Word) → IsWritableForm words form → (source : ReportKey) (side : Side) (old mid new : SessionState)
       (events more : List Event) (r s t : Summary) (a b c : Option (List ℕ)) → ReportsEvents form source side old events mid r s a b →
       ReportsEvents form source side mid more new s t b c → ReportsEvents form source side old (events ++ more) new r t a c
@@ -237,14 +237,14 @@ module _ {Answer : Type 0} (form : ReportForm Answer) where
         (appends_more a b c (texts_of form.text h.1) (texts_of form.text k.1) h.5 k.5),
   )
 
-  -- where no move is made nothing is told
+  -- without a move there is no entry
   pub tells_none : (words : List Word) → IsWritableForm words form → (source : ReportKey) (side : Side) (old new : SessionState)
       (events : List Event) (s : Summary) (a : Option (List ℕ)) → Runs old events [] new →
       ReportsEvents form source side old events new s s a a
   tells_none words lawful source side old new events s a run =
       ([], [], run, lawful.silent source side old new events run, refl, appends_none a)
 
-  -- a move was told
+  -- a move was reported
   pub tells_one : (source : ReportKey) (old : SessionView) (events : List Event) (side : Side) (reported : Note) (mid : SessionView)
       (new : SessionState) (added : List ℕ) (before after : Summary) (a b : Option (List ℕ)) →
       IsMade old events side reported mid → new ≡ mid.state → IsReportedWith form side reported mid added →
@@ -262,7 +262,7 @@ module _ {Answer : Type 0} (form : ReportForm Answer) where
 
   -- ---- bytes in pieces
 
-  -- the bytes so far were fed, and told of
+  -- the bytes so far were fed, and their moves reported
   pub record HasFed (config : Config) (words : List Word) (source : ReportKey) (side : Side) (bytes rest : List ℕ)
       (old : SessionState) (new : SessionView) (before after : Summary) (a b : Option (List ℕ)) : Type 0 where
     pub done : List ℕ
@@ -306,7 +306,7 @@ module _ {Answer : Type 0} (form : ReportForm Answer) where
             r s t a b c h.reported tells);
       }
 
-  -- all was fed, or the session is over, and what is left changes nothing
+  -- all bytes were fed, or the session is over and the rest changes nothing
   pub all_fed : (config : Config) (words : List Word) → IsWritableForm words form → (source : ReportKey) (side : Side)
       (bytes rest : List ℕ) (old : SessionState) (new : SessionView) (r s : Summary)
       (a b : Option (List ℕ)) → HasFed config words source side bytes rest old new r s a b →
@@ -322,14 +322,14 @@ module _ {Answer : Type 0} (form : ReportForm Answer) where
       left (x ∷ l) (inl e) = absurd (omega arith)
       left (x ∷ l) (inr e) = over_stays new.state (bytes_come side (x ∷ l)) e
 
-  -- of all bytes no more was told
+  -- the counts grew by at most the number of bytes
   pub fed_few : (config : Config) (words : List Word) (source : ReportKey) (side : Side) (bytes rest : List ℕ)
       (old : SessionState) (new : SessionView) (r s : Summary)
       (a b : Option (List ℕ)) → HasFed config words source side bytes rest old new r s a b → IsMoreBy (length bytes) r s
   fed_few config words source side bytes rest old new r s a b h =
       more_by (length h.done) (length bytes) r s h.few (omega (arith, ap length h.whole, length-append h.done rest))
 
-  -- nor with one move more, while a byte is left
+  -- nor after one more move, while a byte is left
   pub reported_few : (config : Config) (words : List Word) (source : ReportKey) (side : Side) (bytes rest : List ℕ)
       (old : SessionState) (new : SessionView)
       (r s t : Summary) (a b : Option (List ℕ)) → HasFed config words source side bytes rest old new r s a b →

@@ -1,5 +1,5 @@
--- Runs of the machine that are computed: the verdict on a message is the one that the table of the grammar has, which
--- is the grammar's where no words were added.
+-- Runs of the machine that are computed. The verdict on a message is the one of the grammar's table, which is the
+-- grammar's if no words were added.
 use Rattle.std.proofs.Common.{◌≡◌, ℕ, ◌+◌, ◌-◌, ◌<◌, ◌≤◌, Bool, true, false, List, [], ◌∷◌, ◌++◌, length, map}
 use Rattle.std.proofs.Common.{Option, Some, None}
 use Rattle.std.proofs.Common.{refl, sym, ap, ◌∙◌, subst, eqb, ◌⊎◌, inl, inr}
@@ -25,7 +25,7 @@ use Rattle.daide_log.specs.declared.report.ReportKey.{ReportKey}
 use Rattle.daide_log.specs.Report.{ReportEntry, entries_of, events_of_line, side_of}
 use Rattle.daide_log.specs.Log.{ReportsBy, Playing, Reports, event_in, source_in}
 
--- a session between two messages, of which no level but 0 was told
+-- a session between two messages, with both sides at level 0
 abbrev pub state_at : Limits → Phase → SessionState
 state_at limits phase = record {
   limits = limits;
@@ -38,7 +38,7 @@ state_at limits phase = record {
 
 -- ---- a run
 
--- the verdict, where it can be computed
+-- the verdict, if it can be computed
 unfoldable pub verdict_on : Words → ℕ → Option Question → Option Verdict
 verdict_on words depth None = Some Relay
 verdict_on [] depth (Some q) = Some (plain_verdict (side2_of q.side) q.level depth q.message)
@@ -53,7 +53,7 @@ verdict_right [] depth (Some q) v e =
     (plain_verdict_right (side2_of q.side) q.level depth q.message)
 verdict_right (word ∷ words) depth (Some q) v e = absurd (cc)
 
--- the state after a run, and what is told of its moves
+-- the state after a run, and the notes of its moves
 pub record Played : Type 0 where
   pub state : SessionState
   pub reported : List Note
@@ -75,7 +75,7 @@ played [] s = Some (record { state = s; reported = [] })
 played (event ∷ events) s =
     played_by (played events) s event (verdict_on s.limits.words s.limits.max_depth (question s event))
 
--- it is one of the machine's
+-- it is a run of the machine
 abbrev pub AreRuns : List Event → Type 0
 AreRuns events =
     (s : SessionState) (p : Played) → played events s ≡ Some p →
@@ -125,9 +125,9 @@ played_runs (event ∷ events) s p e =
     by_verdict runs None is e = absurd (cc)
     by_verdict runs (Some v) is e = behind runs v is (played events (event_outcome s event v).state) refl e
 
--- ---- what is told of it
+-- ---- its entries
 
--- these moves of a side
+-- the entries of a side's moves
 unfoldable pub entries_by : ReportKey → Side → List Note → List ReportEntry
 entries_by source side [] = []
 entries_by source side (reported ∷ notes) =
@@ -141,7 +141,7 @@ entries_reported source side (move ∷ moves) =
     ap (λ (l : List ReportEntry). record { source = source; side = side; reported = move.reported } ∷ l)
     (entries_reported source side moves)
 
--- ---- a line more
+-- ---- one more line
 
 unfoldable pub has_no_feed : List ℕ → Bool
 has_no_feed [] = true

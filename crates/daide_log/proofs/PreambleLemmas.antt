@@ -32,7 +32,7 @@ use Rattle.daide_log.specs.ReportForm.{ReportForm, IsWritableForm, HasWords}
 use Rattle.daide_log.specs.Progress.{HasRead, HasReadAll, GivesInTime, IsPreambleProgress, IsOpened, IsOpenedBy, IsFaultAfter, states_of}
 use Rattle.daide_log.proofs.LogLemmas.{line_read, last_read, end_read, bad_line, bad_last, ends_early, fault_found}
 
--- where a head is not whole a line of it is to come
+-- while a head is incomplete, another of its lines follows
 pub more_to_come : (heading : headings.Heading) → whole_preamble heading ≡ None →
     stage_at (heading_of heading) ≡ Opening (heading_of heading)
 more_to_come Variants.Unnamed e = refl
@@ -44,7 +44,7 @@ more_to_come (Variants.Headed head) e = go (has_all_words (preamble_of head)) e
     go true e = absurd (cc)
     go false e = refl
 
--- where it is the sessions begin
+-- the sessions of a complete head
 pub whole_begun : (heading : headings.Heading) (head : heads.Preamble) → whole_preamble heading ≡ Some head →
     stage_at (heading_of heading) ≡ state_after_preamble (preamble_of head)
 whole_begun Variants.Unnamed head e = absurd (cc)
@@ -56,7 +56,7 @@ whole_begun (Variants.Headed held) head e = go (has_all_words (preamble_of held)
     go true e = ap (λ (h : heads.Preamble). state_after_preamble (preamble_of h)) (same_Some held head e)
     go false e = absurd (cc)
 
--- where a head is not whole it has any words, and else its own
+-- an incomplete head has any words, and a complete one its own
 any_words : (words : List Word) (heading : headings.Heading) → whole_preamble heading ≡ None → HasWords words (heading_of heading)
 any_words words Variants.Unnamed e = tt
 any_words words (Variants.Named version) e = tt
@@ -76,7 +76,7 @@ own_words (Variants.Headed held) head e = go (has_all_words (preamble_of held)) 
     go true e = ap (λ (h : heads.Preamble). words_of h.words) (same_Some held head e)
     go false e = absurd (cc)
 
--- ---- what was kept, and what is held
+-- ---- the text written, and the block
 
 pub step_kept : (found : Result LineEnd LogFault) (next : Option headings.Heading) (n : ℕ) (step : PreambleProgress) (P : Type 0) →
     after_line found next n ≡ Ok step → OnOk found P → P
@@ -113,7 +113,7 @@ pub next_held : (next : Option headings.Heading) (heading : headings.Heading) �
     IfSome next IsPreambleKnown → IsPreambleKnown heading
 next_held next heading e h = subst (λ (o : Option headings.Heading). IfSome o IsPreambleKnown) e h
 
--- as many sessions were made as the head says
+-- as many sessions were created as the head says
 pub as_many : (sessions : List SessionView) (n : ℕ) (state : SessionState) → states_of sessions ≡ replicate n state →
     length sessions ≡ n
 as_many [] zero state e = refl
@@ -124,7 +124,7 @@ as_many (session ∷ sessions) (suc n) state e =
     ap suc (as_many sessions n state others)
 
 module _ {Answer : Type 0} (form : ReportForm Answer) where
-  -- where the head ends
+  -- the end of the head
 
   pub opened_more : (opened : Opened) (before : Option (List ℕ)) (old new : Reader) (held : List ℕ) → not opened.is_ended ≡ false →
       IsOpened form opened before old new held → HasRead form before old new held opened.lines [] (state_after_preamble (preamble_of opened.head))
@@ -162,7 +162,7 @@ module _ {Answer : Type 0} (form : ReportForm Answer) where
       by_late false = (opened, held, h, k)
 
 module _ {Answer : Type 0} (form : List Word → ReportForm Answer) where
-  -- so many lines of the head were read, and nothing was written
+  -- this number of lines of the head was read, and nothing was written
   pub record IsReading (old now : Reader) (held : List ℕ) (number : ℕ) (heading : headings.Heading)
       (before after : Option (List ℕ)) : Type 0 where
     pub has_read : (words : List Word) → HasRead (form words) before old now held number [] (Opening (heading_of heading))
@@ -202,7 +202,7 @@ module _ {Answer : Type 0} (form : List Word → ReportForm Answer) where
         omega (arith, f.4),
       )
 
-  -- one line of the head more
+  -- one more line of the head
   pub head_judged : ((words : List Word) → IsWritableForm words (form words)) → (before all : Option (List ℕ))
       (old now new : Reader) (held line rest : List ℕ) (n : ℕ) (found : Result LineEnd LogFault)
       (heading : headings.Heading) (next : Option headings.Heading) →

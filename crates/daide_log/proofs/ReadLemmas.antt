@@ -1,4 +1,4 @@
--- No read is in time once what came has a fault.
+-- No read is in time after bytes that have a fault.
 use Rattle.std.proofs.Common.{◌≡◌, ℕ, zero, suc, ◌+◌, ◌<◌, ◌≤◌, ◌⊎◌, inl, inr, List, [], ◌∷◌, ◌++◌, length, replicate}
 use Rattle.std.proofs.Common.{Option, Result, Err, refl, sym, ap, ◌∙◌, subst, arith, append-nil, append_assoc, length-append}
 use Rattle.std.proofs.lemmas.Bool.{cases_lt}
@@ -14,7 +14,7 @@ use Rattle.daide_log.specs.Progress.{IsInTime, HasFault}
 use Rattle.daide_log.proofs.StepLemmas.{one_end}
 use Rattle.daide_log.proofs.OneReport.{Goes, feeds, from_front, one_report}
 
--- ---- what is left behind so many lines
+-- ---- the rest after a number of lines
 
 same_left : (lines others : List (List ℕ)) (n : ℕ) (old first : LogState) (reported other : List ReportEntry) (stage last : LogState)
     (rest left : List ℕ) → Goes n old lines reported stage → Goes n first others other last → length lines ≡ length others →
@@ -40,7 +40,7 @@ few_lines : (bytes : List ℕ) (n : ℕ) (reported : List ReportEntry) (stage : 
 few_lines _ _ _ _ ReportsBy.none = omega arith
 few_lines _ _ _ _ (ReportsBy.line bytes n reported old reports line more new fewer unbroken short on) = omega (arith, fewer)
 
--- ---- faults that a log has not
+-- ---- faults that a log does not have
 
 not_too_long : (log text : List ℕ) (answer : Result Summary LogFault) (bytes line : List ℕ) (n : ℕ) (reported : List ReportEntry)
     (stage : LogState) → IsReport log text answer → answer ≡ Err (LineTooLong (n + 1)) → Reports bytes n reported stage →
@@ -70,7 +70,7 @@ not_too_many _ _ _ reported stage (IsReportBy.too_many front before old q after 
     (append-nil (front ++ after)) in
     absurd (omega (arith, some, ap length left))
 
--- ---- no fault is settled by what came before a read
+-- ---- the bytes before a read in time have no fault
 
 replicate_unbroken : (n : ℕ) → IsUnbroken (replicate n 65)
 replicate_unbroken zero = tt
@@ -87,7 +87,7 @@ no_fault_before_a_read before written came fault has t = go (cases_lt t.number m
     now : (text : List ℕ) × IsReport came text (Err fault)
     now = subst (λ (l : List ℕ). (text : List ℕ) × IsReport l text (Err fault)) (append-nil came) (has [])
 
-    -- the line may become too long
+    -- one more byte may make the line too long
     fewer_lines : t.number < most_lines → ⊥
     fewer_lines fewer =
         let more : List ℕ = replicate 2101 65 in
@@ -104,7 +104,7 @@ no_fault_before_a_read before written came fault has t = go (cases_lt t.number m
         (one_report (came ++ more) other.0 (lines_of t.reported) (Err fault) (Err (LineTooLong (t.number + 1))) other.1 long).1
         t.reports t.whole t.begun.1
 
-    -- a byte more may be one line too many
+    -- one more byte may exceed the limit of lines
     all_lines : most_lines ≤ t.number → ⊥
     all_lines all =
         let none : t.line ≡ [] = no_byte t.line (λ some. absurd (omega (arith, all, t.begun.2 some))) in

@@ -1,4 +1,4 @@
--- A record's report counts what its session counts.
+-- The report of a record counts what the session counts.
 use Rattle.std.proofs.Common.{◌≡◌, List, [], ◌∷◌, ap, sym, ◌∙◌, refl}
 use Rattle.daide_protocol.specs.declared.note.Note.{Note}
 use Rattle.daide_protocol.specs.declared.note.Note.TheVariants.{Nothing}
@@ -17,7 +17,7 @@ abbrev rest_of : List Note → List Note
 rest_of [] = []
 rest_of (note ∷ notes) = notes
 
--- the same notes are counted the same, as moves modulo 2^64 or as what is told of them
+-- equal notes have equal counts, as moves modulo 2^64 or as entries
 counted_alike : (reported : List ReportEntry) (moves : List Effect) (s : Summary) → notes_reported reported ≡ notes_of moves →
     tallied moves (reduced s) ≡ reduced (counted_all reported s)
 counted_alike [] [] s same = refl

@@ -1,4 +1,4 @@
--- The head of a record is read back as the limits and the words that it sets.
+-- Parsing the head of a record returns its limits and words.
 use Rattle.std.proofs.Common.{◌≡◌, ℕ, zero, suc, ◌+◌, ◌-◌, ◌*◌, ◌/◌, ◌%◌, ◌^◌, ◌<◌, ◌≤◌, ◌==◌, ◌&&◌, cond, eqb, leb}
 use Rattle.std.proofs.Common.{Bool, true, false, List, [], ◌∷◌, ◌++◌, length, take, get_or, codes, nat_lt, append-nil, add-one}
 use Rattle.std.proofs.Common.{Some, None, Result, Ok, Err, refl, sym, ap, ◌∙◌, arith, append_assoc, length-append}
@@ -90,7 +90,7 @@ plain_is (c ∷ d ∷ cs) n some first e =
     let other : eqb c 48 ≡ false = grind (arith, nat_tests) in
     ap (λ (b : Bool). cond b None (number_on 0 (c ∷ d ∷ cs))) other ∙ e
 
--- a number of sixteen bits is read back
+-- parsing the digits of a number of 16 bits returns it
 pub number_back : (n : ℕ) → n ≤ 65535 → plain_number (decimal n) ≡ Some n
 number_back n fits =
     plain_is (decimal n) n (decimal_nonempty n (omega arith)) (first n fits) (number_by (suc n) n (omega arith) fits)
@@ -126,7 +126,7 @@ decimal_visible n fits = visible_by (suc n) n (omega arith) fits
 level_by : (n : ℕ) → is_level n ≡ true → n ≤ 60
 level_by n h = grind (arith, nat_tests)
 
--- limits that a session takes are numbers of sixteen bits
+-- limits that a session accepts are numbers of 16 bits
 pub record AreSmall (config : Config) : Type 0 where
   pub level : config.top_level ≤ 65535
   pub body : config.max_body ≤ 65535
@@ -224,7 +224,7 @@ config_short config words h few =
 
 -- ---- a word
 
--- a word whose parts are read back
+-- a word whose parts are parsed back
 pub record IsWord (word : Word) : Type 0 where
   pub three : length word.name ≡ 3
   pub letters : list_all is_capital word.name ≡ true
@@ -374,7 +374,7 @@ word_short word h =
       length-append level (32 ∷ operand),
     )
 
--- ---- put piece by piece
+-- ---- written piece by piece
 
 pub config_put : (config : Config) (words : ℕ) (old a b c d e f g h new : List ℕ) → a ≡ old ++ codes "config " →
     b ≡ a ++ decimal config.top_level → c ≡ b ++ codes " " → d ≡ c ++ decimal config.max_body → e ≡ d ++ codes " " →
@@ -392,7 +392,7 @@ config_put config words old a b c d e f g h new p q r s t u v w x =
     (q ∙ ap (λ (l : List ℕ). l ++ decimal config.top_level) p)))))))
     ∙ simp append_assoc
 
--- the word at a place is behind those before it
+-- the word at an index follows those before it
 pub words_more : (words : List Word) (place : ℕ) (word : Word) → word_at place words ≡ Some word →
     lines_of_words (take (place + 1) words) ≡ lines_of_words (take place words) ++ (word_text word ++ 10 ∷ [])
 words_more [] place word e = absurd (cc)
@@ -433,7 +433,7 @@ word_put word old a b c d e f new bytes slot operand level code_is slot_is level
     ++ (32 ∷ name_of_slot word.slot ++ 32 ∷ [])) ++ decimal (level_number word.level)) ++ l) operand_is
     ∙ simp append_assoc
 
--- what the head has, with the word at a place more
+-- the head, with the word at one more index
 pub head_more : (words : List Word) (place : ℕ) (word : Word) (head now new : List ℕ) → word_at place words ≡ Some word →
     now ≡ head ++ lines_of_words (take place words) → new ≡ now ++ word_text word ++ 10 ∷ [] →
     new ≡ head ++ lines_of_words (take (place + 1) words)

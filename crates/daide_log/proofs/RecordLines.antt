@@ -1,4 +1,4 @@
--- The lines of a record are read back as what they tell.
+-- Parsing the lines of a record returns their events.
 use Rattle.std.proofs.Common.{◌≡◌, ◌≢◌, ℕ, zero, suc, ◌+◌, ◌-◌, ◌*◌, ◌/◌, ◌%◌, ◌<◌, ◌≤◌, ◌&&◌, ◌⊎◌, inl, inr, cond, eqb, leb}
 use Rattle.std.proofs.Common.{Bool, true, false, List, [], ◌∷◌, ◌++◌, length, take, drop, get_or, map, codes, nat_lt}
 use Rattle.std.proofs.Common.{Some, None, refl, sym, ap, ◌∙◌, subst, arith, append_assoc, length-append}
@@ -27,7 +27,7 @@ use Rattle.daide_log.specs.RecordText.{event_text}
 abbrev pub is_plain : ℕ → Bool
 is_plain byte = nat_lt 13 byte
 
--- above the space, too
+-- above the space too
 abbrev pub is_visible : ℕ → Bool
 is_visible byte = nat_lt 32 byte
 
@@ -112,7 +112,7 @@ parted_word (c ∷ cs) rest h =
 
 -- ---- the line of an event
 
--- what a record writes of an event
+-- an event that a record may write
 abbrev pub IsWritable : LogEvent → Type 0
 IsWritable (Received side bytes) = IsBytes bytes × (0 < length bytes) × (length bytes ≤ 1024)
 IsWritable (EndOf side) = Unit {0}
@@ -190,7 +190,7 @@ event_short Silence h = absurd h
 pub line_short : (event : LogEvent) → IsWritable event → length (codes "1 " ++ event_text event) ≤ longest_line
 line_short event h = omega (arith, event_short event h)
 
--- ---- bytes one by one
+-- ---- one byte at a time
 
 encode-append : (a b : List ℕ) → encode_upper (a ++ b) ≡ encode_upper a ++ encode_upper b
 unfolding encode_with
@@ -203,7 +203,7 @@ encode_one : (byte : ℕ) → encode_upper (byte ∷ [])
 unfolding encode_with
 encode_one byte = refl
 
--- the digits of one byte more
+-- the digits of one more byte
 pub encode_more : (line now new bytes : List ℕ) (i : ℕ) → i < length bytes → now ≡ line ++ encode_upper (take i bytes) →
     new ≡ now ++ slice_index upper_digits (get_or bytes i 0 / 16) ∷ slice_index upper_digits (get_or bytes i 0 % 16) ∷ [] →
     new ≡ line ++ encode_upper (take (i + 1) bytes)

@@ -1,4 +1,4 @@
--- The report of a session's record: its head, then a line for each answer that tells something.
+-- The report of a session's record: its head, then a line for each call that has an event.
 use Rattle.std.proofs.Common.{◌≡◌, ℕ, suc, ◌+◌, ◌<◌, ◌≤◌, ◌⊎◌, inl, inr, cond, eqb, leb}
 use Rattle.std.proofs.Common.{Bool, true, false, List, [], ◌∷◌, ◌++◌, length, codes, append-nil}
 use Rattle.std.proofs.Common.{Option, Some, None, Result, Ok, Err, refl, sym, ap, ◌∙◌, subst, arith, append_assoc, length-append}
@@ -60,9 +60,10 @@ run_split (event ∷ a) b old new moves r =
       r.5 ∙ ap (λ (l : List Effect). r.1 ++ l) s.5 ∙ sym (append_assoc r.1 s.1 s.2),
     )
 
--- ---- as the log has it
+-- ---- the session that the log describes
 
--- A wire that failed is an end in the log, so a session may have ended otherwise there; the two are the same, or both over.
+-- A failed write is an end in the log, so the session may have another ending there. The two are equal, or both are
+-- over.
 abbrev IsAsLogged : SessionState → SessionState → Type 0
 IsAsLogged logged state = (logged ≡ state) ⊎ ((is_over logged.phase ≡ true) × (is_over state.phase ≡ true))
 
@@ -91,7 +92,7 @@ lost_over old side verdict = go (is_over old.phase) refl
     go true e = rw e e
     go false e = rw e refl
 
--- a wire that failed moves a session as the end of its side does
+-- a failed write moves a session as the end of its side does
 lost_is_ended : (side : Side) (old new : SessionState) (moves : List Effect) → Runs old (Loses side ∷ []) moves new →
     (other : SessionState) × Runs old (Ends side ∷ []) moves other × IsAsLogged other new
 lost_is_ended side old new moves r =
@@ -115,12 +116,12 @@ lost_is_ended side old new moves r =
       inr (ended_over old side verdict, ap (λ (s : SessionState). is_over s.phase) state_is ∙ lost_over old side verdict),
     )
 
--- the events of an answer, as its line tells them
+-- the events of a call, as its line has them
 abbrev events_logged : Option LogEvent → List Event
 events_logged None = []
 events_logged (Some event) = events_in event
 
--- where the session goes by an answer, as the log has it
+-- the effect of a call on the session that the log describes
 record GoesAsLogged (old : SessionState) (answer : PortCall) (moves : List Effect) (new : SessionState) : Type 0 where
   logged : SessionState
   runs : Runs old (events_logged (reported_by answer)) moves logged
@@ -153,7 +154,7 @@ goes_as_logged answer logged old new moves (inr over) r =
       alike = inr (over.0, ap (λ (s : SessionState). is_over s.phase) stays.1 ∙ over.1);
     }
 
--- ---- what is told
+-- ---- notes
 
 notes_of-append : (a b : List Effect) → notes_of (a ++ b) ≡ notes_of a ++ notes_of b
 notes_of-append [] b = refl
@@ -183,9 +184,9 @@ reported_by_lines (answer ∷ answers) lines old new moves r =
           ∙ ap (λ (l : List Note). notes_of s.1 ++ l) later.2 ∙ sym (notes_of-append s.1 s.2) ∙ ap notes_of (sym s.5),
     )
 
--- ---- one answer
+-- ---- one call
 
--- the same report, said otherwise
+-- the same report, with equal arguments
 same_report : (bytes other : List ℕ) (number another : ℕ) (reported more : List ReportEntry) (stage after : LogState) → bytes ≡ other →
     number ≡ another → reported ≡ more → stage ≡ after → Reports bytes number reported stage → Reports other another more after
 same_report bytes other number another reported more stage after b n t s h =
@@ -250,7 +251,7 @@ answer_reported (Offered side handed (Took n)) bytes number reported old new mov
 answer_reported (Offered side handed Failed) bytes number reported old new moves piece fits h r =
     event_reported (EndOf side) bytes number reported old new moves tt fits h r
 
--- all answers
+-- all calls
 
 answers_reported : (answers : List PortCall) (bytes : List ℕ) (number : ℕ) (reported more : List ReportEntry)
     (logged old new : SessionState) → AllByRecursion IsPiece answers → number + count_of_answers answers ≤ most_lines →
@@ -281,7 +282,7 @@ answers_reported (answer ∷ answers) bytes number reported more logged old new 
 
 -- ---- words
 
--- a word that was accepted is read back, and there were fewer than may be
+-- an accepted word is parsed back, and there were fewer words than the limit
 record IsAccepted (taken : List NamedToken) (word : Word) : Type 0 where
   letters : list_all is_capital word.name ≡ true
   code : word.code < 65536
@@ -325,7 +326,7 @@ names_of-more : (words : List Word) (word : Word) → names_of (words ++ word �
 names_of-more [] word = refl
 names_of-more (first ∷ words) word = ap (λ (l : List NamedToken). (first.code, first.name) ∷ l) (names_of-more words word)
 
--- a head that sets these
+-- a head with these contents
 abbrev head_with : Config → ℕ → List Word → Preamble
 head_with config total words =
     record { version = Match; limits = record { config = config; sessions = 1; words = total }; words = words }

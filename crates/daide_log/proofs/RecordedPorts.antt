@@ -1,4 +1,4 @@
--- What the record of ports has of their answers.
+-- The record of ports and their calls.
 use Rattle.std.proofs.Common.{◌≡◌, ◌≢◌, ℕ, ◌+◌, ◌≤◌, List, [], ◌∷◌, ◌++◌, Option, Some, None, refl, sym, ap, ◌∙◌, subst}
 use Rattle.std.proofs.Common.{arith, append_assoc, append-nil}
 use Rattle.std.specs.List.{AllByRecursion}
@@ -14,7 +14,7 @@ use Rattle.daide_log.specs.RecordText.{lines_of_answers, count_of_answers, head_
 use Rattle.daide_log.specs.Recording.{Written, Recorded, Records, RecordsEvent, TakesLine, TakesEvent, IsPiece}
 use Rattle.daide_log.specs.RecordLaw.{HasFront, PortsAreRecorded}
 
--- ---- one answer more
+-- ---- one more call
 
 lines_more : (answers : List PortCall) (answer : PortCall) →
     lines_of_answers (answers ++ answer ∷ []) ≡ lines_of_answers answers ++ line_of_answer answer
@@ -41,7 +41,7 @@ text_more config words answers answer =
 
 -- ---- a record so far
 
--- the record is whole, and has the lines of these
+-- the record is whole, and has the lines of these calls
 record IsOf (config : Config) (words : List Word) (answers : List PortCall) (written : Written) : Type 0 where
   text : written.text ≡ Some (record_text config words answers)
   lines : written.lines ≡ record_count words answers
@@ -49,7 +49,7 @@ record IsOf (config : Config) (words : List Word) (answers : List PortCall) (wri
   pieces : AllByRecursion IsPiece answers
   ending : written.ending ≡ Whole
 
--- what becomes of it by an answer: it is whole, or it ended
+-- the record after a call: whole, or ended
 record IsOver (config : Config) (words : List Word) (answers : List PortCall) (written : Written) : Type 0 where
   text : written.text ≡ Some (record_text config words answers)
   ending : written.ending ≡ Full
@@ -138,7 +138,7 @@ untaken failure Full old new (Some event) other e t =
 
 -- ---- a record that failed
 
--- by one event a record that had not failed fails only where a write failed
+-- an event makes a record fail only by a failed write
 fails_by : (failure : Type 0) (ending : RecordEnd) (old new : Written) (reported : Option LogEvent) → old.ending ≡ ending →
     old.ending ≢ Failed → RecordsEvent failure old reported new → new.ending ≡ Failed → failure
 fails_by failure ending old new None e other t f = absurd (other (sym (ap (λ (w : Written). w.ending) t) ∙ f))

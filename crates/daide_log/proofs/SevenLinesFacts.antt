@@ -1,5 +1,5 @@
--- The worked log of seven lines, with its messages, computed from the definitions: the verdict on a message is the one
--- that the table of the grammar has, which is the grammar's.
+-- The worked log of seven lines, with its messages, computed from the definitions. The verdict on a message is the one
+-- of the grammar's table, which is the grammar's.
 use Rattle.std.proofs.Common.{◌≡◌, ℕ, List, [], ◌∷◌, ◌++◌, codes, Some, Ok, refl, arith}
 use Rattle.std.specs.Fmt.{digits}
 use Rattle.hex.specs.Hex.{decode_pairs}
@@ -24,7 +24,7 @@ use Rattle.daide_log.proofs.StandardFacts.{limits, session_in, session_ended, op
 use Rattle.daide_log.proofs.StandardFacts.{im_passes}
 use Rattle.daide_log.proofs.StandardFacts.{im_played}
 
--- ---- the messages, and what becomes of each
+-- ---- the messages, and the move of each
 
 rm : LogEvent
 rm = Received Server (1 ∷ 0 ∷ 0 ∷ 0 ∷ [])
@@ -83,7 +83,7 @@ to_gof = to_rm ++ codes "bot 020000024803" ++ 10 ∷ []
 to_unclosed : List ℕ
 to_unclosed = to_gof ++ codes "bot 0200000448034000" ++ 10 ∷ []
 
--- a move of a side that a line made
+-- a side's move that a line caused
 move_at : ℕ → Side → Note → ReportEntry
 move_at number side reported = record { source = source_in Single number 1; side = side; reported = reported }
 
@@ -117,7 +117,8 @@ log_read =
     ++ reported_by 6 Bot unclosed_gets_prn) (session_in Open) d (codes "server 03000000") fm fm_passes refl (omega arith)
     (omega arith) refl fm_played
 
--- the initial message, the map and GOF are passed on, GOF and a bracket that never closes gets PRN, and the end goes on
+-- The initial message, the map and GOF are forwarded; a second GOF and an unclosed bracket get PRN; and the end is
+-- forwarded.
 seven_lines : IsReport (to_unclosed ++ codes "server 03000000" ++ 10 ∷ [])
     (codes "3 bot IM 4 relay" ++ 10 ∷ codes "4 server RM 0 relay" ++ 10 ∷ codes "5 bot DM 2 relay"
     ++ 10 ∷ codes "6 bot DM 4 prn" ++ 10 ∷ codes "7 server FM 0 relay"

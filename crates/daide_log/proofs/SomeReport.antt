@@ -1,4 +1,4 @@
--- A log has a report, whatever its bytes: it is cut at its line feeds, and each line goes on or is bad.
+-- Every log has a report, whatever its bytes: it is split at its line feeds, and each line is accepted or bad.
 use Rattle.std.proofs.Common.{◌≡◌, ℕ, zero, suc, ◌+◌, ◌-◌, ◌<◌, ◌≤◌, ◌⊎◌, inl, inr, Bool, true, false, cond, eqb, leb, ◌≢◌}
 use Rattle.std.proofs.Common.{List, [], ◌∷◌, ◌++◌, length, replicate, codes, Option, Some, None, Result}
 use Rattle.std.proofs.Common.{refl, sym, ap, ◌∙◌, subst, arith, append-nil, append_assoc, length-append}
@@ -35,7 +35,7 @@ use Rattle.daide_log.specs.Report.{ReportEntry, events_of_line, side_of, entries
 use Rattle.daide_log.specs.Log.{ReportsBy, ReportsAllBy, IsReportBy, LogState, Opening, Playing, state_after_preamble, stage_at, event_in, source_in, AdvancesByLine, IsBad}
 use Rattle.daide_log.specs.Log.{Reports, ReportsAll, IsReport}
 
--- ---- numbers that are told
+-- ---- numbers of sessions
 
 within_both : (most : ℕ) (o : Option ℕ) (n : ℕ) → within 1 most o ≡ Some n → (0 < n) × (n ≤ most)
 within_both most None n e = absurd (cc)
@@ -100,7 +100,7 @@ limits_reported Single line limits e = go (config_of_line line) e
         let one = ap (λ (l : MatchConfig). l.sessions) (same_Some (single_session config) limits e) in omega (arith, one)
 limits_reported Match line limits e = some_sessions line limits e
 
--- a session that a line tells is there
+-- the session of an event exists
 of_match : (sessions : ℕ) (line : List ℕ) (session : ℕ) (event : LogEvent) →
     match_event_of_line sessions line ≡ Some (Of session event) → (0 < session) × (session ≤ sessions)
 unfolding match_event_of_line
@@ -133,7 +133,7 @@ is_there Single sessions line session event some e = go (event_of_line line) e
     go (Some x) k = let one : 1 ≡ session = cc in (omega (arith, one), omega (arith, one, some))
 is_there Match sessions line session event some e = of_match sessions line session event e
 
--- ---- what holds of a log that is read
+-- ---- properties of a log while it is read
 
 -- each session has these words
 abbrev Speak : List Word → List SessionState → Type 0
@@ -317,7 +317,7 @@ ended_at log number reported (Playing version sessions) all = (_, (_, IsReportBy
 regroup : (a b c : List ℕ) → (a ++ b ++ 10 ∷ []) ++ c ≡ a ++ (b ++ 10 ∷ c)
 regroup a b c = simp append_assoc
 
--- what is left, of so many bytes at most, has a report behind what was read
+-- the rest, with at most this number of bytes, has a report after what was read
 abbrev ReadsOn : ℕ → Type 0
 ReadsOn fuel = (bytes rest : List ℕ) (number : ℕ) (reported : List ReportEntry) (stage : LogState) → length rest < fuel →
     Reports bytes number reported stage → number ≤ most_lines → Good stage → HasReport (bytes ++ rest)

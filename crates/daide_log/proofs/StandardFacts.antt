@@ -1,5 +1,5 @@
 -- Lines of a log and of its report, and whole logs in which no message is judged, computed from the definitions, so
--- that a wrong one does not check. SevenLinesFacts has a log with messages, and so have the tests.
+-- that a wrong definition fails to check. SevenLinesFacts and the tests have logs with messages.
 use Rattle.std.proofs.Common.{◌≡◌, ℕ, ◌+◌, ◌<◌, ◌≤◌, true, List, [], ◌∷◌, ◌++◌, length, Some, None}
 use Rattle.std.proofs.Common.{Ok, Err, refl, ap, arith, codes}
 use Rattle.std.specs.Prelude.{option_map}
@@ -48,7 +48,7 @@ limits_set = (refl, refl, refl, refl, refl)
 
 -- ---- the report
 
--- a line of version 1, which names no session
+-- the key of a line in version 1, which names no session
 of_line : ℕ → ReportKey
 of_line line = record { line = line; session = None }
 
@@ -72,11 +72,11 @@ counts_reported = refl
 unfoldable pub opening_lines : List ℕ
 opening_lines = (codes "daide-log 1" ++ 10 ∷ []) ++ codes "config 60 1024 16" ++ 10 ∷ []
 
--- the session of these limits in a phase
+-- the session with these limits, in a phase
 abbrev pub session_in : Phase → SessionState
 session_in phase = state_at (limits_of limits) phase
 
--- the session of these limits, ended by this
+-- the session with these limits, which ended in this way
 abbrev pub session_ended : Ending → SessionState
 session_ended ending = over ending (session_in WaitIm)
 
@@ -93,7 +93,7 @@ opened =
     (Playing Single (session_in WaitIm ∷ [])) (omega arith) (unbroken (codes "config 60 1024 16") refl) (omega arith)
     (Headed (record { version = Single; limits = single_session limits; words = [] }), refl, refl, refl)
 
--- one line more
+-- one more line
 pub next_line : (bytes : List ℕ) (number : ℕ) (reported : List ReportEntry) (state : SessionState) →
     Reports bytes number reported (Playing Single (state ∷ [])) → (line : List ℕ) (event : LogEvent) (p : Played) →
     has_no_feed line ≡ true → length line ≤ 2100 → number < 1000000 → event_of_line (without_cr line) ≡ Some event →
@@ -111,7 +111,7 @@ ends_here : (bytes : List ℕ) (number : ℕ) (reported : List ReportEntry) (sta
 ends_here bytes number reported states reports =
     IsReportBy.whole bytes number reported Single states (ReportsAllBy.ended bytes number reported (Playing Single states) reports)
 
--- a log of one line behind the opening
+-- a log of one line after the opening
 one_line : (line : List ℕ) (event : LogEvent) (p : Played) → has_no_feed line ≡ true → length line ≤ 2100 →
     event_of_line (without_cr line) ≡ Some event → played (events_of_line event) (session_in WaitIm) ≡ Some p →
     IsReport (opening_lines ++ line ++ 10 ∷ [])
@@ -154,7 +154,7 @@ pub im_played : played (events_of_line im) (session_in WaitIm) ≡ Some im_passe
 unfolding im im_passes limits played verdict_on last_items first_items parse_head is_alien im_of
 im_played = refl
 
--- an IM is passed on
+-- an IM is forwarded
 im_alone : IsReport (opening_lines ++ codes "bot 000000040001DA10" ++ 10 ∷ [])
     ((codes "3 bot IM 4 relay" ++ 10 ∷ []) ++ codes "relayed 1 prn 0 huh 0 faults 0" ++ 10 ∷ [])
     (Ok (record { relayed = 1; prn = 0; huh = 0; faults = 0 }))
@@ -162,7 +162,7 @@ unfolding im im_passes event_of_line move_line source_text reported_text summary
     has_no_feed
 im_alone = one_line (codes "bot 000000040001DA10") im im_passes refl (omega arith) refl im_played
 
--- the bot's FM before its IM goes nowhere
+-- the bot's FM before its IM is dropped
 fm : LogEvent
 fm = Received Bot (3 ∷ 0 ∷ 0 ∷ 0 ∷ [])
 
@@ -181,7 +181,7 @@ unfolding fm fm_drops event_of_line move_line source_text reported_text summary_
     has_no_feed
 fm_before_the_im = one_line (codes "bot 03000000") fm fm_drops refl (omega arith) refl fm_played
 
--- nothing is told of the two lines alone, and a log that has fewer is at fault
+-- the two opening lines alone have an empty report, and a log with fewer lines has a fault
 pub two_lines_alone : IsReport opening_lines ([] ++ codes "relayed 0 prn 0 huh 0 faults 0" ++ 10 ∷ [])
     (Ok (record { relayed = 0; prn = 0; huh = 0; faults = 0 }))
 unfolding summary_line digits
@@ -192,7 +192,7 @@ empty_input : IsReport [] [] (Err (BadLine 1))
 empty_input =
     IsReportBy.cut_short [] 0 [] (Opening Unnamed) (ReportsAllBy.ended [] 0 [] (Opening Unnamed) ReportsBy.none) tt
 
--- a bad line behind the opening, of which nothing is told
+-- a bad line after the opening, which has no entry
 bad_third_line : IsReport (opening_lines ++ codes "bot 02000" ++ 10 ∷ []) [] (Err (BadLine 3))
 unfolding event_of_line decode_pairs has_no_feed
 bad_third_line =
@@ -206,7 +206,7 @@ leading_zero =
     IsReportBy.bad (codes "daide-log 1" ++ 10 ∷ []) 1 [] (Opening (Named Single)) named (codes "config 060 1024 16") []
     (omega arith) (unbroken (codes "config 060 1024 16") refl) (omega arith) refl
 
--- the bot's FM before its IM ends the session, so the timer tells nothing
+-- the bot's FM before its IM ends the session, so the timer has no effect
 fm_then_timer : IsReport ((opening_lines ++ codes "bot 03000000" ++ 10 ∷ []) ++ codes "timer" ++ 10 ∷ [])
     ((codes "3 bot FM 0 drop" ++ 10 ∷ []) ++ codes "relayed 0 prn 0 huh 0 faults 0" ++ 10 ∷ [])
     (Ok (record { relayed = 0; prn = 0; huh = 0; faults = 0 }))

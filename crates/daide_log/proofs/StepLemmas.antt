@@ -1,4 +1,4 @@
--- A log line by line.
+-- A log, line by line.
 use Rattle.std.proofs.Common.{◌≡◌, ℕ, ◌+◌, ◌<◌, ◌≤◌, inl, inr, List, [], ◌∷◌, ◌++◌, length}
 use Rattle.std.proofs.Common.{refl, sym, ap, ◌∙◌, subst, arith, append-nil, append_assoc, length-append}
 use Rattle.daide_log_lines.specs.LogLine.{without_cr}
@@ -8,14 +8,14 @@ use Rattle.daide_log_lines.specs.LogLine.{IsUnbroken, most_lines}
 use Rattle.daide_log.specs.Log.{ReportsBy, ReportsAllBy, LogState, Opening, AdvancesByLine, Reports, ReportsAll}
 use Rattle.daide_log.specs.Laws.{IsLines}
 
--- by these lines, behind so many, a log goes on, with these moves told
+-- these lines, after this number of lines, take the log to the new state with these entries
 abbrev pub Steps : ℕ → LogState → List (List ℕ) → List ReportEntry → LogState → Type 0
 Steps number old [] reported new = (reported ≡ []) × (new ≡ old)
 Steps number old (line ∷ lines) reported new =
     (mid : LogState) × (first : List ReportEntry) × (later : List ReportEntry) × AdvancesByLine (number + 1) old line first mid
     × Steps (number + 1) mid lines later new × (reported ≡ first ++ later)
 
--- one line more behind them
+-- one more line after them
 pub steps_then : (lines : List (List ℕ)) (number count : ℕ) (line : List ℕ) (reported more : List ReportEntry) (old mid new : LogState) →
     Steps number old lines reported mid → number + length lines ≡ count → AdvancesByLine (count + 1) mid line more new →
     Steps number old (lines ++ line ∷ []) (reported ++ more) new
@@ -37,9 +37,9 @@ steps_then (l ∷ lines) number count line reported more old mid new h e on = (
   ap (λ (l : List ReportEntry). l ++ more) h.5 ∙ append_assoc h.1 h.2 more,
 )
 
--- ---- where a line ends
+-- ---- the end of a line
 
--- bytes without a line feed are no line with one
+-- bytes without a line feed are not a line with one
 pub no_feed : (a b c : List ℕ) → IsUnbroken a → a ≡ b ++ 10 ∷ c → ⊥
 no_feed [] [] c h e = absurd (cc)
 no_feed [] (y ∷ b) c h e = absurd (cc)
@@ -63,7 +63,7 @@ one_end (x ∷ a) (y ∷ b) c d h k e =
 regroup : (a b c : List ℕ) → (a ++ b ++ 10 ∷ []) ++ c ≡ a ++ (b ++ 10 ∷ c)
 regroup a b c = simp append_assoc
 
--- of the lines of what was read and what is left, these were read
+-- of the lines of what was read and of the rest, these were read
 pub record AreRead (rest : List ℕ) (lines : List (List ℕ)) (number : ℕ) (reported : List ReportEntry) (stage : LogState) : Type 0 where
   pub before : List (List ℕ)
   pub after : List (List ℕ)
@@ -131,7 +131,7 @@ one_left line [] some h k = absurd (omega (arith, ap length k))
 one_left line (l ∷ lines) some h (inl k) = ap (λ (x : List ℕ). x ∷ lines) (sym k.1) ∙ ap (λ (ls : List (List ℕ)). line ∷ ls) k.0
 one_left line (l ∷ lines) some h (inr k) = absurd (no_feed line k.0 k.1 h k.2)
 
--- a log that was read to its end went on by its lines, which are not too many
+-- the lines of a log that was read to its end moved it on, and are at most as many as the limit
 pub all_read : (log : List ℕ) (number : ℕ) (reported : List ReportEntry) (stage : LogState) → ReportsAll log number reported stage →
     (lines : List (List ℕ)) → IsLines log lines →
     Steps 0 (Opening Unnamed) lines reported stage × (length lines ≤ most_lines)
@@ -152,7 +152,7 @@ all_read _ _ _ _ (ReportsAllBy.unended bytes number reported old reports line mo
       omega (arith, few, sym (ap length all), length-append read.before (line ∷ []), read.count),
     )
 
--- ---- and back
+-- ---- the converse
 
 pub all_written : (lines : List (List ℕ)) (log bytes : List ℕ) (number : ℕ) (reported more : List ReportEntry) (old new : LogState) →
     IsLines log lines → Reports bytes number reported old → Steps number old lines more new →

@@ -1,4 +1,4 @@
--- Lines of an explanation, one after the other.
+-- Lines of an explanation, in order.
 use Rattle.std.proofs.Common.{◌≡◌, ℕ, List, [], ◌∷◌, ◌++◌, length, take, drop, refl, sym, ap, ◌∙◌, subst, append_assoc, append-nil}
 use Rattle.std.specs.List.{AllZip}
 use Rattle.std.proofs.lemmas.List.{take-append-drop}
@@ -23,7 +23,7 @@ as_message words end level max_depth body Relay lines other h = absurd (other re
 as_message words end level max_depth body Prn lines other h = h
 as_message words end level max_depth body (Huh place) lines other h = h
 
--- a header and a body are the bytes that are held
+-- the header and the body are the held bytes
 pub held_of_parts : (held header body bytes : List ℕ) → header ≡ take 4 held → body ≡ drop 4 held →
     AllZip (λ x y. y ≡ x) (header ++ (body ++ [])) bytes → bytes ≡ held
 held_of_parts held header body bytes e f each =

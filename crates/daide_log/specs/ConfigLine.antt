@@ -1,4 +1,5 @@
--- What the second line of a log sets, by its bytes alone: docs/FORMATS.md, "The log" and "The log, version 2". (own)
+-- The limits in the second line of a log, by its bytes alone: docs/FORMATS.md, "The log" and "The log, version 2".
+-- (own)
 use Rattle.std.specs.Prelude.{ℕ, List, codes, Option, Some, None, Result, Ok, Err}
 use Rattle.daide_grammar.specs.Words.{most_words}
 use Rattle.daide_protocol.specs.Bounds.{most_sessions}
@@ -36,7 +37,7 @@ abbrev pub config_of_rest : Option (List ℕ) → Option Config
 config_of_rest None = None
 config_of_rest (Some rest) = config_of_three (parted_at_space rest)
 
--- the limits that a line `config L B D` sets: three plain numbers that a session takes as its limits
+-- the limits of a line `config L B D`: three plain numbers that a session accepts as its limits
 unfoldable pub config_of_line : List ℕ → Option Config
 config_of_line line = config_of_rest (strip_prefix (codes "config ") line)
 
@@ -73,7 +74,7 @@ abbrev pub match_config_of_rest : Option (List ℕ) → Option MatchConfig
 match_config_of_rest None = None
 match_config_of_rest (Some rest) = match_config_of_level (parted_at_space rest)
 
--- what a line `config L B D S W` sets: the limits of each session, as in version 1, how many sessions there are, one at
--- least, and how many words
+-- the contents of a line `config L B D S W`: the limits of each session, as in version 1, the number of sessions, at
+-- least one, and the number of words
 unfoldable pub match_config_of_line : List ℕ → Option MatchConfig
 match_config_of_line line = match_config_of_rest (strip_prefix (codes "config ") line)

@@ -1,6 +1,6 @@
--- The report of a log with its explanations: each message with its text, and each that was refused with the level by which
--- it was judged, its answer and why; each fault with its name and its bytes; the comments of the log; and at the end each
--- frame that is not whole. All of it in lines that begin with four spaces, but for the comments. (own)
+-- The report of a log with explanations. It has the text of each message; for a refused one also the level at which it
+-- was judged, its answer and the reason; the name and the bytes of each fault; the comments of the log; and at the end
+-- each incomplete frame. All these lines but the comments begin with four spaces. (own)
 use Rattle.std.specs.Prelude.{◌≡◌, ℕ, ◌+◌, ◌-◌, ◌/◌, ◌==◌, nat_lt, Bool, true, false, if◌then◌else◌, List, [], ◌∷◌, ◌++◌}
 use Rattle.std.specs.Prelude.{◌%◌, slice_index, codes, length, drop, Option, Some, None}
 use Rattle.std.specs.Fmt.{decimal}
@@ -44,7 +44,7 @@ use Rattle.daide_log.specs.Report.{ReportEntry, events_of_line, side_of, move_li
 abbrev pub with_line_feed : List ℕ → List ℕ
 with_line_feed text = text ++ 10 ∷ []
 
--- each line with four spaces before it
+-- the lines of a text, with four spaces before each
 abbrev pub indented_byte : Bool → ℕ → List ℕ
 indented_byte begins byte = (if begins then codes "    " else []) ++ byte ∷ []
 
@@ -57,18 +57,18 @@ indented text = indented_from true text
 
 -- ---- a message
 
--- the verdict by which a message had this fate
+-- the verdict that corresponds to a deed
 abbrev pub verdict_by : Deed → Verdict
 verdict_by Deeds.Relayed = Relay
 verdict_by Deeds.Dropped = Relay
 verdict_by Deeds.Prn = Prn
 verdict_by (Deeds.Huh place) = Huh place
 
--- tokens as they are printed, the operator's words by their own names
+-- the printed text of tokens, with the operator's words by their own names
 abbrev pub message_text : List Word → List ℕ → List ℕ
 message_text words tokens = text_with (names_of words) tokens
 
--- the lines of a message that was refused: its text, its level, the answer that its sender gets, and why
+-- the lines for a refused message: its text, its level, the answer to its sender, and the reason
 abbrev pub AreRefusedLines : List Word → Side2 → Level → ℕ → List ℕ → Verdict → List ℕ → Type 0
 AreRefusedLines words end level max_depth body verdict lines =
     (why : List ℕ) × IsExplained words end level max_depth (tokens_of body) verdict why
@@ -81,7 +81,7 @@ AreMessageLines words end level max_depth body Prn lines = AreRefusedLines words
 AreMessageLines words end level max_depth body (Huh place) lines =
     AreRefusedLines words end level max_depth body (Huh place) lines
 
--- those of a frame: none, unless the grammar is asked about it
+-- the lines for a frame: none, unless it is a message
 abbrev pub ExplainsFrame : List Word → ℕ → Option Question → List ℕ → Deed → List ℕ → Type 0
 ExplainsFrame words max_depth None body deed lines = lines ≡ []
 ExplainsFrame words max_depth (Some q) body deed lines =
@@ -94,19 +94,19 @@ ExplainsFrame words max_depth (Some q) body deed lines =
 abbrev pub pair : ℕ → List ℕ
 pair byte = slice_index upper_digits (byte / 16) ∷ slice_index upper_digits (byte % 16) ∷ []
 
--- bytes in such pairs, with a space between two
+-- pairs of upper-case digits, separated by spaces
 abbrev pub pairs : List ℕ → List ℕ
 pairs [] = []
 pairs (byte ∷ []) = pair byte
 pairs (byte ∷ next ∷ bytes) = pair byte ++ 32 ∷ pairs (next ∷ bytes)
 
--- the bytes of an invalid token, which are the last, and its place among the tokens
+-- the last two bytes, which are an invalid token, and its index in the message
 abbrev pub token_line : List ℕ → List ℕ
 token_line bytes =
     with_line_feed (codes "bytes: " ++ pairs (drop (length bytes - 2) bytes) ++ codes " at token "
     ++ decimal ((length bytes - 6) / 2))
 
--- all bytes since the last whole frame, if there are any
+-- all bytes since the last complete frame, if there are any
 abbrev pub bytes_line : List ℕ → List ℕ
 bytes_line [] = []
 bytes_line (byte ∷ bytes) = with_line_feed (codes "bytes: " ++ pairs (byte ∷ bytes))
@@ -117,14 +117,14 @@ fault_lines code bytes =
 
 -- ---- a move
 
--- the bytes of a side since its last whole frame, with the one that comes
+-- a side's bytes since its last complete frame, including the byte of this event
 abbrev pub bytes_at : SessionState → Side → Event → List ℕ
 bytes_at state side (Comes from byte) = (coming state side).pending ++ byte ∷ []
 bytes_at state side (Ends from) = (coming state side).pending
 bytes_at state side (Loses from) = (coming state side).pending
 bytes_at state side ImTimerExpired = (coming state side).pending
 
--- the lines that explain a move of a side, which this event made of the state
+-- the lines that explain a side's move, which this event caused in this state
 abbrev pub ExplainsMove : List Word → Side → SessionState → Event → Note → List ℕ → Type 0
 ExplainsMove words side before event Notes.Nothing lines = lines ≡ []
 ExplainsMove words side before event (Notes.Frame head deed) lines =
@@ -133,7 +133,7 @@ ExplainsMove words side before event (Notes.Fault code) lines = lines ≡ fault_
 
 -- ---- the entries
 
--- a move with its lines, or a comment of the log
+-- a move with the lines after it, or a comment of the log
 pub data ExplainedEntry : Type 0 where
   Moved : (entry : ReportEntry) → (added : List ℕ) → ExplainedEntry
   Remark : (comment : List ℕ) → ExplainedEntry
@@ -146,7 +146,7 @@ abbrev pub shown_counted : ExplainedEntry → Summary → Summary
 shown_counted (Moved entry added) before = count_note entry.reported before
 shown_counted (Remark comment) before = before
 
--- the entries of the moves of one event
+-- the entries for the moves of one event
 abbrev pub AreShown : List Word → ReportKey → Side → SessionState → Event → List Effect → List ExplainedEntry → Type 0
 AreShown words source side before event [] shown = shown ≡ []
 AreShown words source side before event (move ∷ moves) shown =
@@ -154,7 +154,7 @@ AreShown words source side before event (move ∷ moves) shown =
     × AreShown words source side before event moves more
     × (shown ≡ Moved (record { source = source; side = side; reported = move.reported }) (indented lines) ∷ more)
 
--- By these events, one after the other, the state goes on with these moves, which have these entries.
+-- These events, one after the other, take the state to the new one with these moves, which have these entries.
 abbrev pub AreShownBy : List Word → ReportKey → Side → SessionState → List Event → List Effect → SessionState → List ExplainedEntry →
     Type 0
 AreShownBy words source side old [] moves new shown = (moves ≡ []) × (new ≡ old) × (shown ≡ [])
@@ -163,17 +163,17 @@ AreShownBy words source side old (event ∷ events) moves new shown =
     × Transition old event first mid × AreShown words source side old event first here
     × AreShownBy words source side mid events rest new later × (moves ≡ first ++ rest) × (shown ≡ here ++ later)
 
--- a comment stands in the report as it stands in the log
+-- a comment is copied to the report
 abbrev pub is_remark : List ℕ → Bool
 is_remark [] = false
 is_remark (byte ∷ bytes) = byte == 35
 
 abbrev pub remarks : List ℕ → List ExplainedEntry
-remarks with_line_feed = if is_remark with_line_feed then Remark with_line_feed ∷ [] else []
+remarks line = if is_remark line then Remark line ∷ [] else []
 
 -- ---- the end
 
--- whether the session ended by a fault of the side
+-- whether the session ended by a fault of this side
 abbrev pub is_at_fault : Side → Option Ending → Bool
 is_at_fault side None = false
 is_at_fault side (Some (Endings.Fault at code)) = same_side side at
@@ -182,7 +182,7 @@ is_at_fault side (Some (Endings.Lost at)) = false
 is_at_fault side (Some (Endings.Final at)) = false
 is_at_fault side (Some (Endings.Error at)) = false
 
--- a frame that is not whole: how many bytes of it came, and how many it has, once its header is whole
+-- an incomplete frame: how many of its bytes were received, and its size, once its header is complete
 pub record Part : Type 0 where
   pub session : Option ℕ
   pub side : Side
@@ -192,25 +192,25 @@ pub record Part : Type 0 where
 abbrev pub size_of : ℕ → List ℕ → Option ℕ
 size_of cap bytes = if nat_lt (length bytes) 4 then None else Some (4 + announced cap bytes)
 
--- that of a side, unless no byte of it came, or it is at fault
+-- a side's incomplete frame, unless it has no byte, or is at fault
 abbrev pub part_of : Option ℕ → Side → ℕ → Bool → List ℕ → List Part
 part_of session side cap at_fault [] = []
 part_of session side cap at_fault (byte ∷ bytes) =
     if at_fault then []
     else record { session = session; side = side; came = length (byte ∷ bytes); size = size_of cap (byte ∷ bytes) } ∷ []
 
--- a session's number, which the report of a match names
+-- a session's number, which only the report of a match shows
 abbrev pub session_number : Version → ℕ → Option ℕ
 session_number Single session = None
 session_number Match session = Some session
 
--- those of a session, the bot's first
+-- the incomplete frames of a session, the bot's first
 abbrev pub unfinished_parts : Option ℕ → SessionState → List Part
 unfinished_parts session state =
     part_of session Bot state.limits.cap (is_at_fault Bot state.ending) (coming state Bot).pending
     ++ part_of session Server state.limits.cap (is_at_fault Server state.ending) (coming state Server).pending
 
--- those of all sessions, from the one of this number on
+-- the incomplete frames of all sessions, from the session of this number on
 abbrev pub parts_from : Version → ℕ → List SessionState → List Part
 parts_from version session [] = []
 parts_from version session (state ∷ states) =
@@ -227,10 +227,10 @@ explained words = record {
   text = shown_text;
   counted = shown_counted;
   tells = AreShownBy words;
-  line = λ with_line_feed source event before moves after shown.
+  line = λ line source event before moves after shown.
       (later : List ExplainedEntry) × AreShownBy words source (side_of event) before (events_of_line event) moves after later
-      × (shown ≡ remarks with_line_feed ++ later);
-  quiet = λ with_line_feed shown. shown ≡ remarks with_line_feed;
+      × (shown ≡ remarks line ++ later);
+  quiet = λ line shown. shown ≡ remarks line;
   opens = λ heading shown. (shown ≡ []) × HasWords words heading;
   closing = λ version sessions. texts_of part_text (parts_from version 1 sessions);
   answer = λ counts version sessions. record { counts = counts; unfinished = length (parts_from version 1 sessions) };

@@ -1,4 +1,4 @@
--- What the code knows of a frame that a session still holds when it explains its move. (own)
+-- The frame that a session still holds when its move is explained. (own)
 use Rattle.std.specs.Prelude.{◌≡◌, ⊤, ℕ, ◌≤◌, ◌%◌, List, [], length, drop}
 use Rattle.std.specs.Bool.{MatchBool}
 use Rattle.daide_token.specs.Token.{tokens_of}
@@ -20,14 +20,14 @@ use Rattle.daide_log.specs.declared.report.Part as reports
 use Rattle.daide_log.specs.Report.{texts_of}
 use Rattle.daide_log.specs.Explained.{AreMessageLines, Part, fault_lines, part_text, verdict_by}
 
--- the limits are right, and the body has whole tokens
+-- the limits are valid, and the body consists of whole tokens
 pub record IsRuled (max_depth : ℕ) (body : List ℕ) : Type 0 where
   pub low : least_depth ≤ max_depth
   pub high : max_depth ≤ greatest_depth
   pub capped : length body ≤ longest_body
   pub even : length body % 2 ≡ 0
 
--- the message that is held had this fate by the grammar's verdict
+-- the held message had this fate because of the grammar's verdict on it
 pub record IsRightFate (words : List Word) (config : Config) (side : Side) (deed : Deed) (new : SessionView) : Type 0 where
   pub ruled : IsRuled config.max_depth (drop 4 (holding new side).held)
   pub within : IsPlaceIn (drop 4 (holding new side).held) (verdict_by deed)
@@ -40,7 +40,7 @@ IsRightlyReported words config side (Notes.Frame head deed) new =
     MatchBool (is_dm head.kind) (IsRightFate words config side deed new) ⊤
 IsRightlyReported words config side (Notes.Fault code) new = ⊤
 
--- the lines of a move, by the frame that is held
+-- the lines for a move, from the held frame
 abbrev pub AreLinesBy : List Word → ℕ → Side → Note → SessionView → List ℕ → Type 0
 AreLinesBy words max_depth side Notes.Nothing new lines = lines ≡ []
 AreLinesBy words max_depth side (Notes.Frame head deed) new lines =
@@ -50,9 +50,10 @@ AreLinesBy words max_depth side (Notes.Frame head deed) new lines =
     (lines ≡ [])
 AreLinesBy words max_depth side (Notes.Fault code) new lines = lines ≡ fault_lines code (holding new side).held
 
--- ---- frames that are not whole
+-- ---- incomplete frames
 
--- by the bytes of its header and its body, whether it is at fault, and how many bytes the header announces
+-- an incomplete frame, from its numbers of header bytes and body bytes, whether it is at fault, and its header's length
+-- field
 abbrev pub part_by : ℕ → ℕ → Bool → ℕ → Option reports.Part
 part_by header body at_fault announced =
     if (header == 0) || at_fault then None
@@ -63,6 +64,6 @@ part_with session side None = []
 part_with session side (Some part) =
     record { session = session; side = side; came = part.came; size = part.size } ∷ []
 
--- their lines were written, and they were counted
+-- the lines of these frames were written, and their number is `count`
 abbrev pub HasPut : List Part → ℕ → Option (List ℕ) → Option (List ℕ) → Type 0
 HasPut parts count before after = (count ≡ length parts) × Appends before after (texts_of part_text parts)

@@ -14,19 +14,19 @@ use Rattle.daide_log_lines.specs.MatchLine.{is_match_name}
 use Rattle.daide_log_lines.specs.WordLine.{word_of_line}
 use Rattle.daide_log.specs.ConfigLine.{config_of_line, match_config_of_line}
 
--- ---- what a head sets
+-- ---- the contents of a head
 
--- of one session or of a match; the limits, with how many sessions and words there are; and the words
+-- the version, the limits with the numbers of sessions and words, and the words
 pub record Preamble : Type 0 where
   pub version : Version
   pub limits : MatchConfig
   pub words : List Word
 
--- there is a session, and no more than are held at once
+-- there is at least one session, and at most the limit
 abbrev pub HasSessions : MatchConfig → Type 0
 HasSessions limits = (0 < limits.sessions) × (limits.sessions ≤ most_sessions)
 
--- how far it has come
+-- the part of a head that was read so far
 pub data Heading : Type 0 where
   Unnamed : Heading  -- no line came
   Named : (version : Version) → Heading  -- the first
@@ -38,21 +38,21 @@ pub data Heading : Type 0 where
 abbrev pub version_of : List ℕ → Option Version
 version_of line = if is_name line then Some Single else if is_match_name line then Some Match else None
 
--- one session of these limits, and no words
+-- one session with these limits, and no words
 abbrev pub single_session : Config → MatchConfig
 single_session config = record { config = config; sessions = 1; words = 0 }
 
--- what the second line sets
+-- the contents of the second line
 abbrev pub limits_in : Version → List ℕ → Option MatchConfig
 limits_in Single line = option_map single_session (config_of_line line)
 limits_in Match line = match_config_of_line line
 
--- words with one more, if it is accepted after them
+-- the words with one more, if it is accepted after them
 abbrev pub append_word : List Word → Option Word → Option (List Word)
 append_word words None = None
 append_word words (Some word) = if is_ok (word_fault (names_of words) word) then Some (words ++ word ∷ []) else None
 
--- the head with one line more, if the line may stand there
+-- the head after its next line, if the line has the required form
 abbrev pub heading_after : Heading → List ℕ → Option Heading
 heading_after Unnamed line = option_map Named (version_of line)
 heading_after (Named version) line =
@@ -61,6 +61,6 @@ heading_after (Headed head) line =
     option_map (λ words. Headed (record { version = head.version; limits = head.limits; words = words }))
     (append_word head.words (word_of_line line))
 
--- whether all words are there
+-- whether all words were read
 abbrev pub has_all_words : Preamble → Bool
 has_all_words head = length head.words == head.limits.words

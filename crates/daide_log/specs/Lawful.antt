@@ -1,4 +1,4 @@
--- Both forms of a report are ones that a check can write. (own)
+-- Both forms of a report can be written by a check. (own)
 use Rattle.std.proofs.Common.{◌≡◌, List, [], ◌∷◌, ◌++◌, refl, sym, ap, ◌∙◌, subst, append_assoc}
 use Rattle.daide_frame.specs.declared.side.Side.{Side}
 use Rattle.daide_words.specs.declared.word.Word.{Word}
@@ -41,7 +41,7 @@ none_first [] rest e = (refl, sym e)
 none_first (move ∷ first) rest e = absurd (cc)
 
 module _ (words : List Word) (source : ReportKey) (side : Side) where
-  -- no move has no entry
+  -- without a move there is no entry
   pub silent : (old new : SessionState) (events : List Event) → Runs old events [] new →
       AreShownBy words source side old events [] new []
   silent old new [] run = (refl, run.1, refl)

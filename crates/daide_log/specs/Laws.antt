@@ -1,4 +1,4 @@
--- What the log of a match has of each session: its own log, as if it had been alone. (own)
+-- The log of a match and each session's own log: a session behaves as if it were alone. (own)
 use Rattle.std.specs.Prelude.{◌≡◌, ◌⊎◌, ℕ, ◌<◌, ◌≤◌, ◌==◌, Bool, false, if◌then◌else◌, List, [], ◌∷◌, ◌++◌, length}
 use Rattle.std.specs.Prelude.{map, codes, Option, Some, None, Ok}
 use Rattle.daide_log.specs.declared.config_line.MatchConfig.{MatchConfig}
@@ -12,7 +12,7 @@ use Rattle.daide_log.specs.Log.{IsReport}
 
 -- ---- the lines of a log
 
--- These are a log's lines, each without its line end: none is too long, and the last may lack its line feed.
+-- These are a log's lines, each without its line end. None is too long, and the last may lack its line feed.
 abbrev pub IsLines : List ℕ → List (List ℕ) → Type 0
 IsLines log [] = log ≡ []
 IsLines log (line ∷ lines) =
@@ -20,7 +20,7 @@ IsLines log (line ∷ lines) =
     ⊎ ((whole : List ℕ) × (rest : List ℕ) × (log ≡ whole ++ 10 ∷ rest) × IsUnbroken whole
     × (length whole ≤ longest_line) × (line ≡ without_cr whole) × IsLines rest lines)
 
--- ---- a session's own
+-- ---- a session's own log
 
 abbrev pub is_number : ℕ → Option ℕ → Bool
 is_number session None = false
@@ -30,17 +30,17 @@ abbrev pub own_of : ℕ → Option Parted → List ℕ
 own_of session None = codes "#"
 own_of session (Some parted) = if is_number session (plain_number parted.word) then parted.rest else codes "#"
 
--- A line of the session without its number and the space behind it; for every other session's line `#`. A line that
--- tells nothing is as it is.
+-- A line of the session, without the number and the space after it; `#` for every other session's line; and a line
+-- without an event as it is.
 abbrev pub own_line : ℕ → List ℕ → List ℕ
 own_line session line = if is_comment line then line else own_of session (parted_at_space line)
 
--- a move of the session, without its number
+-- a move of the session, without the session's number
 abbrev pub unnumbered : ReportEntry → ReportEntry
 unnumbered entry =
     record { source = record { line = entry.source.line; session = None }; side = entry.side; reported = entry.reported }
 
--- what is told of the session
+-- the entries of the session
 abbrev pub own_reported : ℕ → List ReportEntry → List ReportEntry
 own_reported session [] = []
 own_reported session (entry ∷ entries) =
@@ -49,9 +49,9 @@ own_reported session (entry ∷ entries) =
 
 -- ---- the law
 
--- Where the log of a match without words has no fault, its report is lines of moves and the last line; and the log of
--- version 1 with the same limits, in which the session's lines stand without its number and `#` for every other's, has
--- as its report the session's lines without its number, and their counts.
+-- If the log of a match without words has no fault, its report is the lines of its moves and the last line. Take the
+-- log of version 1 with the same limits, the session's lines without the number, and `#` for every other session's
+-- line. Its report is the session's lines without the number, and their counts.
 abbrev pub SessionsAreAlone : Type 0
 SessionsAreAlone =
     (log own : List ℕ) (second own_second : List ℕ) (lines : List (List ℕ)) (limits : MatchConfig) (session : ℕ)

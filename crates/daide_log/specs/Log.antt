@@ -1,5 +1,5 @@
--- The report of a log: what is written for its lines, each judged by its session as the lines before it left that, with
--- each answer taken at once. docs/FORMATS.md, "The log" and "The log, version 2". (own)
+-- The report of a log: the entries of its lines, each judged by its session in the state that earlier lines left, with
+-- the session's queues emptied at once. docs/FORMATS.md, "The log" and "The log, version 2". (own)
 use Rattle.std.specs.Prelude.{◌≡◌, ⊤, ℕ, false, ◌+◌, ◌-◌, ◌<◌, ◌≤◌, if◌then◌else◌, List, [], ◌∷◌, ◌++◌, length}
 use Rattle.std.specs.Prelude.{replicate, slice_get, slice_set, Option, Some, None, option_map, Result, Ok, Err}
 use Rattle.daide_protocol.specs.Machine.{SessionState, Effect, Runs, initial_state}
@@ -20,17 +20,17 @@ use Rattle.daide_protocol.specs.Summary.{count_note, nothing_counted}
 
 -- ---- events
 
--- what a line behind the head tells, where there are so many sessions; in version 1 it tells the one session
+-- the event of a line after the head, with this number of sessions; in version 1 it is an event of the only session
 abbrev pub event_in : Version → ℕ → List ℕ → Option MatchEvent
 event_in Single sessions line = option_map (Of 1) (event_of_line line)
 event_in Match sessions line = match_event_of_line sessions line
 
--- what the report names of a move: the line, and in version 2 the session
+-- the key of a move in the report: the line, and in version 2 the session
 abbrev pub source_in : Version → ℕ → ℕ → ReportKey
 source_in Single line session = record { line = line; session = None }
 source_in Match line session = record { line = line; session = Some session }
 
--- by what the line of this number tells the session of that number goes on, and no other does; its moves are told
+-- the event of this line moves the session that it names and no other; the session's moves have these entries
 abbrev pub IsPlayedAs : {E : Type 0} → (List E → Type 0) →
     (ReportKey → LogEvent → SessionState → List Effect → SessionState → List E → Type 0) →
     Version → ℕ → MatchEvent → List SessionState → List E → List SessionState → Type 0
@@ -41,7 +41,7 @@ IsPlayedAs quiet tells version line (Of session event) old reported new =
     × tells (source_in version line session) event before moves after reported
     × (new ≡ slice_set old (session - 1) after)
 
--- in the plain report a line that tells nothing has no entry, and each move has one
+-- in the plain report a line without an event has no entry, and each move has one
 abbrev pub IsPlayed : Version → ℕ → MatchEvent → List SessionState → List ReportEntry → List SessionState → Type 0
 IsPlayed =
     IsPlayedAs (λ reported. reported ≡ [])
@@ -64,12 +64,12 @@ plain = record {
 
 -- ---- one line
 
--- how far a log has come
+-- the state of a log
 pub data LogState : Type 0 where
   Opening : (heading : Heading) → LogState  -- a line of the head is to come
   Playing : (version : Version) → (sessions : List SessionState) → LogState  -- all did, and what the sessions are since
 
--- the sessions begin where the head is whole
+-- the sessions of a complete head, in their initial state
 abbrev pub state_after_preamble : Preamble → LogState
 state_after_preamble head =
     Playing head.version (replicate head.limits.sessions (initial_state (limits_with head.limits.config head.words)))
@@ -79,7 +79,7 @@ stage_at Unnamed = Opening Unnamed
 stage_at (Named version) = Opening (Named version)
 stage_at (Headed head) = if has_all_words head then state_after_preamble head else Opening (Headed head)
 
--- by the line of this number a log goes on, with these entries
+-- the line of this number takes the log to its next state, with these entries
 abbrev pub GoesOnBy : {Answer : Type 0} → (form : ReportForm Answer) → ℕ → LogState → List ℕ → List form.Entry → LogState →
     Type 0
 GoesOnBy form number (Opening old) line reported new =
@@ -93,12 +93,12 @@ GoesOnBy form number (Playing version old) line reported new =
 abbrev pub AdvancesByLine : ℕ → LogState → List ℕ → List ReportEntry → LogState → Type 0
 AdvancesByLine = GoesOnBy plain
 
--- the line is not of a form that may stand here
+-- the line has none of the forms allowed here
 abbrev pub IsBad : LogState → List ℕ → Type 0
 IsBad (Opening heading) line = heading_after heading line ≡ None
 IsBad (Playing version sessions) line = event_in version (length sessions) line ≡ None
 
--- a line of the head is still to come
+-- the head is not complete
 abbrev pub IsOpening : LogState → Type 0
 IsOpening (Opening heading) = ⊤
 IsOpening (Playing version sessions) = ⊥
@@ -106,7 +106,7 @@ IsOpening (Playing version sessions) = ⊥
 -- ---- the lines
 
 module _ {Answer : Type 0} (form : ReportForm Answer) where
-  -- These bytes are so many lines, each with its line feed, and these are the moves that are told of them.
+  -- These bytes are this number of lines, each with its line feed, and these are their entries.
   pub data ReportsBy : List ℕ → ℕ → List form.Entry → LogState → Type 0 where
     none : ReportsBy [] 0 [] (Opening Unnamed)
     line : (bytes : List ℕ) (number : ℕ) (reported : List form.Entry) (old : LogState) → ReportsBy bytes number reported old →
@@ -115,7 +115,7 @@ module _ {Answer : Type 0} (form : ReportForm Answer) where
         GoesOnBy form (number + 1) old (without_cr line) more new →
         ReportsBy (bytes ++ line ++ 10 ∷ []) (number + 1) (reported ++ more) new
 
-  -- the same of all lines of a log, of which the last may lack its line feed
+  -- the same for all lines of a log, the last of which may lack its line feed
   pub data ReportsAllBy : List ℕ → ℕ → List form.Entry → LogState → Type 0 where
     ended : (bytes : List ℕ) (number : ℕ) (reported : List form.Entry) (stage : LogState) → ReportsBy bytes number reported stage →
         ReportsAllBy bytes number reported stage
@@ -126,23 +126,23 @@ module _ {Answer : Type 0} (form : ReportForm Answer) where
 
   -- ---- the whole log
 
-  -- What is written for a log, and what it is answered: the counts, or the first fault, which comes after the report of
-  -- the lines before it.
+  -- The report of a log and its result: the counts, or the first fault, which follows the report of the lines before
+  -- it.
   pub data IsReportBy : List ℕ → List ℕ → Result Answer LogFault → Type 0 where
     whole : (log : List ℕ) (number : ℕ) (reported : List form.Entry) (version : Version) (sessions : List SessionState) →
         ReportsAllBy log number reported (Playing version sessions) →
         IsReportBy log (texts_of form.text reported
         ++ (form.closing version sessions ++ summary_line (counted_over form.counted reported nothing_counted)))
         (Ok (form.answer (counted_over form.counted reported nothing_counted) version sessions))
-    -- the log ends before its head does
+    -- the log ends before its head is complete
     cut_short : (log : List ℕ) (number : ℕ) (reported : List form.Entry) (stage : LogState) → ReportsAllBy log number reported stage →
         IsOpening stage → IsReportBy log (texts_of form.text reported) (Err (BadLine (number + 1)))
-    -- a line of another form, with its line feed
+    -- a line without an allowed form, with its line feed
     bad : (bytes : List ℕ) (number : ℕ) (reported : List form.Entry) (stage : LogState) → ReportsBy bytes number reported stage →
         (line after : List ℕ) → number < most_lines → IsUnbroken line → length line ≤ longest_line →
         IsBad stage (without_cr line) →
         IsReportBy (bytes ++ line ++ 10 ∷ after) (texts_of form.text reported) (Err (BadLine (number + 1)))
-    -- or without one
+    -- or without a line feed
     bad_last : (bytes : List ℕ) (number : ℕ) (reported : List form.Entry) (stage : LogState) → ReportsBy bytes number reported stage →
         (line : List ℕ) → number < most_lines → 0 < length line → IsUnbroken line → length line ≤ longest_line →
         IsBad stage line → IsReportBy (bytes ++ line) (texts_of form.text reported) (Err (BadLine (number + 1)))

@@ -1,4 +1,4 @@
--- What the code holds of a log's head, and what it knows behind a line of it. (own)
+-- The head of a log as the code has it, and the state after each of its lines. (own)
 use Rattle.std.specs.Prelude.{⊤, ℕ, ◌+◌, true, false, if◌then◌else◌, Option, Some, None, Result, Ok, Err}
 use Rattle.daide_words.specs.Words.{words_of}
 use Rattle.daide_log_lines.specs.declared.fault.LogFault.{LogFault}
@@ -20,29 +20,29 @@ heading_of Variants.Unnamed = Unnamed
 heading_of (Variants.Named version) = Named version
 heading_of (Variants.Headed head) = Headed (preamble_of head)
 
--- where it is known how many sessions there are, there are some and not too many
+-- once the number of sessions is known, it is within its limits
 abbrev pub IsPreambleKnown : headings.Heading → Type 0
 IsPreambleKnown Variants.Unnamed = ⊤
 IsPreambleKnown (Variants.Named version) = ⊤
 IsPreambleKnown (Variants.Headed head) = HasSessions head.limits
 
--- the head, where it is whole
+-- the head, if it is complete
 abbrev pub whole_preamble : headings.Heading → Option heads.Preamble
 whole_preamble Variants.Unnamed = None
 whole_preamble (Variants.Named version) = None
 whole_preamble (Variants.Headed head) = if has_all_words (preamble_of head) then Some head else None
 
--- what is known behind so many lines, of which the last had its line feed
+-- the state after this number of lines, the last one with its line feed
 abbrev pub preamble_after : headings.Heading → ℕ → Option heads.Preamble → PreambleProgress
 preamble_after heading lines None = More heading
 preamble_after heading lines (Some head) = Done (record { head = head; lines = lines; is_ended = true })
 
--- and where it was the log's last
+-- the same, with the last line at the end of the log
 abbrev pub at_last : ℕ → Option heads.Preamble → Result PreambleProgress LogFault
 at_last lines None = Err (BadLine (lines + 1))
 at_last lines (Some head) = Ok (Done (record { head = head; lines = lines; is_ended = false }))
 
--- what is known behind the line that was found after so many, by the head with that line
+-- the state after the next line; the heading includes it, and the count does not
 abbrev pub after_line : Result LineEnd LogFault → Option headings.Heading → ℕ → Result PreambleProgress LogFault
 after_line (Err fault) heading count = Err fault
 after_line (Ok Line) (Some heading) count = Ok (preamble_after heading (count + 1) (whole_preamble heading))

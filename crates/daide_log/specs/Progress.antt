@@ -1,4 +1,4 @@
--- How far a log was read and reported, and what a fault leaves. (own)
+-- How far a log was read and reported, also at a fault. (own)
 use Rattle.std.specs.Prelude.{◌≡◌, ℕ, ◌+◌, ◌<◌, ◌≤◌, ◌⊎◌, Bool, true, false, List, [], ◌∷◌, ◌++◌, length, map}
 use Rattle.std.specs.Prelude.{Option, IfSome, IfOk, IfErr, Result, Ok, Err}
 use Rattle.std.specs.Bool.{MatchBool}
@@ -25,13 +25,13 @@ use Rattle.daide_log.specs.Log.{LogState, Opening, Playing, state_after_preamble
 use Rattle.daide_log_lines.specs.LogLine.{IsUnbroken, MayBeginLine, longest_line, most_lines}
 use Rattle.daide_log_lines.specs.Lines.{block_size}
 
--- what the sessions are
+-- the states of the sessions
 abbrev pub states_of : List SessionView → List SessionState
 states_of sessions = map (λ session. session.state) sessions
 
 module _ {Answer : Type 0} (form : ReportForm Answer) where
-  -- A read in time: what came before it is so many whole lines, whose report is all that the writer has by then behind what
-  -- it had at first, and bytes with which the next line may begin.
+  -- A read in time. The bytes read before it are complete lines and the beginning of the next line. The writer already
+  -- has the report of those lines, after what it had at first.
   pub record IsInTime (before : Option (List ℕ)) (came : List ℕ) (written : Option (List ℕ)) : Type 0 where
     pub bytes : List ℕ
     pub line : List ℕ
@@ -43,11 +43,11 @@ module _ {Answer : Type 0} (form : ReportForm Answer) where
     pub begun : MayBeginLine number line
     pub appended : Appends before written (texts_of form.text reported)
 
-  -- The reader gave these bytes, by reads in time.
+  -- the reader returned these bytes, by reads in time
   abbrev pub GivesInTime : Option (List ℕ) → Reader → Reader → List ℕ → Type 0
   GivesInTime before old new given = Gives (IsInTime before) old new given
 
-  -- These lines of what was read are reported, and these bytes are held.
+  -- of the bytes read, these lines are reported, and these bytes are still in the block
   pub record HasRead (before : Option (List ℕ)) (old new : Reader) (held : List ℕ) (number : ℕ) (reported : List form.Entry)
       (stage : LogState) : Type 0 where
     pub given : List ℕ
@@ -56,7 +56,7 @@ module _ {Answer : Type 0} (form : ReportForm Answer) where
     pub whole : given ≡ bytes ++ held
     pub reports : ReportsBy form bytes number reported stage
 
-  -- All lines are reported, and nothing is left.
+  -- all lines are reported, and no byte is left
   pub record HasReadAll (before : Option (List ℕ)) (old new : Reader) (number : ℕ) (reported : List form.Entry) (stage : LogState) :
       Type 0 where
     pub given : List ℕ
@@ -64,7 +64,7 @@ module _ {Answer : Type 0} (form : ReportForm Answer) where
     pub ended : IsAtEnd new.remaining
     pub reports : ReportsAllBy form given number reported stage
 
-  -- The reader failed within a line, after these were reported.
+  -- the reader failed within a line, after these entries were reported
   pub record IsReadTo (before : Option (List ℕ)) (old new : Reader) (reported : List form.Entry) : Type 0 where
     pub given : List ℕ
     pub gives : GivesInTime before old new given
@@ -76,7 +76,7 @@ module _ {Answer : Type 0} (form : ReportForm Answer) where
     pub reports : ReportsBy form bytes number reported stage
     pub begun : MayBeginLine number line
 
-  -- What was read: so many lines with this report, so many bytes of the next line, and less than a block behind these.
+  -- the bytes read: `number` lines with this report, `count` bytes of the next line, and less than a block after these
   pub record StopsBehind (before : Option (List ℕ)) (old new : Reader) (reported : List form.Entry) (number count : ℕ) : Type 0 where
     pub given : List ℕ
     pub gives : GivesInTime before old new given
@@ -89,8 +89,8 @@ module _ {Answer : Type 0} (form : ReportForm Answer) where
     pub stage : LogState
     pub reports : ReportsBy form bytes number reported stage
 
-  -- What was read: the lines before the one of this number, with this report, that line with its line feed, and less than a
-  -- block behind it.
+  -- The bytes read: the lines before line `n`, with this report, that line with its line feed, and less than a block
+  -- after it.
   pub record StopsBehindLine (before : Option (List ℕ)) (old new : Reader) (reported : List form.Entry) (n : ℕ) : Type 0 where
     pub given : List ℕ
     pub gives : GivesInTime before old new given
@@ -105,8 +105,7 @@ module _ {Answer : Type 0} (form : ReportForm Answer) where
     pub stage : LogState
     pub reports : ReportsBy form bytes number reported stage
 
-  -- All of the log was read: the lines before the one of this number, with this report, and that line, which no line feed
-  -- ends.
+  -- The whole log was read: the lines before line `n`, with this report, and that line, without a line feed.
   pub record StopsAtLastLine (before : Option (List ℕ)) (old new : Reader) (reported : List form.Entry) (n : ℕ) : Type 0 where
     pub given : List ℕ
     pub gives : GivesInTime before old new given
@@ -120,21 +119,21 @@ module _ {Answer : Type 0} (form : ReportForm Answer) where
     pub stage : LogState
     pub reports : ReportsBy form bytes number reported stage
 
-  -- All of the log was read, and it has no line of this number, but all before it.
+  -- the whole log was read, and it ends before line `n`
   abbrev pub StopsBefore : Option (List ℕ) → Reader → Reader → List form.Entry → ℕ → Type 0
   StopsBefore before old new reported n =
       (number : ℕ) × (stage : LogState) × (n ≡ number + 1) × HasReadAll before old new number reported stage
 
-  -- How far was read where the line of this number has none of the forms that it may have, or is missing: less than a block
-  -- behind its line feed, or to its end where the log ends with it, or to the end of a log without it.
+  -- How far the log was read if line `n` has no allowed form, or is missing: less than a block after its line feed, or
+  -- to its end if the log ends with it, or to the end of a log without it.
   abbrev pub StopsAtLine : Option (List ℕ) → Reader → Reader → List form.Entry → ℕ → Type 0
   StopsAtLine before old new reported n =
       StopsBehindLine before old new reported n
       ⊎ (StopsAtLastLine before old new reported n ⊎ StopsBefore before old new reported n)
 
-  -- The log has this fault, with these moves told before it. Behind the byte that shows it less than a block was read, and no
-  -- read was begun: it is the line feed of a line of another form, the byte that makes a line too long, or the first byte of
-  -- one line too many. A log whose last line is of another form, or that ends before its head does, was read to its end.
+  -- The log has this fault, after these entries. Less than a block was read after the byte that shows it, and no read
+  -- began after it. That byte is the line feed of a bad line, the byte that makes a line too long, or the first byte of
+  -- a line beyond the limit. A log that ends in a bad line, or before its head is complete, was read to its end.
   abbrev pub IsFaultOf : Option (List ℕ) → Reader → Reader → List form.Entry → LogFault → Type 0
   IsFaultOf before old new reported (BadLine n) =
       IfSome old.remaining (λ log. IsReportBy form log (texts_of form.text reported) (Err (BadLine n))) × StopsAtLine before old new reported n
@@ -154,7 +153,7 @@ module _ {Answer : Type 0} (form : ReportForm Answer) where
   IsOpenedBy true head lines before old new held = HasRead before old new held lines [] (state_after_preamble head)
   IsOpenedBy false head lines before old new held = HasReadAll before old new lines [] (state_after_preamble head)
 
-  -- the head was read, its last line with its line feed or without
+  -- the head was read, and its last line had a line feed or not
   abbrev pub IsOpened : Opened → Option (List ℕ) → Reader → Reader → List ℕ → Type 0
   IsOpened opened before old new held =
       IsOpenedBy opened.is_ended (preamble_of opened.head) opened.lines before old new held × (opened.lines ≤ most_lines)
@@ -166,9 +165,9 @@ module _ {Answer : Type 0} (form : ReportForm Answer) where
   IsFaultBehind old new before after fault =
       (reported : List form.Entry) × IsFaultOf before old new reported fault × Appends before after (texts_of form.text reported)
 
-  -- What is known at each fault: the log has it, and the report before it was written; of a failed write nothing is said but
-  -- that each read was made in time. Memory is refused after the head alone, with nothing written; or else, in a form that
-  -- takes memory later, no more is said than of a failed write.
+  -- What holds at each fault. The log has it, and the report before it was written. After a failed write only this
+  -- holds: each read was in time. Memory is refused after the head, with nothing written; in a form that allocates
+  -- later, the same holds as after a failed write.
   abbrev pub IsFaultAfter : Reader → Reader → Option (List ℕ) → Option (List ℕ) → LogFault → Type 0
   IsFaultAfter old new before after (BadLine n) = IsFaultBehind old new before after (BadLine n)
   IsFaultAfter old new before after (LineTooLong n) = IsFaultBehind old new before after (LineTooLong n)
@@ -179,7 +178,7 @@ module _ {Answer : Type 0} (form : ReportForm Answer) where
       MatchBool form.late ((given : List ℕ) × GivesInTime before old new given)
       ((opened : Opened) × (held : List ℕ) × IsOpened opened before old new held × Keeps before after)
 
-  -- the report of a log was written, which was given by reads in time
+  -- the report of the log was written, and the log was returned by reads in time
   abbrev pub Reported : Reader → Reader → Option (List ℕ) → Option (List ℕ) → Answer → Type 0
   Reported old new before after answer =
       (given : List ℕ) × GivesInTime before old new given
@@ -187,20 +186,20 @@ module _ {Answer : Type 0} (form : ReportForm Answer) where
 
   -- ---- the events
 
-  -- The lines of the head were read, which are so many, and none of the report is written but what was there before.
+  -- the lines of the head were read, this many, and nothing of the report was written
   abbrev pub StartsReport : Reader → List ℕ → ℕ → Version → List SessionState → Option (List ℕ) → Reader → Option (List ℕ) →
       Type 0
   StartsReport now held number version states all origin before =
       HasRead before origin now held number [] (Playing version states) × Keeps before all
 
-  -- By a line behind the head the sessions go on; the moves that are told of it are counted, and their lines written.
+  -- a line after the head moves the sessions; its entries are counted, and their text written
   abbrev pub Judges : Version → ℕ → List SessionState → List ℕ → List SessionState → Summary → Summary →
       Option (List ℕ) → Option (List ℕ) → Type 0
   Judges version number old line new before after written_before written_after =
       (reported : List form.Entry) × GoesOnBy form number (Playing version old) line reported (Playing version new)
       × (after ≡ counted_over form.counted reported before) × Appends written_before written_after (texts_of form.text reported)
 
-  -- between two lines behind the head
+  -- between two lines after the head
   pub record IsPlaying (old new : Reader) (held : List ℕ) (number : ℕ) (version : Version)
       (sessions : List SessionState) (summary : Summary) (before after : Option (List ℕ)) : Type 0 where
     pub reported : List form.Entry
@@ -208,21 +207,21 @@ module _ {Answer : Type 0} (form : ReportForm Answer) where
     pub counts : summary ≡ counted_over form.counted reported nothing_counted
     pub written : Appends before after (texts_of form.text reported)
 
-  -- what follows all moves was written, and this is the answer
+  -- the end of the report was written, and this is the result
   abbrev pub IsFinished : Version → List SessionState → Summary → Option (List ℕ) → Option (List ℕ) → Answer → Type 0
   IsFinished version sessions summary before after answer =
       (answer ≡ form.answer summary version sessions)
       × Appends before after (form.closing version sessions ++ summary_line summary)
 
-  -- the report of a log was written, or it has this fault
+  -- the report of the log was written, or the log has this fault
   abbrev pub IsAnswered : Reader → Reader → Option (List ℕ) → Option (List ℕ) → Result Answer LogFault → Type 0
   IsAnswered old new before after result =
       IfOk result (λ answer. Reported old new before after answer)
       × IfErr result (λ fault. IsFaultAfter old new before after fault)
 
--- ---- the head, by the words that it has
+-- ---- the head, with the words that it adds
 
--- behind so many lines of the head one more was read
+-- after this number of lines of the head, one more was read
 abbrev pub IsPreambleProgress : {Answer : Type 0} → (List Word → ReportForm Answer) → Option (List ℕ) → Reader → Reader → List ℕ → ℕ → Result PreambleProgress LogFault → Type 0
 IsPreambleProgress form before old new held number (Ok (Steps.More heading)) =
     ((words : List Word) → HasRead (form words) before old new held (number + 1) [] (Opening (heading_of heading)))
@@ -241,6 +240,6 @@ AreOpened form before old new held (Err fault) =
 
 -- ---- the plain report
 
--- What came has this fault, whatever follows it.
+-- the bytes read have this fault, whatever follows them
 abbrev pub HasFault : List ℕ → LogFault → Type 0
 HasFault came fault = (more : List ℕ) → (text : List ℕ) × IsReport (came ++ more) text (Err fault)

@@ -1,5 +1,5 @@
--- What the record of a session's ports reports: the moves of that session, each under the number of the line that tells
--- what made it. (own)
+-- The report of the record of a session's ports: the moves of that session, each under the number of the line that
+-- caused it. (own)
 use Rattle.std.specs.Prelude.{◌≡◌, ◌≢◌, ℕ, ◌+◌, ◌≤◌, true, List, [], ◌∷◌, ◌++◌, length, map, Some, Ok}
 use Rattle.std.specs.List.{AllByRecursion}
 use Rattle.daide_frame.specs.declared.side.Side.{Side}
@@ -20,17 +20,17 @@ use Rattle.daide_log.specs.Log.{source_in, IsReport}
 use Rattle.daide_log.specs.RecordText.{count_of_answer, record_text, record_count, head_text, head_count}
 use Rattle.daide_log.specs.Recording.{Written, Recorded, Records, IsPiece}
 
--- ---- moves, by the answers that made them
+-- ---- moves, by the port calls that caused them
 
--- whose an answer is; the timer is that of the bot's first message
+-- the side of a call; the timer is the one for the bot's first message
 abbrev pub side_of_answer : PortCall → Side
 side_of_answer TurnBegins = Bot
 side_of_answer (Clock im_timer_expired) = Bot
 side_of_answer (Pulled side buffer pull bytes) = side
 side_of_answer (Offered side bytes put) = side
 
--- By these answers, which follow so many lines, the session goes from old to new; and these are its moves, each under the
--- number of the line of its answer, and under number 1 for the session.
+-- After this number of lines, these calls take the session from old to new. These are its moves, each under the number
+-- of its call's line, and as moves of session 1.
 abbrev pub TellsBy : ℕ → SessionState → List PortCall → List ReportEntry → SessionState → Type 0
 TellsBy lines old [] reported new = (reported ≡ []) × (new ≡ old)
 TellsBy lines old (answer ∷ answers) reported new =
@@ -38,7 +38,7 @@ TellsBy lines old (answer ∷ answers) reported new =
     × Runs old (event_of answer) moves mid × TellsBy (lines + count_of_answer answer) mid answers later new
     × (reported ≡ entries_of (source_in Match (lines + 1) 1) (side_of_answer answer) moves ++ later)
 
--- what is told of entries, and of moves
+-- the notes of entries, and of moves
 abbrev pub notes_reported : List ReportEntry → List Note
 notes_reported entries = map (λ entry. entry.reported) entries
 
@@ -47,12 +47,12 @@ notes_of moves = map (λ move. move.reported) moves
 
 -- ---- the law
 
--- the name of each word has three letters, as that of a `Word` has
+-- the name of each word has three letters, as the name of a `Word` has
 abbrev pub HasName : Word → Type 0
 HasName word = length word.name ≡ 3
 
--- This is the report of a session's record, and the whole of it: its notes, each once and in their order, under the number
--- of the line that tells what made it, and the counts of them all, which are the session's own, modulo 2^64.
+-- The whole report of a session's record: its notes, each once and in order, under the number of the line that caused
+-- it, and their counts. The counts are the session's own, modulo 2^64.
 pub record IsReported (config : Config) (words : List Word) (answers : List PortCall) (moves : List Effect)
     (state : SessionState) : Type 0 where
   pub reported : List ReportEntry
@@ -62,8 +62,8 @@ pub record IsReported (config : Config) (words : List Word) (answers : List Port
       (lines_of reported ++ summary_line (counted_all reported nothing_counted)) (Ok (counted_all reported nothing_counted))
   pub counts : tallied moves nothing_counted ≡ reduced (counted_all reported nothing_counted)
 
--- Where a session that has these limits and words goes by what answers of ports tell it, the log that is written of these
--- answers reports that session.
+-- If a session with these limits and words runs on what port calls report to it, the record of these calls has the
+-- report of that session.
 abbrev pub RecordsAreReported : Type 0
 RecordsAreReported =
     (config : Config) (words : List Word) (answers : List PortCall) (moves : List Effect) (state : SessionState) →
@@ -74,13 +74,13 @@ RecordsAreReported =
 
 -- ---- ports
 
--- a record to which no answer came, over a writer that tells its bytes
+-- a record without a call, over a writer that records its bytes
 abbrev pub begun_record : Config → List Word → Written
 begun_record config words =
     record { text = Some (head_text config words); lines = head_count words; ending = Whole }
 
--- What a record has of these answers: the head, and the lines of their front, no more than a log may have; while it is
--- whole the lines of them all, and where it is full as many as a log may have.
+-- The record of these calls: its head, and the lines of a prefix of them, at most as many as a log may have. A whole
+-- record has the lines of all calls, and a full one has the greatest number of lines.
 pub record HasFront (config : Config) (words : List Word) (answers : List PortCall) (written : Written) : Type 0 where
   pub front : List PortCall
   pub rest : List PortCall
@@ -91,8 +91,8 @@ pub record HasFront (config : Config) (words : List Word) (answers : List PortCa
   pub all : written.ending ≡ Whole → rest ≡ []
   pub full : written.ending ≡ Full → most_lines ≤ record_count words front
 
--- Ports with a record, however they were asked: the record has a front of their answers, and all of them unless it is full;
--- or a write of its writer failed.
+-- Ports with a record, whatever calls are made: the record has a prefix of the calls, and all of them unless it is
+-- full; or a write of its writer failed.
 abbrev pub PortsAreRecorded : {P : Type 0} → (P → PortCall → P → Type 0) → Type 0 → Type 0
 PortsAreRecorded {P} transition failed =
     (config : Config) (words : List Word) (answers : List PortCall) (old new : Recorded P) →

@@ -1,4 +1,4 @@
--- The text of the record of a session: a log of version 2 with one session, by the answers of its ports.
+-- The text of the record of a session: a log of version 2 with one session, from the calls of its ports.
 -- docs/FORMATS.md, "The record". (own)
 use Rattle.std.specs.Prelude.{ℕ, ◌+◌, true, false, List, [], ◌∷◌, ◌++◌, length, codes, Option, Some, None}
 use Rattle.std.specs.Fmt.{decimal}
@@ -18,15 +18,15 @@ use Rattle.daide_protocol.specs.Ports.{PortCall, TurnBegins, Clock, Pulled, Offe
 use Rattle.daide_log_lines.specs.LogLine.{LogEvent, Received, EndOf, ImTimerLine, Silence}
 use Rattle.daide_log.specs.Report.{name_of_side}
 
--- ---- what an answer of ports tells a log
+-- ---- the event of a port call
 
--- bytes of a side, if there are any
+-- bytes received from a side, if there are any
 abbrev pub piece_of : Side → List ℕ → Option LogEvent
 piece_of side [] = None
 piece_of side (byte ∷ bytes) = Some (Received side (byte ∷ bytes))
 
--- a clock that popped, bytes that came, and an end; a wire that failed is the end of its side; that a turn begins is
--- nothing that a log has
+-- an expired timer, bytes received, or an end; a failed write is recorded as the end of its side; the beginning of a
+-- turn has no event
 abbrev pub reported_by : PortCall → Option LogEvent
 reported_by TurnBegins = None
 reported_by (Clock true) = Some ImTimerLine
@@ -37,9 +37,9 @@ reported_by (Pulled side buffer Ended bytes) = Some (EndOf side)
 reported_by (Offered side bytes (Took n)) = None
 reported_by (Offered side bytes Failed) = Some (EndOf side)
 
--- ---- the lines of answers
+-- ---- the lines of calls
 
--- an event, as a line of version 1 has it
+-- an event, in the form of a line of version 1
 unfoldable pub event_text : LogEvent → List ℕ
 event_text (Received side bytes) = name_of_side side ++ 32 ∷ encode_upper bytes
 event_text (EndOf side) = codes "end " ++ name_of_side side
@@ -50,7 +50,7 @@ event_text Silence = []
 unfoldable pub event_line : LogEvent → List ℕ
 event_line event = codes "1 " ++ event_text event ++ 10 ∷ []
 
--- the line of what was told, if anything was
+-- the line of an event, if there is one
 abbrev pub line_reported : Option LogEvent → List ℕ
 line_reported None = []
 line_reported (Some event) = event_line event
@@ -59,14 +59,14 @@ abbrev pub count_reported : Option LogEvent → ℕ
 count_reported None = 0
 count_reported (Some event) = 1
 
--- the line of an answer, and whether it has one
+-- the line of a call, and how many lines it has
 abbrev pub line_of_answer : PortCall → List ℕ
 line_of_answer answer = line_reported (reported_by answer)
 
 abbrev pub count_of_answer : PortCall → ℕ
 count_of_answer answer = count_reported (reported_by answer)
 
--- those of answers, one after the other, and how many they are
+-- the lines of calls, in order, and their number
 abbrev pub lines_of_answers : List PortCall → List ℕ
 lines_of_answers [] = []
 lines_of_answers (answer ∷ answers) = line_of_answer answer ++ lines_of_answers answers
@@ -77,7 +77,7 @@ count_of_answers (answer ∷ answers) = count_of_answer answer + count_of_answer
 
 -- ---- the head
 
--- words, with a space between two of them
+-- words, separated by spaces
 abbrev pub spaced : List (List ℕ) → List ℕ
 spaced [] = []
 spaced (word ∷ []) = word
@@ -102,12 +102,12 @@ word_text word =
     spaced (codes "word" ∷ word.name ∷ encode_upper (token_bytes word.code) ∷ name_of_slot word.slot
     ∷ decimal (level_number word.level) ∷ name_of_operand word.operand ∷ [])
 
--- those of words, each with its line feed
+-- the lines of words, each with its line feed
 abbrev pub lines_of_words : List Word → List ℕ
 lines_of_words [] = []
 lines_of_words (word ∷ words) = (word_text word ++ 10 ∷ []) ++ lines_of_words words
 
--- the line of the limits, of one session, and of so many words
+-- the line of the limits, with one session and this number of words
 unfoldable pub config_text : Config → ℕ → List ℕ
 config_text config words =
     spaced (codes "config" ∷ decimal config.top_level ∷ decimal config.max_body ∷ decimal config.max_depth ∷ codes "1"
@@ -118,7 +118,7 @@ unfoldable pub head_text : Config → List Word → List ℕ
 head_text config words =
     codes "daide-log 2\n" ++ (config_text config (length words) ++ 10 ∷ []) ++ lines_of_words words
 
--- how many lines it has
+-- the number of its lines
 abbrev pub head_count : List Word → ℕ
 head_count words = 2 + length words
 

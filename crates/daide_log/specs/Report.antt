@@ -1,5 +1,5 @@
--- The lines of a report: what the moves of a session are called, by the line of the log that made them.
--- docs/FORMATS.md, "The log". (own)
+-- The lines of a report: the moves of a session, each with the line of the log that caused it. docs/FORMATS.md, "The
+-- log". (own)
 use Rattle.std.specs.Prelude.{ℕ, List, [], ◌∷◌, ◌++◌, codes, Option, Some, None}
 use Rattle.std.specs.Fmt.{decimal}
 use Rattle.daide_frame.specs.declared.side.Side.{Side}
@@ -17,16 +17,16 @@ use Rattle.daide_log.specs.declared.report.ReportKey.{ReportKey}
 use Rattle.daide_protocol.specs.declared.summary.Summary.{Summary}
 use Rattle.daide_log_lines.specs.LogLine.{LogEvent, Received, EndOf, ImTimerLine, Silence}
 
--- ---- what a line of the log tells the session
+-- ---- the events of a log's line
 
--- its events
+-- the events of a line
 abbrev pub events_of_line : LogEvent → List Event
 events_of_line (Received side bytes) = bytes_come side bytes
 events_of_line (EndOf side) = Ends side ∷ []
 events_of_line ImTimerLine = ImTimerExpired ∷ []
 events_of_line Silence = []
 
--- whose they are; the timer is that of the bot's first message
+-- the side of these events; the timer is the one for the bot's first message
 abbrev pub side_of : LogEvent → Side
 side_of (Received side bytes) = side
 side_of (EndOf side) = side
@@ -43,14 +43,14 @@ abbrev pub name_of_side : Side → List ℕ
 name_of_side Bot = codes "bot"
 name_of_side Server = codes "server"
 
--- what became of a frame
+-- what was done with a frame
 abbrev pub deed_text : Deed → List ℕ
 deed_text Relayed = codes "relay"
 deed_text Dropped = codes "drop"
 deed_text Prn = codes "prn"
 deed_text (Huh place) = codes "huh " ++ decimal place
 
--- a move: a frame with its kind, its length and what became of it, a fault with its code, or else an end
+-- a move: a frame with its kind, its length and what was done with it, or a fault with its code, or an end
 abbrev pub move_text : Note → List ℕ
 move_text Nothing = codes "end"
 move_text (Frame head deed) = name_of_kind head.kind ++ 32 ∷ decimal head.len ++ 32 ∷ deed_text deed
@@ -58,58 +58,58 @@ move_text (Fault code) = codes "fault " ++ code_digits code
 
 -- ---- the lines
 
--- the session's number, which the report of a match names
+-- the session's number, which only the report of a match shows
 abbrev pub session_text : Option ℕ → List ℕ
 session_text None = []
 session_text (Some session) = decimal session ++ 32 ∷ []
 
--- the number of the log's line that made a move, and the session's
+-- the number of the log's line that caused a move, and the session's number
 unfoldable pub source_text : ReportKey → List ℕ
 source_text source = decimal source.line ++ 32 ∷ session_text source.session
 
--- one move of a side, behind these numbers
+-- one move of a side's, after its key
 unfoldable pub reported_text : Side → Note → List ℕ
 reported_text side reported = name_of_side side ++ 32 ∷ move_text reported ++ 10 ∷ []
 
 unfoldable pub move_line : ReportKey → Side → Note → List ℕ
 move_line source side reported = source_text source ++ reported_text side reported
 
--- a move that is told
+-- an entry: a move that is reported
 pub record ReportEntry : Type 0 where
   pub source : ReportKey
   pub side : Side
   pub reported : Note
 
--- all moves that a line made of a side, in their order
+-- the entries for all of a side's moves that a line caused, in order
 abbrev pub entries_of : ReportKey → Side → List Effect → List ReportEntry
 entries_of source side [] = []
 entries_of source side (effect ∷ effects) =
     record { source = source; side = side; reported = effect.reported } ∷ entries_of source side effects
 
--- the text of entries in a row
+-- the text of entries, in order
 abbrev pub texts_of : {E : Type 0} → (E → List ℕ) → List E → List ℕ
 texts_of text [] = []
 texts_of text (entry ∷ entries) = text entry ++ texts_of text entries
 
--- the lines of these
+-- the lines of entries
 abbrev pub lines_of : List ReportEntry → List ℕ
 lines_of entries = texts_of (λ entry. move_line entry.source entry.side entry.reported) entries
 
--- ---- a frame that is not whole
+-- ---- an incomplete frame
 
--- how many bytes of it came, and of how many
+-- how many bytes were received, and how many there are in all
 abbrev pub size_text : ℕ → Option ℕ → List ℕ
 size_text came None = decimal came ++ codes " of 4 bytes of a header"
 size_text came (Some size) = decimal came ++ codes " of " ++ decimal size ++ codes " bytes of a frame"
 
--- the line of a side's frame, which begins with four spaces
+-- the line for a side's frame, which begins with four spaces
 unfoldable pub part_line : Option ℕ → Side → ℕ → Option ℕ → List ℕ
 part_line session side came size =
     codes "    " ++ session_text session ++ name_of_side side ++ codes ": " ++ size_text came size ++ 10 ∷ []
 
 -- ---- the last line
 
--- the counts with all of these
+-- the counts, with all of these entries
 abbrev pub counted_over : {E : Type 0} → (E → Summary → Summary) → List E → Summary → Summary
 counted_over count [] s = s
 counted_over count (entry ∷ entries) s = counted_over count entries (count entry s)

@@ -1,5 +1,5 @@
--- What a report is made of: the entries that it has of what a line tells, their text, and what it says at the end. There
--- are two: the plain report, and the one with its explanations (`Explained`). (own)
+-- The form of a report: the entries for the events of a line, their text, and the end of the report. There are two: the
+-- plain report, and the report with explanations (`Explained`). (own)
 use Rattle.std.specs.Prelude.{◌≡◌, ⊤, ℕ, Bool, List, [], ◌∷◌, ◌++◌}
 use Rattle.std.specs.Bool.{MatchBool}
 use Rattle.daide_frame.specs.declared.side.Side.{Side}
@@ -13,34 +13,34 @@ use Rattle.daide_log.specs.declared.report.ReportKey.{ReportKey}
 use Rattle.daide_log.specs.Heading.{Heading, Unnamed, Named, Headed, has_all_words}
 use Rattle.daide_log.specs.Report.{texts_of, counted_over, events_of_line, side_of}
 
--- A form of report, whose answer to a log without a fault is of this type.
+-- A form of report, with the type of the result for a log without a fault.
 pub record ReportForm (Answer : Type 0) : Type 1 where
   pub Entry : Type 0
-  -- the text of an entry, and the counts with it
+  -- the text of an entry, and the counts with this entry
   pub text : Entry → List ℕ
   pub counted : Entry → Summary → Summary
-  -- by these events of a side a session goes on with these moves, of which these are the entries
+  -- a side's events take the session to the new state with these moves, which have these entries
   pub tells : ReportKey → Side → SessionState → List Event → List Effect → SessionState → List Entry → Type 0
-  -- the same of a line and what it tells
+  -- the same for a line and its event
   pub line : List ℕ → ReportKey → LogEvent → SessionState → List Effect → SessionState → List Entry → Type 0
-  -- the entries of a line of which no session learns anything
+  -- the entries of a line without an event
   pub quiet : List ℕ → List Entry → Type 0
   -- the entries of a line of the head
   pub opens : Heading → List Entry → Type 0
-  -- what is written between all entries and the counts, and the answer, by the sessions as the log leaves them
+  -- the text between the entries and the counts, and the result, by the final states of the sessions
   pub closing : Version → List SessionState → List ℕ
   pub answer : Summary → Version → List SessionState → Answer
   -- whether memory may be refused while the lines are judged
   pub late : Bool
 
--- the words of a head that is whole are these
+-- a complete head has these words
 abbrev pub HasWords : List Word → Heading → Type 0
 HasWords words Unnamed = ⊤
 HasWords words (Named version) = ⊤
 HasWords words (Headed head) = MatchBool (has_all_words head) (head.words ≡ words) ⊤
 
--- What holds of a form that a check can write, of a log with these words: where no move is made there is no entry, the
--- entries of events in a row stand in a row, and so do those of a line.
+-- The properties of a form that a check can write, for a log with these words. Without a move there is no entry. The
+-- entries of consecutive events are concatenated, and so are those of a line.
 pub record IsWritableForm {Answer : Type 0} (words : List Word) (form : ReportForm Answer) : Type 0 where
   pub silent : (source : ReportKey) (side : Side) (old new : SessionState) (events : List Event) → Runs old events [] new →
       form.tells source side old events [] new []

@@ -1,4 +1,4 @@
--- What is told of a session's moves, and counted. (own)
+-- The entries and the counts of a session's moves. (own)
 use Rattle.std.specs.Prelude.{◌≡◌, ◌≢◌, ◌⊎◌, ⊤, true, Ok, ℕ, ◌≤◌, List, [], ◌∷◌, ◌++◌, length, Option}
 use Rattle.std.specs.Io.KnownBytes.{Appends}
 use Rattle.daide_frame.specs.declared.side.Side.{Side}
@@ -23,28 +23,28 @@ use Rattle.daide_log.specs.Report.{move_line, texts_of, counted_over}
 
 -- ---- moves of a session
 
--- nothing waits for a wire
+-- no frame is queued for either side
 pub record IsIdle (g : SessionView) : Type 0 where
   pub bot : g.to_bot ≡ []
   pub server : g.to_server ≡ []
 
--- at most one move was made, and it is told
+-- there is at most one move, and this is its note
 abbrev pub IsOneEffect : List Effect → Note → Type 0
 IsOneEffect [] reported = reported ≡ Notes.Nothing
 IsOneEffect (move ∷ []) reported = (move.reported ≡ reported) × (reported ≢ Notes.Nothing)
 IsOneEffect (move ∷ another ∷ moves) reported = ⊥
 
--- by these events a session goes on, with at most one move, which is told
+-- these events take the session to the new state with at most one move, and this is its note
 abbrev pub RunsWithOneEffect : SessionState → List Event → Note → SessionState → Type 0
 RunsWithOneEffect old events reported new = (moves : List Effect) × Runs old events moves new × IsOneEffect moves reported
 
--- the line of what was told, if anything was
+-- the line of a note, if it is a move
 abbrev pub reported_lines : ReportKey → Side → Note → List ℕ
 reported_lines source side Notes.Nothing = []
 reported_lines source side (Notes.Frame head deed) = move_line source side (Notes.Frame head deed)
 reported_lines source side (Notes.Fault code) = move_line source side (Notes.Fault code)
 
--- By these events the session goes on; its moves are counted, and their entries written.
+-- These events move the session; its moves are counted, and their entries written.
 abbrev pub ReportsEvents : {Answer : Type 0} → ReportForm Answer → ReportKey → Side → SessionState → List Event → SessionState → Summary →
     Summary → Option (List ℕ) → Option (List ℕ) → Type 0
 ReportsEvents form source side old events new before after written_before written_after =
@@ -54,7 +54,7 @@ ReportsEvents form source side old events new before after written_before writte
 
 -- ---- one move
 
--- What a session's call was told: bytes of a side, that side's end, or the timer, which is the bot's.
+-- The cause of a session's move: a side's bytes, that side's end, or the timer, which is the bot's.
 pub data IsCaused (old : SessionView) (events : List Event) (side : Side) (reported : Note) (new : SessionView) : Type 0 where
   by_bytes : (piece : List ℕ) → events ≡ bytes_come side piece → length piece ≤ room_of old side →
       (holding old side).held ≡ (coming old.state side).pending → ReceivesBytes old side piece reported new →
@@ -63,14 +63,14 @@ pub data IsCaused (old : SessionView) (events : List Event) (side : Side) (repor
   by_timer : events ≡ ImTimerExpired ∷ [] → side ≡ Bot → (holding new side).held ≡ (coming old.state side).pending →
       IsCaused old events side reported new
 
--- By these events a session makes one move, which is this note, and its frame is still held.
+-- These events cause one move of the session, with this note; the session still holds its frame.
 pub record IsMade (old : SessionView) (events : List Event) (side : Side) (reported : Note) (new : SessionView) : Type 0 where
   pub move : Effect
   pub run : Runs old.state events (move ∷ []) new.state
   pub same : move.reported ≡ reported
   pub caused : IsCaused old events side reported new
 
--- The lines that follow the one of a move, such that both are its entries.
+-- the lines after the line of a move, so that both together are the move's entries
 abbrev pub IsReportedWith : {Answer : Type 0} → ReportForm Answer → Side → Note → SessionView → List ℕ → Type 0
 IsReportedWith form side reported new added =
     (source : ReportKey) (old : SessionView) (events : List Event) → (made : IsMade old events side reported new) →
@@ -78,7 +78,7 @@ IsReportedWith form side reported new added =
     × (texts_of form.text entries ≡ move_line source side reported ++ added)
     × ((before : Summary) → counted_over form.counted entries before ≡ count_note reported before)
 
--- the entries of a line that tells nothing, which are not counted
+-- the entries of a line without an event, which are not counted
 abbrev pub IsQuietWith : {Answer : Type 0} → ReportForm Answer → List ℕ → List ℕ → Type 0
 IsQuietWith form line text =
     (reported : List form.Entry) × form.quiet line reported × (texts_of form.text reported ≡ text)
@@ -86,24 +86,24 @@ IsQuietWith form line text =
 
 -- ---- sessions between two lines
 
--- the session has these limits, which are right, and these words
+-- the session has these limits, which are valid, and these words
 pub record IsUnder (config : Config) (words : List Word) (g : SessionView) : Type 0 where
   pub limits : g.state.limits ≡ limits_with config words
   pub accepted : config_fault config ≡ Ok tt
 
--- and nothing waits for a wire
+-- and no frame is queued for either side
 pub record IsReady (config : Config) (words : List Word) (g : SessionView) : Type 0 where
   pub idle : IsIdle g
   pub under : IsUnder config words g
 
 -- ---- faults
 
--- why a line of a report may be missing: memory is refused in a form alone that takes it late
+-- why a line of a report may be missing: memory is refused only in a form that allocates late
 abbrev pub IsCauseIn : {Answer : Type 0} → ReportForm Answer → Unreported → Type 0
 IsCauseIn form Write = ⊤
 IsCauseIn form Memory = form.late ≡ true
 
--- the same as a fault of the log
+-- the same, as a fault of the log
 abbrev pub IsLateFault : {Answer : Type 0} → ReportForm Answer → LogFault → Type 0
 IsLateFault form fault = (fault ≡ Faults.Write) ⊎ ((fault ≡ Faults.Memory) × (form.late ≡ true))
 

@@ -1,8 +1,8 @@
 //! The report of a log.
 //!
-//! Each line is reported before the next is read, and what is held back of the report is handed over before each read
-//! and at the end: a writer gets blocks, and has the report of all lines that were read whole whenever a read may wait.
-//! No memory is taken but the sessions', once the head has said how much.
+//! Each line is reported before the next one is read. The page of the report is written before each read and at the
+//! end. So the writer gets blocks, and has the report of all complete lines whenever a read may block. A plain report
+//! allocates memory only for the sessions, once the head was read.
 
 ghost use Rattle.std.specs.Prelude.{◌≡◌, ◌≢◌, ◌≤◌, [], All, length, List, ℕ, Option, Err, IfOk, IfErr};
 ghost use Rattle.std.specs.Io.KnownBytes.{Keeps};
@@ -39,7 +39,7 @@ use daide_session::Session;
 use std::alloc::Allocator;
 use std::io::{Read, Write};
 
-/// Writes what a report has behind all moves, and its last line.
+/// Writes the end of a report: what its style adds after all moves, and the line of the counts.
 fn finish<A: Allocator, W: Write, S: Style>(
     sessions: &[Session<A>],
     style: &mut S,
@@ -69,7 +69,7 @@ fn finish<A: Allocator, W: Write, S: Style>(
     }
 }
 
-/// Whether the log ended.
+/// Returns whether the log ended.
 fn is_end(found: LineEnd) -> bool
     ensures { result ≡ is_end_of_log found }
 {
@@ -79,7 +79,7 @@ fn is_end(found: LineEnd) -> bool
     }
 }
 
-/// Whether the log's last line came.
+/// Returns whether this was the last line of the log.
 fn is_last(found: LineEnd) -> bool
     ensures { result ≡ is_last_line found }
 {
@@ -89,7 +89,7 @@ fn is_last(found: LineEnd) -> bool
     }
 }
 
-/// Judges the lines behind so many of the head, up to the end of the log or its first fault.
+/// Judges the lines after the `lines` lines of the head, up to the end of the log or its first fault.
 fn play<A: Allocator, R: LogReader, W: Write, S: Style>(
     sessions: &mut Vec<Session<A>, A>,
     lines: u32,
@@ -142,7 +142,7 @@ fn play<A: Allocator, R: LogReader, W: Write, S: Style>(
     }
 }
 
-/// Reports a log, with the end of the report held back.
+/// Reports a log, and leaves the end of the report in the page.
 fn report<A: Allocator + Copy, R: LogReader, W: Write, S: Style>(
     alloc: A,
     input: &mut Input<'_, R>,
@@ -172,8 +172,8 @@ fn report<A: Allocator + Copy, R: LogReader, W: Write, S: Style>(
     play(&mut sessions, opened.lines, input, style, account)
 }
 
-/// Hands over what is held back of a report that was answered so, and tells where that fails. A writer that failed is
-/// asked for nothing more.
+/// Writes the page at the end of a report, and returns the report's result, or `Write` if the page can't be written.
+/// After an earlier `Write` it writes nothing.
 fn hand_over_rest<T: Copy, W: Write>(
     answer: Result<T, LogFault>,
     output: &mut Output<'_, W>,
@@ -192,7 +192,7 @@ fn hand_over_rest<T: Copy, W: Write>(
     }
 }
 
-/// Reports a log, and hands over all that was held back, whether it has a fault or not.
+/// Reports a log, and writes the page at the end, whether the log has a fault or not.
 pub(crate) fn report_whole<A: Allocator + Copy, R: LogReader, W: Write, S: Style>(
     alloc: A,
     input: &mut Input<'_, R>,

@@ -1,4 +1,4 @@
-//! The second line of a log, which sets the limits of its sessions.
+//! The second line of a log: the limits of its sessions.
 
 ghost use Rattle.std.specs.Prelude.{◌≡◌, IfSome};
 ghost use Rattle.daide_grammar.specs.Words.{most_words};
@@ -15,18 +15,18 @@ use daide_protocol::MAX_SESSIONS;
 use daide_session::Config;
 use daide_words::words::MAX_WORDS;
 
-/// What the second line of a match's log sets.
+/// The contents of the second line of a match's log.
 #[derive(Clone, Copy, Debug, PartialEq, Eq)]
 pub struct MatchConfig {
     /// The limits of each session.
     pub config: Config,
-    /// How many sessions there are, one at least and no more than are held at once.
+    /// The number of sessions, from 1 to `MAX_SESSIONS`.
     pub sessions: u16,
-    /// How many words the operator added.
+    /// The number of words that the operator added.
     pub words: u16,
 }
 
-/// Limits of three plain numbers, if a session takes them.
+/// Parses three plain numbers as limits. Returns `None` if `Config::check` refuses them.
 fn limits_of(level: &[u8], body: &[u8], depth: &[u8]) -> Option<Config>
     ensures { result ≡ config_of_numbers (plain_number level.now) (plain_number body.now) (plain_number depth.now) }
 {
@@ -41,7 +41,7 @@ fn limits_of(level: &[u8], body: &[u8], depth: &[u8]) -> Option<Config>
     }
 }
 
-/// The limits that a line sets, if it is such a line.
+/// Parses the second line of version 1. Returns `None` if it has another form.
 #[tactic(auto, unfolding(crate::specs::ConfigLine::config_of_line))]
 pub fn read_config(line: &[u8]) -> Option<Config>
     ensures { result ≡ config_of_line line.now }
@@ -52,7 +52,7 @@ pub fn read_config(line: &[u8]) -> Option<Config>
     limits_of(level, body, depth)
 }
 
-/// What five plain numbers set, if each is in its range.
+/// Parses the five plain numbers of a match's second line. Returns `None` if one is not within its limits.
 fn match_config_of(
     level: &[u8],
     body: &[u8],
@@ -72,7 +72,7 @@ fn match_config_of(
     })
 }
 
-/// What a line sets, if it is a match's second.
+/// Parses the second line of a match's log. Returns `None` if it has another form.
 #[tactic(auto, unfolding(crate::specs::ConfigLine::match_config_of_line))]
 pub fn read_match_config(line: &[u8]) -> Option<MatchConfig>
     ensures within { IfSome result HasSessions }

@@ -1,4 +1,4 @@
-//! The report of a log with its explanations.
+//! The report of a log with explanations.
 
 ghost use Rattle.std.specs.Prelude.{◌≡◌, ◌*◌, ◌≤◌, ℕ, ◌++◌, ◌%◌, false, All, List, Option, drop, length, IfOk, IfSome, OnOk};
 ghost use Rattle.std.specs.Io.KnownBytes.{Appends};
@@ -52,23 +52,23 @@ use std::alloc::{AllocError, Allocator};
 use std::io;
 use std::io::{Read, Write};
 
-/// What is answered of a log without a fault.
+/// The result for a log without a fault.
 #[derive(Clone, Copy, Debug, PartialEq, Eq)]
 pub struct Explained {
-    /// The moves, counted, as the report's last line has them.
+    /// The counts of the moves, as in the last line of the report.
     pub counts: Summary,
-    /// How many lines of the report say that a frame is not whole.
+    /// The number of incomplete frames that the report lists.
     pub unfinished: u32,
 }
 
-/// The report with explanations. One text is kept for all of them, and cleared before each.
+/// The style of a report with explanations. One text is allocated for all of them, and cleared before each.
 #[derive(Drop)]
 struct Explaining<B: Allocator> {
     alloc: B,
     text: Vec<u8, B>,
 }
 
-/// Writes tokens on a line of their own, the operator's words by their names.
+/// Writes tokens on a line of their own, with the operator's words by their names.
 fn write_tokens<B: Allocator>(words: &Words, tokens: &[u8], text: &mut Vec<u8, B>) -> io::Result<()>
     requires { length tokens.now % 2 ≡ 0 }
     ensures { OnOk result (text.new.items ≡ text.old.items
@@ -78,7 +78,7 @@ fn write_tokens<B: Allocator>(words: &Words, tokens: &[u8], text: &mut Vec<u8, B
     text.write_all(b"\n")
 }
 
-/// Returns a message that is relayed, as it came.
+/// Returns a copy of a message that is relayed.
 fn answer_relay<B: Allocator>(alloc: B, body: &[u8]) -> Result<Vec<u8, B>, AllocError>
     requires { length body.now % 2 ≡ 0 }
     ensures even { IfOk result (λ answer. length answer.items % 2 ≡ 0) }
@@ -98,7 +98,7 @@ fn answer_prn<B: Allocator>(alloc: B, body: &[u8]) -> Result<Vec<u8, B>, AllocEr
     parts.concat(alloc)
 }
 
-/// Returns the answer to a message that is wrong at a place.
+/// Returns the answer to a message with an error place.
 fn answer_huh<B: Allocator>(alloc: B, place: u16, body: &[u8]) -> Result<Vec<u8, B>, AllocError>
     requires even { length body.now % 2 ≡ 0 }
     requires within { 2 * place ≤ length body.now }
@@ -128,7 +128,7 @@ fn answer_of<B: Allocator>(
     }
 }
 
-/// Writes the text of a message that was refused, its level, its answer and why.
+/// Writes the text of a refused message, its level, its answer and the reason.
 fn write_refused<B: Allocator + Copy>(
     alloc: B,
     rules: &Rules<'_>,
@@ -175,7 +175,7 @@ fn write_message<B: Allocator + Copy>(
     }
 }
 
-/// Returns the verdict by which a message had this fate.
+/// Returns the verdict that corresponds to a deed.
 fn verdict_by(deed: Deed) -> Verdict
     ensures { result ≡ verdict_of_deed deed }
 {
@@ -186,7 +186,7 @@ fn verdict_by(deed: Deed) -> Verdict
     }
 }
 
-/// Writes a byte in two upper-case digits.
+/// Writes a byte as two upper-case hexadecimal digits.
 fn write_pair<B: Allocator>(byte: u8, text: &mut Vec<u8, B>) -> io::Result<()>
     ensures { OnOk result (text.new.items ≡ text.old.items ++ pair byte) }
 {
@@ -194,7 +194,7 @@ fn write_pair<B: Allocator>(byte: u8, text: &mut Vec<u8, B>) -> io::Result<()>
     text.write_all(&pair)
 }
 
-/// Writes bytes in upper-case pairs, with a space between two.
+/// Writes bytes as pairs of upper-case digits, separated by spaces.
 fn write_pairs<B: Allocator>(bytes: &[u8], text: &mut Vec<u8, B>) -> io::Result<()>
     ensures { OnOk result (text.new.items ≡ text.old.items ++ pairs bytes.now) }
 {
@@ -209,7 +209,7 @@ fn write_pairs<B: Allocator>(bytes: &[u8], text: &mut Vec<u8, B>) -> io::Result<
     Ok(())
 }
 
-/// Writes the bytes of an invalid token, which are the last, and its place.
+/// Writes the last two bytes, which are an invalid token, and its index in the message.
 fn write_token<B: Allocator>(bytes: &[u8], text: &mut Vec<u8, B>) -> io::Result<()>
     ensures { OnOk result (text.new.items ≡ text.old.items ++ token_line bytes.now) }
 {
@@ -219,7 +219,7 @@ fn write_token<B: Allocator>(bytes: &[u8], text: &mut Vec<u8, B>) -> io::Result<
     writeln!(text, " at token {place}")
 }
 
-/// Writes bytes at fault on a line, if there are any.
+/// Writes the bytes of a fault on a line, if there are any.
 fn write_bytes<B: Allocator>(bytes: &[u8], text: &mut Vec<u8, B>) -> io::Result<()>
     ensures { OnOk result (text.new.items ≡ text.old.items ++ bytes_line bytes.now) }
 {
@@ -231,7 +231,7 @@ fn write_bytes<B: Allocator>(bytes: &[u8], text: &mut Vec<u8, B>) -> io::Result<
     text.write_all(b"\n")
 }
 
-/// Writes the lines of a fault, by the bytes since the last whole frame.
+/// Writes the lines for a fault, from the bytes since the last complete frame.
 fn write_fault<B: Allocator>(code: Code, bytes: &[u8], text: &mut Vec<u8, B>) -> io::Result<()>
     ensures { OnOk result (text.new.items ≡ text.old.items ++ fault_lines code bytes.now) }
 {
@@ -243,7 +243,7 @@ fn write_fault<B: Allocator>(code: Code, bytes: &[u8], text: &mut Vec<u8, B>) ->
     }
 }
 
-/// Whether a frame is a message.
+/// Returns whether a frame is a message.
 fn is_message(kind: Kind) -> bool
     ensures { result ≡ is_dm kind }
 {
@@ -253,7 +253,7 @@ fn is_message(kind: Kind) -> bool
     }
 }
 
-/// Writes the lines of the message that a session holds of a side.
+/// Writes the lines for a side's message, which the session still holds.
 fn write_held<A: Allocator, B: Allocator + Copy>(
     alloc: B,
     head: &Preamble,
@@ -277,7 +277,7 @@ fn write_held<A: Allocator, B: Allocator + Copy>(
     write_message(alloc, &rules, verdict_by(deed), session.body(side), text)
 }
 
-/// Writes the lines of the frame at fault that a session holds of a side.
+/// Writes the lines for a side's faulty frame, which the session still holds.
 fn write_faulty<A: Allocator, B: Allocator + Copy>(
     alloc: B,
     session: &Session<A>,
@@ -292,7 +292,7 @@ fn write_faulty<A: Allocator, B: Allocator + Copy>(
     write_fault(code, bytes.as_slice(), text)
 }
 
-/// Writes the lines that explain a side's move, by the frame that the session holds.
+/// Writes the lines that explain a side's move, from the frame that the session still holds.
 fn write_lines<A: Allocator, B: Allocator + Copy>(
     alloc: B,
     head: &Preamble,
@@ -318,7 +318,7 @@ fn write_lines<A: Allocator, B: Allocator + Copy>(
     }
 }
 
-/// Returns the message of a side's move that the session holds, if nothing is written of it but its text.
+/// Returns the message of a side's move, if its text is all that is written about the move.
 fn message_alone<A: Allocator>(session: &Session<A>, side: Side, reported: Note) -> Option<&[u8]>
     ensures alone { IfSome result (λ body. (words : List Word) → (max_depth : ℕ) →
         AreLinesBy words max_depth side reported session.now (with_line_feed (message_text words (tokens_of body.now)))) }
@@ -337,7 +337,7 @@ fn message_alone<A: Allocator>(session: &Session<A>, side: Side, reported: Note)
     }
 }
 
-/// Whether a session ended by a fault of the side.
+/// Returns whether a session ended by a fault of the side.
 fn is_at_fault(ending: Option<Ending>, side: Side) -> bool
     ensures { result ≡ is_at_fault side ending }
 {
@@ -347,7 +347,7 @@ fn is_at_fault(ending: Option<Ending>, side: Side) -> bool
     }
 }
 
-/// Returns the length that a header announces, 0 until it is whole.
+/// Returns the length field of a header, or 0 until the header is complete.
 fn announced_by(head: Option<Head>) -> usize
     ensures value { result ≡ announced_by head }
     ensures few { result ≤ 65535 }
@@ -358,7 +358,8 @@ fn announced_by(head: Option<Head>) -> usize
     }
 }
 
-/// Returns a frame that is not whole, by the bytes of its header and its body.
+/// Returns the incomplete frame with these numbers of header bytes and body bytes. Returns `None` if it has no byte, or
+/// is at fault.
 fn part_in(header: usize, body: usize, at_fault: bool, announced: usize) -> Option<Part>
     requires few { header ≤ 4 }
     requires small { body ≤ longest_body }
@@ -377,7 +378,7 @@ fn part_in(header: usize, body: usize, at_fault: bool, announced: usize) -> Opti
     Some(Part { came, size })
 }
 
-/// Returns what a session holds of a side's frame, unless there is nothing, or the frame is at fault.
+/// Returns a side's incomplete frame, which a session holds. Returns `None` if it has no byte, or is at fault.
 fn part_of<A: Allocator>(session: &Session<A>, side: Side) -> Option<Part>
     requires { is_awaited (queued session.now) side ≡ false }
     ensures { (number : Option ℕ) → part_with number side result ≡ spec_part_of number side session.now.state.limits.cap
@@ -390,7 +391,7 @@ fn part_of<A: Allocator>(session: &Session<A>, side: Side) -> Option<Part>
     part_in(header.len(), body.len(), at_fault, announced)
 }
 
-/// Writes the line of a side's frame that is not whole, and counts it.
+/// Writes the line for a side's incomplete frame, if there is one, and returns the number of lines.
 fn put_unfinished<A: Allocator, W: Write>(
     session: &Session<A>,
     number: Option<u16>,
@@ -413,7 +414,7 @@ fn put_unfinished<A: Allocator, W: Write>(
     }
 }
 
-/// Returns a session's number, if the report names it.
+/// Returns a session's number, if the report shows it.
 fn number_in(version: Version, number: u16) -> Option<u16>
     ensures { result ≡ number_of version number }
 {
@@ -423,7 +424,7 @@ fn number_in(version: Version, number: u16) -> Option<u16>
     }
 }
 
-/// Writes the lines of a session's frames that are not whole, and counts them.
+/// Writes the lines for a session's incomplete frames, and returns their number.
 fn put_session<A: Allocator, W: Write>(
     session: &Session<A>,
     number: Option<u16>,
@@ -440,7 +441,7 @@ fn put_session<A: Allocator, W: Write>(
     Ok(bot + server)
 }
 
-/// Writes the lines of all frames that are not whole, and counts them.
+/// Writes the lines for all incomplete frames, and returns their number.
 fn put_parts<A: Allocator, W: Write>(
     version: Version,
     sessions: &[Session<A>],
@@ -463,14 +464,14 @@ fn put_parts<A: Allocator, W: Write>(
     Ok(count)
 }
 
-/// Whether a line of the log is a comment.
+/// Returns whether a line of the log is a comment.
 fn is_remark(line: &[u8]) -> bool
     ensures { result ≡ is_remark line.now }
 {
     !line.is_empty() && line[0] == b'#'
 }
 
-/// Writes a comment as it stands in the log.
+/// Copies a comment from the log to the report.
 fn put_remark<W: Write>(comment: &[u8], output: &mut Output<'_, W>) -> Result<(), Unreported>
     ensures text { OnOk result (Appends (all_of W.contents output.old) (all_of W.contents output.new)
         (with_line_feed comment.now)) }
@@ -532,7 +533,7 @@ impl<B: Allocator + Copy> Style for Explaining<B> {
     ghost lawful = { explained_lawful };
 }
 
-/// Reads a log, and writes its report with explanations, as `explain_stream` does, by way of this text.
+/// Reads a log and writes its report with explanations, as `explain_stream` does, with the text of this style.
 #[tactic(auto, using(crate::proofs::LogLemmas::answered_alike))]
 fn explain_over<A: Allocator + Copy, R: LogReader, W: Write>(
     alloc: A,
@@ -576,7 +577,7 @@ pub fn explain_stream<A: Allocator + Copy, R: LogReader, W: Write>(
     explain_over(alloc, &mut style, reader, writer)
 }
 
-/// Reads a log, and writes its report with explanations.
+/// Reads a log and writes its report with explanations.
 ///
 /// The faults are those of `check_log`, in their order. But `Memory` may also come while the lines are judged, when a
 /// growth of a text is refused. It judges at the log's own depth limit.

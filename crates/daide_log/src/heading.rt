@@ -1,4 +1,4 @@
-//! The head of a log: the lines before its events, which say for what sessions it is.
+//! The head of a log: the lines before its events, which describe its sessions.
 
 ghost use Rattle.std.specs.Prelude.{◌≡◌, IfSome, option_map};
 ghost use Rattle.daide_words.specs.Words.{words_of};
@@ -14,28 +14,28 @@ use daide_log_lines::word_line::read_word;
 use daide_session::Config;
 use daide_words::{Word, Words};
 
-/// Of what a log is.
+/// The version of a log.
 #[derive(Clone, Copy)]
 pub enum Version {
-    /// Of one session.
+    /// The log of one session.
     Single,
-    /// Of a match, whose lines and whose report name the session.
+    /// The log of a match: its lines and its report name the session.
     Match,
 }
 
-/// What the head of a log sets.
+/// The contents of a log's head.
 #[derive(Clone, Copy)]
 pub struct Preamble {
-    /// Of what the log is.
+    /// The version of the log.
     pub version: Version,
-    /// The limits, and how many sessions and words there are.
+    /// The limits, and the numbers of sessions and of words.
     pub limits: MatchConfig,
-    /// The words.
+    /// The operator's words.
     pub words: Words,
 }
 
 impl Preamble {
-    /// Returns what no log sets: no session, and no words.
+    /// Returns a placeholder, without a session and without words, until the head is read.
     pub(crate) fn new() -> Preamble {
         Preamble {
             version: Version::Single,
@@ -53,25 +53,25 @@ impl Preamble {
     }
 }
 
-/// How far the head of a log has come.
+/// The part of a log's head that was read so far.
 #[derive(Clone, Copy)]
 pub enum Heading {
-    /// No line came.
+    /// No line.
     Unnamed,
     /// The first line, which names the version.
     Named(Version),
-    /// The second line, and words since.
+    /// The second line, and the words after it so far.
     Headed(Preamble),
 }
 
-/// Whether the first line is that of one session's log.
+/// Returns whether the first line is that of one session's log.
 fn is_name(line: &[u8]) -> bool
     ensures { result ≡ has_name line.now }
 {
     line == b"daide-log 1".as_slice()
 }
 
-/// The version that the first line names.
+/// Returns the version that the first line names.
 fn version_of(line: &[u8]) -> Option<Version>
     ensures { result ≡ version_of line.now }
 {
@@ -84,7 +84,7 @@ fn version_of(line: &[u8]) -> Option<Version>
     None
 }
 
-/// What the second line sets: in version 1 the limits of one session, and no words.
+/// Parses the second line. In version 1 there is one session, and no words.
 fn limits_in(version: Version, line: &[u8]) -> Option<MatchConfig>
     ensures limits { result ≡ limits_in version line.now }
     ensures within { IfSome result HasSessions }
@@ -99,7 +99,7 @@ fn limits_in(version: Version, line: &[u8]) -> Option<MatchConfig>
     }
 }
 
-/// Words with one more, if it is accepted after them.
+/// Adds a word. Returns `None` if there is none, or if it is not accepted after the others.
 fn with_word(words: Words, word: Option<Word>) -> Option<Words>
     ensures { option_map words_of result ≡ append_word (words_of words) word }
 {
@@ -112,7 +112,7 @@ fn with_word(words: Words, word: Option<Word>) -> Option<Words>
 }
 
 impl Heading {
-    /// The head with one line more, if the line may stand there.
+    /// Adds the next line of the head. Returns `None` if it has another form.
     pub fn with_line(self, line: &[u8]) -> Option<Heading>
         requires { IsPreambleKnown self }
         ensures within { IfSome result IsPreambleKnown }
@@ -133,7 +133,7 @@ impl Heading {
         }
     }
 
-    /// The head, where all its words are there.
+    /// Returns the head, if it has all its words.
     pub fn whole(&self) -> Option<Preamble>
         ensures { result ≡ whole_preamble self.now }
     {

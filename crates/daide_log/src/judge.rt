@@ -1,4 +1,4 @@
-//! One line of a log behind its head, judged by its session.
+//! One line of a log after its head, judged by its session.
 
 ghost use Rattle.std.specs.Prelude.{◌≡◌, ◌⊎◌, ◌≤◌, ℕ, List, All, length, Ok, Err, None, IfSome, OnOk, IfErr, MatchResult, option_map};
 ghost use Rattle.daide_log_lines.specs.LogLine.{longest_piece};
@@ -27,7 +27,7 @@ use daide_session::Session;
 use std::alloc::Allocator;
 use std::io::Write;
 
-/// Returns why a line of a report is missing as a fault of the log.
+/// Converts the reason why a report's line is missing into a fault of the log.
 pub(crate) fn as_fault(reported: Result<(), Unreported>) -> Result<(), LogFault>
     ensures { MatchResult reported (λ _. result ≡ Ok tt) (λ fault. result ≡ Err (fault_of_unreported fault)) }
 {
@@ -38,8 +38,8 @@ pub(crate) fn as_fault(reported: Result<(), Unreported>) -> Result<(), LogFault>
     }
 }
 
-/// Judges an event: its bytes, which lie at the front of the buffer, are fed, its end or the timer told, and what the
-/// session makes of it is reported.
+/// Judges an event. Feeds its bytes, which are at the front of the buffer, or reports its end or the timer to the
+/// session, and reports the session's moves.
 pub fn judge<A: Allocator, W: Write, S: Style>(
     session: &mut Session<A>,
     reported: ParsedEvent,
@@ -71,7 +71,7 @@ pub fn judge<A: Allocator, W: Write, S: Style>(
     }
 }
 
-/// What a line tells, in version 1 the one session.
+/// Parses an event line. In version 1 its session is the only one.
 fn read_reported(
     version: Version,
     line: &[u8],
@@ -88,17 +88,17 @@ fn read_reported(
     }
 }
 
-/// A line that is judged.
+/// The context of a line that is judged.
 #[derive(Clone, Copy)]
 pub struct LineContext {
-    /// Of what the log is.
+    /// The version of the log.
     pub version: Version,
     /// The number of the line, counted from 1.
     pub line: u32,
 }
 
 impl LineContext {
-    /// What the report names of a session's moves by the line.
+    /// Returns the key under which the report lists a session's moves.
     fn source(self, session: u16) -> ReportKey
         ensures { result ≡ source_in self.version self.line session }
     {
@@ -113,7 +113,7 @@ impl LineContext {
     }
 }
 
-/// Writes what a line itself has in the report.
+/// Writes what the style reports for the line itself.
 fn quote<W: Write, S: Style>(
     line: &[u8],
     style: &mut S,
@@ -130,7 +130,9 @@ fn quote<W: Write, S: Style>(
     as_fault(style.quote(&account.head, line, &mut account.output))
 }
 
-/// Judges a line by the session that it names. The bytes of traffic are decoded into the buffer.
+/// Judges a line by the session that it names. Decodes a side's bytes into the buffer.
+///
+/// Fails with `BadLine` if the line has no allowed form, and else with the faults of writing the report.
 pub fn judge_line<A: Allocator, W: Write, S: Style>(
     sessions: &mut Vec<Session<A>, A>,
     line: &[u8],

@@ -1,5 +1,5 @@
-//! Laws of `laws` that are written out there, each used once at a log that was worked out by hand, so that a weaker law does
-//! not check. Nothing here is called. Those that are definitions are used in `proofs/LawFacts`.
+//! One application of each law that is written out in `laws`, to a log with a known report, so that a weakened law
+//! fails to check. Nothing here is called. The laws that are definitions are applied in `proofs/LawFacts`.
 
 ghost use Rattle.std.specs.Prelude.{◌≡◌, ◌++◌, [], ◌∷◌, ℕ, List, Option, Result, Ok, codes};
 ghost use Rattle.daide_log_lines.specs.declared.fault.LogFault.{LogFault};
@@ -9,7 +9,7 @@ ghost use Rattle.daide_log.specs.Progress.{IsInTime};
 
 use crate::laws;
 
-/// A log of its two first lines has one report, of nothing; and a byte that no line begins with has some report.
+/// A log of its first two lines has one report, which counts nothing. A log with a wrong first byte also has a report.
 fn one_report_at_two_logs()
     ensures one { (text : List ℕ) (answer : Result Summary LogFault) →
         IsReport (codes "daide-log 1" ++ 10 ∷ codes "config 60 1024 16" ++ 10 ∷ []) text answer →
@@ -20,7 +20,7 @@ fn one_report_at_two_logs()
     laws::log_has_one_report();
 }
 
-/// After a first line of another form and its line feed no read is in time.
+/// After a wrong first line and its line feed no read is in time.
 fn no_read_after_a_bad_line()
     ensures { (before written : Option (List ℕ)) → IsInTime plain before (codes "x" ++ 10 ∷ []) written → ⊥ }
 {

@@ -1,8 +1,8 @@
-//! A recorded match, read again: what the gateway makes of each line of a log.
+//! The report of a recorded log: what the gateway does at each of its lines.
 //!
-//! What a line is, `daide_log_lines` says. `specs/` says what the head of a log sets (`Heading`), what is written for a
-//! move of the session (`Report`), and what the report of a log is (`Log`). Each line is judged before the next is
-//! read, and the session's answers are taken at once.
+//! `daide_log_lines` defines the forms of lines. `specs/` defines the head of a log (`Heading`), the line for a
+//! session's move (`Report`), and the report of a log (`Log`). Each line is judged before the next one is read, and a
+//! session's queues are emptied at once.
 #![tactic(auto)]
 
 pub mod check;

@@ -1,4 +1,4 @@
-//! The opening of a log: its head is read, and then its sessions are made.
+//! The opening of a log: its head is read, then its sessions are created.
 
 ghost use Rattle.std.specs.Prelude.{◌≡◌, ◌≢◌, ◌+◌, ◌≤◌, [], All, replicate, IfOk, IfErr, OnOk};
 ghost use Rattle.std.specs.Io.KnownBytes.{Keeps};
@@ -27,24 +27,24 @@ use std::io::Write;
 /// A head that was read.
 #[derive(Clone, Copy)]
 pub struct Opened {
-    /// What it sets.
+    /// The contents of the head.
     pub head: Preamble,
-    /// How many lines it has.
+    /// The number of its lines.
     pub lines: u32,
-    /// Whether a line feed ended the last of them.
+    /// Whether the last of them ended with a line feed.
     pub is_ended: bool,
 }
 
-/// What is known behind a line of the head.
+/// The state after a line of the head.
 #[derive(Clone, Copy)]
 pub enum PreambleProgress {
-    /// There is a line more.
+    /// Another line follows.
     More(Heading),
-    /// All lines were read.
+    /// The head is complete.
     Done(Opened),
 }
 
-/// What is known behind so many lines, of which the last had its line feed.
+/// Returns the state after `lines` lines, the last one with its line feed.
 fn further(heading: Heading, lines: u32) -> PreambleProgress
     ensures { result ≡ preamble_after heading lines (whole_preamble heading) }
 {
@@ -58,7 +58,7 @@ fn further(heading: Heading, lines: u32) -> PreambleProgress
     }
 }
 
-/// What is known behind so many lines, of which the last is the log's.
+/// Returns the state after `lines` lines, the last one at the end of the log.
 fn at_last(heading: Heading, lines: u32) -> Result<PreambleProgress, LogFault>
     requires { lines ≤ most_lines + 1 }
     ensures { result ≡ at_last lines (whole_preamble heading) }
@@ -73,7 +73,7 @@ fn at_last(heading: Heading, lines: u32) -> Result<PreambleProgress, LogFault>
     }
 }
 
-/// What is known behind the line that was found after so many, by the head with that line.
+/// Returns the state after the next line. `heading` includes this line, and `count` does not.
 fn after_line(
     found: Result<LineEnd, LogFault>,
     heading: Option<Heading>,
@@ -119,8 +119,8 @@ pub fn read_preamble<S: Style, R: LogReader, W: Write>(
     }
 }
 
-/// Makes the sessions of a log, with the words of its head. Their memory is taken here, and none later: room for all
-/// of them, and two growths for each.
+/// Creates the sessions of a log, with the words of its head. Allocates all their memory: one list for all of them, and
+/// two growths for each. Fails with `Memory`.
 pub fn open_sessions<A: Allocator + Copy>(
     alloc: A,
     head: &Preamble,

@@ -1,4 +1,4 @@
-//! Lines of a report, put behind what is held back of it.
+//! Lines of a report, appended to its page.
 
 ghost use Rattle.std.specs.Prelude.{◌≡◌, ◌+◌, ◌%◌, ◌≤◌, [], ◌∷◌, codes, length, OnOk, IfOk, IfErr};
 ghost use Rattle.std.specs.Io.KnownBytes.{Appends, Keeps};
@@ -19,7 +19,7 @@ use daide_token::{PrinterState, end_of};
 use daide_words::Words;
 use std::io::Write;
 
-/// How many bytes of a message are printed together, of which each two have eight bytes of text at most.
+/// The number of bytes of a message that are printed together. Every two of them are at most eight bytes of text.
 const TOGETHER: usize = 256;
 
 /// Why a line of a report was not written.
@@ -31,7 +31,7 @@ pub enum Unreported {
     Memory,
 }
 
-/// Hands what is held to the writer where so many bytes more might not find room.
+/// Writes the page if it has less than `room` bytes of free space.
 #[inline(always)]
 fn make_room_for<W: Write>(room: usize, output: &mut Output<'_, W>) -> Result<(), Unreported>
     requires { room ≤ page_size }
@@ -49,7 +49,7 @@ fn make_room_for<W: Write>(room: usize, output: &mut Output<'_, W>) -> Result<()
     }
 }
 
-/// Hands what is held to the writer where a line more might not find room.
+/// Writes the page if another line might not fit.
 #[inline(always)]
 fn make_room<W: Write>(output: &mut Output<'_, W>) -> Result<(), Unreported>
     ensures kept { OnOk result (Keeps (all_of W.contents output.old) (all_of W.contents output.new)) }
@@ -60,7 +60,7 @@ fn make_room<W: Write>(output: &mut Output<'_, W>) -> Result<(), Unreported>
     make_room_for(LINE, output)
 }
 
-/// Writes a byte behind what is held.
+/// Appends a byte to the page.
 #[inline(always)]
 pub(crate) fn put_byte<W: Write>(byte: u8, output: &mut Output<'_, W>) -> Result<(), Unreported>
     ensures text { OnOk result (Appends (all_of W.contents output.old) (all_of W.contents output.new) (byte ∷ [])) }
@@ -72,7 +72,7 @@ pub(crate) fn put_byte<W: Write>(byte: u8, output: &mut Output<'_, W>) -> Result
     Ok(())
 }
 
-/// Writes bytes behind what is held.
+/// Appends bytes to the page.
 pub(crate) fn put_text<W: Write>(text: &[u8], output: &mut Output<'_, W>) -> Result<(), Unreported>
     ensures text { OnOk result (Appends (all_of W.contents output.old) (all_of W.contents output.new) text.now) }
     ensures refused { IfErr result (λ fault. fault ≡ Unreported.Write) }
@@ -86,7 +86,7 @@ pub(crate) fn put_text<W: Write>(text: &[u8], output: &mut Output<'_, W>) -> Res
     Ok(())
 }
 
-/// Writes a byte of lines behind what is held, with four spaces before it where it begins a line.
+/// Appends a byte of indented lines to the page, with four spaces before it if it begins a line.
 fn put_in_line<W: Write>(
     begins: bool,
     byte: u8,
@@ -103,7 +103,7 @@ fn put_in_line<W: Write>(
     put_byte(byte, output)
 }
 
-/// Writes lines behind what is held, each with four spaces before it.
+/// Appends lines to the page, with four spaces before each.
 pub(crate) fn put_indented<W: Write>(
     text: &[u8],
     output: &mut Output<'_, W>,
@@ -122,7 +122,7 @@ pub(crate) fn put_indented<W: Write>(
     Ok(())
 }
 
-/// Writes four spaces behind what is held.
+/// Appends four spaces to the page.
 #[inline(always)]
 fn put_margin<W: Write>(output: &mut Output<'_, W>) -> Result<(), Unreported>
     ensures text { OnOk result (Appends (all_of W.contents output.old) (all_of W.contents output.new) (codes "    ")) }
@@ -134,7 +134,8 @@ fn put_margin<W: Write>(output: &mut Output<'_, W>) -> Result<(), Unreported>
     Ok(())
 }
 
-/// Writes the text of some tokens of a message, of which so much was written before, behind what is held.
+/// Appends the text of some tokens of a message to the page. `place` is the printer's state after the tokens before
+/// them. Returns the state after these.
 fn put_some<W: Write>(
     words: &Words,
     tokens: &[u8],
@@ -153,7 +154,7 @@ fn put_some<W: Write>(
     Ok(next)
 }
 
-/// Writes the text of a message's tokens but for its end behind what is held.
+/// Appends the text of a message's tokens to the page, without the end of a quoted text.
 fn put_tokens<W: Write>(
     words: &Words,
     tokens: &[u8],
@@ -176,7 +177,7 @@ fn put_tokens<W: Write>(
     Ok(place)
 }
 
-/// Writes the end of a message's text and of its line behind what is held.
+/// Appends the end of a message's text and a line feed to the page.
 #[inline(always)]
 fn put_end<W: Write>(place: PrinterState, output: &mut Output<'_, W>) -> Result<(), Unreported>
     ensures text { OnOk result (Appends (all_of W.contents output.old) (all_of W.contents output.new)
@@ -190,8 +191,8 @@ fn put_end<W: Write>(place: PrinterState, output: &mut Output<'_, W>) -> Result<
     Ok(())
 }
 
-/// Writes the text of a message on a line of its own behind what is held, with four spaces before it, the operator's
-/// words by their names. It is put straight there.
+/// Appends the text of a message to the page, on a line of its own after four spaces, with the operator's words by
+/// their names. The text is not built elsewhere first.
 pub(crate) fn put_message<W: Write>(
     words: &Words,
     tokens: &[u8],
@@ -203,14 +204,14 @@ pub(crate) fn put_message<W: Write>(
     ensures refused { IfErr result (λ fault. fault ≡ Unreported.Write) }
     ensures same_writer { IsSameWriter output.old output.new }
 {
-    // The names have capital letters, so that the text has no line feed: this contract says it.
+    // Names consist of capital letters, so the text has no line feed. The contract of `are_accepted` states this.
     words.are_accepted();
     put_margin(output)?;
     let place = put_tokens(words, tokens, output)?;
     put_end(place, output)
 }
 
-/// Writes the line of a side's move behind what is held.
+/// Appends the line of a side's move to the page.
 pub fn put_move<W: Write>(
     source: ReportKey,
     side: Side,
@@ -227,7 +228,7 @@ pub fn put_move<W: Write>(
     Ok(())
 }
 
-/// Writes the line of a side's frame that is not whole behind what is held.
+/// Appends the line for a side's incomplete frame to the page.
 pub(crate) fn put_part<W: Write>(
     number: Option<u16>,
     side: Side,
@@ -244,7 +245,7 @@ pub(crate) fn put_part<W: Write>(
     Ok(())
 }
 
-/// Writes the last line of a report behind what is held.
+/// Appends the last line of a report to the page.
 pub fn put_summary<W: Write>(summary: Summary, output: &mut Output<'_, W>) -> Result<(), Unreported>
     ensures text { OnOk result (Appends (all_of W.contents output.old) (all_of W.contents output.new)
         (summary_line summary)) }

@@ -1,4 +1,4 @@
-//! A session of a log, by the lines behind the head.
+//! A session of a log, driven by the lines after the head.
 
 ghost use Rattle.std.specs.Prelude.{◌≡◌, ◌≤◌, ℕ, List, ◌∷◌, ◌++◌, [], length, OnOk, IfErr};
 ghost use Rattle.std.specs.Io.KnownBytes.{Appends};
@@ -23,7 +23,7 @@ use daide_session::Session;
 use std::alloc::Allocator;
 use std::io::Write;
 
-/// Drops all that waits for both wires.
+/// Drops the frames queued for both sides.
 fn take_answers<A: Allocator>(session: &mut Session<A>)
     ensures state { session.new.state ≡ session.old.state }
     ensures idle { IsIdle session.new }
@@ -32,7 +32,7 @@ fn take_answers<A: Allocator>(session: &mut Session<A>)
     session.drop_waiting(Side::Server);
 }
 
-/// Counts a move of a side, and writes its line and what the report adds to it.
+/// Counts a side's move, and writes its line and what the style adds to it.
 fn tell<A: Allocator, W: Write, S: Style>(
     session: &Session<A>,
     source: ReportKey,
@@ -59,8 +59,9 @@ fn tell<A: Allocator, W: Write, S: Style>(
     style.explain(&account.head, session, side, reported, &mut account.output)
 }
 
-/// Feeds a side's next bytes, for which there is room, and reports the move that they make, if they make one, before the
-/// answers are taken. Where none is made, nothing was answered.
+/// Feeds a side's next bytes, which must fit its room, and reports the move that they cause, if there is one. Empties
+/// the session's queues only afterwards, because an explanation needs the frame that the session still holds. Without a
+/// move nothing is queued.
 fn feed_piece<A: Allocator, W: Write, S: Style>(
     session: &mut Session<A>,
     side: Side,
@@ -91,7 +92,7 @@ fn feed_piece<A: Allocator, W: Write, S: Style>(
     written
 }
 
-/// Feeds a side's bytes in pieces for which there is room, and tells of each frame and fault.
+/// Feeds a side's bytes in pieces that fit its room, and reports each frame and fault.
 pub fn feed_all<A: Allocator, W: Write, S: Style>(
     session: &mut Session<A>,
     side: Side,
@@ -120,7 +121,7 @@ pub fn feed_all<A: Allocator, W: Write, S: Style>(
     Ok(())
 }
 
-/// A side's stream ends.
+/// Ends a side's stream, and reports that if it ended the session.
 pub fn end<A: Allocator, W: Write, S: Style>(
     session: &mut Session<A>,
     side: Side,
@@ -149,7 +150,7 @@ pub fn end<A: Allocator, W: Write, S: Style>(
     Ok(())
 }
 
-/// The time for the initial message is over.
+/// Reports that the IM timer expired.
 pub fn time_out<A: Allocator, W: Write, S: Style>(
     session: &mut Session<A>,
     source: ReportKey,
@@ -167,7 +168,7 @@ pub fn time_out<A: Allocator, W: Write, S: Style>(
     ensures same_head { account.new.head ≡ account.old.head }
     ensures same_writer { IsSameWriter account.old.output account.new.output }
 {
-    // What is held is the frame that is not whole yet: the header's contract says it.
+    // The contract of `header` states that the session holds the incomplete frame.
     let _held = session.header(Side::Bot);
     let reported = session.im_timeout();
     if let Note::Nothing = reported {

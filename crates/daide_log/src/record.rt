@@ -1,6 +1,6 @@
-//! The record of a session: a log of what its ports answered, as `check_log` reads it.
+//! The record of a session: a log of its ports' calls, in the form that `check_log` reads.
 //!
-//! Lines are held back, and handed to the writer in blocks of whole lines.
+//! Lines are collected in a page, and written in blocks of whole lines.
 
 ghost use Rattle.std.specs.Prelude.{◌≡◌, ◌≢◌, ◌<◌, ◌≤◌, [], Some, OnOk, OnErr, length};
 ghost use Rattle.std.specs.Io.KnownBytes.{Keeps, append_known};
@@ -20,21 +20,21 @@ use daide_words::Words;
 use std::io;
 use std::marker::Model;
 
-/// How many bytes may be held where the longest line still finds room.
+/// The most bytes of a page after which the longest line still fits.
 const FRONT: usize = PAGE - LONGEST_LINE;
 
 /// How a record ended, or would end now.
 #[derive(Clone, Copy, Debug, PartialEq, Eq)]
 pub enum RecordEnd {
-    /// It has a line for each answer that tells something.
+    /// It has a line for each call that a log records.
     Whole,
-    /// A write of its writer failed, and nothing was written since.
+    /// A write failed, and nothing was written after it.
     Failed,
-    /// It has as many lines as a log may have, and a further one was to come.
+    /// It has the greatest number of lines that a log may have, and another one was due.
     Full,
 }
 
-/// The record of one session over a writer: a log of version 2.
+/// The record of one session: a log of version 2, over a writer.
 #[derive(Drop)]
 pub struct Record<W: Sink + Drop> {
     writer: W,
@@ -56,7 +56,7 @@ impl<W: Sink + Drop> Model for Record<W> {
     } };
 }
 
-/// Hands all that is held to the writer.
+/// Writes the page, and empties it.
 #[cold]
 #[inline(never)]
 fn hand_over<W: Sink>(held: &mut Page, writer: &mut W) -> io::Result<()>
@@ -70,8 +70,8 @@ fn hand_over<W: Sink>(held: &mut Page, writer: &mut W) -> io::Result<()>
     Ok(())
 }
 
-/// Returns how a record of `lines` lines ends, or would end now, after what it held was handed over, or could not be. Only
-/// a write that failed makes it a failed one.
+/// Returns how a record of `lines` lines ends, or would end now, after its page was written or that failed. It is
+/// `Failed` only after a failed write.
 fn ending_after(handed_over: io::Result<()>, lines: u32) -> RecordEnd
     ensures whole { OnOk handed_over (lines < most_lines → result ≡ RecordEnd.Whole) }
     ensures full { OnOk handed_over (most_lines ≤ lines → result ≡ RecordEnd.Full) }
@@ -85,8 +85,8 @@ fn ending_after(handed_over: io::Result<()>, lines: u32) -> RecordEnd
     }
 }
 
-/// Makes room for a line behind what is held, of so many lines with those that were handed over; what can take none is
-/// handed over.
+/// Makes room for one more line in the page, after `lines` lines in all. Writes the page if the line might not fit, or
+/// if the record is full. Returns how the record ends, or would end now.
 fn make_room<W: Sink>(held: &mut Page, lines: u32, writer: &mut W) -> RecordEnd
     ensures kept { result ≢ RecordEnd.Failed → Keeps (append_known (W.contents writer.old) held.old.items)
         (append_known (W.contents writer.new) held.new.items) }
@@ -100,8 +100,8 @@ fn make_room<W: Sink>(held: &mut Page, lines: u32, writer: &mut W) -> RecordEnd
     ending_after(hand_over(held, writer), lines)
 }
 
-/// Hands over what is held of a record that did not fail, and answers how the record ended. A writer that failed is
-/// asked for nothing more.
+/// Writes the page of a record that did not fail, and returns how the record ended. After a failed write it writes
+/// nothing.
 fn hand_over_rest<W: Sink>(ending: RecordEnd, held: &mut Page, writer: &mut W) -> RecordEnd
     ensures failed { ending ≡ RecordEnd.Failed → (result ≡ RecordEnd.Failed) × (writer.new ≡ writer.old) }
     ensures whole { result ≢ RecordEnd.Failed → (result ≡ ending)
@@ -137,7 +137,7 @@ impl<W: Sink + Drop> Record<W> {
         }
     }
 
-    /// How the record ended, or would end now.
+    /// Returns how the record ended, or would end now.
     pub fn ending(&self) -> RecordEnd
         ensures { result ≡ self.now.ending }
     {

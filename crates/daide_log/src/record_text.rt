@@ -1,4 +1,4 @@
-//! The lines of a record, each put behind those that are held back.
+//! The lines of a record, each appended to its page.
 
 ghost use Rattle.std.specs.Prelude.{◌≡◌, ◌≤◌, ◌+◌, ◌*◌, ◌/◌, ◌%◌, ◌∷◌, ◌++◌, [], length, slice_index};
 ghost use Rattle.hex.specs.Hex.{encode_upper, upper_digits};
@@ -15,10 +15,10 @@ use daide_log_lines::page::Page;
 use daide_protocol::Config;
 use daide_words::{Operand, Slot, Word, Words};
 
-/// The digits, with upper-case letters.
+/// The hexadecimal digits, in upper case.
 pub(crate) const DIGITS: &[u8; 16] = b"0123456789ABCDEF";
 
-/// Puts the two digits of a byte.
+/// Appends the two digits of a byte.
 #[inline(always)]
 fn put_byte(byte: u8, line: &mut Page)
     requires { length line.old.items + 2 ≤ page_size }
@@ -30,7 +30,7 @@ fn put_byte(byte: u8, line: &mut Page)
     line.push(DIGITS[(byte % 16) as usize]);
 }
 
-/// Puts bytes in hexadecimal digits.
+/// Appends bytes in hexadecimal digits.
 #[tactic(auto, using(crate::proofs::RecordLines::encode_more))]
 fn put_bytes(bytes: &[u8], line: &mut Page)
     requires { length line.old.items + 2 * length bytes.now ≤ page_size }
@@ -42,7 +42,7 @@ fn put_bytes(bytes: &[u8], line: &mut Page)
     }
 }
 
-/// Puts the line of bytes that came of a side.
+/// Appends the line of bytes received from a side.
 #[tactic(auto, unfolding(crate::specs::RecordText::event_line, crate::specs::RecordText::event_text))]
 pub fn put_piece(side: Side, bytes: &[u8], line: &mut Page)
     requires few { length bytes.now ≤ longest_piece }
@@ -55,7 +55,7 @@ pub fn put_piece(side: Side, bytes: &[u8], line: &mut Page)
     line.push(b'\n');
 }
 
-/// Puts the line of a side's end.
+/// Appends the line of a side's end.
 #[tactic(auto, unfolding(crate::specs::RecordText::event_line, crate::specs::RecordText::event_text))]
 pub fn put_end(side: Side, line: &mut Page)
     requires { length line.old.items ≤ most_held }
@@ -67,7 +67,7 @@ pub fn put_end(side: Side, line: &mut Page)
     }
 }
 
-/// Puts the line of the timer.
+/// Appends the line of the IM timer.
 #[tactic(auto, unfolding(crate::specs::RecordText::event_line, crate::specs::RecordText::event_text))]
 pub fn put_timer(line: &mut Page)
     requires { length line.old.items ≤ most_held }
@@ -76,7 +76,7 @@ pub fn put_timer(line: &mut Page)
     put(b"1 timer\n", line);
 }
 
-/// Puts the line of limits, of one session, and of so many words.
+/// Appends the line of the limits, with one session and this number of words.
 #[tactic(auto, unfolding(crate::specs::RecordText::config_text))]
 fn put_config(config: &Config, words: usize, line: &mut Page)
     requires { length line.old.items ≤ 64 }
@@ -94,7 +94,7 @@ fn put_config(config: &Config, words: usize, line: &mut Page)
     put(b"\n", line);
 }
 
-/// The name of a slot, and the space before it and behind it.
+/// Returns the name of a slot, with a space before and after it.
 fn name_of_slot(slot: Slot) -> &'static [u8]
     ensures name { result.now ≡ 32 ∷ name_of_slot slot ++ 32 ∷ [] }
     ensures few { length result.now ≤ 13 }
@@ -105,7 +105,7 @@ fn name_of_slot(slot: Slot) -> &'static [u8]
     }
 }
 
-/// The name of an operand, the space before it, and the end of the line.
+/// Returns the name of an operand, with a space before it and a line feed after it.
 fn name_of_operand(operand: Operand) -> &'static [u8]
     ensures name { result.now ≡ 32 ∷ name_of_operand operand ++ 10 ∷ [] }
     ensures few { length result.now ≤ 13 }
@@ -120,7 +120,7 @@ fn name_of_operand(operand: Operand) -> &'static [u8]
     }
 }
 
-/// Puts the line of a word.
+/// Appends the line of a word.
 #[tactic(auto, unfolding(crate::specs::RecordText::word_text))]
 fn put_word(word: Word, line: &mut Page)
     requires { length line.old.items ≤ 4096 }
@@ -136,7 +136,7 @@ fn put_word(word: Word, line: &mut Page)
     put(name_of_operand(word.operand), line);
 }
 
-/// Puts the head of a record.
+/// Appends the head of a record.
 #[tactic(auto, unfolding(crate::specs::RecordText::head_text))]
 pub fn put_head(config: &Config, words: &Words, line: &mut Page)
     requires { line.old.items ≡ [] }

@@ -1,4 +1,4 @@
-//! Ports that keep a record of their answers.
+//! Ports that record their calls.
 
 ghost use Rattle.std.specs.Prelude.{◌≡◌};
 ghost use Rattle.daide_protocol.specs.Ports.{TurnBegins};
@@ -38,14 +38,14 @@ impl<P: Ports, W: Sink + Drop> Model for Recording<P, W> {
 impl<P: Ports, W: Sink + Drop> Recording<P, W> {
     ghost use Rattle.daide_log.specs.Recording.{Records, HasFailed};
 
-    /// Ports with a record of what they answer from now on.
+    /// Wraps ports, whose calls are recorded from now on.
     pub fn new(ports: P, log: Record<W>) -> Recording<P, W>
         ensures { result ≡ record { ports = ports; record_of = log } }
     {
         Recording { ports, log }
     }
 
-    /// Begins a turn: the system begins it with the ports within, and the record stays as it is.
+    /// Has the system begin a turn with the inner ports. The record is unchanged.
     pub fn begin_turn<S: System<P>>(&mut self, system: &mut S)
         ensures begins { Records P.transition (HasFailed W.Fails) self.old TurnBegins self.new }
         ensures asked { S.transition system.old (BeginsTurn self.old.ports self.new.ports) system.new }
@@ -53,14 +53,14 @@ impl<P: Ports, W: Sink + Drop> Recording<P, W> {
         system.begin_turn(&mut self.ports);
     }
 
-    /// The record, as it is now.
+    /// Returns the record.
     pub fn record(&self) -> &Record<W>
         ensures { result.now ≡ self.now.record_of }
     {
         &self.log
     }
 
-    /// The ports themselves, and the record.
+    /// Returns the inner ports and the record.
     pub fn into_parts(self) -> (P, Record<W>)
         ensures { result ≡ (self.ports, self.record_of) }
     {

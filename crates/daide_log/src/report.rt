@@ -1,4 +1,4 @@
-//! The lines of a report. Each is put straight behind those that are held back, where there is room for any line.
+//! The lines of a report. Each is appended directly to the page, which must have room for any line.
 
 ghost use Rattle.std.specs.Prelude.{◌≡◌, ◌<◌, ◌≤◌, ◌+◌, ◌%◌, [], ◌∷◌, ◌++◌, codes, length, Some, None};
 ghost use Rattle.std.specs.Fmt.{decimal};
@@ -13,17 +13,17 @@ use daide_protocol::{Deed, Note, Summary};
 /// More bytes than any line of a report has.
 pub const LINE: usize = 128;
 
-/// What made a move.
+/// The key under which the report lists a move.
 #[derive(Clone, Copy)]
 pub struct ReportKey {
-    /// The number of the line, counted from 1.
+    /// The number of the log's line, counted from 1.
     pub line: u32,
-    /// The number of the session in the log of a match.
+    /// The number of the session, in the log of a match.
     pub session: Option<u16>,
 }
 
-/// Puts text behind a line, byte by byte: where it is known which text, its bytes are stored together, and nothing is
-/// asked of where they lie, as a copy does.
+/// Appends a text to a line, byte by byte. For a constant text the compiler combines the bytes into a few stores,
+/// without the tests that a copy makes of their addresses.
 #[inline(always)]
 pub(crate) fn put(text: &[u8], line: &mut Page)
     requires { length line.old.items + length text.now ≤ page_size }
@@ -35,7 +35,7 @@ pub(crate) fn put(text: &[u8], line: &mut Page)
     }
 }
 
-/// Puts the decimal digits of a number behind a line.
+/// Appends the decimal digits of a number to a line.
 fn put_digits(number: u64, line: &mut Page)
     requires { length line.old.items + length (decimal number) ≤ 8192 }
     ensures { line.new.items ≡ line.old.items ++ decimal number }
@@ -46,7 +46,7 @@ fn put_digits(number: u64, line: &mut Page)
     line.push(b'0' + (number % 10) as u8);
 }
 
-/// Puts the digit of a number below ten.
+/// Appends the digit of a number below ten.
 #[inline(always)]
 fn put_one(number: u16, line: &mut Page)
     requires few { number < 10 }
@@ -57,7 +57,7 @@ fn put_one(number: u16, line: &mut Page)
     line.push(b'0' + number as u8);
 }
 
-/// Puts the last digit of a number behind those before it.
+/// Appends the last digit of a number.
 #[inline(always)]
 fn put_last(number: u16, line: &mut Page)
     requires { length line.old.items ≤ 8191 }
@@ -67,7 +67,7 @@ fn put_last(number: u16, line: &mut Page)
     line.push((number % 10) as u8 + b'0');
 }
 
-/// Puts the digits of a number that has two.
+/// Appends the digits of a number that has two.
 #[inline(always)]
 fn put_two(number: u16, line: &mut Page)
     requires least { 10 ≤ number }
@@ -80,7 +80,7 @@ fn put_two(number: u16, line: &mut Page)
     put_last(number, line);
 }
 
-/// Puts the digits of a number that has three.
+/// Appends the digits of a number that has three.
 #[inline(always)]
 fn put_three(number: u16, line: &mut Page)
     requires least { 100 ≤ number }
@@ -93,7 +93,7 @@ fn put_three(number: u16, line: &mut Page)
     put_last(number, line);
 }
 
-/// Puts the digits of a number that has four.
+/// Appends the digits of a number that has four.
 #[inline(always)]
 fn put_four(number: u16, line: &mut Page)
     requires least { 1000 ≤ number }
@@ -106,7 +106,8 @@ fn put_four(number: u16, line: &mut Page)
     put_last(number, line);
 }
 
-/// Puts a number behind a line, which has twenty digits at most, and mostly four or fewer: those need no calls.
+/// Appends a number of at most twenty digits to a line. Most numbers have four digits or fewer, and these need no
+/// recursion.
 #[inline(always)]
 pub(crate) fn put_number(number: u64, line: &mut Page)
     requires { length line.old.items ≤ 8172 }
@@ -122,7 +123,7 @@ pub(crate) fn put_number(number: u64, line: &mut Page)
     }
 }
 
-/// Puts the number of the line that made a move, and that of the session.
+/// Appends the key of a move: the number of the line, and that of the session if there is one.
 #[tactic(auto, unfolding(crate::specs::Report::source_text))]
 fn put_source(source: ReportKey, line: &mut Page)
     requires { length line.old.items + line_room ≤ page_size }
@@ -137,7 +138,7 @@ fn put_source(source: ReportKey, line: &mut Page)
     }
 }
 
-/// Puts a side, and a space behind it.
+/// Appends a side's name, and a space.
 #[inline(always)]
 pub(crate) fn put_side(side: Side, line: &mut Page)
     requires { length line.old.items + 86 ≤ page_size }
@@ -150,7 +151,7 @@ pub(crate) fn put_side(side: Side, line: &mut Page)
     }
 }
 
-/// Puts what became of a frame, and the end of the line.
+/// Appends what was done with a frame, and a line feed.
 fn put_frame(head: Head, deed: Deed, line: &mut Page)
     requires { length line.old.items + 79 ≤ page_size }
     ensures { line.new.items ≡ line.old.items ++ move_text (Note.Frame head deed) ++ 10 ∷ [] }
@@ -170,7 +171,7 @@ fn put_frame(head: Head, deed: Deed, line: &mut Page)
     }
 }
 
-/// Puts what a side's move was, and the end of the line.
+/// Appends a side's move, and a line feed.
 #[tactic(auto, unfolding(crate::specs::Report::reported_text))]
 fn put_reported(side: Side, reported: Note, line: &mut Page)
     requires { length line.old.items + 86 ≤ page_size }
@@ -188,7 +189,7 @@ fn put_reported(side: Side, reported: Note, line: &mut Page)
     }
 }
 
-/// Puts the line of a side's move, behind the numbers of what made it.
+/// Appends the line of a side's move, with its key.
 #[tactic(auto, unfolding(crate::specs::Report::move_line))]
 pub(crate) fn write_move(source: ReportKey, side: Side, reported: Note, line: &mut Page)
     requires { length line.old.items + line_room ≤ page_size }
@@ -198,16 +199,16 @@ pub(crate) fn write_move(source: ReportKey, side: Side, reported: Note, line: &m
     put_reported(side, reported, line);
 }
 
-/// A frame that is not whole.
+/// An incomplete frame.
 #[derive(Clone, Copy)]
 pub(crate) struct Part {
-    /// How many bytes of it came.
+    /// The number of its bytes received so far.
     pub came: usize,
-    /// How many it has in all, once its header is whole.
+    /// The number of all its bytes, once its header is complete.
     pub size: Option<usize>,
 }
 
-/// Puts how much of a header came.
+/// Appends how many bytes of a header were received.
 fn put_of_header(came: usize, line: &mut Page)
     requires { length line.old.items + 86 ≤ page_size }
     ensures text { line.new.items ≡ line.old.items ++ size_text came None }
@@ -217,7 +218,7 @@ fn put_of_header(came: usize, line: &mut Page)
     put(b" of 4 bytes of a header", line);
 }
 
-/// Puts how much of a frame came.
+/// Appends how many bytes of a frame were received.
 fn put_of_frame(came: usize, size: usize, line: &mut Page)
     requires { length line.old.items + 86 ≤ page_size }
     ensures text { line.new.items ≡ line.old.items ++ size_text came (Some size) }
@@ -229,7 +230,7 @@ fn put_of_frame(came: usize, size: usize, line: &mut Page)
     put(b" bytes of a frame", line);
 }
 
-/// Puts how much of a frame that is not whole came.
+/// Appends how many bytes of an incomplete frame were received.
 fn put_size(came: usize, size: Option<usize>, line: &mut Page)
     requires { length line.old.items + 86 ≤ page_size }
     ensures text { line.new.items ≡ line.old.items ++ size_text came size }
@@ -241,7 +242,7 @@ fn put_size(came: usize, size: Option<usize>, line: &mut Page)
     }
 }
 
-/// Puts a session's number, if the report names it, and a space behind it.
+/// Appends a session's number and a space, if the report names the session.
 fn put_session(session: Option<u16>, line: &mut Page)
     requires { length line.old.items + 124 ≤ page_size }
     ensures text { line.new.items ≡ line.old.items ++ session_text session }
@@ -253,7 +254,7 @@ fn put_session(session: Option<u16>, line: &mut Page)
     }
 }
 
-/// Puts a side, and what divides it from what is said of it.
+/// Appends a side's name, a colon and a space.
 fn put_owner(side: Side, line: &mut Page)
     requires { length line.old.items + 103 ≤ page_size }
     ensures text { line.new.items ≡ line.old.items ++ name_of_side side ++ codes ": " }
@@ -265,7 +266,7 @@ fn put_owner(side: Side, line: &mut Page)
     }
 }
 
-/// Puts the line of a side's frame that is not whole, with four spaces before it.
+/// Appends the line for a side's incomplete frame, with four spaces before it.
 #[tactic(auto, unfolding(crate::specs::Report::part_line))]
 pub(crate) fn write_part(number: Option<u16>, side: Side, part: Part, line: &mut Page)
     requires { length line.old.items + line_room ≤ page_size }
@@ -278,7 +279,7 @@ pub(crate) fn write_part(number: Option<u16>, side: Side, part: Part, line: &mut
     line.push(b'\n');
 }
 
-/// Puts the last line of a report.
+/// Appends the last line of a report.
 #[tactic(auto, unfolding(crate::specs::Report::summary_line))]
 pub(crate) fn write_summary(summary: Summary, line: &mut Page)
     requires { length line.old.items + line_room ≤ page_size }

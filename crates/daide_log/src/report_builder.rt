@@ -1,16 +1,16 @@
-//! What a check has told of a log so far.
+//! The report of a log so far.
 
 use crate::heading::Preamble;
 use daide_log_lines::output::Output;
 use daide_protocol::Summary;
 
-/// What was counted, and the lines of the report, on their way out.
+/// The counts so far, and the lines of the report, with their writer.
 #[derive(Drop)]
 pub struct ReportBuilder<'a, W> {
-    /// What was counted.
+    /// The counts so far.
     pub summary: Summary,
-    /// The lines.
+    /// The lines of the report.
     pub output: Output<'a, W>,
-    /// What the log's head sets.
+    /// The contents of the log's head.
     pub head: Preamble,
 }

@@ -1,4 +1,4 @@
-//! A writer that may fail, so that a contract can say that it did.
+//! A writer whose contracts can state that a write failed.
 
 ghost use Rattle.std.specs.Prelude.{OnOk, OnErr};
 ghost use Rattle.std.specs.Io.KnownBytes.{Appends};
@@ -12,7 +12,7 @@ use std::io::Write;
 ///
 /// Not said: why a write failed.
 pub trait Sink: Write {
-    /// A write took the writer from its old value to its new one, and returned an error.
+    /// A write changed the writer from its old value to its new one, and returned an error.
     ghost Fails: { Self → Self → Type 0 };
 
     /// Writes all of the bytes.

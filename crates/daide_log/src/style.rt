@@ -1,4 +1,4 @@
-//! How a check reports what the lines of a log make of its sessions: plainly, or with explanations (`explained`).
+//! How a report presents the moves of a log's sessions: plainly, or with explanations (`explained`).
 
 ghost use Rattle.std.specs.Prelude.{◌≡◌, ◌≤◌, ℕ, All, List, length, IfOk, IfErr, OnOk};
 ghost use Rattle.std.specs.Io.KnownBytes.{Appends};
@@ -24,14 +24,14 @@ use daide_session::Session;
 use std::alloc::Allocator;
 use std::io::Write;
 
-/// What a report has beside the lines of moves and of the counts, and what a check answers.
+/// The parts of a report beside the lines of moves and of the counts, and the result of a check.
 pub trait Style {
-    /// What is answered of a log without a fault.
+    /// The result for a log without a fault.
     type Answer: Copy;
 
     ghost form: { List Word → ReportForm Self.Answer };
 
-    /// Writes what follows the line of a side's move, while the session still holds the frame that made it.
+    /// Writes the lines that follow the line of a side's move. The session still holds the frame that caused it.
     fn explain<A: Allocator, W: Write>(
         &mut self,
         head: &Preamble,
@@ -48,7 +48,7 @@ pub trait Style {
         ensures refused { IfErr result (IsCauseIn (form (words_of head.now.words))) }
         ensures same_writer { IsSameWriter output.old output.new };
 
-    /// Writes what a line itself has in the report, of which no session learns anything.
+    /// Writes what the report has for a line itself, apart from the moves of a session.
     fn quote<W: Write>(
         &mut self,
         head: &Preamble,
@@ -61,7 +61,7 @@ pub trait Style {
         ensures refused { IfErr result (IsCauseIn (form (words_of head.now.words))) }
         ensures same_writer { IsSameWriter output.old output.new };
 
-    /// Writes what precedes the counts, and answers.
+    /// Writes what precedes the counts, and returns the result.
     fn close<A: Allocator, W: Write>(
         &mut self,
         head: &Preamble,
@@ -81,7 +81,7 @@ pub trait Style {
     ghost lawful: { (words : List Word) → IsWritableForm words (form words) };
 }
 
-/// The plain report: the lines of moves and of the counts, and nothing else.
+/// The plain report: only the lines of moves and of the counts.
 #[derive(Drop)]
 pub struct PlainStyle;
 

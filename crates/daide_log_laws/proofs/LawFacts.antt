@@ -1,5 +1,5 @@
--- Both laws of `laws`, used once at the log of its two first lines. Each fact takes the law alone, so that a weaker one does
--- not check.
+-- One application of both laws of `laws`, to the log of its first two lines. Each fact depends on the law alone, so
+-- that a weakened law fails to check.
 use Rattle.std.proofs.Common.{◌≡◌, ℕ, List, [], ◌∷◌, ◌++◌, codes, Ok}
 use Rattle.daide_words.specs.declared.word.Word.{Word}
 use Rattle.daide_log.specs.declared.explained.Explained.{Explained}
@@ -14,7 +14,7 @@ adds : ExplanationOnlyAdds → (words : List Word) (text : List ℕ) (answer : E
     IsReport opening_lines (without_added text) (Ok answer.counts)
 adds law words text answer h = law words opening_lines text (Ok answer) h
 
--- the line of the counts stays
+-- the line of the counts is kept
 stays : PlainAddsNothing → without_added ([] ++ codes "relayed 0 prn 0 huh 0 faults 0" ++ 10 ∷ [])
     ≡ [] ++ codes "relayed 0 prn 0 huh 0 faults 0" ++ 10 ∷ []
 stays law =

@@ -1,4 +1,4 @@
--- The lines that stay: those of moves, which begin with a digit, and the last one.
+-- The lines that are kept: those of moves, which begin with a digit, and the last one.
 use Rattle.std.proofs.Common.{◌≡◌, ℕ, zero, suc, ◌+◌, ◌/◌, ◌%◌, ◌≤◌, ◌==◌, ◌&&◌, cond, nat_lt, Bool, true, false}
 use Rattle.std.proofs.Common.{List, [], ◌∷◌, ◌++◌, codes, Option, Some, None, refl, sym, ap, ◌∙◌, arith, append_assoc}
 use Rattle.std.specs.Prelude.{if◌then◌else◌}
@@ -27,7 +27,7 @@ use Rattle.daide_log_laws.proofs.TextLines.{kept_line, added_line, digit_stays}
 
 -- ---- digits
 
--- plain bytes, of which the first is a digit or a letter
+-- plain bytes, the first of which is a digit or a letter
 pub record Begins (text : List ℕ) : Type 0 where
   pub first : ℕ
   pub rest : List ℕ
@@ -162,7 +162,7 @@ move_stays source side reported tail =
     ∙ sym (append_assoc front (10 ∷ []) (without_added tail))
     ∙ ap (λ (l : List ℕ). l ++ without_added tail) (sym (move_is source side reported))
 
--- ---- a frame that is not whole
+-- ---- an incomplete frame
 
 size_plain : (came : ℕ) (size : Option ℕ) → IsPlain (size_text came size)
 size_plain came None = both (decimal came) (codes " of 4 bytes of a header") (decimal_plain came) refl

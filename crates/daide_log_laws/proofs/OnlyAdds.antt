@@ -1,4 +1,4 @@
--- The plain report of a log is its explained report without the lines that this adds.
+-- The plain report of a log is its report with explanations, without the lines that this adds.
 use Rattle.std.proofs.Common.{◌≡◌, ℕ, zero, suc, ◌+◌, ◌-◌, ◌⊎◌, inl, inr, cond, eqb, Bool, true, false}
 use Rattle.std.proofs.Common.{List, [], ◌∷◌, ◌++◌, length, take, drop, Result, Ok, Err, refl, sym, ap, ◌∙◌}
 use Rattle.std.proofs.Common.{subst, append_assoc, append-nil}
@@ -45,7 +45,7 @@ moves_in-append [] b = refl
 moves_in-append (Moved entry added ∷ a) b = ap (λ (l : List ReportEntry). entry ∷ l) (moves_in-append a b)
 moves_in-append (Remark comment ∷ a) b = moves_in-append a b
 
--- what a move adds is whole lines behind four spaces, and a comment is one line
+-- a move adds whole lines after four spaces, and a comment adds one line
 abbrev IsAdding : ExplainedEntry → Type 0
 IsAdding (Moved entry added) = (lines : List ℕ) × IsWhole lines × (added ≡ indented lines)
 IsAdding (Remark comment) = IsUnbroken comment × (is_remark comment ≡ true)
@@ -108,10 +108,10 @@ same_counts [] s = refl
 same_counts (Moved entry added ∷ shown) s = same_counts shown (count_note entry.reported s)
 same_counts (Remark comment ∷ shown) s = same_counts shown s
 
--- ---- what a line tells
+-- ---- the entries of a line
 
 module _ (words : List Word) where
-  -- moves that are shown are these moves, and what they add
+  -- the entries of these moves, and what they add
   abbrev AreOf : ReportKey → Side → List Effect → List ExplainedEntry → Type 0
   AreOf source side moves shown = (moves_in shown ≡ entries_of source side moves) × AreAdding shown
 

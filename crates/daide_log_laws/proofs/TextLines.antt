@@ -1,4 +1,4 @@
--- The lines of a text, and those that stay of it.
+-- The lines of a text, and those that are kept.
 use Rattle.std.proofs.Common.{◌≡◌, ◌≢◌, ℕ, ◌≤◌, ◌&&◌, ◌||◌, ◌⊎◌, inl, inr, cond, eqb}
 use Rattle.std.proofs.Common.{Bool, true, false, not, List, [], ◌∷◌, ◌++◌, take, filter, refl, ap, ◌∙◌, arith}
 use Rattle.std.proofs.Common.{append_assoc}
@@ -15,7 +15,7 @@ eqb_no a b apart = go (eqb_tells a b)
     go (inl t) = absurd (apart t.1)
     go (inr t) = t.0
 
--- the first line of a text, and those behind it
+-- the first line of a text, and the lines after it
 pub first_line : (line text : List ℕ) → IsUnbroken line →
     lines_in (line ++ 10 ∷ text) ≡ (line ++ 10 ∷ []) ∷ lines_in text
 first_line [] text whole = refl
@@ -44,7 +44,7 @@ added_line line text whole added =
     ap stay (first_line line text whole)
     ∙ ap (λ (b : Bool). stay_by b (line ++ 10 ∷ []) (lines_in text)) added
 
--- a line that begins with a digit stays
+-- a line that begins with a digit is kept
 pub digit_stays : (first : ℕ) (line : List ℕ) → 48 ≤ first → is_added_line (first ∷ line) ≡ false
 digit_stays first line digit =
     ap (λ (b : Bool). (b && bytes_eq (take 3 line) (32 ∷ 32 ∷ 32 ∷ [])) || (eqb first 35 && bytes_eq (take 0 line) []))

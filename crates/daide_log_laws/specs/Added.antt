@@ -1,4 +1,4 @@
--- What the explained report of a log has more than the plain one: lines that begin with four spaces or `#`. (own)
+-- The lines that a report with explanations adds to the plain one: they begin with four spaces or with `#`. (own)
 use Rattle.std.specs.Prelude.{◌≡◌, ℕ, ◌==◌, ◌||◌, Bool, not, if◌then◌else◌, List, [], ◌∷◌, take}
 use Rattle.std.specs.Prelude.{filter, codes, Result, Ok, Err}
 use Rattle.std.specs.List.{concat}
@@ -16,7 +16,7 @@ abbrev pub before_first : ℕ → List (List ℕ) → List (List ℕ)
 before_first byte [] = (byte ∷ []) ∷ []
 before_first byte (line ∷ lines) = (byte ∷ line) ∷ lines
 
--- each with its line feed, which the last may lack
+-- the lines of a text, each with its line feed, which the last may lack
 abbrev pub lines_in : List ℕ → List (List ℕ)
 lines_in [] = []
 lines_in (byte ∷ text) = if byte == 10 then (10 ∷ []) ∷ lines_in text else before_first byte (lines_in text)
@@ -31,12 +31,12 @@ without_added text = concat (filter (λ line. not (is_added_line line)) (lines_i
 
 -- ---- the laws
 
--- an answer without the number of frames that are not whole
+-- a result, without the number of incomplete frames
 abbrev pub counts_of : Result Explained LogFault → Result Summary LogFault
 counts_of (Ok answer) = Ok answer.counts
 counts_of (Err fault) = Err fault
 
--- The explained report of a log, without the lines that it adds, is the plain report of that log.
+-- The report of a log with explanations, without the lines that it adds, is the plain report of that log.
 abbrev pub ExplanationOnlyAdds : Type 0
 ExplanationOnlyAdds =
     (words : List Word) (log text : List ℕ) (answer : Result Explained LogFault) →

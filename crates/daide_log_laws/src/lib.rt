@@ -1,4 +1,5 @@
-//! Laws of the reports of `daide_log`, apart from it, so that no edit of a law proves a report again.
+//! The laws about the reports of `daide_log`. They are in a crate of their own so that a change of a law does not
+//! require proving the reports again.
 #![tactic(auto)]
 
 pub mod laws;

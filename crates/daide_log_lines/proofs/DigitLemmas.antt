@@ -1,4 +1,4 @@
--- Digits are read to the bytes that they stand for.
+-- Decoding returns the bytes that the digits denote.
 use Rattle.std.proofs.Common.{◌≡◌, ℕ, zero, suc, ◌+◌, ◌*◌, ◌%◌, ◌<◌, ◌≤◌, ◌-◌, ◌==◌, ◌&&◌, ◌⊎◌, inl, inr, Bool, true, false, if◌then◌else◌, List, [], ◌∷◌, ◌++◌, length, take, drop, get_or, set, drop-cons, Option, Some, None, Result, Ok, Err, refl, sym, ap, ◌∙◌, subst, arith, add-one, append_assoc}
 use Rattle.std.proofs.Common.{append-nil, map}
 use Rattle.std.specs.Prelude.{unwrap_or, is_some, slice_range, bit_and, bit_or, min, max}
@@ -21,7 +21,7 @@ abbrev pair_then : Result ℕ FromHexError → Result ℕ FromHexError → Resul
 pair_then high low rest =
     (high >>= (λ h. low >>= (λ l. Ok (h * 16 + l)))) >>= (λ byte. rest >>= (λ bytes. Ok (byte ∷ bytes)))
 
--- both are digits, or one is none
+-- the result for a pair, by whether both are digits
 pair_read : (high low : Option ℕ) (c d i j : ℕ) (rest : Result (List ℕ) FromHexError) (bytes : List ℕ) →
     is_some high ≡ true → is_some low ≡ true → rest ≡ Ok bytes →
     pair_then (digit_or_error c i high) (digit_or_error d j low) rest ≡ Ok ((unwrap_or high 0 * 16 + unwrap_or low 0) ∷ bytes)
@@ -79,7 +79,7 @@ digits_refused digits bytes n twice all =
     subst (λ (r : Result (List ℕ) FromHexError). IsRead false r bytes) (sym (even digits n twice))
     (decode_pairs-refused digits bytes n 0 twice all)
 
--- what was read, by whether all are digits
+-- the result of decoding, by whether all are digits
 pub is_read : (digits bytes : List ℕ) (n : ℕ) (all : Bool) → length digits ≡ 2 * n →
     all ≡ list_all is_hex_digit digits → (all ≡ true → bytes ≡ bytes_of_hex digits) → IsRead all (decode_of digits) bytes
 is_read digits bytes n true twice e read =
@@ -91,7 +91,7 @@ is_read digits bytes n false twice e read = digits_refused digits bytes n twice 
 value_few : (digit : ℕ) → value_of digit < 16
 value_few digit = grind (arith, nat_tests)
 
--- what a byte is read to, below 16 at digits alone
+-- the decoded value of a byte, below 16 exactly for digits
 abbrev pub reading : ℕ → ℕ
 reading byte = min (min ((bit_and byte 223 + 191) % 256) 245 + 10) ((max ((byte + 198) % 256) 6 + 10) % 256)
 
@@ -109,7 +109,7 @@ readings = refl
 pub read_exactly : (byte : ℕ) → byte < 256 → (bit_and (reading byte) 240 == 0) ≡ is_hex_digit byte
 read_exactly byte less = alike (λ byte. bit_and (reading byte) 240 == 0) is_hex_digit 256 readings byte less
 
--- the excess of several bytes is 0 where each one's is
+-- the excess of several bytes is 0 exactly if each one's is
 pub no_excess : (one other : ℕ) → (bit_or one other == 0) ≡ ((one == 0) && (other == 0))
 no_excess one other =
     let first = le_or_l one other in
@@ -127,14 +127,14 @@ read_to_its_value byte less digit =
     ap (λ (b : Bool). if b then reading byte else 0) (sym digit)
     ∙ alike (λ byte. if is_hex_digit byte then reading byte else 0) value_of 256 values byte less
 
--- the byte of the values of two digits
+-- the byte of two digits' values
 pub byte_read : (high low h l byte : ℕ) → h ≡ value_of high → l ≡ value_of low →
     (h < 16 → l < 16 → byte ≡ h * 16 + l) → byte ≡ value_of high * 16 + value_of low
 byte_read high low h l byte e f read =
     read (omega (arith, value_few high)) (omega (arith, value_few low))
     ∙ ap (λ (n : ℕ). n * 16 + l) e ∙ ap (λ (n : ℕ). value_of high * 16 + n) f
 
--- a byte more is read
+-- one more byte is decoded
 pub read_more : (bytes digits : List ℕ) (i v : ℕ) → i < length bytes → length digits ≡ 2 * length bytes →
     take i bytes ++ bytes_of_hex (drop (2 * i) digits) ≡ bytes_of_hex digits →
     v ≡ value_of (get_or digits (2 * i) 0) * 16 + value_of (get_or digits (2 * i + 1) 0) →
@@ -154,14 +154,14 @@ read_more bytes digits i v less twice so_far here =
     ∙ ap (λ (rest : List ℕ). take i bytes ++ bytes_of_hex rest) (sym apart)
     ∙ so_far
 
--- and none is left
+-- no byte is left
 pub all_read : (bytes digits : List ℕ) (i j : ℕ) → length bytes ≤ i → length digits ≤ j →
     take i bytes ++ bytes_of_hex (drop j digits) ≡ bytes_of_hex digits → bytes ≡ bytes_of_hex digits
 all_read bytes digits i j whole none e =
     sym (ap (λ (rest : List ℕ). take i bytes ++ bytes_of_hex rest) (drop_all j digits none)
     ∙ append-nil (take i bytes) ∙ take_all i bytes whole) ∙ e
 
--- ---- digits that are read together
+-- ---- digits that are decoded together
 
 value_at : (values digits : List ℕ) (j v k : ℕ) → j < length values →
     ((i : ℕ) → i < j → get_or values i 0 ≡ value_of (get_or digits i 0)) → v ≡ value_of (get_or digits j 0) →
@@ -184,7 +184,7 @@ values_more values digits j v room less before here all k below =
     (sym (list_all_more is_hex_digit digits j 0 less) ∙ all) in
     value_at values digits j v k room (before both.0) (here both.1) below (cases_eq k j)
 
--- ---- digits behind digits
+-- ---- concatenated digits
 
 bytes_of_hex-append : (front back : List ℕ) (n : ℕ) → length front ≡ 2 * n →
     bytes_of_hex (front ++ back) ≡ bytes_of_hex front ++ bytes_of_hex back
@@ -214,7 +214,7 @@ pub part_length : (bytes new : List ℕ) (i k n : ℕ) → k ≡ n → i + n ≤
     length new ≡ length (take k (drop i bytes)) → length new ≡ n
 part_length bytes new i k n same within e = omega (arith, length-take k (drop i bytes), length-drop i bytes)
 
--- of digits up to a place and digits from there on
+-- all digits of a list in two parts
 pub all_more : (digits : List ℕ) (n k : ℕ) (all more : Bool) → all ≡ list_all is_hex_digit (take n digits) →
     more ≡ list_all is_hex_digit (take k (drop n digits)) → (all && more) ≡ list_all is_hex_digit (take (n + k) digits)
 all_more digits n k all more e f =
@@ -230,7 +230,7 @@ bytes_more digits bytes part i n k twice within e f =
     ∙ sym (bytes_of_hex-append (take n digits) (take k (drop n digits)) i (length-take-le n digits within ∙ twice))
     ∙ ap bytes_of_hex (sym (take-add n k digits))
 
--- of digits up to a place and digits from an earlier place on
+-- all digits of a list in two overlapping parts
 twice_looked_at : (x y z : Bool) → ((x && y) && (y && z)) ≡ (x && (y && z))
 twice_looked_at true true z = refl
 twice_looked_at true false z = refl

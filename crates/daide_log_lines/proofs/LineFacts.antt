@@ -1,4 +1,4 @@
--- Lines of a log, computed from the definitions, so that a wrong one does not check.
+-- Lines of a log, computed from the definitions, so that a wrong definition fails to check.
 use Rattle.std.proofs.Common.{◌≡◌, ℕ, zero, suc, true, false, [], ◌∷◌, ◌++◌, List, length, map, replicate, Option, Some, None}
 use Rattle.std.proofs.Common.{refl, arith, codes}
 use Rattle.std.specs.List.{range_with_len}
@@ -34,7 +34,7 @@ traffic : (event_of_line (codes "server 01000000") ≡ Some (Received Server (1 
 unfolding event_of_line decode_pairs
 traffic = (refl, refl, refl, refl, refl, refl)
 
--- from 2 digits to 2,048, two for a byte
+-- from 2 digits to 2,048, two for each byte
 abbrev zeros : ℕ → Option LogEvent
 zeros n = Some (Received Bot (replicate n 0))
 
@@ -45,7 +45,7 @@ digits_of_lines : (map (λ n. event_of_line (codes "bot " ++ replicate n 48)) (r
 unfolding event_of_line decode_pairs
 digits_of_lines = (refl, refl)
 
--- a line that begins with # tells nothing, whatever follows, and so does an empty one; no other byte begins such a line
+-- a line that begins with `#` has no event, whatever follows, nor has an empty one; no other byte begins such a line
 first_bytes : map (λ b. event_of_line (b ∷ [])) (range_with_len 0 256)
     ≡ replicate 35 None ++ Some Silence ∷ replicate 220 None
 unfolding event_of_line
@@ -59,14 +59,14 @@ other_lines : (event_of_line (codes "end bot") ≡ Some (EndOf Bot))
 unfolding event_of_line
 other_lines = (refl, refl, refl, refl, refl, refl, refl, refl)
 
--- one carriage return is dropped, where it stands last
+-- one carriage return is removed, at the end only
 carriage_returns : (without_cr (codes "timer" ++ 13 ∷ []) ≡ codes "timer") × (without_cr (13 ∷ []) ≡ [])
     × (without_cr (13 ∷ 13 ∷ []) ≡ 13 ∷ []) × (without_cr (13 ∷ 65 ∷ []) ≡ 13 ∷ 65 ∷ [])
 carriage_returns = (refl, refl, refl, refl)
 
--- ---- where a line may begin
+-- ---- the beginning of a line
 
--- behind one line fewer than may be, and behind no more
+-- after one line fewer than the limit, and not after the limit
 last_lines : MayBeginLine 999999 (35 ∷ []) × MayBeginLine 1000000 [] × (MayBeginLine 1000000 (35 ∷ []) → ⊥)
 last_lines = (
   ((λ e. absurd (omega (arith, e)), tt), omega arith, λ some. omega arith),
@@ -74,7 +74,7 @@ last_lines = (
   λ h. absurd (omega (arith, h.2 (omega arith))),
 )
 
--- with no line feed
+-- without a line feed
 line_feeds : MayBeginLine 0 (10 ∷ []) → ⊥
 line_feeds h = h.0.0 refl
 

@@ -21,7 +21,7 @@ pub unbroken_append : (a b : List ℕ) → IsUnbroken a → IsUnbroken b → IsU
 unbroken_append [] b h k = k
 unbroken_append (x ∷ a) b h k = (h.0, unbroken_append a b h.1 k)
 
--- so many items and so many more are the former and those behind them
+-- the first n + k items are the first n, followed by the first k of the rest
 pub take-further : (xs : List ℕ) (n k : ℕ) → n ≤ length xs → take (n + k) xs ≡ take n xs ++ take k (drop n xs)
 take-further xs n k fits =
     let size : length (take n xs) ≡ n = omega (arith, length-take n xs) in
@@ -86,7 +86,7 @@ adds_none (Some x) = sym (append-nil x)
 pub gives_none : (P : List ℕ → Option (List ℕ) → Type 0) (old : Reader) → Gives P old old []
 gives_none P old = ([], refl, adds_none old.reads, tt, consumes_none old.remaining)
 
--- more was read, and what is so of that is so behind what came before
+-- one sequence of reads after another; what holds within the second one holds after the bytes of the first
 pub gives_on : (P Q : List ℕ → Option (List ℕ) → Type 0) (old now new : Reader) (a b : List ℕ) → Gives P old now a →
     Gives Q now new b → ((came : List ℕ) (written : Option (List ℕ)) → Q came written → P (a ++ came) written) →
     Gives P old new (a ++ b)
@@ -99,7 +99,7 @@ gives_on P Q old now new a b h k up = (
   consumes_more old.remaining now.remaining new.remaining a b h.4 k.4,
 )
 
--- one read more
+-- one more read
 pub gives_read : (P : List ℕ → Option (List ℕ) → Type 0) (old now new : Reader) (a b : List ℕ)
     (written : Option (List ℕ)) → Gives P old now a →
     AddsReads now.reads (record { came = b; written = written } ∷ []) new.reads →
@@ -116,8 +116,8 @@ gives_read P old now new a b written h r k p =
 
 -- ---- a line
 
--- Behind so many lines, of what was held and given so far the text was taken, and this is held; each turn but the first
--- took a byte.
+-- After `count` lines, the text was taken from the block and from what was read since, and this is the block. Each turn
+-- but the first took a byte.
 pub record HasScanned (all : Option (List ℕ)) (old : Reader) (held : List ℕ) (count : ℕ) (now : Reader)
     (text block : List ℕ) (turn : ℕ) : Type 0 where
   pub fewer : count < most_lines
@@ -129,7 +129,7 @@ pub record HasScanned (all : Option (List ℕ)) (old : Reader) (held : List ℕ)
   pub turns : turn ≤ length text + 1
   pub some : 0 < turn → 0 < length block
 
--- and nothing is held any more
+-- and the block is empty
 pub record HasEmptied (all : Option (List ℕ)) (old : Reader) (held : List ℕ) (count : ℕ) (now : Reader) (text : List ℕ)
     (turn : ℕ) : Type 0 where
   pub fewer : count < most_lines
@@ -207,7 +207,7 @@ scanned_on all old held count now text turn new block h r =
       some = λ _. r.1.2;
     }
 
--- the line's line feed came
+-- the line feed was found
 pub found_line : (all : Option (List ℕ)) (old : Reader) (held : List ℕ) (count : ℕ) (now : Reader)
     (text block after rest line : List ℕ) (turn : ℕ) → HasScanned all old held count now text block turn →
     Scans block text true rest after → line ≡ without_cr after → IsFound all old held count (Ok Line) line now rest
@@ -226,7 +226,7 @@ found_line all old held count now text block after rest line turn h s same = (
   s.5,
 )
 
--- the line has a byte too many
+-- the line has one byte too many
 pub found_too_long : (all : Option (List ℕ)) (old : Reader) (held : List ℕ) (count : ℕ) (now : Reader)
     (text block after rest : List ℕ) (turn : ℕ) → HasScanned all old held count now text block turn →
     Scans block text false rest after → length after ≡ 2101 →
@@ -246,7 +246,7 @@ found_too_long all old held count now text block after rest turn h s long = (
   s.5 h.short,
 )
 
--- a read gave nothing more
+-- a read returned no byte
 none_given : (all : Option (List ℕ)) (old : Reader) (held : List ℕ) (count : ℕ) (now : Reader) (text : List ℕ) (turn : ℕ)
     (new : Reader) (h : HasEmptied all old held count now text turn) (written : Option (List ℕ)) →
     AddsReads now.reads (record { came = []; written = written } ∷ []) new.reads →
@@ -256,7 +256,7 @@ none_given all old held count now text turn new h written r k kept =
     (gives_read (IsInLine all held count) old now new h.given [] written h.gives r k
     (in_line all old held count now text turn h written kept))
 
--- the log ended behind a line without a line feed
+-- the log ended after a line without a line feed
 pub found_last : (all : Option (List ℕ)) (old : Reader) (held : List ℕ) (count : ℕ) (now : Reader) (text : List ℕ)
     (turn : ℕ) (new : Reader) (block : List ℕ) → HasEmptied all old held count now text turn →
     ReadsOn all now new block (Ok false) → 0 < length text → IsFound all old held count (Ok Last) text new block
@@ -278,7 +278,7 @@ pub none_left : (l : List ℕ) → (length l == 0) ≡ true → l ≡ []
 none_left [] e = refl
 none_left (x ∷ l) e = let none : length (x ∷ l) ≡ 0 = eqb-true (length (x ∷ l)) 0 e in absurd (omega arith)
 
--- the log ended behind a line feed
+-- the log ended after a line feed
 pub found_end : (all : Option (List ℕ)) (old : Reader) (held : List ℕ) (count : ℕ) (now : Reader) (text : List ℕ)
     (turn : ℕ) (new : Reader) (block : List ℕ) → HasEmptied all old held count now text turn →
     ReadsOn all now new block (Ok false) → (length text == 0) ≡ true → IsFound all old held count (Ok End) text new block
@@ -312,12 +312,12 @@ failed_read all old held count now text turn new block Faults.Read h r = (
   (h.unbroken, h.short, λ some. h.fewer),
 )
 
--- ---- behind as many lines as may be
+-- ---- after the greatest number of lines
 
 no_line : (count : ℕ) → MayBeginLine count []
 no_line count = (tt, omega arith, λ some. absurd (omega arith))
 
--- what is found there, by whether a byte is left
+-- the result there, by whether a byte is left
 abbrev pub found_there : Result Bool LogFault → Result LineEnd LogFault
 found_there (Ok true) = Err Faults.TooManyLines
 found_there (Ok false) = Ok End
@@ -344,7 +344,7 @@ found_behind_all all old held count text new rest more e h =
     go (Err Faults.Memory) k = absurd k
     go (Err Faults.Read) k = ([], k.0, k.1, no_line most_lines)
 
--- one read where nothing was held
+-- one read while the block was empty
 read_first : (all : Option (List ℕ)) (old new : Reader) (held block : List ℕ) (written : Option (List ℕ)) → held ≡ [] →
     AddsReads old.reads (record { came = block; written = written } ∷ []) new.reads →
     Consumes old.remaining new.remaining block → Keeps all written → Gives (IsInLine all held most_lines) old new block
@@ -352,7 +352,7 @@ read_first all old new held block written e r k kept =
     gives_read (IsInLine all held most_lines) old old new [] block written (gives_none (IsInLine all held most_lines) old)
     r k (subst (λ (l : List ℕ). IsInLine all l most_lines [] written) (sym e) (no_line most_lines, kept))
 
--- what is held where nothing was, and a byte is looked for
+-- another byte is looked for while the block is empty
 pub more_read : (all : Option (List ℕ)) (old new : Reader) (held block : List ℕ) (more : Result Bool LogFault) → held ≡ [] →
     ReadsOn all old new block more → HasMore all old held more new block
 more_read all old new held block (Ok true) e r = (
@@ -379,17 +379,17 @@ more_read all old new held block (Err Faults.Read) e r = (
   r.1.2,
 )
 
--- what was held of a first byte, with nothing read
+-- the block has a byte, and nothing was read
 pub more_held : (all : Option (List ℕ)) (old : Reader) (held : List ℕ) → 0 < length held → length held ≤ block_size →
     HasMore all old held (Ok true) old held
 more_held all old held some few = (([], gives_none (IsInLine all held most_lines) old, append-nil held), some, few)
 
--- what is held back was handed over before
+-- the page was written before
 pub reads_kept : (all now : Option (List ℕ)) (old new : Reader) (block : List ℕ) (result : Result Bool LogFault) →
     Keeps all now → ReadsOn now old new block result → ReadsOn all old new block result
 reads_kept all now old new block result k r = (r.0, r.1, keeps_more all now r.0 k r.2)
 
--- one read, with what was held back handed over before
+-- one read, before which the page was written
 pub read_handed : (all kept : Option (List ℕ)) (page : List ℕ) (old new : Reader) (block : List ℕ)
     (result : Result Bool LogFault) → Keeps all (append_known kept page) → page ≡ [] →
     ReadsBlock kept old new block result → ReadsOn all old new block result
@@ -502,7 +502,7 @@ found_held all old held count n h = (
   omega (arith, length-drop (n + 1) held, h.0, h.5),
 )
 
--- a line that was copied is where the text is
+-- the line of a search that copied it is the text
 pub found_copied : (all : Option (List ℕ)) (old new : Reader) (held block text : List ℕ) (count : ℕ)
     (result : Result LineEnd LogFault) → IfOk result IsCopied → IsFound all old held count result text new block →
     IsFound all old held count result (line_in result block text) new (rest_in result block)

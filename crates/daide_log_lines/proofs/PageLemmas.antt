@@ -1,4 +1,4 @@
--- What a writer holds, with what is held back from it.
+-- What the writer has, followed by the page.
 use Rattle.std.proofs.Common.{◌≡◌, ℕ, List, [], ◌++◌, Option, Some, None, refl, sym, ap, ◌∙◌, append-nil}
 use Rattle.std.specs.Io.KnownBytes.{Appends, Keeps, append_known}
 
@@ -24,7 +24,7 @@ appends_and_keeps (Some x) None c text h k = absurd h
 appends_and_keeps (Some x) (Some y) None text h k = absurd k
 appends_and_keeps (Some x) (Some y) (Some z) text h k = k ∙ h
 
--- nothing is held back
+-- the page is empty
 pub none_held : (known : Option (List ℕ)) → append_known known [] ≡ known
 none_held None = refl
 none_held (Some x) = ap Some (append-nil x)

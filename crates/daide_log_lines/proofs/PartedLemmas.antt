@@ -1,4 +1,4 @@
--- The first space of some text.
+-- The first space of a text.
 use Rattle.std.proofs.Common.{◌≡◌, ℕ, zero, suc, ◌+◌, ◌<◌, true, false, List, [], ◌∷◌, length, take, drop, get_or}
 use Rattle.std.proofs.Common.{Option, Some, None, refl, sym, ap, ◌∙◌, arith, cond, eqb, ◌⊎◌, inl, inr, add-one}
 use Rattle.std.proofs.Common.{◌-◌, subst, length-drop}

@@ -1,4 +1,4 @@
--- Bytes in hexadecimal digits, in the order in which they are read. (own)
+-- Decoding of hexadecimal digits. (own)
 use Rattle.std.specs.Prelude.{⊤, ◌≡◌, ℕ, ◌+◌, ◌*◌, Bool, true, false, List, [], ◌∷◌, Result, Ok, Err, unwrap_or}
 use Rattle.hex.specs.Hex.{hex_digit_value}
 use Rattle.hex.specs.declared.error.FromHexError.{FromHexError}
@@ -13,7 +13,7 @@ bytes_of_hex [] = []
 bytes_of_hex (digit ∷ []) = []
 bytes_of_hex (high ∷ low ∷ digits) = (value_of high * 16 + value_of low) ∷ bytes_of_hex digits
 
--- whether digits were read, and then these are their bytes
+-- whether all digits are valid, and if so, their bytes
 abbrev pub IsRead : Bool → Result (List ℕ) FromHexError → List ℕ → Type 0
 IsRead true decoded bytes = decoded ≡ Ok bytes
 IsRead false (Ok decoded) bytes = ⊥

@@ -1,4 +1,4 @@
--- A log that is read: where the line lies that was found. (own)
+-- The buffered reader of a log, and the line that was found. (own)
 use Rattle.std.specs.Prelude.{◌≡◌, ℕ, ◌+◌, ◌<◌, ◌≤◌, List, length, take, drop, Option, Some, None, IfSome, Result, Ok, Err}
 use Rattle.daide_log_lines.specs.declared.input.Input.{Input}
 use Rattle.daide_log_lines.specs.declared.lines.LineEnd.{LineEnd}
@@ -6,43 +6,43 @@ use Rattle.daide_log_lines.specs.declared.lines.LineEnd.TheVariants.{Held, Line,
 use Rattle.daide_log_lines.specs.declared.fault.LogFault.{LogFault}
 use Rattle.daide_log_lines.specs.LogLine.{longest_line, without_cr}
 
--- it comes from the same reader
+-- both have the same reader
 abbrev pub IsSameReader : {R : Type 0} → Input R → Input R → Type 0
 IsSameReader old new = new.reader.ghost_name ≡ old.reader.ghost_name
 
--- how many bytes of the line lie in what is held, before its line feed, if it was not copied
+-- the number of bytes before the line feed, if the line is in the block and was not copied
 abbrev pub held_bytes : LineEnd → Option ℕ
 held_bytes (Held n) = Some n
 held_bytes Line = None
 held_bytes Last = None
 held_bytes End = None
 
--- a line that lies in what is held has its line feed there, and is not too long
+-- a line in the block has its line feed there, and is not too long
 abbrev pub LiesIn : LineEnd → List ℕ → Type 0
 LiesIn found held = IfSome (held_bytes found) (λ n. (n < length held) × (n ≤ longest_line))
 
--- a line that was copied lies in no block
+-- a line that was copied is not in the block
 abbrev pub IsCopied : LineEnd → Type 0
 IsCopied found = held_bytes found ≡ None
 
--- the bytes before the line feed, without a carriage return, or what was copied
+-- the bytes before the line feed without a carriage return, or the copied line
 abbrev pub front_or : Option ℕ → List ℕ → List ℕ → List ℕ
 front_or None held text = text
 front_or (Some n) held text = without_cr (take n held)
 
--- those behind the line feed, or all
+-- the bytes after the line feed, or all bytes of the block
 abbrev pub behind_or_all : Option ℕ → List ℕ → List ℕ
 behind_or_all None held = held
 behind_or_all (Some n) held = drop (n + 1) held
 
--- the line, and what is held behind it
+-- the line, and the rest of the block
 abbrev pub line_at : LineEnd → List ℕ → List ℕ → List ℕ
 line_at found held text = front_or (held_bytes found) held text
 
 abbrev pub rest_after : LineEnd → List ℕ → List ℕ
 rest_after found held = behind_or_all (held_bytes found) held
 
--- the same of a search that may have failed
+-- the same for a search that may have failed
 abbrev pub line_in : Result LineEnd LogFault → List ℕ → List ℕ → List ℕ
 line_in (Ok found) held text = line_at found held text
 line_in (Err fault) held text = text

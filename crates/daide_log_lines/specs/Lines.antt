@@ -1,4 +1,4 @@
--- What the parts of the code read of a log. (own)
+-- Reads of a log, and the lines found in it. (own)
 use Rattle.std.specs.Prelude.{◌≡◌, ℕ, ◌+◌, ◌<◌, ◌≤◌, ◌⊎◌, Bool, true, false, List, [], ◌∷◌, ◌++◌, length, take, drop}
 use Rattle.std.specs.Prelude.{Option, Some, None, Result, Ok, Err}
 use Rattle.std.specs.Io.KnownBytes.{Consumes, Keeps, IsAtEnd}
@@ -9,12 +9,12 @@ use Rattle.daide_log_lines.specs.declared.fault.LogFault.TheVariants as Faults
 use Rattle.daide_log_lines.specs.Reader.{Reader, AddsReads, Gives}
 use Rattle.daide_log_lines.specs.LogLine.{most_lines, longest_line, IsUnbroken, MayBeginLine, without_cr}
 
--- the most bytes that are read at once
+-- the most bytes of one read
 abbrev pub block_size : ℕ
 block_size = 8192
 
--- One read, before which the writer had this: these bytes came, or the reader has none left, or it failed; or there was none,
--- as the report could not be handed over first.
+-- One read, when the writer had `written`: these bytes were read, or the log is at its end, or the read failed. Or no
+-- read was made, since the report could not be written before it.
 abbrev pub ReadsBlock : Option (List ℕ) → Reader → Reader → List ℕ → Result Bool LogFault → Type 0
 ReadsBlock written old new bytes (Ok true) =
     AddsReads old.reads (record { came = bytes; written = written } ∷ []) new.reads
@@ -31,29 +31,29 @@ ReadsBlock written old new bytes (Err (Faults.BadLine n)) = ⊥
 ReadsBlock written old new bytes (Err (Faults.LineTooLong n)) = ⊥
 ReadsBlock written old new bytes (Err Faults.TooManyLines) = ⊥
 
--- the same once all that was held back of the report, which is all that there is of it, was handed over
+-- one read, before which the whole report `all` was written
 abbrev pub ReadsOn : Option (List ℕ) → Reader → Reader → List ℕ → Result Bool LogFault → Type 0
 ReadsOn all old new bytes result = (written : Option (List ℕ)) × ReadsBlock written old new bytes result × Keeps all written
 
--- The next line, behind so many, may begin with the bytes that are held and those that came since; and all of the report
--- was handed over.
+-- The next line, after `count` lines, may begin with the bytes in the block and those read since; and the whole report
+-- was written.
 abbrev pub IsInLine : Option (List ℕ) → List ℕ → ℕ → List ℕ → Option (List ℕ) → Type 0
 IsInLine all held count came written = MayBeginLine count (held ++ came) × Keeps all written
 
--- Behind so many lines, of the bytes that were held and those that the reader gave these were looked at, and the rest is
--- held; each read was made within the next line, with all of the report handed over.
+-- After `count` lines, `bytes` were consumed of those in the block and those read since, and `rest` is in the block.
+-- Each read was made within the next line, after the whole report was written.
 abbrev pub LooksAt : Option (List ℕ) → Reader → List ℕ → ℕ → List ℕ → Reader → List ℕ → Type 0
 LooksAt all old held count bytes new rest =
     (given : List ℕ) × Gives (IsInLine all held count) old new given × (held ++ given ≡ bytes ++ rest)
 
--- A line with its line feed, which may be the next in number; behind it less than a block is held.
+-- a line with its line feed, within the limit of lines; less than a block is left after it
 abbrev pub IsWhole : Option (List ℕ) → Reader → List ℕ → ℕ → List ℕ → Reader → List ℕ → Type 0
 IsWhole all old held count text new rest =
     (line : List ℕ) × LooksAt all old held count (line ++ 10 ∷ []) new rest × IsUnbroken line
     × (length line ≤ longest_line) × (count < most_lines) × (text ≡ without_cr line) × (length rest < block_size)
 
--- A line with its line feed, which lies in what was held or was copied, or the last one without, or none; and whether it
--- may be the next in number.
+-- the next line with its line feed, in the block or copied; or the last line without one; or the end; or why there is
+-- no line
 abbrev pub IsFound : Option (List ℕ) → Reader → List ℕ → ℕ → Result LineEnd LogFault → List ℕ → Reader → List ℕ →
     Type 0
 IsFound all old held count (Ok (Held n)) text new rest = IsWhole all old held count text new rest
@@ -75,7 +75,7 @@ IsFound all old held count (Err Faults.Write) text new rest =
     (given : List ℕ) × Gives (IsInLine all held count) old new given
 IsFound all old held count (Err Faults.Memory) text new rest = ⊥
 
--- whether the log ended, and whether its last line came
+-- whether the log ended, and whether this was its last line
 abbrev pub is_end_of_log : LineEnd → Bool
 is_end_of_log End = true
 is_end_of_log (Held n) = false
@@ -88,21 +88,21 @@ is_last_line (Held n) = false
 is_last_line Line = false
 is_last_line End = false
 
--- the place of the first line feed, if there is one
+-- the index of the first line feed, if there is one
 abbrev pub IsLineEnd : List ℕ → Option ℕ → Type 0
 IsLineEnd bytes None = IsUnbroken bytes
 IsLineEnd bytes (Some n) =
     (n < length bytes) × IsUnbroken (take n bytes) × (bytes ≡ take n bytes ++ 10 ∷ drop (n + 1) bytes)
 
--- The next line, behind so many, lies whole in what is held, which is a block at most: it has so many bytes, and then
--- its line feed.
+-- The next line, after `count` lines, is whole in the block: it has `n` bytes, then its line feed. The block has at
+-- most `block_size` bytes.
 abbrev pub IsHeldLine : List ℕ → ℕ → ℕ → Type 0
 IsHeldLine held count n =
     (n < length held) × IsUnbroken (take n held) × (held ≡ take n held ++ 10 ∷ drop (n + 1) held) × (n ≤ longest_line)
     × (count < most_lines) × (length held ≤ block_size)
 
--- What was held of a line went behind the text: all up to its line feed, or all that was held, or as much as makes the
--- text too long; less than a block is then left, as its line feed went, or a byte of a line that was short.
+-- Bytes of a line were moved from the block to the text: all up to the line feed, or the whole block, or as many as
+-- make the text too long. Less than a block is left, because at least one byte was removed.
 abbrev pub Scans : List ℕ → List ℕ → Bool → List ℕ → List ℕ → Type 0
 Scans held before true rest after =
     (front : List ℕ) × (held ≡ front ++ 10 ∷ rest) × IsUnbroken front × (after ≡ before ++ front)
@@ -111,7 +111,7 @@ Scans held before false rest after =
     (front : List ℕ) × (held ≡ front ++ rest) × IsUnbroken front × (after ≡ before ++ front)
     × ((rest ≡ []) ⊎ (longest_line < length after)) × (length before ≤ longest_line → length rest < block_size)
 
--- whether a byte is left of what is held and what the reader has, behind as many lines as may be
+-- whether another byte follows after the greatest number of lines, in the block or from the reader
 abbrev pub HasMore : Option (List ℕ) → Reader → List ℕ → Result Bool LogFault → Reader → List ℕ → Type 0
 HasMore all old held (Ok true) new rest =
     LooksAt all old held most_lines [] new rest × (0 < length rest) × (length rest ≤ block_size)

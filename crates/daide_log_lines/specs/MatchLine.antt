@@ -1,4 +1,4 @@
--- What a line of the log of a match is, by its bytes alone: docs/FORMATS.md, "The log, version 2". (own)
+-- The forms of the lines of a match's log, by their bytes alone: docs/FORMATS.md, "The log, version 2". (own)
 use Rattle.std.specs.Prelude.{ℕ, Bool, ◌&&◌, nat_le, if◌then◌else◌, List, codes, Option, Some, None}
 use Rattle.std.specs.Str.{bytes_eq}
 use Rattle.daide_log_lines.specs.LogLine.{Parted, LogEvent, Received, EndOf, ImTimerLine, Silence}
@@ -11,19 +11,19 @@ is_match_name line = bytes_eq line (codes "daide-log 2")
 
 -- ---- a session's number
 
--- a number that is neither too small nor too great
+-- a number within two limits
 abbrev pub within : ℕ → ℕ → Option ℕ → Option ℕ
 within least most None = None
 within least most (Some n) = if nat_le least n && nat_le n most then Some n else None
 
--- ---- every line behind the words
+-- ---- every line after the words
 
--- what a line tells
+-- the event of a line
 pub data MatchEvent : Type 0 where
   Of : (session : ℕ) → (event : LogEvent) → MatchEvent  -- an event of the session of this number
   Quiet : MatchEvent  -- nothing
 
--- an event, where there is one
+-- an event, if there is one and it is not the event of a comment
 abbrev pub loud : Option LogEvent → Option LogEvent
 loud None = None
 loud (Some (Received side bytes)) = Some (Received side bytes)
@@ -41,8 +41,8 @@ match_event_of_parts sessions None = None
 match_event_of_parts sessions (Some parted) =
     event_of_session (within 1 sessions (plain_number parted.word)) (loud (event_of_line parted.rest))
 
--- what a line tells: a session's number from 1 to the number of sessions, a space and an event as in version 1, or
--- nothing where it is empty or begins with `#`; any other is no log line
+-- the event of a line: a session's number from 1 to the number of sessions, a space and an event of version 1; or none
+-- if the line is empty or begins with `#`; any other line is no log line
 unfoldable pub match_event_of_line : ℕ → List ℕ → Option MatchEvent
 match_event_of_line sessions line =
     if is_comment line then Some Quiet else match_event_of_parts sessions (parted_at_space line)

@@ -1,6 +1,6 @@
--- What a page holds. (own)
+-- The bytes of a page. (own)
 use Rattle.std.specs.Prelude.{ℕ, List}
 
--- bytes, one behind the other
+-- bytes in order
 pub record Held : Type 0 where
   pub items : List ℕ

@@ -1,4 +1,4 @@
--- What the code holds of a line's event: the bytes of traffic lie at the front of a buffer. (own)
+-- The event that the code parsed from a line; a side's bytes are at the front of a buffer. (own)
 use Rattle.std.specs.Prelude.{⊤, ℕ, ◌≤◌, List, take}
 use Rattle.daide_log_lines.specs.declared.event_line.ParsedEvent.{ParsedEvent}
 use Rattle.daide_log_lines.specs.declared.event_line.ParsedEvent.TheVariants as Variants
@@ -10,7 +10,7 @@ event_reported bytes (Variants.EndOf side) = EndOf side
 event_reported bytes Variants.ImTimerLine = ImTimerLine
 event_reported bytes Variants.Silence = Silence
 
--- they lie within it
+-- these bytes are within the buffer
 abbrev pub IsWithinPieceLimit : ParsedEvent → Type 0
 IsWithinPieceLimit (Variants.Received side count) = count ≤ longest_piece
 IsWithinPieceLimit (Variants.EndOf side) = ⊤

@@ -1,5 +1,5 @@
--- A line of the log of a match that adds a word of the operator's, by its bytes alone: docs/FORMATS.md, "The log,
--- version 2". (own)
+-- The line of a match's log that adds a word of the operator's, by its bytes alone: docs/FORMATS.md, "The log, version
+-- 2". (own)
 use Rattle.std.specs.Prelude.{ℕ, ◌==◌, if◌then◌else◌, List, length, codes, Option, Some, None, Result, Ok, Err}
 use Rattle.hex.specs.Hex.{decode_of}
 use Rattle.hex.specs.declared.error.FromHexError.{FromHexError}
@@ -58,6 +58,6 @@ abbrev pub word_of_rest : Option (List ℕ) → Option Word
 word_of_rest None = None
 word_of_rest (Some rest) = word_of_name (parted_at_space rest)
 
--- the word that a line `word NAME CODE SLOT LEVEL OPERAND` has; slots and operands go by their names in the settings
+-- the word of a line `word NAME CODE SLOT LEVEL OPERAND`; slots and operands have the names of the settings
 unfoldable pub word_of_line : List ℕ → Option Word
 word_of_line line = word_of_rest (strip_prefix (codes "word ") line)

@@ -1,4 +1,4 @@
-//! What was read of a log and not looked at yet.
+//! The read buffer of a log.
 
 ghost use Rattle.std.specs.Prelude.{◌≡◌, ◌≤◌, [], length, drop, Ok, IfOk, IfErr, true, false};
 ghost use Rattle.std.specs.Io.KnownBytes.{Consumes, Keeps, IsAtEnd};
@@ -10,10 +10,10 @@ use crate::reader::LogReader;
 use std::io::Write;
 use std::marker::Model;
 
-/// How many bytes are read at once.
+/// The most bytes of one read.
 const BLOCK: usize = 8192;
 
-/// Bytes of a log, from the first that was not looked at to the last that was read. Contracts see their list.
+/// The bytes of a log that were read but not yet consumed. The abstract value is their list.
 #[derive(Drop)]
 pub struct Block {
     bytes: [u8; BLOCK],
@@ -33,7 +33,7 @@ impl Model for Block {
 }
 
 impl Block {
-    /// No bytes.
+    /// Creates an empty block.
     pub fn new() -> Block
         ensures { result ≡ [] }
     {
@@ -44,7 +44,7 @@ impl Block {
         }
     }
 
-    /// The bytes.
+    /// Returns the bytes.
     pub fn as_slice(&self) -> &[u8]
         ensures value { result.now ≡ self.now }
         ensures fits { length result.now ≤ block_size }
@@ -52,7 +52,7 @@ impl Block {
         &self.bytes[self.from..self.to]
     }
 
-    /// Leaves out the first bytes.
+    /// Removes the first `count` bytes.
     pub fn skip(&mut self, count: usize)
         requires { count ≤ length self.old }
         ensures { self.new ≡ drop count self.old }
@@ -60,8 +60,8 @@ impl Block {
         self.from += count;
     }
 
-    /// Reads more, and answers whether there was any. A read may wait, so there is none while lines of the report are
-    /// held back.
+    /// Refills the empty block by one read, and returns whether any byte was read. A read may block, so the caller must
+    /// have written the page of the report first. Fails with `Read`.
     pub fn refill<R: LogReader, W: Write>(
         &mut self,
         reader: &mut R,

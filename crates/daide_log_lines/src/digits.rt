@@ -1,47 +1,47 @@
-//! Bytes in hexadecimal digits.
+//! Decoding of hexadecimal digits.
 //!
-//! Sixteen bytes are read together, whatever their digits are, in two plain loops of a length that the compiler knows:
-//! it reads all thirty-two digits in a few wide instructions.
+//! Sixteen bytes are decoded together, without a branch on any digit, in two loops whose length the compiler knows. So
+//! it decodes the thirty-two digits in a few vector instructions.
 
 ghost use Rattle.std.specs.Prelude.{◌≡◌, ◌==◌, ◌+◌, ◌*◌, ◌<◌, ◌≤◌, length, min, max, true};
 ghost use Rattle.std.specs.List.{list_all};
 ghost use Rattle.hex.specs.Hex.{decode_of, is_hex_digit};
 ghost use Rattle.daide_log_lines.specs.Digits.{IsRead, bytes_of_hex, value_of};
 
-/// How many bytes are read together.
+/// The number of bytes that are decoded together.
 const TOGETHER: usize = 16;
 
-/// The lesser of two bytes. Apart, since the compiler takes a choice for one instruction of the processor where it meets
-/// the choice by itself.
+/// Returns the lesser of two bytes. It is a function of its own because the compiler turns such a function into one
+/// `min` instruction.
 fn lesser(one: u8, other: u8) -> u8
     ensures { result ≡ min one other }
 {
     if one < other { one } else { other }
 }
 
-/// The greater of two bytes.
+/// Returns the greater of two bytes.
 fn greater(one: u8, other: u8) -> u8
     ensures { result ≡ max one other }
 {
     if one < other { other } else { one }
 }
 
-/// The excess of a byte over a digit, 0 at digits of either case alone, and its value, which means nothing where there
-/// is an excess.
+/// Decodes one byte. Returns 0 and its value if it is a hexadecimal digit of either case, otherwise a number above 0
+/// and an unspecified value.
 fn read_digit(byte: u8) -> (u8, u8)
     ensures digit { (result.0 == 0) ≡ is_hex_digit byte }
     ensures value { is_hex_digit byte ≡ true → result.1 ≡ value_of byte }
 {
-    // `0` to `9` are the ten greatest, which become 0 to 9, and all others 16 or more
+    // Maps `0` to `9` to 0 to 9, and every other byte to 16 or more.
     let decimal = greater(byte.wrapping_add(0xC6), 6).wrapping_add(10);
-    // `A` to `F` and `a` to `f` become 10 to 15, and all others 16 or more
+    // Maps `A` to `F` and `a` to `f` to 10 to 15, and every other byte to 16 or more.
     let letter = lesser((byte & 0xDF).wrapping_add(0xBF), 0xF5) + 10;
     let value = lesser(letter, decimal);
     (value & 0xF0, value)
 }
 
-/// The byte of two digits' values, the high one first: the digits lie side by side in a number of sixteen bits, whose
-/// product has the byte above its low eight bits.
+/// Returns the byte of two digits' values, the high digit first. Both values are put side by side in a number of 16
+/// bits; its product with 0x1001 has the byte above its low 8 bits.
 fn byte_of(high: u8, low: u8) -> u8
     ensures { (high < 16) → (low < 16) → result ≡ high * 16 + low }
 {
@@ -49,7 +49,7 @@ fn byte_of(high: u8, low: u8) -> u8
     (pair.wrapping_mul(0x1001) / 256) as u8
 }
 
-/// Reads two digits for each byte, of no more bytes than are read together, and answers whether all are digits.
+/// Decodes two digits for each byte, for at most sixteen bytes, and returns whether all are digits.
 #[inline(always)]
 fn read_together(digits: &[u8], bytes: &mut [u8]) -> bool
     requires twice { length digits.now ≡ 2 * length bytes.old }
@@ -71,8 +71,10 @@ fn read_together(digits: &[u8], bytes: &mut [u8]) -> bool
     excess == 0
 }
 
-/// Reads two digits for each byte, if all are digits. Where the bytes end within some that are read together, the last
-/// ones are read again.
+/// Decodes two digits for each byte, and returns whether all are digits. If not, the bytes are unspecified.
+///
+/// Decodes whole blocks of sixteen bytes, and then the last sixteen bytes once more, which covers a rest shorter than a
+/// block.
 pub fn read_digits(digits: &[u8], bytes: &mut [u8]) -> bool
     requires { length digits.now ≡ 2 * length bytes.old }
     ensures { IsRead result (decode_of digits.now) bytes.new }

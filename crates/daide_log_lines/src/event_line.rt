@@ -1,4 +1,4 @@
-//! The lines of a log from the third on: what each tells.
+//! The event lines of a log, from the third line on.
 
 ghost use Rattle.std.specs.Prelude.{◌≡◌, IfSome, option_map};
 ghost use Rattle.daide_log_lines.specs.LogLine.{event_of_line, parse_received as reported_traffic, event_of_word};
@@ -7,23 +7,24 @@ ghost use Rattle.daide_log_lines.specs.ParsedEvents.{event_reported, IsWithinPie
 use crate::digits::read_digits;
 use daide_frame::Side;
 
-/// The most bytes that a line has.
+/// The greatest number of a side's bytes in one line.
 pub const MOST: usize = 1024;
 
-/// What a line tells.
+/// The event of a line.
 #[derive(Clone, Copy, Debug, PartialEq, Eq)]
 pub enum ParsedEvent {
-    /// So many bytes of a side came.
+    /// A side sent this number of bytes.
     Received(Side, usize),
     /// A side's stream ended.
     EndOf(Side),
-    /// The time for the initial message is over.
+    /// The IM timer expired.
     ImTimerLine,
-    /// Nothing.
+    /// A comment or an empty line: no event.
     Silence,
 }
 
-/// Bytes of a side, in hexadecimal digits.
+/// Parses the hexadecimal digits of a side's bytes, and writes the bytes to the front of the buffer. Returns `None` if
+/// there are no digits, too many, an odd number of them, or another character.
 #[inline(always)]
 fn read_traffic(side: Side, digits: &[u8], bytes: &mut [u8; MOST]) -> Option<ParsedEvent>
     ensures reported { option_map (event_reported bytes.new) result ≡ reported_traffic side digits.now }
@@ -39,7 +40,7 @@ fn read_traffic(side: Side, digits: &[u8], bytes: &mut [u8; MOST]) -> Option<Par
     None
 }
 
-/// A line that has no bytes of a side.
+/// Parses a line without a side's bytes. Returns `None` if it has no allowed form.
 fn read_word(line: &[u8], bytes: &[u8; MOST]) -> Option<ParsedEvent>
     ensures reported { option_map (event_reported bytes.now) result ≡ event_of_word line.now }
     ensures within { IfSome result IsWithinPieceLimit }
@@ -59,7 +60,8 @@ fn read_word(line: &[u8], bytes: &[u8; MOST]) -> Option<ParsedEvent>
     None
 }
 
-/// What a line tells, with the bytes of traffic at the front of the buffer.
+/// Parses an event line, and writes a side's bytes to the front of the buffer. Returns `None` if the line has no
+/// allowed form.
 #[tactic(auto, unfolding(crate::specs::LogLine::event_of_line))]
 #[inline(always)]
 pub fn read_event(line: &[u8], bytes: &mut [u8; MOST]) -> Option<ParsedEvent>

@@ -1,11 +1,11 @@
-//! Why a log has no whole report.
+//! Why the report of a log is incomplete.
 
 use thiserror::Error;
 
-/// What ends the report of a log, at the first line that has it.
+/// The reason why a report stops, at the first line with a fault.
 #[derive(Clone, Copy, Debug, PartialEq, Eq, Error)]
 pub enum LogFault {
-    /// The line of this number, counted from 1, has none of the forms that it may have, or is missing.
+    /// The line of this number, counted from 1, is missing or has none of the forms allowed there.
     #[error("line {0} is not a log line")]
     BadLine(u32),
     /// The line of this number has more than 2,100 bytes.
@@ -14,13 +14,13 @@ pub enum LogFault {
     /// There are more than 1,000,000 lines.
     #[error("too many lines")]
     TooManyLines,
-    /// The reader failed.
+    /// A read of the log failed.
     #[error("input could not be read")]
     Read,
-    /// The writer failed.
+    /// A write of the report failed.
     #[error("output could not be written")]
     Write,
-    /// A growth was refused, at the line that sets the limits.
+    /// An allocation was refused: for the sessions once the head was read, or for an explanation.
     #[error("out of memory")]
     Memory,
 }

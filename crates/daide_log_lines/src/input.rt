@@ -1,4 +1,4 @@
-//! A log that is read: its reader, what was read of it, and the line that was taken.
+//! The buffered reader of a log.
 
 ghost use Rattle.std.specs.Prelude.{◌≡◌};
 ghost use Rattle.daide_log_lines.specs.Input.{LiesIn, line_at};
@@ -8,19 +8,19 @@ use crate::lines::{LineEnd, without_cr};
 use crate::reader::LogReader;
 use crate::text::Text;
 
-/// A reader, what it gave and was not looked at yet, and a line that was copied.
+/// A reader with its read buffer, and the last line that was copied.
 #[derive(Drop)]
 pub struct Input<'a, R> {
-    /// What was read and not looked at.
+    /// The bytes that were read but not yet consumed.
     pub block: Block,
-    /// A line that did not lie whole in it.
+    /// The last line that was not whole in the block, and was copied.
     pub text: Text,
-    /// What gives more.
+    /// The reader that refills the block.
     pub reader: &'a mut R,
 }
 
 impl<'a, R: LogReader> Input<'a, R> {
-    /// The line that was found, without its line end.
+    /// Returns the line that was found, without its line end.
     pub fn line(&self, found: LineEnd) -> &[u8]
         requires { LiesIn found self.now.block }
         ensures { result.now ≡ line_at found self.now.block self.now.text.items }

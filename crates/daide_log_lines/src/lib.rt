@@ -1,7 +1,7 @@
-//! A log as lines: what each line is, by its bytes alone, and the lines one after the other.
+//! A log as a sequence of lines, and the parsing of each line by its bytes alone.
 //!
-//! `specs/` says what a line is (`LogLine`, `MatchLine`, `WordLine`). Lines are cut out of blocks here, whatever is
-//! made of them; what a report says of them is for the crate above.
+//! `specs/` defines the forms of lines (`LogLine`, `MatchLine`, `WordLine`). This crate splits blocks into lines and
+//! parses them. The crate above replays the events and writes the report.
 #![tactic(auto)]
 
 pub mod block;

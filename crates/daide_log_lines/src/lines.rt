@@ -1,4 +1,4 @@
-//! The lines of a log, one after the other.
+//! The lines of a log, one at a time.
 
 ghost use Rattle.std.specs.Prelude.{◌≡◌, ◌≢◌, ◌+◌, ◌≤◌, [], drop, length, take, true, OnOk, IfErr, IfOk, IfSome};
 ghost use Rattle.std.specs.Io.KnownBytes.{Keeps};
@@ -18,23 +18,23 @@ use std::io::Write;
 /// The most lines of a log.
 pub const MOST_LINES: u32 = 1_000_000;
 
-/// How many bytes are looked at together.
+/// The number of bytes that are tested together.
 const TOGETHER: usize = 64;
 
-/// What stands next in a log.
+/// The next line of a log, or its end.
 #[derive(Clone, Copy)]
 pub enum LineEnd {
-    /// A line that lies in what is held, with so many bytes before its line feed.
+    /// A line that is whole in the block, with this number of bytes before its line feed.
     Held(usize),
-    /// A line that was copied, which a line feed ended.
+    /// A line that was copied, up to its line feed.
     Line,
-    /// The last line, which was copied and which the end of the log ended.
+    /// The last line, which was copied and ends at the end of the log without a line feed.
     Last,
     /// The end of the log.
     End,
 }
 
-/// Whether none of so many bytes from one on is a line feed. All are looked at, whatever the others are.
+/// Returns whether none of the `count` bytes from index `first` on is a line feed. Tests all of them, without a branch.
 #[inline(always)]
 fn are_unbroken(bytes: &[u8], first: usize, count: usize) -> bool
     requires { first + count ≤ length bytes.now }
@@ -47,7 +47,7 @@ fn are_unbroken(bytes: &[u8], first: usize, count: usize) -> bool
     unbroken
 }
 
-/// Past so many bytes from one on, if none is a line feed, else there.
+/// Returns `first + count` if none of the `count` bytes from index `first` on is a line feed, else `first`.
 #[inline(always)]
 fn past_unbroken(bytes: &[u8], first: usize, count: usize) -> usize
     requires within { first + count ≤ length bytes.now }
@@ -61,7 +61,7 @@ fn past_unbroken(bytes: &[u8], first: usize, count: usize) -> usize
     first
 }
 
-/// Past so many bytes from one on, if there are as many and none is a line feed, else there.
+/// Returns `first + count` if there are `count` bytes from index `first` on and none is a line feed, else `first`.
 #[inline(always)]
 fn past_unbroken_if_held(bytes: &[u8], first: usize, count: usize) -> usize
     requires within { first ≤ length bytes.now }
@@ -75,8 +75,8 @@ fn past_unbroken_if_held(bytes: &[u8], first: usize, count: usize) -> usize
     past_unbroken(bytes, first, count)
 }
 
-/// How many bytes stand before the first line feed, at least: as many as were looked at together with no line feed
-/// among them.
+/// Returns a lower bound of the number of bytes before the first line feed: the total length of the leading blocks of
+/// 64 bytes without one.
 #[inline(always)]
 fn unbroken_blocks(bytes: &[u8]) -> usize
     ensures within { result ≤ length bytes.now }
@@ -92,8 +92,8 @@ fn unbroken_blocks(bytes: &[u8]) -> usize
     i
 }
 
-/// How many bytes stand before the first line feed, but for three at most, where it is one of the next sixty-four: these
-/// are looked at by fewer and fewer together.
+/// Returns the number of bytes before the first line feed, or up to three less, if it is among the 64 bytes from index
+/// `first` on. Tests 32 bytes together, then 16, 8 and 4.
 #[inline(always)]
 fn unbroken_in_block(bytes: &[u8], first: usize) -> usize
     requires within { first + 64 ≤ length bytes.now }
@@ -107,7 +107,8 @@ fn unbroken_in_block(bytes: &[u8], first: usize) -> usize
     past_unbroken(bytes, eight, 4)
 }
 
-/// How many bytes stand before the first line feed, but for three at most, where fewer than sixty-four are left.
+/// Returns the number of bytes before the first line feed, or up to three less, if fewer than 64 bytes follow index
+/// `first`.
 fn unbroken_in_rest(bytes: &[u8], first: usize) -> usize
     requires within { first ≤ length bytes.now }
     requires so_far { IsUnbroken (take first bytes.now) }
@@ -120,7 +121,7 @@ fn unbroken_in_rest(bytes: &[u8], first: usize) -> usize
     past_unbroken_if_held(bytes, eight, 4)
 }
 
-/// How many bytes stand before the first line feed, but for three at most.
+/// Returns the number of bytes before the first line feed, or up to three less.
 fn unbroken_front(bytes: &[u8]) -> usize
     ensures within { result ≤ length bytes.now }
     ensures unbroken { IsUnbroken (take result bytes.now) }
@@ -132,7 +133,7 @@ fn unbroken_front(bytes: &[u8]) -> usize
     unbroken_in_rest(bytes, blocks)
 }
 
-/// Where the first line feed of some bytes stands.
+/// Returns the index of the first line feed.
 fn line_end(bytes: &[u8]) -> Option<usize>
     ensures { IsLineEnd bytes.now result }
 {
@@ -144,7 +145,8 @@ fn line_end(bytes: &[u8]) -> Option<usize>
     None
 }
 
-/// Where the next line ends, behind so many lines, if all of it is held: it is judged where it lies.
+/// Returns the length of the next line, after `count` lines, if the whole line and its line feed are in the block. Such
+/// a line is judged in place, without a copy.
 fn held_line(block: &Block, count: u32) -> Option<usize>
     requires { count ≤ most_lines }
     ensures { IfSome result (IsHeldLine block.now count) }
@@ -156,7 +158,7 @@ fn held_line(block: &Block, count: u32) -> Option<usize>
     line_end(&held[..held.len().min(TOO_LONG)])
 }
 
-/// A line without the carriage return at its end.
+/// Returns a line without the carriage return at its end.
 pub fn without_cr(line: &[u8]) -> &[u8]
     ensures { result.now ≡ left_of_cr line.now }
 {
@@ -166,8 +168,8 @@ pub fn without_cr(line: &[u8]) -> &[u8]
     }
 }
 
-/// Takes what is held of a line: up to its line feed, or all, or as much as makes it too long. Answers whether its
-/// line feed came.
+/// Moves bytes of a line from the block to the text: up to its line feed, or the whole block, or as many as make the
+/// line too long. Returns whether the line feed was found.
 fn scan(block: &mut Block, text: &mut Text) -> bool
     ensures { Scans block.old text.old.items result block.new text.new.items }
 {
@@ -189,7 +191,7 @@ fn scan(block: &mut Block, text: &mut Text) -> bool
     }
 }
 
-/// Drops a carriage return from the end of a line.
+/// Removes a carriage return from the end of a line.
 fn drop_cr(text: &mut Text)
     ensures { text.new.items ≡ left_of_cr text.old.items }
 {
@@ -198,7 +200,8 @@ fn drop_cr(text: &mut Text)
     }
 }
 
-/// Hands over what is held back of the report, and reads more.
+/// Writes the page of the report, then refills the empty block. Returns whether any byte was read. Fails with `Write`,
+/// then with `Read`.
 fn read_on<R: LogReader, W: Write>(
     block: &mut Block,
     reader: &mut R,
@@ -217,7 +220,7 @@ fn read_on<R: LogReader, W: Write>(
     }
 }
 
-/// Whether any byte of a log is left, of which a first one is read if none is held.
+/// Returns whether the log has another byte. If the block is empty, writes the page and refills the block.
 fn has_more<R: LogReader, W: Write>(
     block: &mut Block,
     reader: &mut R,
@@ -236,9 +239,12 @@ fn has_more<R: LogReader, W: Write>(
     read_on(block, reader, output)
 }
 
-/// Takes the next line of a log, behind so many lines, and copies it. A line that is too long is told at the byte by
-/// which it is, and one line too many at its first byte, with nothing read further. What is held back of the report is
-/// handed over before each read.
+/// Takes the next line of a log, after `count` lines, and copies it to the text. Writes the page of the report before
+/// each read.
+///
+/// Fails with `TooManyLines` at the first byte of a line beyond the limit, and with `LineTooLong` at the byte that
+/// makes a line too long. Nothing is read after either. Fails with `Write` if the page can't be written, and with
+/// `Read` if a read fails.
 pub fn next_line<R: LogReader, W: Write>(
     input: &mut Input<'_, R>,
     count: u32,
@@ -280,7 +286,7 @@ pub fn next_line<R: LogReader, W: Write>(
     unreachable!()
 }
 
-/// Finds the next line of a log, behind so many lines, where it lies if all of it is held.
+/// Finds the next line of a log, after `count` lines: in place if the whole line is in the block, else by `next_line`.
 #[inline(always)]
 pub fn find_line<R: LogReader, W: Write>(
     input: &mut Input<'_, R>,
@@ -304,7 +310,7 @@ pub fn find_line<R: LogReader, W: Write>(
     }
 }
 
-/// Leaves out a line that was found in what is held, and its line feed.
+/// Removes a line that was found in place, and its line feed, from the block. A copied line needs no removal.
 #[inline(always)]
 pub fn pass_line(block: &mut Block, found: LineEnd)
     requires { LiesIn found block.old }

@@ -1,4 +1,4 @@
-//! The lines of the log of a match: its name, and the events of its sessions.
+//! The lines of a match's log: its first line, and the events of its sessions.
 
 ghost use Rattle.std.specs.Prelude.{◌≡◌, ◌≤◌, IfSome, option_map};
 ghost use Rattle.daide_log_lines.specs.LogLine.{plain_number, event_of_line};
@@ -10,23 +10,23 @@ ghost use Rattle.daide_log_lines.specs.ParsedEvents.{event_reported, IsWithinPie
 use crate::event_line::{MOST, ParsedEvent, read_event};
 use crate::parts::{parted_at_space, plain_number};
 
-/// What a line behind the words tells.
+/// The event of a line after the words.
 #[derive(Clone, Copy, Debug, PartialEq, Eq)]
 pub enum ParsedMatchEvent {
     /// An event of the session of this number.
     Of(u16, ParsedEvent),
-    /// Nothing.
+    /// A comment or an empty line: no event.
     Quiet,
 }
 
-/// Whether the first line is that of a match's log.
+/// Returns whether the first line is that of a match's log.
 pub fn is_match_name(line: &[u8]) -> bool
     ensures { result ≡ has_match_name line.now }
 {
     line == b"daide-log 2".as_slice()
 }
 
-/// A plain number from the least to the most.
+/// Parses a plain number within the given limits.
 pub fn number_within(least: u16, most: u16, digits: &[u8]) -> Option<u16>
     ensures value { result ≡ within least most (plain_number digits.now) }
     ensures within { IfSome result (λ number. (least ≤ number) × (number ≤ most)) }
@@ -39,7 +39,7 @@ pub fn number_within(least: u16, most: u16, digits: &[u8]) -> Option<u16>
     }
 }
 
-/// An event of version 1, but no line that tells nothing.
+/// Parses an event of version 1. Returns `None` for a comment, an empty line, or a line without an allowed form.
 fn read_loud(line: &[u8], bytes: &mut [u8; MOST]) -> Option<ParsedEvent>
     ensures reported { option_map (event_reported bytes.new) result ≡ loud_event (event_of_line line.now) }
     ensures within { IfSome result IsWithinPieceLimit }
@@ -50,7 +50,8 @@ fn read_loud(line: &[u8], bytes: &mut [u8; MOST]) -> Option<ParsedEvent>
     }
 }
 
-/// What a line behind the words tells, with the bytes of traffic at the front of the buffer.
+/// Parses a line after the words, and writes a side's bytes to the front of the buffer. Returns `None` if the line has
+/// no allowed form.
 #[tactic(auto, unfolding(crate::specs::MatchLine::match_event_of_line))]
 pub fn read_match_event(
     line: &[u8],

@@ -1,4 +1,4 @@
-//! A report on its way out: its writer, and the lines that are held back from it.
+//! The buffered writer of a report.
 
 ghost use Rattle.std.specs.Prelude.{◌≡◌, [], OnOk};
 ghost use Rattle.std.specs.Io.KnownBytes.{Keeps};
@@ -8,18 +8,18 @@ use crate::page::{Page, hand_over};
 use std::io;
 use std::io::Write;
 
-/// A writer, and the end of a report, which it gets in blocks. Contracts see what it holds and what is held back from
-/// it, as one.
+/// A writer, and the page of lines that it does not have yet. Contracts see both as one text (`all_of`): what the
+/// writer has, followed by the page.
 #[derive(Drop)]
 pub struct Output<'a, W> {
-    /// The lines that are held back.
+    /// The lines that are not yet written.
     pub page: Page,
-    /// What they are handed to.
+    /// The writer of the report.
     pub writer: &'a mut W,
 }
 
 impl<'a, W: Write> Output<'a, W> {
-    /// Hands all that is held to the writer.
+    /// Writes the page, and empties it.
     pub fn hand_over(&mut self) -> io::Result<()>
         ensures emptied { OnOk result (self.new.page.items ≡ []) }
         ensures written { OnOk result (Keeps (all_of W.contents self.old) (all_of W.contents self.new)) }

@@ -1,4 +1,4 @@
-//! The end of a report, which is handed to the writer in blocks.
+//! The output buffer of a report, which is written in blocks.
 
 ghost use Rattle.std.specs.Prelude.{◌≡◌, ◌+◌, ◌*◌, ◌<◌, ◌≤◌, [], ◌∷◌, ◌++◌, length, OnOk};
 ghost use Rattle.std.specs.Io.KnownBytes.{Keeps, append_known};
@@ -11,10 +11,10 @@ use std::io;
 use std::io::Write;
 use std::marker::Model;
 
-/// How many bytes are held back at most.
+/// The capacity of a page, in bytes.
 pub const PAGE: usize = 8192;
 
-/// The lines of a report that were not handed to the writer yet. Contracts see their bytes.
+/// The lines of a report that are not yet written. The abstract value is the list of their bytes.
 #[derive(Drop)]
 pub struct Page {
     bytes: [u8; PAGE],
@@ -33,7 +33,7 @@ impl Model for Page {
 }
 
 impl Page {
-    /// No lines.
+    /// Creates an empty page.
     pub fn new() -> Page
         ensures { result.items ≡ [] }
     {
@@ -43,7 +43,7 @@ impl Page {
         }
     }
 
-    /// How many bytes there are.
+    /// Returns the number of bytes.
     #[inline(always)]
     pub fn len(&self) -> usize
         ensures value { result ≡ length self.now.items }
@@ -52,7 +52,7 @@ impl Page {
         self.len
     }
 
-    /// How many bytes more there is room for.
+    /// Returns the free space, in bytes.
     #[inline(always)]
     pub fn remaining_capacity(&self) -> usize
         ensures { result + length self.now.items ≡ page_size }
@@ -60,7 +60,7 @@ impl Page {
         PAGE - self.len
     }
 
-    /// The bytes.
+    /// Returns the bytes.
     pub fn as_slice(&self) -> &[u8]
         ensures value { result.now ≡ self.now.items }
         ensures fits { length result.now ≤ page_size }
@@ -68,7 +68,7 @@ impl Page {
         &self.bytes[..self.len]
     }
 
-    /// Puts a byte behind the others.
+    /// Appends a byte.
     #[inline(always)]
     pub fn push(&mut self, byte: u8)
         requires { length self.old.items < page_size }
@@ -79,7 +79,8 @@ impl Page {
         self.len += 1;
     }
 
-    /// Puts the text of some tokens of a message, of which so much was put before, behind the others.
+    /// Appends the text of some tokens of a message. `place` is the printer's state after the tokens before them.
+    /// Returns the state after these.
     pub fn put_tokens(
         &mut self,
         added: &[(Token, [u8; 3])],
@@ -99,7 +100,7 @@ impl Page {
         printed.place
     }
 
-    /// Drops all bytes.
+    /// Removes all bytes.
     pub fn clear(&mut self)
         ensures { self.new.items ≡ [] }
     {
@@ -107,7 +108,7 @@ impl Page {
     }
 }
 
-/// Hands all that is held to the writer.
+/// Writes a page to the writer, and empties it.
 #[cold]
 #[inline(never)]
 pub fn hand_over<W: Write>(page: &mut Page, writer: &mut W) -> io::Result<()>

@@ -1,9 +1,9 @@
-//! Numbers, and words with a space behind them: what lines are made of.
+//! The parts of lines: numbers, and words followed by a space.
 
 ghost use Rattle.std.specs.Prelude.{◌≡◌, option_map};
 ghost use Rattle.daide_log_lines.specs.LogLine.{number_on, plain_number, Parted, parted_at_space};
 
-/// A number of sixteen bits in decimal digits.
+/// Parses decimal digits as a number of 16 bits.
 fn number_of(digits: &[u8]) -> Option<u16>
     ensures { result ≡ number_on 0 digits.now }
 {
@@ -23,7 +23,7 @@ fn number_of(digits: &[u8]) -> Option<u16>
     Some(number)
 }
 
-/// A number without a sign and without leading zeros.
+/// Parses a number of 16 bits without a sign and without leading zeros.
 #[tactic(auto, unfolding(crate::specs::LogLine::plain_number))]
 pub fn plain_number(digits: &[u8]) -> Option<u16>
     ensures { result ≡ plain_number digits.now }
@@ -36,7 +36,7 @@ pub fn plain_number(digits: &[u8]) -> Option<u16>
     }
 }
 
-/// What stands before the first space, and what behind it.
+/// Splits a text at its first space.
 pub fn parted_at_space(text: &[u8]) -> Option<(&[u8], &[u8])>
     ensures { option_map (λ parts. record { word = parts.0.now; rest = parts.1.now }) result
         ≡ parted_at_space text.now }

@@ -1,4 +1,4 @@
-//! What a log is read from.
+//! The source of a log.
 
 ghost use Rattle.std.specs.Io.{ReadsAtMost};
 ghost use Rattle.std.specs.Io.KnownBytes.{ReadConsumes};
@@ -8,12 +8,12 @@ ghost use Rattle.std.specs.Prelude.{[], ◌∷◌};
 use std::io;
 use std::io::{Read, Write};
 
-/// A reader of a log, which sees at each read the writer of its report.
+/// A reader of a log. Each read also gets the writer of the report.
 ///
-/// It may tell a record of its reads, in which each has what the writer had by then. Contracts of what reads a log speak
-/// of this record, so one that tells nothing, as each reader of bytes, owes nothing.
+/// An implementation may record its reads, each with what the writer had at that time. Contracts of functions that read
+/// a log are about this record. A reader of bytes records no reads, so it has nothing to prove about them.
 pub trait LogReader {
-    /// What it has left, and its reads so far.
+    /// The bytes that are left, and the trace of its reads.
     ghost reader_view: { Self → Reader };
 
     /// Reads into the front of the buffer, as `Read` does.

@@ -1,7 +1,7 @@
-//! The bytes of one line.
+//! The buffer for one line.
 //!
-//! They lie in a place that is taken for each line of a log anew. `ArrayVec` blanks what it lets go of, which is as much
-//! work as to copy a line; here only the count goes back.
+//! It is reused for each line of a log. `ArrayVec` overwrites the elements that it drops, which costs as much as a copy
+//! of the line. Here only the count is reset.
 
 ghost use Rattle.std.specs.Prelude.{◌≡◌, ◌+◌, ◌-◌, ◌≤◌, ◌==◌, [], ◌++◌, length, take};
 ghost use Rattle.daide_log_lines.specs.LogLine.{longest_line};
@@ -11,10 +11,10 @@ use std::marker::Model;
 /// The most bytes of a line.
 pub const LONGEST_LINE: usize = 2100;
 
-/// One byte more, by which a line is too long.
+/// The shortest length that is too long for a line.
 pub const TOO_LONG: usize = LONGEST_LINE + 1;
 
-/// As many bytes as make a line too long, at most. Contracts see their list.
+/// Up to `TOO_LONG` bytes of a line. The abstract value is their list.
 #[derive(Drop)]
 pub struct Text {
     bytes: [u8; TOO_LONG],
@@ -33,7 +33,7 @@ impl Model for Text {
     ghost invariant = { λ t. t.count ≤ longest_line + 1 };
 }
 
-/// Writes bytes behind those that are held.
+/// Copies bytes to the index `count`.
 #[inline(always)]
 fn put_behind(bytes: &mut [u8; TOO_LONG], count: usize, more: &[u8])
     requires { count + length more.now ≤ longest_line + 1 }
@@ -44,7 +44,7 @@ fn put_behind(bytes: &mut [u8; TOO_LONG], count: usize, more: &[u8])
 }
 
 impl Text {
-    /// No bytes.
+    /// Creates an empty text.
     pub fn new() -> Text
         ensures { result.items ≡ [] }
     {
@@ -54,7 +54,7 @@ impl Text {
         }
     }
 
-    /// How many bytes there are.
+    /// Returns the number of bytes.
     pub fn len(&self) -> usize
         ensures value { result ≡ length self.now.items }
         ensures fits { result ≤ longest_line + 1 }
@@ -62,14 +62,14 @@ impl Text {
         self.count
     }
 
-    /// Whether there is no byte.
+    /// Returns whether the text is empty.
     pub fn is_empty(&self) -> bool
         ensures { result ≡ (length self.now.items == 0) }
     {
         self.count == 0
     }
 
-    /// The bytes.
+    /// Returns the bytes.
     pub fn as_slice(&self) -> &[u8]
         ensures value { result.now ≡ self.now.items }
         ensures fits { length result.now ≤ longest_line + 1 }
@@ -77,14 +77,14 @@ impl Text {
         &self.bytes[..self.count]
     }
 
-    /// Lets go of all bytes.
+    /// Removes all bytes.
     pub fn clear(&mut self)
         ensures { self.new.items ≡ [] }
     {
         self.count = 0;
     }
 
-    /// Puts bytes behind those that are there.
+    /// Appends bytes.
     pub fn put(&mut self, more: &[u8])
         requires { length self.old.items + length more.now ≤ longest_line + 1 }
         ensures { self.new.items ≡ self.old.items ++ more.now }
@@ -93,7 +93,7 @@ impl Text {
         self.count += more.len();
     }
 
-    /// Lets go of the last byte, if there is one.
+    /// Removes the last byte, if there is one.
     pub fn pop(&mut self)
         ensures rest { self.new.items ≡ take (length self.old.items - 1) self.old.items }
     {

@@ -1,4 +1,4 @@
-//! The lines of the log of a match that add the operator's words.
+//! The lines of a match's log that add the operator's words.
 
 ghost use Rattle.std.specs.Prelude.{◌≡◌};
 ghost use Rattle.daide_words.specs.WordNames.{slot_named, operand_named};
@@ -10,7 +10,7 @@ use daide_grammar::level::Level;
 use daide_token::Token;
 use daide_words::{Operand, Slot, Word};
 
-/// A name of three bytes.
+/// Parses a name of three bytes.
 fn name_of(name: &[u8]) -> Option<[u8; 3]>
     ensures { result ≡ parse_name name.now }
 {
@@ -20,7 +20,7 @@ fn name_of(name: &[u8]) -> Option<[u8; 3]>
     }
 }
 
-/// The token of four hexadecimal digits.
+/// Parses a token of four hexadecimal digits.
 fn code_of(digits: &[u8]) -> Option<Token>
     ensures { result ≡ parse_code digits.now }
 {
@@ -34,7 +34,7 @@ fn code_of(digits: &[u8]) -> Option<Token>
     }
 }
 
-/// The slot of a name.
+/// Parses the name of a slot.
 fn slot_of(name: &[u8]) -> Option<Slot>
     ensures { result ≡ slot_named name.now }
 {
@@ -47,14 +47,14 @@ fn slot_of(name: &[u8]) -> Option<Slot>
     None
 }
 
-/// The level of a number.
+/// Parses the number of a level.
 fn level_of(digits: &[u8]) -> Option<Level>
     ensures { result ≡ parse_level digits.now }
 {
     Level::of(plain_number(digits)?)
 }
 
-/// The operand of a name.
+/// Parses the name of an operand.
 fn operand_of(name: &[u8]) -> Option<Operand>
     ensures { result ≡ operand_named name.now }
 {
@@ -79,7 +79,7 @@ fn operand_of(name: &[u8]) -> Option<Operand>
     None
 }
 
-/// The word of a line's parts, if each is right.
+/// Parses the parts of a word's line. Returns `None` if any of them is wrong.
 fn word_of(name: &[u8], code: &[u8], slot: &[u8], level: &[u8], operand: &[u8]) -> Option<Word>
     ensures { result ≡ word_of_line_parts (parse_name name.now) (parse_code code.now) (slot_named slot.now) (parse_level level.now)
         (operand_named operand.now) }
@@ -93,7 +93,7 @@ fn word_of(name: &[u8], code: &[u8], slot: &[u8], level: &[u8], operand: &[u8]) 
     })
 }
 
-/// The word that a line has, if it is one of the lines of words.
+/// Parses the line of a word. Returns `None` if it has another form.
 #[tactic(auto, unfolding(crate::specs::WordLine::word_of_line))]
 pub fn read_word(line: &[u8]) -> Option<Word>
     ensures { result ≡ word_of_line line.now }

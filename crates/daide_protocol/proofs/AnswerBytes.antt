@@ -1,4 +1,4 @@
--- An answer is one whole frame, and its tokens are the message's between fixed ones.
+-- An answer is one whole frame, and its tokens are those of the message with fixed tokens around them.
 use Rattle.std.proofs.Common.{◌≡◌, ℕ, zero, suc, ◌+◌, ◌*◌, ◌%◌, ◌≤◌, true, List, [], ◌∷◌, ◌++◌}
 use Rattle.std.proofs.Common.{length, take, drop, refl, sym, ◌∙◌, ap, arith, append_assoc}
 use Rattle.std.proofs.Common.{length-append, length-take, length-drop}
@@ -33,14 +33,14 @@ pub prn_tokens : (body : List ℕ) → length body % 2 ≡ 0 →
     tokens_of (answer_body body Prn) ≡ prn ∷ bra ∷ (tokens_of body ++ ket ∷ [])
 prn_tokens body even = ap (λ (ts : List ℕ). prn ∷ bra ∷ ts) (tokens_of-append body (0x40 ∷ 0x01 ∷ []) even)
 
--- the parts of a HUH from the message on, each before what follows it
+-- the parts of a HUH from the message on, in order
 in_order : (before after : List ℕ) →
     before ++ 73 ∷ 2 ∷ [] ++ after ++ 64 ∷ 1 ∷ [] ≡ before ++ 73 ∷ 2 ∷ (after ++ 64 ∷ 1 ∷ [])
 in_order before after =
     append_assoc (before ++ 73 ∷ 2 ∷ []) after (64 ∷ 1 ∷ [])
     ∙ append_assoc before (73 ∷ 2 ∷ []) (after ++ 64 ∷ 1 ∷ [])
 
--- HUH ( body ), with ERR before the token at the place
+-- HUH ( body ), with ERR before the token at an index
 pub huh_tokens : (place : ℕ) (body : List ℕ) → length body % 2 ≡ 0 → 2 * place ≤ length body →
     tokens_of (answer_body body (Huh place))
     ≡ huh ∷ bra ∷ ((take place (tokens_of body) ++ err ∷ drop place (tokens_of body)) ++ ket ∷ [])
@@ -59,14 +59,14 @@ huh_tokens place body even within =
 
 -- ---- frames
 
--- an even number is one of bytes of tokens
+-- an even number is the length of a list of tokens
 pub right_even : (n : ℕ) → n % 2 ≡ 0 → has_right_length Dm n ≡ true
 right_even n e = eq-eqb (n % 2) 0 e
 
 pub even_right : (n : ℕ) → has_right_length Dm n ≡ true → n % 2 ≡ 0
 even_right n e = eqb-true (n % 2) 0 e
 
--- a frame that came whole is one when it is passed on
+-- a frame that arrived whole is whole when it is relayed
 pub frame_whole : (cap : ℕ) (head : Head) (body : List ℕ) → cap ≤ longest_body → IsWholeFrame cap head body →
     IsFrame head.kind body (head_bytes head ++ body)
 frame_whole cap head body small w = record {

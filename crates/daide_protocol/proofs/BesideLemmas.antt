@@ -1,4 +1,4 @@
--- What happens beside a side leaves its messages, and takes nothing from them.
+-- Events other than bytes from a side do not depend on that side's input, and leave it unchanged.
 use Rattle.std.proofs.Common.{◌≡◌, ℕ, Bool, true, false, cond, List, [], ◌∷◌, ◌++◌, Option, Some}
 use Rattle.std.proofs.Common.{None, Result, Ok, Err, if◌then◌else◌, refl, ◌∙◌, ap}
 use Rattle.daide_frame.specs.declared.side.Side.{Side}
@@ -22,16 +22,16 @@ use Rattle.daide_protocol.specs.declared.ending.Ending.{Ending}
 use Rattle.daide_protocol.specs.declared.ending.Ending.TheVariants.{Ended, Lost}
 use Rattle.daide_protocol.specs.Wires.{same_side}
 
--- ---- what is beside a side
+-- ---- events other than a side's bytes
 
--- whether an event is a byte of the side
+-- whether an event is a byte from the side
 abbrev pub is_own : Side → Event → Bool
 is_own side (Comes from byte) = same_side from side
 is_own side (Ends from) = false
 is_own side (Loses from) = false
 is_own side ImTimerExpired = false
 
--- an outcome with another of a side's messages
+-- an outcome with another input from a side
 abbrev pub put : Side → Coming → Successor → Successor
 put side c o = record { state = with_coming o.state side c; effects = o.effects }
 
@@ -72,7 +72,7 @@ same_limits : (side : Side) (s : SessionState) (c : Coming) → (with_coming s s
 same_limits Bot s c = refl
 same_limits Server s c = refl
 
--- an outcome, and then the rest of the items
+-- an outcome, and then the rest of the frame events
 abbrev going_on : Side → List FrameEvent → Verdict → Successor → Successor
 going_on side items v o = record {
   state = (items_outcome o.state side items v).state;
@@ -106,7 +106,7 @@ bytes_commute : (side : Side) (s : SessionState) (c : Coming) (bytes : List ℕ)
 bytes_commute Bot s c bytes = refl
 bytes_commute Server s c bytes = refl
 
--- what happens beside a side changes nothing of it, and takes nothing from it
+-- bytes from the other side do not depend on this side's input, and leave it unchanged
 byte_commutes : (side : Side) (s : SessionState) (c : Coming) (bytes : List ℕ) (items : List FrameEvent) (v : Verdict) →
     items_outcome (with_pending (with_coming s side c) (other side) bytes) (other side) items v
     ≡ put side c (items_outcome (with_pending s (other side) bytes) (other side) items v)

@@ -1,4 +1,4 @@
--- What calls in a row come to on each wire.
+-- The result of a sequence of calls on each wire.
 use Rattle.std.proofs.Common.{◌≡◌, ℕ, Bool, true, false, ◌||◌, List, [], ◌∷◌, ◌++◌, length, nat_lt}
 use Rattle.std.proofs.Common.{refl, sym, ap, ◌∙◌, subst, append_assoc, append-nil, arith, if◌then◌else◌}
 use Rattle.std.proofs.lemmas.Bool.Decides.{nat_tests}
@@ -18,7 +18,7 @@ use Rattle.daide_protocol.proofs.WireLemmas.{sent_to-append, sent_bytes-append}
 use Rattle.daide_protocol.specs.Summary.{tallied}
 use Rattle.daide_protocol.proofs.SummaryLemmas.{tallied_then}
 
--- ---- what a wire takes
+-- ---- the bytes that a wire takes
 
 first_left : (frame : Sent) (frames : List Sent) (bytes rest : List ℕ) (less : Bool) →
     nat_lt (length bytes) (length (bytes ++ rest)) ≡ less →
@@ -32,7 +32,7 @@ first_left frame frames bytes (x ∷ rest) false e =
     let f : nat_lt (length bytes) (length (bytes ++ x ∷ rest)) ≡ true = grind (arith, nat_tests) in
     absurd cc
 
--- the bytes that were taken of the first frame, and what waits then, are what waited
+-- the bytes taken of the first frame and those still queued are the bytes queued before
 taken_first : (bytes rest : List ℕ) (frames : List Sent) → first_bytes frames ≡ bytes ++ rest →
     bytes ++ sent_bytes (without (length bytes) frames) ≡ sent_bytes frames
 taken_first [] rest [] e = refl
@@ -55,7 +55,7 @@ is_same Bot Server e = absurd cc
 is_same Server Bot e = absurd cc
 is_same Server Server e = refl
 
--- a session that is over, with nothing that waits for a wire
+-- a session that is over, with an empty queue for one wire
 record IsShut (g : SessionView) (side : Side) : Type 0 where
   over : is_over g.state.phase ≡ true
   empty : queued g side ≡ []
@@ -112,7 +112,7 @@ call_shut old TimesOut new side shut (reported, goes) = goes_shut old (ImTimerEx
 call_shut old (Fails to) new side shut lost = lost_shut old to new side shut lost
 call_shut old (Puts to bytes) new side shut (front, wrote) = wrote_shut old to (length bytes) new side shut wrote
 
--- then that wire takes nothing more, and nothing waits for it again
+-- then that wire takes no more bytes, and its queue stays empty
 nothing_taken : (side : Side) (calls : List Call) (old new : SessionView) → IsShut old side → AreCalls old calls new →
     (taken_by side calls ≡ []) × (queued new side ≡ [])
 nothing_taken side [] old new shut same = (refl, ap (λ (g : SessionView). queued g side) same ∙ shut.empty)
@@ -140,9 +140,9 @@ nothing_taken side (call ∷ calls) old new shut (mid, one, more) =
             rw (e, none) ih.0
         here false e = rw e ih.0
 
--- ---- what the first call adds
+-- ---- the effect of the first call
 
--- these frames were for the wire, of which the calls took what the law says
+-- the wire's frames, and the bytes that the calls took of them
 abbrev IsTakenOf : Side → List Call → SessionView → List Sent → Type 0
 IsTakenOf side calls new frames =
     (some_call_fails side calls ≡ false → taken_by side calls ++ sent_bytes (queued new side) ≡ sent_bytes frames)
@@ -153,7 +153,7 @@ its_wire : (old : SessionView) (calls : List Call) (new : SessionView) (d : Deli
     IsTakenOf side calls new (queued old side ++ sent_to side d.effects)
 its_wire old calls new d side = (d.delivered side, d.cut_off side)
 
--- what waited, and what the first call's moves and the later ones send
+-- the frames queued, and the frames that the effects of the first call and of the later ones send
 both_sent : (side : Side) (now later : List Sent) (a b : List Effect) → later ≡ now ++ sent_to side a →
     later ++ sent_to side b ≡ now ++ sent_to side (a ++ b)
 both_sent side now later a b first =
@@ -197,7 +197,7 @@ fails_on calls old mid new to lost d are side = go (same_side to side) refl
           (λ failed. later.1 (subst (λ (b : Bool). (b || some_call_fails side calls) ≡ true) e failed)),
         )
 
--- the bytes that a wire took, before what it took later
+-- the bytes that a wire took, before those that it took later
 taken_and_more : (bytes taken left : List ℕ) (now later sent : List Sent) → bytes ++ sent_bytes later ≡ sent_bytes now →
     taken ++ left ≡ sent_bytes (later ++ sent) → (bytes ++ taken) ++ left ≡ sent_bytes (now ++ sent)
 taken_and_more bytes taken left now later sent first more =
@@ -287,7 +287,7 @@ first_call old mid new (Puts to bytes) calls ((rest, front), wrote) are d =
     (d.counts ∙ ap (tallied d.effects) wrote.counts)
     (puts_on calls old mid new to bytes rest front wrote d)
 
--- what each wire took, and what waits, are what waited and the frames of the run
+-- for each wire, the bytes taken and those still queued are the bytes queued before and the frames of the run
 pub calls_deliver : (calls : List Call) (old new : SessionView) → AreCalls old calls new → Delivers old calls new
 calls_deliver [] old new same =
     by_wires old [] new [] (refl, ap (λ (g : SessionView). g.state) same) (ap (λ (g : SessionView). g.summary) same) (λ side. (
@@ -304,7 +304,7 @@ starts_empty : (limits : Limits) (g : SessionView) (side : Side) → IsNew limit
 starts_empty limits g Bot new = new.to_bot
 starts_empty limits g Server new = new.to_server
 
--- from the start a wire got what is sent
+-- from the start, a wire gets the frames that are sent
 pub from_the_start : (limits : Limits) (old new : SessionView) (calls : List Call) (start : IsNew limits old)
     (d : Delivers old calls new) (side : Side) → some_call_fails side calls ≡ false →
     taken_by side calls ++ sent_bytes (queued new side) ≡ sent_bytes (sent_to side d.effects)

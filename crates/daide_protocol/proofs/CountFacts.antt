@@ -1,4 +1,4 @@
--- What is counted of the frames that are sent, worked out by hand: of each side each kind of move.
+-- The counts of sent frames, worked out from the protocol: each kind of effect, for each side.
 use Rattle.std.proofs.Common.{◌≡◌, ℕ, ◌*◌, List, [], ◌∷◌, length, refl}
 use Rattle.daide_token.specs.Class.{class_of}
 use Rattle.daide_token.specs.Token.{bra, ket, huh, prn, bytes_of_tokens}
@@ -18,11 +18,11 @@ use Rattle.daide_protocol.specs.Machine.{SessionState, initial_state, in_phase}
 use Rattle.daide_protocol.specs.Counts.{frames_counted}
 use Rattle.daide_protocol.proofs.SomeRun.{outcome_of}
 
--- a session in a phase, of which nothing is held
+-- a session in a phase, with nothing held
 abbrev standing : Phase → SessionState
 standing phase = in_phase phase L0 (initial_state (record { cap = 512; top_level = L60; max_depth = 4; words = [] }))
 
--- what these events, or these bytes of a side, make it send, counted
+-- the counts of the frames that a session sends at these events, or at these bytes from a side
 abbrev counts_by : Phase → List Event → Summary
 counts_by phase events = frames_counted (outcome_of (standing phase) events).effects
 
@@ -42,7 +42,7 @@ em = 0x04 ∷ 0x00 ∷ 0x00 ∷ 0x02 ∷ 0x00 ∷ 0x09 ∷ []
 abbrev of : ℕ → ℕ → ℕ → ℕ → Summary
 of relayed prn huh faults = record { relayed = relayed; prn = prn; huh = huh; faults = faults }
 
--- OBS of the bot and OFF of the server go on, and each as the other's is answered with HUH; a bracket alone with PRN
+-- the bot's OBS and the server's OFF are relayed; each gets HUH if the other side sends it; a single bracket gets PRN
 messages :
     (counts_after Open Bot (message (0x480F ∷ [])) ≡ of 1 0 0 0)
     × (counts_after Open Server (message (0x4810 ∷ [])) ≡ of 1 0 0 0)
@@ -53,7 +53,7 @@ messages :
 unfolding last_items first_items parse_head is_alien entries may_end_of table_answer class_of answer_bytes head_bytes
 messages = (refl, refl, refl, refl, refl, refl)
 
--- a HUH or a PRN that a side sends itself goes on as any message does
+-- a HUH or a PRN that a side sends itself is relayed as any message
 answers_that_go_on :
     (counts_after Open Bot (message (huh ∷ bra ∷ ket ∷ [])) ≡ of 1 0 0 0)
     × (counts_after Open Server (message (huh ∷ bra ∷ ket ∷ [])) ≡ of 1 0 0 0)
@@ -62,7 +62,7 @@ answers_that_go_on :
 unfolding last_items first_items parse_head is_alien entries may_end_of table_answer class_of answer_bytes head_bytes
 answers_that_go_on = (refl, refl, refl, refl)
 
--- an IM, an RM, an FM and an EM that go on; an EM is no fault of its side, and before the IM it goes nowhere
+-- an IM, an RM, an FM and an EM that are relayed; an EM is no fault of its side, and before the IM it is dropped
 other_frames :
     (counts_after WaitIm Bot (0x00 ∷ 0x00 ∷ 0x00 ∷ 0x04 ∷ 0x00 ∷ 0x01 ∷ 0xDA ∷ 0x10 ∷ []) ≡ of 1 0 0 0)
     × (counts_after WaitRm Server (0x01 ∷ 0x00 ∷ 0x00 ∷ 0x00 ∷ []) ≡ of 1 0 0 0)
@@ -72,7 +72,7 @@ other_frames :
 unfolding last_items first_items parse_head is_alien im_of head_bytes answer_bytes
 other_frames = (refl, refl, refl, refl, refl, refl, refl, refl)
 
--- a fault is counted once, though an FM goes to the other side too; and so is the timer's, in the phase WaitIm alone
+-- a fault is counted once, though the other side also gets an FM; the timer's fault is counted only in the phase WaitIm
 faults :
     (counts_after Open Bot (0x02 ∷ 0x00 ∷ 0x00 ∷ 0x03 ∷ []) ≡ of 0 0 0 1)
     × (counts_after Open Server (0x02 ∷ 0x00 ∷ 0x00 ∷ 0x03 ∷ []) ≡ of 0 0 0 1)
@@ -82,7 +82,7 @@ faults :
 unfolding last_items first_items parse_head is_alien
 faults = (refl, refl, refl, refl, refl, refl)
 
--- an end is counted nowhere
+-- an end is not counted
 ends :
     (counts_by Open (Ends Bot ∷ []) ≡ of 0 0 0 0) × (counts_by Open (Ends Server ∷ []) ≡ of 0 0 0 0)
     × (counts_by Open (Loses Bot ∷ []) ≡ of 0 0 0 0) × (counts_by Open (Loses Server ∷ []) ≡ of 0 0 0 0)

@@ -1,4 +1,4 @@
--- What a session counts is what it sends.
+-- A session's counts are those of the frames that it sends.
 use Rattle.std.proofs.Common.{◌≡◌, ℕ, ◌+◌, Bool, true, false, cond, List, [], ◌∷◌, ◌++◌, length, drop, Option, Some}
 use Rattle.std.proofs.Common.{None, Result, Ok, Err, refl, sym, ◌∙◌, ap, subst, arith, length-append}
 use Rattle.std.specs.List.{filter}
@@ -41,7 +41,7 @@ plus a b = of (a.relayed + b.relayed) (a.prn + b.prn) (a.huh + b.huh) (a.faults 
 same_counts : (a b c d p q r s : ℕ) → a ≡ p → b ≡ q → c ≡ r → d ≡ s → of a b c d ≡ of p q r s
 same_counts a b c d p q r s w x y z = rw (w, x, y, z) refl
 
--- one move more of the one is one more of the sum
+-- one more effect in one summand is one more in the sum
 counted_plus : (reported : Note) (s t : Summary) → plus s (plus (count_note reported nothing_counted) t) ≡ plus (count_note reported s) t
 counted_plus Notes.Nothing s t = same_counts _ _ _ _ _ _ _ _ (omega arith) (omega arith) (omega arith) (omega arith)
 counted_plus (Notes.Frame head Deeds.Relayed) s t =
@@ -70,7 +70,7 @@ frames_counted-append : (a b : List Effect) → frames_counted (a ++ b) ≡ plus
 frames_counted-append a b = same_counts _ _ _ _ _ _ _ _ (number_sent-append _ a b) (number_sent-append _ a b)
     (number_sent-append _ a b) (number_sent-append _ a b)
 
--- ---- a move is counted by what it sends
+-- ---- an effect is counted by the frames that it sends
 
 abbrev IsCounted : Effect → Type 0
 IsCounted effect = count_note effect.reported nothing_counted ≡ frames_counted (effect ∷ [])
@@ -83,7 +83,7 @@ count_note-append : (a b : List Effect) → AreCounted a → AreCounted b → Ar
 count_note-append [] b h k = k
 count_note-append (effect ∷ a) b h k = (h.0, count_note-append a b h.1 k)
 
--- so moves are counted by all that they send
+-- so effects are counted by all the frames that they send
 all_counted : (effects : List Effect) (s : Summary) → AreCounted effects →
     tallied effects (reduced s) ≡ reduced (plus s (frames_counted effects))
 all_counted [] s h = ap reduced (same_counts _ _ _ _ _ _ _ _ (omega arith) (omega arith) (omega arith) (omega arith))
@@ -94,7 +94,7 @@ all_counted (effect ∷ effects) s h =
     ∙ (ap (λ (t : Summary). plus s (plus t (frames_counted effects))) h.0
     ∙ ap (plus s) (sym (frames_counted-append (effect ∷ []) effects)))))
 
--- ---- each kind of move
+-- ---- each kind of effect
 
 fm_counted : (phase : Phase) (side : Side) → IsCounted (record { reported = Notes.Nothing; sent = fm_to phase side })
 fm_counted WaitIm Bot = refl
@@ -122,7 +122,7 @@ behind_head : (head : Head) (body : List ℕ) → drop 4 (head_bytes head ++ bod
 unfolding head_bytes
 behind_head head body = refl
 
--- what an answer begins with
+-- the front of an answer
 begins : (token : ℕ) (head : Head) (body : List ℕ) (v : Verdict) →
     begins_with token (tokens_of (drop 4 (answer_bytes head body v))) ≡ begins_with token (tokens_of (answer_body body v))
 unfolding answer_bytes
@@ -144,7 +144,7 @@ answer_counted Bot head body (Huh place) true =
 answer_counted Server head body (Huh place) true =
     rw (begins prn head body (Huh place), begins huh head body (Huh place)) refl
 
--- ---- what comes with an event
+-- ---- the effects of an event
 
 begun_counted : (s : SessionState) (side : Side) (code : Option Code) → AreCounted (header_outcome s side code).effects
 begun_counted s side None = tt

@@ -1,4 +1,4 @@
--- The first event that ended a session is known, and which ending it is.
+-- The first event that ended a session is known, and so is its ending.
 use Rattle.std.proofs.Common.{◌≡◌, ℕ, Bool, true, false, List, [], ◌∷◌, ◌++◌, Option, Some, None, Result, Ok, Err}
 use Rattle.std.proofs.Common.{refl, sym, ◌∙◌, ap, subst}
 use Rattle.daide_frame.specs.declared.side.Side.{Side}
@@ -27,7 +27,7 @@ use Rattle.daide_protocol.proofs.PieceRuns.{over_stays}
 
 -- ---- a whole frame
 
--- where the session is over, it was ended by this cause
+-- if the session is over, this cause ended it
 abbrev EndsBy : Option EventCause → SessionState → Type 0
 EndsBy cause new = is_over new.phase ≡ true → new.ending ≡ cause_ending cause
 
@@ -48,7 +48,7 @@ frame_ends s side noted Dm len body v o = λ h. absurd (not_both (is_over s.phas
 frame_ends s side noted Fm len body v o = λ h. refl
 frame_ends s side noted Em len body v o = λ h. refl
 
--- ---- the items that end with one byte
+-- ---- the frame events that end with one byte
 
 noted_ends : (s : SessionState) (side : Side) (l : Level) → is_over s.phase ≡ false → EndsBy None (with_noted s side l)
 noted_ends s Bot l o = λ h. absurd (not_both (is_over s.phase) h o)

@@ -1,5 +1,5 @@
--- What ends a session, and what is counted of it, worked out by hand: of each side each way of ending, each code of a
--- fault, and each kind of note.
+-- The endings of sessions, and their counts, worked out from the protocol: each way to end for each side, each code of
+-- a fault, and each kind of note.
 use Rattle.std.proofs.Common.{◌≡◌, ℕ, ◌+◌, List, [], ◌∷◌, ◌++◌, Option, Some, None, refl}
 use Rattle.daide_frame.specs.declared.side.Side.{Side}
 use Rattle.daide_frame.specs.declared.side.Side.TheVariants.{Bot, Server}
@@ -22,19 +22,19 @@ use Rattle.daide_protocol.specs.Machine.{SessionState, initial_state, in_phase}
 use Rattle.daide_protocol.specs.Summary.{count_note, counted_on}
 use Rattle.daide_protocol.proofs.SomeRun.{outcome_of}
 
--- a session in a phase, of which nothing is held
+-- a session in a phase, with nothing held
 abbrev standing : Phase → SessionState
 standing phase = in_phase phase L0 (initial_state (record { cap = 512; top_level = L60; max_depth = 4; words = [] }))
 
--- what ended it, after these events
+-- the ending after these events
 abbrev ending_by : Phase → List Event → Option Ending
 ending_by phase events = (outcome_of (standing phase) events).state.ending
 
--- after these bytes of a side
+-- the ending after these bytes from a side
 abbrev ending_after_bytes : Phase → Side → List ℕ → Option Ending
 ending_after_bytes phase side bytes = ending_by phase (bytes_come side bytes)
 
--- ---- each way of ending
+-- ---- each way to end
 
 abbrev fm : List ℕ
 fm = 0x03 ∷ 0x00 ∷ 0x00 ∷ 0x00 ∷ []
@@ -95,18 +95,18 @@ each_code :
 unfolding last_items first_items parse_head is_alien im_of
 each_code = (refl, refl, refl, refl, refl, refl, refl, refl, refl, refl, refl, refl, refl, refl)
 
--- the first event stays, whatever comes later
+-- the first ending is kept, whatever happens later
 first_stays :
     (ending_by Open (Ends Bot ∷ Loses Server ∷ ImTimerExpired ∷ Ends Server ∷ []) ≡ Some (Ended Bot))
     × (ending_by WaitIm (ImTimerExpired ∷ Ends Bot ∷ Loses Bot ∷ []) ≡ Some (Fault Bot Codes.ImTimeout))
     × (ending_by Open (bytes_come Server fm ++ Ends Bot ∷ []) ≡ Some (Final Server))
     × (ending_by Open (bytes_come Bot em ++ Loses Bot ∷ bytes_come Server fm) ≡ Some (Error Bot))
-    -- and one that ends nothing is none
+    -- and an event that ends nothing has no ending
     × (ending_by WaitRm (ImTimerExpired ∷ []) ≡ None) × (ending_by Open (bytes_come Bot (0x03 ∷ 0x00 ∷ 0x00 ∷ [])) ≡ None)
 unfolding last_items first_items parse_head is_alien
 first_stays = (refl, refl, refl, refl, refl, refl)
 
--- ---- each kind of note is counted in its field alone
+-- ---- each kind of note is counted only in its field
 
 abbrev of : ℕ → ℕ → ℕ → ℕ → Summary
 of relayed prn huh faults = record { relayed = relayed; prn = prn; huh = huh; faults = faults }
@@ -120,7 +120,7 @@ counts_apart : (a b c d place : ℕ) (head : Head) (code : Code) →
     × (count_note Notes.Nothing (of a b c d) ≡ of a b c d)
 counts_apart a b c d place head code = (refl, refl, refl, refl, refl, refl)
 
--- a session's counts begin again at 2^64
+-- a session's counts wrap at 2^64
 counts_wrap : (head : Head) (code : Code) →
     (counted_on (Notes.Frame head Deeds.Relayed) (of 18446744073709551615 1 2 3) ≡ of 0 1 2 3)
     × (counted_on (Notes.Frame head Deeds.Relayed) (of 18446744073709551614 1 2 3) ≡ of 18446744073709551615 1 2 3)

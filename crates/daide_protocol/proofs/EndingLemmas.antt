@@ -1,4 +1,4 @@
--- What ended a session is known exactly once it is over.
+-- The ending of a session is known exactly if it is over.
 use Rattle.std.proofs.Common.{◌≡◌, ℕ, Bool, true, false, cond, List, [], ◌∷◌, ◌++◌, Option, Some, None}
 use Rattle.std.proofs.Common.{Result, Ok, Err, refl, sym, ◌∙◌, subst}
 use Rattle.std.specs.Prelude.{is_some}

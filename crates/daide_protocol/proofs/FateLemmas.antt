@@ -1,4 +1,4 @@
--- Each thing that comes in a run has one move, its fate; and the frames that come are those of the cut.
+-- Each input of a run has one effect, its fate; and the frames among the inputs are those of the cut.
 use Rattle.std.proofs.Common.{◌≡◌, ℕ, Bool, true, false, List, [], ◌∷◌, ◌++◌, Option, Some, None, Result, Ok, Err}
 use Rattle.std.proofs.Common.{if◌then◌else◌, ◌⊎◌, inl, inr, refl, sym, ◌∙◌, ap, subst, append_assoc, append-nil}
 use Rattle.daide_frame.specs.declared.side.Side.{Side}
@@ -34,7 +34,7 @@ use Rattle.daide_protocol.proofs.LimitsKept.{runs_limits}
 
 -- ---- a whole frame
 
--- the frame of a kind, with its phase
+-- the input made of a frame, with its phase
 abbrev came : Phase → EventCause → List Came
 came phase cause = record { phase = phase; cause = cause } ∷ []
 
@@ -61,14 +61,14 @@ frame_fates t side noted Dm len body (Huh place) r = (is_answered_huh place r re
 frame_fates t side noted Fm len body v r = rw r (refl, refl)
 frame_fates t side noted Em len body v r = rw r (refl, refl)
 
--- the moves of the last item, and of nothing after it
+-- the effects of the last frame event, with none after it
 one_more : (limits : Limits) (c : List Came) (effects : List Effect) → HaveFates limits c effects →
     HaveFates limits c (effects ++ [])
 one_more limits c effects h = subst (HaveFates limits c) (sym (append-nil effects)) h
 
--- ---- the items that end with one byte
+-- ---- the frame events that end with one byte
 
--- a frame whose header and body end with one byte is judged by the level that holds
+-- a frame whose header and body end with the same byte is judged by the current level
 at_once_fates : (t : SessionState) (side : Side) (head : Head) (v : Verdict) → is_over t.phase ≡ false →
     IsCorrectVerdict t.limits.words t.limits.max_depth (question_of side t.level head []) v →
     HaveFates t.limits (came t.phase (frame_cause side t.level head []))
@@ -113,7 +113,7 @@ items_fates t side items v (Shapes.wrong code) o r = rw o (refl, refl)
 
 -- ---- one event
 
--- a side's byte adds to what it has pending, and to nothing else
+-- a byte from a side extends that side's pending bytes, and changes nothing else
 byte_fates : (s : SessionState) (side : Side) (bytes : List ℕ) (v : Verdict) → is_over s.phase ≡ false →
     IsCorrectVerdict s.limits.words s.limits.max_depth (asked_by s side (last_items s.limits.cap bytes)) v →
     HaveFates s.limits
@@ -183,7 +183,7 @@ run_fates s (event ∷ events) effects new run =
     (fates_join s.limits (came_in_phase s.phase (cause_at s event)) (came_in run.0 events run.2 new run.4) run.1 run.2
     (step_fates s event run.1 run.0 run.3) rest)
 
--- ---- the frames that come
+-- ---- the frames among the inputs
 
 pub frames_among-append : (a b : List FrameEvent) → frames_among (a ++ b) ≡ frames_among a ++ frames_among b
 frames_among-append [] b = refl
@@ -210,7 +210,7 @@ over_causes s ImTimerExpired o = by_phase s.phase o
     by_phase Open e = refl
     by_phase Over e = refl
 
--- nothing comes once the session is over
+-- there is no input once the session is over
 over_comes : (s : SessionState) (events : List Event) (effects : List Effect) (new : SessionState)
     (run : Runs s events effects new) →
     is_over s.phase ≡ true → came_in s events effects new run ≡ []
@@ -220,7 +220,7 @@ over_comes s (event ∷ events) effects new run o =
     rw (over_causes s event o)
     (over_comes run.0 events run.2 new run.4 (ap (λ (q : SessionState). is_over q.phase) same ∙ o))
 
--- the frames that end with an event come, or the session is over
+-- the frames that end at an event are inputs, or the session is over
 abbrev ComeHere : Side → List FrameEvent → List Came → SessionState → Type 0
 ComeHere side items c after =
     (frames_among items ≡ frames_from side c) ⊎ ((frames_from side c ≡ []) × (is_over after.phase ≡ true))
@@ -291,7 +291,7 @@ byte_comes s Bot bytes v o =
 byte_comes s Server bytes v o =
     items_come (with_pending s Server bytes) Server (last_items s.limits.cap bytes) v (shape s.limits.cap bytes) o
 
--- what comes of the other side is no frame of this one
+-- an input from the other side is no frame from this one
 beside_comes : (side from : Side) → same_side from side ≡ false → (phase : Phase) (noted now : Level)
     (refusal : Kind → Option Code) (items : List FrameEvent) →
     [] ≡ frames_from side (came_in_phase phase (items_cause from noted now refusal items))
@@ -356,7 +356,7 @@ event_comes side s ImTimerExpired v = go s.phase
     go Open = inl refl
     go Over = inl refl
 
--- a run's frames are those that come, and then those after its end
+-- a run's frames are those among its inputs, and then those after its end
 abbrev AreFrames : Side → (s : SessionState) (events : List Event) (effects : List Effect) (new : SessionState) →
     Runs s events effects new → Type 0
 AreFrames side s events effects new run =

@@ -1,4 +1,4 @@
--- The items that end with one byte: none, a header, a whole frame with its header or without it, or a fault.
+-- The frame events that end with one byte: none, a header, a whole frame with or without its header, or a fault.
 use Rattle.std.proofs.Common.{◌≡◌, ℕ, ◌≤◌, Bool, true, false, cond, eqb, List, [], ◌∷◌, length}
 use Rattle.std.proofs.Common.{Option, Some, None, Result, Ok, Err, refl, sym, subst, arith}
 use Rattle.std.proofs.lemmas.Bool.{eqb-true}
@@ -12,7 +12,7 @@ use Rattle.daide_frame.proofs.FramesLemmas.{last_items-short, at_head, alien_in-
 use Rattle.daide_frame.proofs.FramesLemmas.{parse_head-append4, last_items-body4}
 use Rattle.daide_frame.proofs.HeadLemmas.{parse_head-good}
 
--- a frame whose header is good and whose body is whole, with no alien token
+-- a frame with a good header and a whole body, without an alien token
 pub record IsWholeFrame (cap : ℕ) (head : Head) (body : List ℕ) : Type 0 where
   pub right : has_right_length head.kind head.len ≡ true
   pub within : head.len ≤ cap
@@ -63,7 +63,7 @@ body_shape cap b v head e None a = go (eqb head.len (length v)) refl
         })
     go false k = quiet
 
--- nothing follows a header that is refused
+-- nothing follows a refused header
 pub refused : (cap p q r s y : ℕ) (w : List ℕ) (code : Code) → parse_head (p ∷ q ∷ r ∷ s ∷ []) cap ≡ Err code →
     last_items cap (p ∷ q ∷ r ∷ s ∷ y ∷ w) ≡ []
 unfolding last_items first_items

@@ -1,4 +1,4 @@
--- The frames by which a run goes are those of the cut of a side's bytes, and bytes of the next are missing.
+-- The frames that a run uses are those in the cut of the bytes from a side, and bytes of the next frame are missing.
 use Rattle.std.proofs.Common.{◌≡◌, ℕ, ◌+◌, ◌<◌, Bool, true, false, cond, ◌||◌, List, [], ◌∷◌, ◌++◌, ◌⊎◌, inl, inr}
 use Rattle.std.proofs.Common.{⊎_elim, Option, Some, None, Result, Ok, Err, refl, sym, ap, ◌∙◌, subst, arith}
 use Rattle.std.proofs.Common.{append_assoc, append-nil}
@@ -26,7 +26,7 @@ use Rattle.daide_protocol.proofs.OneRun.{one_run}
 use Rattle.daide_protocol.proofs.WireLemmas.{same_self}
 use Rattle.daide_protocol.proofs.PieceRuns.{over_outcome, over_stays, phase_is, limits_are}
 
--- ---- sides and items
+-- ---- sides and frame events
 
 frame_events_of-placed : (n : ℕ) (items : List FrameEvent) (more : List EventAtOffset) →
     frame_events_of (event_at_offset n items ++ more) ≡ items ++ frame_events_of more
@@ -37,9 +37,9 @@ pub not_both : (b : Bool) → b ≡ true → b ≡ false → ⊥
 not_both true e f = absurd (cc)
 not_both false e f = absurd (cc)
 
--- ---- what items change
+-- ---- what frame events change
 
--- the bytes of the side's next frame, after items that leave the session open
+-- the bytes of the side's next frame, after frame events that leave the session open
 abbrev LeavesOpen : SessionState → SessionState → Side → Bool → Bool → Type 0
 LeavesOpen old new side wrong frame_outcome =
     (wrong ≡ false) × ((coming new side).pending ≡ cond frame_outcome [] (coming old side).pending)
@@ -120,7 +120,7 @@ items_leave s side (item ∷ items) v o p = go (is_over first.phase) refl (λ e.
               (coming last side).pending a.1 b.1,
         )
 
--- ---- what items leave alone
+-- ---- what frame events leave unchanged
 
 begun_beside : (s : SessionState) (side : Side) (code : Option Code) →
     (coming (header_outcome s side code).state (other side)).pending ≡ (coming s (other side)).pending
@@ -226,7 +226,7 @@ with_beside s Server bytes = refl
 
 -- ---- a byte
 
--- the bytes with one more, and the items that end with it
+-- the bytes with one more, and the frame events that end with it
 abbrev with_byte : SessionState → Side → ℕ → List ℕ
 with_byte s side x = (coming s side).pending ++ x ∷ []
 
@@ -307,7 +307,7 @@ over_for_good s events effects new run o =
 
 -- ---- a run
 
--- the items of a side's bytes from a state on are those by which the run goes, then those after its end
+-- the frame events in the bytes from a side, from a state on, are those that the run uses, and then those after its end
 abbrev IsHeard : Side → ℕ → (s : SessionState) (events : List Event) (effects : List Effect) (new : SessionState) →
     Runs s events effects new → Type 0
 IsHeard side k s events effects new run =
@@ -316,7 +316,7 @@ IsHeard side k s events effects new run =
     ≡ items_heard side s events effects new run ++ later)
     × (is_over new.phase ≡ false → later ≡ [])
 
--- an event that ends the session, and tells nothing of the side
+-- an event that ends the session, without a frame event from the side
 ends_here : (side : Side) (k : ℕ) (s : SessionState) (e : Event) (events : List Event) (effects : List Effect)
     (new : SessionState)
     (run : Runs s (e ∷ events) effects new) → heard_at side s e ≡ [] → is_over run.0.phase ≡ true →
@@ -330,7 +330,7 @@ ends_here side k s e events effects new run h o =
       λ p. absurd (not_both (is_over new.phase) (over_for_good run.0 events run.2 new run.4 o) p),
     )
 
--- an event that is not of the side, and leaves its bytes
+-- an event other than a byte from the side, which leaves its bytes unchanged
 passes : (side : Side) (k : ℕ) (s : SessionState) (e : Event) (events : List Event) (effects : List Effect)
     (new : SessionState)
     (run : Runs s (e ∷ events) effects new) → heard_at side s e ≡ [] →
@@ -349,7 +349,7 @@ passes side k s e events effects new run h b l p later =
       later.2,
     )
 
--- a byte of the side
+-- a byte from the side
 comes : (side : Side) (k x : ℕ) (s : SessionState) (events : List Event) (effects : List Effect) (new : SessionState)
     (run : Runs s (Comes side x ∷ events) effects new) → is_over s.phase ≡ false →
     IsHeard side (k + 1) run.0 events run.2 new run.4 → IsHeard side k s (Comes side x ∷ events) effects new run
@@ -484,7 +484,7 @@ frames_heard Server limits events effects new run =
 
 -- ---- room
 
--- bytes of each side's next frame are missing
+-- bytes of the next frame are missing from each side
 abbrev pub IsWaitedFor : SessionState → Type 0
 IsWaitedFor s = (side : Side) → 0 < missing s.limits.cap (coming s side).pending
 

@@ -1,4 +1,4 @@
--- Without a message that was refused a run makes the same moves, but for the refusal.
+-- Without a refused message a run has the same effects, except the refusal.
 use Rattle.std.proofs.Common.{◌≡◌, ℕ, ◌+◌, ◌≤◌, ◌<◌, Bool, true, false, cond, List, [], ◌∷◌, ◌++◌, length, Option, Some}
 use Rattle.std.proofs.Common.{None, Result, Ok, Err, ◌⊎◌, inl, inr, refl, sym, ◌∙◌, ap, subst, arith}
 use Rattle.std.proofs.Common.{append-nil, length-append, eqb}
@@ -39,9 +39,9 @@ use Rattle.daide_protocol.proofs.OneRun.{runs_join, one_run}
 use Rattle.daide_protocol.proofs.WireLemmas.{same_self, sent_to-append}
 use Rattle.daide_protocol.proofs.BesideLemmas.{is_own, put, same_phase, event_commutes, step_beside}
 
--- ---- a byte of the side that ends no frame
+-- ---- a byte from the side that ends no frame
 
--- the state after, but for the side's own messages
+-- the state after it, except for the side's own input
 abbrev SameBut : Side → SessionState → SessionState → Type 0
 SameBut side new old = (c : Coming) → with_coming new side c ≡ with_coming old side c
 
@@ -53,7 +53,7 @@ pending_same : (side : Side) (t : SessionState) (bytes : List ℕ) → SameBut s
 pending_same Bot t bytes c = refl
 pending_same Server t bytes c = refl
 
--- no frame is whole, and the session goes on: nothing is sent
+-- no frame is whole and the session goes on: nothing is sent
 leaves : (t : SessionState) (side : Side) (items : List FrameEvent) (v : Verdict) → Shape t.limits.cap items →
     is_over t.phase ≡ false → is_over (items_outcome t side items v).state.phase ≡ false → frames_among items ≡ [] →
     ((items_outcome t side items v).effects ≡ []) × SameBut side (items_outcome t side items v).state t
@@ -70,13 +70,13 @@ leaves t side items v (at_once head w) o p f = absurd (cc)
 leaves t side items v (Shapes.whole head body w) o p f = absurd (cc)
 leaves t side items v (Shapes.wrong code) o p f = absurd (let q : true ≡ false = (let h = rw o at p in h) in cc)
 
--- ---- the byte with which a message is refused
+-- ---- the byte at which a message is refused
 
 abbrev reported_first : List Effect → Note
 reported_first [] = Notes.Nothing
 reported_first (effect ∷ effects) = effect.reported
 
--- nothing of the side's next frame is there, all else is as before, and nothing is sent to the other side
+-- nothing of the side's next frame is pending, the rest is unchanged, and nothing is sent to the other side
 abbrev IsFresh : Side → Successor → SessionState → Type 0
 IsFresh side new old =
     SameBut side new.state old × ((coming new.state side).pending ≡ []) × (sent_to (other side) new.effects ≡ [])
@@ -91,7 +91,7 @@ dm_fresh t Server len body Prn h = (λ c. refl, refl, refl)
 dm_fresh t Bot len body (Huh place) h = (λ c. refl, refl, refl)
 dm_fresh t Server len body (Huh place) h = (λ c. refl, refl, refl)
 
--- what is passed on or dropped is no refusal
+-- a relayed or dropped frame is no refusal
 not_refused : (head : Head) (b : Bool) → IsRefusal (Notes.Frame head (deed_of b Relay)) → ⊥
 not_refused head true h = h
 not_refused head false h = h
@@ -122,7 +122,7 @@ frame_fresh t side noted Em len body v r h =
     absurd (not_refused (record { kind = Em; len = len }) (may_reach t.phase (other side))
     (let k = rw r at h in k))
 
--- what is first told is so of the moves with none after them
+-- the first report is also that of the effects with none after them
 reported_alone : (effects : List Effect) → IsRefusal (reported_first (effects ++ [])) → IsRefusal (reported_first effects)
 reported_alone effects h = subst (λ (e : List Effect). IsRefusal (reported_first e)) (append-nil effects) h
 
@@ -130,7 +130,7 @@ fresh_over : (side : Side) (new : Successor) (mid old : SessionState) → SameBu
     IsFresh side new old
 fresh_over side new mid old same f = (λ k. f.0 k ∙ same k, f.1, f.2)
 
--- with no move after it
+-- with no effect after it
 alone_fresh : (side : Side) (new : Successor) (old : SessionState) → IsFresh side new old →
     IsFresh side (record { state = new.state; effects = new.effects ++ [] }) old
 alone_fresh side new old f = (f.0, f.1, ap (sent_to (other side)) (append-nil new.effects) ∙ f.2)
@@ -172,7 +172,7 @@ items_fresh t side items v (Shapes.whole head body w) o r h =
     (reported_alone one.effects (let k = rw o at h in k))))
 items_fresh t side items v (Shapes.wrong code) o r h = absurd (let k = rw o at h in k)
 
--- ---- one step of the side
+-- ---- one step at a byte from the side
 
 live_phase : (side : Side) (s : SessionState) (bytes : List ℕ) → is_over s.phase ≡ false →
     is_over (with_pending s side bytes).phase ≡ false
@@ -205,7 +205,7 @@ came_byte s side x effects m t o =
     let e : event_outcome s (Comes side x) t.verdict ≡ after_byte s side x t.verdict = rw o refl in
     sym e ∙ t.outcome
 
--- a byte that ends no frame, where the session goes on
+-- a byte that ends no frame, if the session goes on
 own_quiet : (s : SessionState) (side : Side) (x : ℕ) (effects : List Effect) (m : SessionState) →
     Transition s (Comes side x) effects m → is_over s.phase ≡ false → is_over m.phase ≡ false →
     frames_among (last_items s.limits.cap (bytes_at s side x)) ≡ [] → (effects ≡ []) × SameBut side m s
@@ -233,7 +233,7 @@ own_refused s side x refusal m t o h =
     (fresh_over side (after_byte s side x t.verdict) (with_pending s side (bytes_at s side x)) s
     (pending_same side s (bytes_at s side x)) f)
 
--- ---- while the message comes
+-- ---- while the message arrives
 
 live_before : (s : SessionState) (events : List Event) (effects : List Effect) (m : SessionState) →
     Runs s events effects m → is_over m.phase ≡ false → is_over s.phase ≡ false
@@ -247,7 +247,7 @@ none_of : (a b : List FrameEvent) → a ++ b ≡ [] → (a ≡ []) × (b ≡ [])
 none_of [] b e = (refl, e)
 none_of (item ∷ a) b e = absurd (cc)
 
--- an event beside the side
+-- an event other than a byte from the side
 passes_on : (side : Side) (c : Coming) (e : Event) (events : List Event) (s : SessionState) (b : List Effect)
     (m : SessionState) (run : Runs s (e ∷ events) b m) → is_own side e ≡ false →
     Runs (with_coming run.0 side c) (without_bytes side events) run.2 (with_coming m side c) →
@@ -255,7 +255,7 @@ passes_on : (side : Side) (c : Coming) (e : Event) (events : List Event) (s : Se
 passes_on side c e events s b m run own later =
     (with_coming run.0 side c, run.1, run.2, step_beside side s c e run.1 run.0 own run.3, later, run.5)
 
--- a byte of the side
+-- a byte from the side
 stays_out : (side : Side) (c : Coming) (x : ℕ) (events : List Event) (s : SessionState) (b : List Effect)
     (m : SessionState) (run : Runs s (Comes side x ∷ events) b m) → is_over m.phase ≡ false →
     frames_among (heard_at side s (Comes side x)) ≡ [] →
@@ -296,16 +296,16 @@ between_runs side c (e ∷ events) s b m run f p =
     (sym (frames_among-append (heard_at side s e) (items_heard side run.0 events run.2 m run.4)) ∙ f) in
     one_event side c e events s b m run p none.0 (between_runs side c events run.0 run.2 m run.4 none.1 p)
 
--- ---- after it, with another level noted
+-- ---- after it, with another recorded level
 
--- where another level is noted for a side, no header of its next frame is there, or the session is over
+-- if another level is recorded for a side, it has no whole header pending, or the session is over
 abbrev MayDiffer : Side → SessionState → Level → Type 0
 MayDiffer side s n = is_over s.phase ≡ false → 4 ≤ length (coming s side).pending → n ≡ (coming s side).noted
 
 abbrev put_noted : Side → Level → Successor → Successor
 put_noted side l o = record { state = with_noted o.state side l; effects = o.effects }
 
--- a step, with another level noted before and after
+-- the same step with another level recorded before and after
 abbrev StepsToo : Side → SessionState → Level → Event → List Effect → SessionState → Type 0
 StepsToo side s n e effects m =
     (l : Level) × Transition (with_noted s side n) e effects (with_noted m side l) × MayDiffer side m l
@@ -322,7 +322,7 @@ coming_is : (side : Side) (s : SessionState) (c : Coming) → coming (with_comin
 coming_is Bot s c = refl
 coming_is Server s c = refl
 
--- what is beside a side leaves its messages
+-- an event other than a byte from a side leaves its input unchanged
 keeps : (side : Side) (s : SessionState) (e : Event) (effects : List Effect) (m : SessionState) → is_own side e
     ≡ false →
     Transition s e effects m → coming m side ≡ coming s side
@@ -346,7 +346,7 @@ beside_too side s n e effects m own t may =
           (subst (λ (k : Coming). 4 ≤ length k.pending) kept l) ∙ ap (λ (k : Coming). k.noted) (sym kept),
     )
 
--- with a header that is there the level is the same
+-- with a whole header the level is the same
 long_too : (side : Side) (s : SessionState) (n : Level) (e : Event) (effects : List Effect) (m : SessionState) →
     Transition s e effects m → n ≡ (coming s side).noted → StepsToo side s n e effects m
 long_too side s n e effects m t same = (
@@ -357,7 +357,7 @@ long_too side s n e effects m t same = (
   λ o l. refl,
 )
 
--- the items that end with a header
+-- the frame events that end with a header
 data Early : List FrameEvent → Type 0 where
   early_wrong : (code : Code) → Early (Wrong code ∷ [])
   early_begun : (head : Head) (rest : List FrameEvent) → Early (Begun head ∷ rest)
@@ -371,7 +371,7 @@ over_items : (t : SessionState) (side : Side) (items : List FrameEvent) (v : Ver
 over_items t side [] v o = refl
 over_items t side (item ∷ items) v o = rw o refl
 
--- they are judged by the present level alone
+-- only the current level judges them
 early_asks : (side : Side) (m n now : Level) (refusal : Kind → Option Code) (items : List FrameEvent) → Early items →
     question_in side m now refusal items ≡ question_in side n now refusal items
 early_asks side m n now refusal items (early_wrong code) = refl

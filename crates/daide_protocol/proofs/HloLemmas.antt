@@ -1,4 +1,4 @@
--- What is found in the tokens of an HLO once more of them came.
+-- The scan of an HLO after more of its tokens.
 use Rattle.std.proofs.Common.{◌≡◌, ℕ, zero, suc, ◌+◌, ◌*◌, ◌<◌, Bool, true, false, ◌==◌, List, [], ◌∷◌, ◌++◌}
 use Rattle.std.proofs.Common.{length, reverse, get_or, take, Option, Some, None, refl, sym, ap, ◌∙◌, arith}
 use Rattle.std.proofs.Common.{append_assoc, append-nil}
@@ -19,18 +19,18 @@ first_of_three : (a b c : Option ℤ) → or_else a (or_else b c) ≡ or_else (o
 first_of_three None b c = refl
 first_of_three (Some n) b c = refl
 
--- a token at the front is not among the last ones
+-- a token at the front is not one of the last ones
 pub last_of_more : (places token : ℕ) (tokens : List ℕ) → places < length tokens →
     before_last places (token ∷ tokens) ≡ before_last places tokens
 last_of_more places token tokens within =
     ap (λ (x : List ℕ). get_or x places 0) (reverse-append (token ∷ []) tokens)
     ∙ get_or_append_left (reverse tokens) (token ∷ []) 0 places (omega (arith, within, length-reverse tokens))
 
--- the option that one more token ends
+-- the option that one more token completes
 abbrev ended : List ℕ → ℕ → Option ℤ
 ended tokens t = option_number (before_last 2 tokens ∷ before_last 1 tokens ∷ before_last 0 tokens ∷ t ∷ [])
 
--- the first option is the first of the tokens before or, without one there, that which the last token ends
+-- the first option is the first of the earlier tokens or, without one there, the one that the last token completes
 pub first_level-next : (tokens : List ℕ) (t : ℕ) →
     first_level (tokens ++ t ∷ []) ≡ or_else (first_level tokens) (ended tokens t)
 first_level-next [] t = refl
@@ -48,7 +48,7 @@ first_level-next (a ∷ b ∷ c ∷ d ∷ rest) t =
       last_of_more 0 a (b ∷ c ∷ d ∷ rest) (omega arith),
     ) refl)
 
--- ---- what is found, with one more token
+-- ---- the scan after one more token
 
 last_added : (tokens : List ℕ) (t : ℕ) → before_last 0 (tokens ++ t ∷ []) ≡ t
 last_added tokens t = ap (λ (x : List ℕ). get_or x 0 0) (reverse-append tokens (t ∷ []))
@@ -57,7 +57,7 @@ moved_back : (places : ℕ) (tokens : List ℕ) (t : ℕ) →
     before_last (suc places) (tokens ++ t ∷ []) ≡ before_last places tokens
 moved_back places tokens t = ap (λ (x : List ℕ). get_or x (suc places) 0) (reverse-append tokens (t ∷ []))
 
--- what an HLO's last four tokens make
+-- the scan from an HLO's last four tokens
 abbrev pub found_with : Option ℤ → ℕ → ℕ → ℕ → LvlScan
 found_with (Some number) second last t = Number number
 found_with None second last t = NoNumber second last t
@@ -67,7 +67,7 @@ lvl_scan_by-next : (o : Option ℤ) (tokens : List ℕ) (t : ℕ) →
 lvl_scan_by-next (Some number) tokens t = refl
 lvl_scan_by-next None tokens t = rw (moved_back 1 tokens t, moved_back 0 tokens t, last_added tokens t) refl
 
--- where no token came
+-- there was no token yet
 pub none_came : (tokens : List ℕ) → NoToken ≡ lvl_scan_of tokens → tokens ≡ []
 none_came [] e = refl
 none_came (x ∷ tokens) e = go (x == hlo) refl (first_level (x ∷ tokens)) refl
@@ -82,13 +82,13 @@ pub first_found : (t : ℕ) (k : Bool) → (t == hlo) ≡ k → lvl_scan_of (t �
 first_found t true e = rw e refl
 first_found t false e = rw e refl
 
--- a first token that is another one
+-- a first token other than HLO
 pub no_hlo-begins : (tokens : List ℕ) (t : ℕ) → NoToken ≡ lvl_scan_of tokens → (t == hlo) ≡ false →
     NoHlo ≡ lvl_scan_of (tokens ++ t ∷ [])
 no_hlo-begins tokens t none other =
     sym (ap (λ (l : List ℕ). lvl_scan_of (l ++ t ∷ [])) (none_came tokens none) ∙ first_found t false other)
 
--- a message that is no HLO stays so
+-- a message that is no HLO stays one
 pub no_hlo-next : (tokens : List ℕ) (t : ℕ) → NoHlo ≡ lvl_scan_of tokens → NoHlo ≡ lvl_scan_of (tokens ++ t ∷ [])
 no_hlo-next [] t e = absurd (cc)
 no_hlo-next (x ∷ tokens) t e = go (x == hlo) refl (first_level (x ∷ tokens)) refl
@@ -99,7 +99,7 @@ no_hlo-next (x ∷ tokens) t e = go (x == hlo) refl (first_level (x ∷ tokens))
     go true h None f = absurd (let e2 : NoHlo ≡ lvl_scan_by None (x ∷ tokens) = e ∙ rw (h, f) refl in cc)
     go true h (Some n) f = absurd (let e2 : NoHlo ≡ Number n = e ∙ rw (h, f) refl in cc)
 
--- the number of the first option stays
+-- the number of the first option is kept
 pub number-next : (tokens : List ℕ) (t : ℕ) (n : ℤ) → Number n ≡ lvl_scan_of tokens →
     Number n ≡ lvl_scan_of (tokens ++ t ∷ [])
 number-next [] t n e = absurd (cc)

@@ -1,5 +1,5 @@
--- Each law of the machine, used once at values that were worked out by hand: each fact takes the law alone, so that a
--- weaker one does not check.
+-- Each law of the machine, used once at concrete values. Each fact uses only the law, so that a weaker law does not
+-- check.
 use Rattle.std.proofs.Common.{◌≡◌, ℕ, ◌<◌, true, false, List, [], ◌∷◌, ◌++◌, take, drop, Some, None}
 use Rattle.std.proofs.Common.{is_some, Bool, ◌==◌, slice_index, slice_index_or, refl, sym, ap, ◌∙◌, subst, arith}
 use Rattle.std.proofs.Common.{append-nil}
@@ -45,7 +45,7 @@ use Rattle.daide_protocol.proofs.SomeRun.{outcome_of, run_of}
 
 -- ---- runs
 
--- the last byte of a message has a step, and so has the timer after the end
+-- the last byte of a message has a transition, and so has the timer after the end
 each_event : EachEventHasATransition →
     ((effects : List Effect) × (new : SessionState)
     × Transition (with_pending open_at_0 Bot (0x02 ∷ 0x00 ∷ 0x00 ∷ 0x02 ∷ 0x48 ∷ [])) (Comes Bot 0x0F) effects new)
@@ -55,11 +55,11 @@ each_event law = (
   law (standing usual Over L0) ImTimerExpired refl,
 )
 
--- so has a whole session a run
+-- so a whole session has a run
 has_a_run : EventsHaveARun → (effects : List Effect) × (new : SessionState) × Runs (initial_state usual) session_events effects new
 has_a_run law = law (initial_state usual) session_events refl
 
--- and no other than the one that was worked out
+-- and only the one that was worked out
 one_run : AnswersAreUnique → (effects : List Effect) (new : SessionState) → Runs (initial_state usual) session_events effects new →
     (sent_bytes (sent_to Server effects) ≡ im ++ message (0x480F ∷ [])) × (new.phase ≡ Over)
 one_run law effects new run =
@@ -68,12 +68,12 @@ one_run law effects new run =
       ap (λ (s : SessionState). s.phase) same.1 ∙ one_session.its_phase,
     )
 
--- a run of the IM and then one of the bot's end are one of both
+-- a run of the IM and then one of the bot's end are a run of both
 joined : RunsJoin → (mid new : SessionState) (a b : List Effect) → Runs (initial_state usual) (bytes_come Bot im) a mid →
     Runs mid (Ends Bot ∷ []) b new → Runs (initial_state usual) (bytes_come Bot im ++ Ends Bot ∷ []) (a ++ b) new
 joined law mid new a b = law (bytes_come Bot im) (Ends Bot ∷ []) (initial_state usual) mid new a b
 
--- after an FM for the bot comes what later moves send it
+-- after an FM for the bot it gets the frames of later effects
 abbrev sends_fm : Effect
 sends_fm = record { reported = Notes.Nothing; sent = record { to = Bot; answers = None; bytes = fm } ∷ [] }
 
@@ -88,8 +88,8 @@ pieces law more = law Server (0x01 ∷ 0x00 ∷ []) more
 
 -- ---- calls
 
--- an FM that the bot's wire took, and what waits for it then, are what waited for it and what the run sends it; for a wire
--- that failed nothing waits
+-- an FM that the bot's wire took, and the bytes still queued for it, are the bytes queued before and the frames of the
+-- run; a failed wire has an empty queue
 delivered : CallsDeliverTheAnswers → (old new : SessionView) → AreCalls old (Feeds Bot (0x03 ∷ []) ∷ Puts Bot fm ∷ []) new →
     (effects : List Effect) × Runs old.state (Comes Bot 0x03 ∷ []) effects new.state
     × (fm ++ sent_bytes (queued new Bot) ≡ sent_bytes (queued old Bot ++ sent_to Bot effects))
@@ -100,7 +100,7 @@ delivered law old new calls =
 cut_off : CallsDeliverTheAnswers → (old new : SessionView) → AreCalls old (Fails Bot ∷ []) new → queued new Bot ≡ []
 cut_off law old new calls = ((law old new (Fails Bot ∷ []) calls).cut_off Bot refl).0
 
--- the IM that the server's wire took, and what waits for it then, are what the run of the IM sends it
+-- the IM that the server's wire took, and the bytes still queued for it, are the frames of the run
 each_wire : EachWireGetsTheAnswers → (old new : SessionView) → IsNew usual old →
     AreCalls old (Feeds Bot im ∷ Puts Server im ∷ []) new →
     (effects : List Effect) × Runs (initial_state usual) (bytes_come Bot im) effects new.state
@@ -109,7 +109,7 @@ each_wire law old new fresh calls =
     let all = law usual old new (Feeds Bot im ∷ Puts Server im ∷ []) fresh calls in
     (all.0, all.1, all.2 Server refl)
 
--- an IM in one piece and one in two pieces are the same
+-- an IM in one piece and one in two pieces have the same result
 one_piece_or_two : OnlyEventsMatter → (one other one_new other_new : SessionView) → IsNew usual one → IsNew usual other →
     AreCalls one (Feeds Bot im ∷ []) one_new →
     AreCalls other (Feeds Bot (take 3 im) ∷ Feeds Bot (drop 3 im) ∷ []) other_new →
@@ -128,7 +128,7 @@ after_the_end : NothingAfterTheEnd → (effects : List Effect) (new : SessionSta
 after_the_end law effects new run =
     law (standing usual Over L0) new (bytes_come Bot im ++ ImTimerExpired ∷ []) effects refl run
 
--- of one event, the one that ended the session is that one
+-- if there is one event, it is the one that ended the session
 ended_by : (before : List Event) (event : Event) (after : List Event) (moves : List Effect) (old : SessionState) →
     ImTimerExpired ∷ [] ≡ before ++ event ∷ after → Runs (initial_state usual) before moves old →
     ending_at old event ≡ Some (Endings.Fault Bot ImTimeout)
@@ -138,7 +138,7 @@ ended_by [] event after moves old is run =
 ended_by (first ∷ []) event after moves old is run = absurd cc
 ended_by (first ∷ second ∷ before) event after moves old is run = absurd cc
 
--- the timer is the bot's fault, by which the session is over
+-- the timer is a fault of the bot, which ends the session
 timer_ends : EndingIsKnown → (effects : List Effect) (new : SessionState) →
     Runs (initial_state usual) (ImTimerExpired ∷ []) effects new → is_over new.phase ≡ true →
     (is_some new.ending ≡ true) × (new.ending ≡ Some (Endings.Fault Bot ImTimeout))
@@ -150,7 +150,7 @@ timer_ends law effects new run over =
           ended.run_before,
     )
 
--- IM, RM, OBS, OFF and FM were passed on, and GOF ( was answered with PRN
+-- IM, RM, OBS, OFF and FM were relayed, and GOF ( got PRN
 counts : CountsAreTheMoves → tallied (outcome_of (initial_state usual) session_events).effects nothing_counted
     ≡ record { relayed = 5; prn = 1; huh = 0; faults = 0 }
 unfolding last_items first_items parse_head is_alien im_of entries may_end_of table_answer class_of answer_bytes head_bytes
@@ -160,7 +160,7 @@ counts law =
 
 -- ---- frames
 
--- an IM is heard as its header and its frame, and nothing else
+-- an IM has two frame events: its header and its frame
 im_heard : FramesAreThoseOfTheCut → (effects : List Effect) (new : SessionState)
     (run : Runs (initial_state usual) (bytes_come Bot im) effects new) → is_over new.phase ≡ false →
     items_heard Bot (initial_state usual) (bytes_come Bot im) effects new run
@@ -180,7 +180,7 @@ waited_for law effects new = law Bot usual (bytes_come Bot (take 3 im)) effects 
 
 -- ---- fates
 
--- the timer is told the bot by EM 01, and by nothing else
+-- at the timer the bot gets EM 01, and nothing else is sent
 one_effect : (effects : List Effect) → HaveFates usual (record { phase = WaitIm; cause = Timeout } ∷ []) effects →
     (effect : Effect) × (effects ≡ effect ∷ []) × (effect.sent ≡ em_to Bot ImTimeout ∷ [])
 one_effect [] h = absurd h
@@ -191,7 +191,7 @@ timer_has_one_fate : EachMessageHasOneFate → (effects : List Effect) (new : Se
     (effects ≡ effect ∷ []) × (effect.sent ≡ em_to Bot ImTimeout ∷ [])
 timer_has_one_fate law effects new run = one_effect effects (law usual (ImTimerExpired ∷ []) effects new run).fates
 
--- an OBS that a bot is sent is one that the server said, and may say at the level noted for it
+-- an OBS that a bot gets is one that the server sent, and may send at the recorded level
 abbrev IsSaid : List Came → List ℕ → Type 0
 IsSaid came bytes = bytes ≡ message (0x480F ∷ []) → (noted : Level) × IsMessage ServerEnd noted (0x480F ∷ [])
     × HasCome came Server noted (0x48 ∷ 0x0F ∷ [])
@@ -200,7 +200,7 @@ both_ways : (b : Bool) → b ≡ true → b ≡ false → ⊥
 both_ways true t f = cc
 both_ways false t f = cc
 
--- lists that begin with other numbers
+-- lists with different first numbers are different
 begin_apart : (n m : ℕ) (one other : List ℕ) → (n == m) ≡ false → n ∷ one ≡ m ∷ other → ⊥
 begin_apart n m one other test same =
     let first : n ≡ m = ap (λ (l : List ℕ). slice_index l 0) same in
@@ -221,7 +221,7 @@ module _ (came : List Came) (bytes : List ℕ) (is : bytes ≡ message (0x480F �
   is_one Fm body frame none = begin_apart 2 3 _ _ refl (sym is ∙ frame.whole)
   is_one Em body frame none = begin_apart 2 4 _ _ refl (sym is ∙ frame.whole)
 
-  -- and no answer
+  -- and no PRN or HUH
   no_answer : (first : ℕ) (answer : List ℕ) (body : List ℕ) → IsFrame Dm body bytes → (0x480F == first) ≡ false →
       tokens_of body ≡ first ∷ answer → ⊥
   no_answer first answer body frame test begins =
@@ -246,7 +246,7 @@ obs_of_the_server law events effects new run k d less is =
     said (came_in (initial_state usual) events effects new run) (slice_index_or (sent_to Bot effects) k d).bytes is
     (law usual events effects new run (omega arith) Bot k d less)
 
--- a message of the bot that was refused changes nothing of what the server is sent
+-- a refused message of the bot does not change the frames that the server gets
 refused_alone : ASideHarmsItselfAlone → (before between after : List Event) (first among last : List Effect)
     (refusal : Effect) (new : SessionState) →
     HasRefused usual Bot before between 0x00 after first among refusal last new →

@@ -1,6 +1,6 @@
 -- The level of press that a server's HLO sets, over the whole range of its number, its option and the operator's top
--- level; and the bounds of what is kept, from no open bracket to the most. Written from the protocol's session rules,
--- so that a number that is right where its neighbour is wrong does not check.
+-- level; and the bounds of what is held, from no open bracket to the maximum. Written from the protocol's session
+-- rules. A definition that is right for one number and wrong for the next does not check.
 use Rattle.std.proofs.Common.{◌≡◌, ℕ, zero, suc, ◌+◌, ◌*◌, ◌≤◌, List, [], ◌∷◌, ◌++◌, map, replicate, drop, refl}
 use Rattle.std.specs.List.{range_with_len}
 use Rattle.daide_frame.specs.Head.{parse_head}
@@ -25,7 +25,7 @@ option word token = 0x4000 ∷ word ∷ token ∷ 0x4001 ∷ []
 abbrev lvl : ℕ → List ℕ
 lvl token = option 0x4903 token
 
--- the level under an operator's top level, at level 30 before, of each of some options
+-- the level under an operator's top level, after level 30, for each of some options
 abbrev levels : Level → List (List ℕ) → List Level
 levels top each = map (λ options. level_reported top (hlo_with options) L30) each
 
@@ -39,7 +39,7 @@ greatest = range_with_len 0x1F00 256
 abbrev negative : List ℕ
 negative = range_with_len 0x2000 256 ++ range_with_len 0x3F00 256
 
--- ten numbers to a level, from 0 on, up to the operator's
+-- ten numbers for each level, from 0 on, up to the operator's level
 by_numbers : (levels L60 (map lvl small) ≡ replicate 10 L0 ++ replicate 10 L10 ++ replicate 10 L20 ++ replicate 10 L30
     ++ replicate 10 L40 ++ replicate 10 L50 ++ replicate 196 L60)
     × (levels L50 (map lvl small) ≡ replicate 10 L0 ++ replicate 10 L10 ++ replicate 10 L20 ++ replicate 10 L30
@@ -60,7 +60,7 @@ by_negative_numbers : (levels L60 (map lvl negative) ≡ replicate 512 L0)
     × (levels L60 (map (λ token. lvl token ++ lvl 20) negative) ≡ replicate 512 L0)
 by_negative_numbers = (refl, refl)
 
--- the first option with a number counts, and one with a token that is no number is passed over: the first token of each
+-- the first option with a number counts, and one with a token that is no number is skipped: the first token of each
 -- category from 40 on
 by_the_first : (levels L60 (map (λ token. lvl token ++ lvl 60) (range_with_len 0 60))
     ≡ replicate 10 L0 ++ replicate 10 L10 ++ replicate 10 L20 ++ replicate 10 L30 ++ replicate 10 L40 ++ replicate 10 L50)
@@ -68,26 +68,26 @@ by_the_first : (levels L60 (map (λ token. lvl token ++ lvl 60) (range_with_len 
     × (levels L60 (map (λ category. lvl (category * 256)) (range_with_len 0x40 192)) ≡ replicate 192 L0)
 by_the_first = (refl, refl, refl)
 
--- of all parameters LVL alone
+-- of all parameters only LVL
 by_lvl_alone : (levels L60 (map (λ code. option (0x4900 + code) 10) (range_with_len 0 256))
     ≡ replicate 3 L0 ++ L10 ∷ replicate 252 L0)
     × (levels L60 (map (λ code. option (0x4900 + code) 10 ++ lvl 20) (range_with_len 0 256))
     ≡ replicate 3 L20 ++ L10 ∷ replicate 252 L20)
 by_lvl_alone = (refl, refl)
 
--- of all commands HLO alone
+-- of all commands only HLO
 by_hlo_alone : map (λ code. level_reported L60 ((0x4800 + code) ∷ drop 1 (hlo_with (lvl 20))) L30) (range_with_len 0 256)
     ≡ replicate 4 L30 ++ L20 ∷ replicate 251 L30
 by_hlo_alone = refl
 
--- ---- what is kept
+-- ---- what is held
 
--- so many opening brackets
+-- n opening brackets
 abbrev opened : ℕ → List ℕ
 opened zero = []
 opened (suc n) = 0x40 ∷ 0x00 ∷ opened n
 
--- a HUH of 1,018 bytes, of which so many brackets came, with so many entries on its reader's stack
+-- a HUH of 1,018 bytes, of which some brackets arrived, with the height of its reader's stack
 abbrev huh_of : ℕ → ℕ → Holding
 huh_of brackets n = record {
   held = 0x02 ∷ 0x00 ∷ 0x03 ∷ 0xFA ∷ 0x48 ∷ 0x06 ∷ opened brackets;
@@ -97,7 +97,7 @@ huh_of brackets n = record {
   looked_at = 0;
 }
 
--- eight entries for each open bracket and sixteen: of none, of one, of the 62 and of the 254 that may be open at most
+-- eight entries for each open bracket, plus sixteen: for none, for one, for 62 and for 254, the maximum
 kept_entries : (n : ℕ) → (IsKeptSmall 65526 (huh_of 0 n) → n ≤ 16) × (IsKeptSmall 65526 (huh_of 1 n) → n ≤ 24)
     × (IsKeptSmall 65526 (huh_of 62 n) → n ≤ 512) × (IsKeptSmall 65526 (huh_of 254 n) → n ≤ 2048)
 unfolding announced head_in parse_head

@@ -1,5 +1,5 @@
--- The limits that an operator may set, at their ends, and over the whole range round them. Worked out by hand, so that
--- another number in a definition does not check.
+-- The limits that an operator may set, at their ends and over the whole range around them. Worked out from the
+-- documents, so that another number in a definition does not check.
 use Rattle.std.proofs.Common.{◌≡◌, ℕ, zero, suc, ◌+◌, ◌*◌, List, [], ◌++◌, map, replicate, refl}
 use Rattle.std.specs.Prelude.{Result, Ok, Err}
 use Rattle.std.specs.List.{range_with_len}
@@ -9,7 +9,7 @@ use Rattle.daide_protocol.specs.declared.config.ConfigError.{ConfigError}
 use Rattle.daide_protocol.specs.declared.config.ConfigError.TheVariants.{Level, Body, Depth}
 use Rattle.daide_protocol.specs.Config.{config_fault}
 
--- the highest level and the longest body, with so many brackets
+-- the highest level and the longest body, with a depth
 abbrev wide : ℕ → Config
 wide depth = record { top_level = 60; max_body = longest_body; max_depth = depth }
 
@@ -25,7 +25,7 @@ shallowest_is_right = refl
 no_shallower : config_fault (wide 3) ≡ Err Depth
 no_shallower = refl
 
--- eight entries for each open bracket, and sixteen
+-- eight entries for each open bracket, plus sixteen
 entries_of_the_greatest_depth : 8 * greatest_depth + 16 ≡ 2048
 entries_of_the_greatest_depth = refl
 
@@ -55,7 +55,7 @@ top_levels : map at_level (range_with_len 0 256) ≡ right 1 ++ wrong Level 9 ++
     ++ wrong Level 195
 top_levels = refl
 
--- so many even bodies, each with an odd one behind it
+-- n even bodies, each followed by an odd one
 abbrev evens : ℕ → List (Result (Unit {0}) ConfigError)
 evens zero = []
 evens (suc n) = right 1 ++ wrong Body 1 ++ evens n

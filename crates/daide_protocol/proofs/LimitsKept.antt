@@ -39,7 +39,7 @@ event_limits s (Loses side) v = go (is_over s.phase) refl
     go false e = rw e refl
 event_limits s ImTimerExpired v = im_timer_expired_limits s.phase s
 
--- a run keeps its limits
+-- a run does not change its limits
 pub runs_limits : (events : List Event) (old new : SessionState) (effects : List Effect) → Runs old events effects new →
     new.limits ≡ old.limits
 runs_limits [] old new effects run = ap (λ (s : SessionState). s.limits) run.1

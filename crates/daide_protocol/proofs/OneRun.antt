@@ -1,4 +1,4 @@
--- From a state, events have one run: the same moves, and the same state after. And runs join.
+-- From a state, events have one run: the same effects, and the same state after it. And runs can be concatenated.
 use Rattle.std.proofs.Common.{◌≡◌, ℕ, List, [], ◌∷◌, ◌++◌, Option, Some, None, sym, ap, ◌∙◌, subst, append_assoc}
 use Rattle.daide_reader.specs.declared.verdict.Verdict.{Verdict}
 use Rattle.daide_reader.proofs.VerdictLemmas.{verdict_is_one}

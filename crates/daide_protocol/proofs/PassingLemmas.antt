@@ -1,4 +1,4 @@
--- What a side is sent in a run is whole frames: the other side's messages, and its own within PRN or HUH.
+-- The frames that a side gets in a run are whole: the other side's messages, and its own within PRN or HUH.
 use Rattle.std.proofs.Common.{◌≡◌, ℕ, ◌*◌, ◌%◌, ◌≤◌, Bool, true, false, List, [], ◌∷◌, ◌++◌, length, take, drop}
 use Rattle.std.proofs.Common.{Option, Some, None, Result, Ok, Err, if◌then◌else◌, inl, inr, refl, sym, ◌∙◌, ap}
 use Rattle.std.proofs.Common.{subst, arith}
@@ -49,7 +49,7 @@ use Rattle.daide_protocol.proofs.AnswerBytes.{prn_tokens, huh_tokens, even_right
 use Rattle.daide_protocol.proofs.FateLemmas.{run_fates}
 use Rattle.daide_protocol.proofs.LimitsKept.{runs_limits}
 
--- ---- the frames that come are whole
+-- ---- the frames among the inputs are whole
 
 abbrev pub IsGood : ℕ → EventCause → Type 0
 IsGood cap (Frame side noted head body) = IsWholeFrame cap head body
@@ -140,7 +140,7 @@ same_is Bot Server e = absurd (cc)
 same_is Server Bot e = absurd (cc)
 same_is Server Server e = refl
 
--- those of some frames that are for a side
+-- a property of those frames that are for a side
 abbrev pub EachTo : (Sent → Type 0) → Side → List Sent → Type 0
 EachTo P to [] = Unit {0}
 EachTo P to (frame ∷ frames) = (frame.to ≡ to → P frame) × EachTo P to frames
@@ -154,7 +154,7 @@ each_to P to (frame ∷ frames) h = go (same_side frame.to to) refl (each_to P t
     go true e rest = All-cons P frame (frames_to to frames) (h.0 (same_is frame.to to e)) rest
     go false e rest = rest
 
--- ---- what a verdict says
+-- ---- the meaning of a verdict
 
 relay_says : (message : List ℕ → Type 0) (max_depth : ℕ) (m : List ℕ) → HasVerdict message max_depth m Verdicts.Relay →
     IsPaired m × IsRelayed message max_depth m
@@ -172,7 +172,7 @@ huh_says : (message : List ℕ → Type 0) (max_depth : ℕ) (m : List ℕ) (pla
 unfolding HasVerdict
 huh_says message max_depth m place v = v
 
--- a report PRN is passed on everywhere, so what is answered with HUH balances
+-- a report PRN is always relayed, so a message that gets HUH balances
 pub not_report : (message : List ℕ → Type 0) (max_depth : ℕ) (m : List ℕ) → (IsPrnWrapped m → message m) → IsPaired m →
     ¬ IsRelayed message max_depth m → (begins_with_prn m ≡ false) × IsBalanced m
 not_report message max_depth m reports (inl r) refused =
@@ -185,7 +185,7 @@ huh_balances a h =
     Balance.joined (huh ∷ []) (bra ∷ (a ++ ket ∷ []))
     (Balance.plain huh (λ e. absurd (omega arith)) (λ e. absurd (omega arith))) (Balance.bracketed a h)
 
--- ---- frames that are no message
+-- ---- frames without a message
 
 pub other_other : (side : Side) → other (other side) ≡ side
 other_other Bot = refl
@@ -199,7 +199,7 @@ fm_frame : IsFrame Fm [] fm_bytes
 unfolding head_bytes
 fm_frame = record { whole = refl; right = refl; short = omega arith }
 
--- ---- what becomes of what comes may be sent
+-- ---- the fate of an input may be sent
 
 module _ (limits : Limits) (small : limits.cap ≤ longest_body) (all : List Came) (to : Side) where
   abbrev May : Sent → Type 0
@@ -231,7 +231,7 @@ module _ (limits : Limits) (small : limits.cap ≤ longest_body) (all : List Cam
       go true = other_frame side head body w n
       go false = tt
 
-  -- a message that came
+  -- a message among the inputs
   module _ (side : Side) (noted : Level) (len : ℕ) (body : List ℕ)
       (w : IsWholeFrame limits.cap (record { kind = Dm; len = len }) body) (come : HasCome all side noted body) where
     abbrev Message : List ℕ → Type 0

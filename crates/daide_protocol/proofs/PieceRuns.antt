@@ -1,5 +1,5 @@
--- A piece is the run over its bytes: what a session makes of the items that end within a piece is what
--- the machine makes of its bytes, one by one.
+-- A piece is the run over its bytes: the outcome of the frame events in a piece is the machine's outcome of its bytes,
+-- one by one.
 use Rattle.std.proofs.Common.{◌≡◌, ℕ, Bool, true, false, List, [], ◌∷◌, ◌++◌, length, Option, None, refl, sym, ap, ◌∙◌}
 use Rattle.std.proofs.Common.{subst, arith, append_assoc, append-nil, length-append, ◌⊎◌, inl, inr, ⊎_elim}
 use Rattle.daide_frame.specs.declared.side.Side.{Side}
@@ -35,7 +35,7 @@ over_asks s (Ends side) h = refl
 over_asks s (Loses side) h = refl
 over_asks s ImTimerExpired h = refl
 
--- once over, a session stays as it is
+-- once over, a session is unchanged
 pub over_stays : (s : SessionState) (es : List Event) → is_over s.phase ≡ true → Runs s es [] s
 over_stays s [] h = (refl, refl)
 over_stays s (e ∷ es) h =
@@ -43,7 +43,7 @@ over_stays s (e ∷ es) h =
     (sym (over_asks s e h)) refl in
     (s, [], [], record { verdict = Relay; right = right; outcome = over_outcome s e Relay h }, over_stays s es h, refl)
 
--- ---- the bytes of a side, changed again
+-- ---- the bytes from a side, replaced
 
 pub phase_is : (s : SessionState) (side : Side) (a : List ℕ) → (with_pending s side a).phase ≡ s.phase
 phase_is s Bot a = refl
@@ -63,13 +63,13 @@ nothing_is (item ∷ items) e = absurd (cc)
 
 -- ---- a piece
 
--- what a piece makes of a state
+-- the outcome of a piece
 abbrev pub piece_outcome : SessionState → Side → List ℕ → Verdict → Successor
 piece_outcome s side piece v =
     items_outcome (with_pending s side (fed s.limits.cap (coming s side).pending piece)) side
     (fed_items s.limits.cap (coming s side).pending piece) v
 
--- the message that it asks the grammar about
+-- the message that is judged in it
 abbrev pub piece_asks : SessionState → Side → List ℕ → Option Question
 piece_asks s side piece = asked_by s side (fed_items s.limits.cap (coming s side).pending piece)
 
@@ -79,14 +79,14 @@ IsTaken s side piece v =
     (fed s.limits.cap (coming s side).pending piece ≡ (coming s side).pending ++ piece)
     ⊎ (is_over (piece_outcome s side piece v).state.phase ≡ true)
 
--- the bytes with one more, and the items that end with it
+-- the bytes with one more, and the frame events that end with it
 abbrev with_byte : SessionState → Side → ℕ → List ℕ
 with_byte s side x = (coming s side).pending ++ x ∷ []
 
 abbrev items_at : SessionState → Side → ℕ → List FrameEvent
 items_at s side x = last_items s.limits.cap (with_byte s side x)
 
--- a byte that ends nothing
+-- a byte that ends no frame event
 
 later_outcome : (s : SessionState) (side : Side) (x : ℕ) (piece : List ℕ) (v : Verdict) →
     is_nothing (items_at s side x) ≡ true →
@@ -115,7 +115,7 @@ quiet_step s side x o n = record {
   outcome = rw (o, n) refl;
 }
 
--- a byte that ends something
+-- a byte that ends a frame event
 
 loud_step : (s : SessionState) (side : Side) (x : ℕ) (v : Verdict) → is_over s.phase ≡ false →
     IsCorrectVerdict s.limits.words s.limits.max_depth (asked_by s side (items_at s side x)) v →

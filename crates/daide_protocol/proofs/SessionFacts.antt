@@ -1,5 +1,5 @@
--- Sessions worked out by hand, event by event: what either side's bytes make, by the grammar's verdicts. So a rule that
--- holds of one side alone, or of another level or depth, does not check.
+-- Sessions worked out from the protocol, event by event, for bytes from either side, with the grammar's verdicts. A
+-- rule that holds for only one side, or for another level or depth, does not check.
 use Rattle.std.proofs.Common.{◌≡◌, ℕ, ◌*◌, List, [], ◌∷◌, ◌++◌, length, take, drop, Some, None, refl}
 use Rattle.daide_token.specs.Class.{class_of}
 use Rattle.daide_token.specs.Token.{bytes_of_tokens}
@@ -24,7 +24,7 @@ use Rattle.daide_protocol.specs.Machine.{question}
 use Rattle.daide_protocol.specs.Wires.{sent_to, sent_bytes, note_of}
 use Rattle.daide_protocol.proofs.SomeRun.{outcome_of, run_of}
 
--- ---- the words that are used
+-- ---- the tokens that are used
 
 abbrev BRA : ℕ
 BRA = 0x4000
@@ -66,14 +66,14 @@ fm = 0x03 ∷ 0x00 ∷ 0x00 ∷ 0x00 ∷ []
 abbrev em : ℕ → List ℕ
 em code = 0x04 ∷ 0x00 ∷ 0x00 ∷ 0x02 ∷ 0x00 ∷ code ∷ []
 
--- the operator's limits: by default, and with a body of 512 and a depth of 4
+-- the operator's limits: the defaults, and a body of 512 with a depth of 4
 abbrev pub usual : Limits
 usual = record { cap = 65526; top_level = L60; max_depth = 62; words = [] }
 
 abbrev narrow : Limits
 narrow = record { cap = 512; top_level = L60; max_depth = 4; words = [] }
 
--- a session in a phase at a level, of which nothing is held
+-- a session in a phase at a level, with nothing held
 abbrev pub standing : Limits → Phase → Level → SessionState
 standing limits phase level = in_phase phase level (initial_state limits)
 
@@ -95,7 +95,7 @@ narrow_at_30 = standing narrow Open L30
 abbrev narrow_at_0 : SessionState
 narrow_at_0 = standing narrow Open L0
 
--- These events make these bytes for the bot's wire and for the server's, and leave the session in this phase and level.
+-- At these events these bytes are sent to the bot and to the server, and the session is then in this phase and level.
 pub record Plays (old : SessionState) (events : List Event) (to_bot to_server : List ℕ) (phase : Phase) (level : Level) :
     Type 0 where
   pub effects : List Effect
@@ -106,11 +106,11 @@ pub record Plays (old : SessionState) (events : List Event) (to_bot to_server : 
   pub its_phase : new.phase ≡ phase
   pub its_level : new.level ≡ level
 
--- the same of a side's bytes
+-- the same for the bytes from a side
 abbrev Hears : SessionState → Side → List ℕ → List ℕ → List ℕ → Phase → Level → Type 0
 Hears old side bytes to_bot to_server phase level = Plays old (bytes_come side bytes) to_bot to_server phase level
 
--- each is computed, of a session without an operator's words
+-- each is computed, for a session without an operator's words
 computed : {old : SessionState} {events : List Event} {to_bot to_server : List ℕ} {phase : Phase} {level : Level} →
     old.limits.words ≡ [] → sent_bytes (sent_to Bot (outcome_of old events).effects) ≡ to_bot →
     sent_bytes (sent_to Server (outcome_of old events).effects) ≡ to_server →
@@ -126,10 +126,10 @@ computed {old = old} {events = events} none bot server its_phase its_level = rec
   its_level = its_level;
 }
 
--- ---- the faults of a frame's bytes, of either side, in the order in which they are told
+-- ---- the faults of a frame's bytes, from either side, in their order
 
--- an IM in the other byte order, a wrong length, a type above 4, a length above the cap, and then what is untimely; to
--- the other side an FM, but none to the server before the IM
+-- an IM in the other byte order, a wrong length, a type above 4, a length above the cap, and then an untimely header;
+-- the other side gets an FM, but not the server before the IM
 header_faults_of_the_bot :
     Hears narrow_first Bot (0x00 ∷ 0x00 ∷ 0x04 ∷ 0x00 ∷ []) (em 0x03) [] Over L0
     × Hears narrow_first Bot (0x00 ∷ 0x00 ∷ 0x00 ∷ 0x06 ∷ []) (em 0x09) [] Over L0
@@ -172,7 +172,7 @@ header_faults_of_the_server = (
   computed refl refl refl refl refl,
 )
 
--- an alien token is told at its second byte, whatever of the body is to come; two are one fault
+-- the fault of an alien token is at its second byte, whatever of the body is missing; two of them are one fault
 alien_tokens :
     Hears open_at_0 Bot (0x02 ∷ 0x00 ∷ 0x00 ∷ 0x06 ∷ 0x48 ∷ 0x03 ∷ 0x58 ∷ []) [] [] Open L0
     × Hears open_at_0 Bot (0x02 ∷ 0x00 ∷ 0x00 ∷ 0x06 ∷ 0x48 ∷ 0x03 ∷ 0x58 ∷ 0x00 ∷ []) (em 0x0E) fm Over L0
@@ -186,7 +186,7 @@ alien_tokens = (
   computed refl refl refl refl refl,
 )
 
--- a whole IM: the magic number before the version; version 0 is another one
+-- a whole IM: the magic number comes before the version; version 0 is another version
 initial_messages :
     Hears first Bot (0x00 ∷ 0x00 ∷ 0x00 ∷ 0x04 ∷ 0x00 ∷ 0x00 ∷ 0xDA ∷ 0x10 ∷ []) (em 0x05) [] Over L0
     × Hears first Bot (0x00 ∷ 0x00 ∷ 0x00 ∷ 0x04 ∷ 0x01 ∷ 0x00 ∷ 0xDA ∷ 0x10 ∷ []) (em 0x05) [] Over L0
@@ -200,7 +200,7 @@ initial_messages = (
   computed refl refl refl refl refl,
 )
 
--- ---- depth: with a depth of 4, four brackets of either side go on and five are answered before the fifth
+-- ---- depth: with a depth limit of 4, four brackets from either side are relayed; five get HUH before the fifth
 
 -- HUH and four, or five, brackets
 abbrev huh_of_four : List ℕ
@@ -230,7 +230,7 @@ depth_of_the_server = (
   computed refl refl refl refl refl,
 )
 
--- ---- press: from the level of an HLO on, of either side
+-- ---- press: from the level of an HLO on, from either side
 
 -- HLO ( UNO ) ( 0 ) ( ( LVL 10 ) )
 abbrev hlo : List ℕ
@@ -248,7 +248,7 @@ frm = 0x4802 ∷ BRA ∷ FRA ∷ KET ∷ BRA ∷ ENG ∷ KET ∷ BRA ∷ peace +
 abbrev snd : List ℕ
 snd = 0x4817 ∷ BRA ∷ FRA ∷ KET ∷ BRA ∷ peace ++ KET ∷ []
 
--- before it both are wrong at their first word
+-- before the HLO both messages are wrong at their first token
 press_before_the_hlo :
     Hears open_at_0 Server (message frm) [] (message (HUH ∷ BRA ∷ ERR ∷ frm ++ KET ∷ [])) Open L0
     × Hears open_at_0 Bot (message snd) (message (HUH ∷ BRA ∷ ERR ∷ snd ++ KET ∷ [])) [] Open L0
@@ -258,7 +258,7 @@ press_before_the_hlo = (
   computed refl refl refl refl refl,
 )
 
--- after it both go on
+-- after it both are relayed
 press_after_the_hlo :
     Plays open_at_0
     (bytes_come Server (message hlo) ++ bytes_come Server (message frm))
@@ -274,8 +274,8 @@ press_after_the_hlo = (
   computed refl refl refl refl refl,
 )
 
--- a message is judged by the level at its header: one whose first four bytes came before the HLO's last byte gets HUH,
--- after the HLO itself
+-- a message is judged by the level at its header: one whose first four bytes arrived before the HLO's last byte gets
+-- HUH, after the HLO itself
 judged_by_the_level_at_the_header :
     Plays open_at_0
     (bytes_come Bot (take 4 (message snd)) ++ bytes_come Server (message hlo) ++ bytes_come Bot (drop 4 (message snd)))
@@ -284,7 +284,7 @@ judged_by_the_level_at_the_header :
 unfolding last_items first_items parse_head is_alien entries may_end_of table_answer class_of answer_bytes head_bytes
 judged_by_the_level_at_the_header = computed refl refl refl refl refl
 
--- an HLO of the server within HUH or PRN, and one that is answered with HUH or PRN
+-- a server's HLO within HUH or PRN, and one that gets HUH or PRN
 abbrev hlo_in_huh : List ℕ
 hlo_in_huh = HUH ∷ BRA ∷ hlo ++ KET ∷ []
 
@@ -297,7 +297,7 @@ hlo_too_short = HLO ∷ BRA ∷ LVL ∷ 0x000A ∷ KET ∷ []
 abbrev hlo_unclosed : List ℕ
 hlo_unclosed = HLO ∷ BRA ∷ UNO ∷ KET ∷ BRA ∷ 0x0000 ∷ KET ∷ BRA ∷ BRA ∷ LVL ∷ 0x000A ∷ KET ∷ []
 
--- set no level
+-- do not set the level
 hlo_that_sets_nothing :
     Hears open_at_30 Server (message hlo_in_huh) (message hlo_in_huh) [] Open L30
     × Hears open_at_30 Server (message hlo_in_prn) (message hlo_in_prn) [] Open L30
@@ -312,7 +312,7 @@ hlo_that_sets_nothing = (
   computed refl refl refl refl refl,
 )
 
--- nor does one of the bot: the request HLO goes on, and the server's form is none of the bot's
+-- and neither does a bot's: the request HLO is relayed, and the server's form is no message of the bot
 hlo_of_the_bot :
     Hears open_at_30 Bot (message (HLO ∷ [])) [] (message (HLO ∷ [])) Open L30
     × Hears open_at_30 Bot (message hlo) (message (HUH ∷ BRA ∷ HLO ∷ ERR ∷ drop 1 hlo ++ KET ∷ [])) [] Open L30
@@ -322,13 +322,13 @@ hlo_of_the_bot = (
   computed refl refl refl refl refl,
 )
 
--- ---- what is asked of the grammar, of the server
+-- ---- the messages that are judged, from the server
 
--- what a side's bytes make of a session
+-- the outcome of bytes from a side
 abbrev after : SessionState → Side → List ℕ → Successor
 after state side bytes = outcome_of state (bytes_come side bytes)
 
--- these bytes of the server are pending, in this phase at level 30, and its last header came at level 10
+-- these bytes from the server are pending, in this phase at level 30, and its last header arrived at level 10
 abbrev pending_in : Phase → List ℕ → SessionState
 pending_in phase bytes = with_coming (standing narrow phase L30) Server (record { pending = bytes; noted = L10 })
 
@@ -345,7 +345,7 @@ asked_of_the_server : (question (pending_in Open (0x02 ∷ 0x00 ∷ 0x00 ∷ 0x0
 unfolding last_items first_items parse_head is_alien
 asked_of_the_server = (refl, refl, refl, refl, refl, refl, refl, refl)
 
--- the level is noted at the server's header for the server, and at the bot's for the bot
+-- the server's header records the level for the server, and the bot's for the bot
 noted_at_the_header : ((after open_at_30 Server (0x02 ∷ 0x00 ∷ 0x00 ∷ 0x02 ∷ [])).state.server.noted ≡ L30)
     × ((after open_at_30 Server (0x02 ∷ 0x00 ∷ 0x00 ∷ 0x02 ∷ [])).state.bot ≡ open_at_30.bot)
     × ((after open_at_30 Bot (0x02 ∷ 0x00 ∷ 0x00 ∷ 0x02 ∷ [])).state.bot.noted ≡ L30)
@@ -353,7 +353,7 @@ noted_at_the_header : ((after open_at_30 Server (0x02 ∷ 0x00 ∷ 0x00 ∷ 0x02
 unfolding last_items first_items parse_head is_alien
 noted_at_the_header = (refl, refl, refl, refl)
 
--- ---- what the moves are called, of the server: OFF, an IM's kind apart, as of the bot
+-- ---- the reports of the effects, for the server: OFF and others, as for the bot
 
 reported_of_the_server : (note_of (after open_at_0 Server (message (0x4810 ∷ []))).effects
     ≡ Notes.Frame (record { kind = Dm; len = 2 }) Deeds.Relayed)
@@ -382,7 +382,7 @@ im = 0x00 ∷ 0x00 ∷ 0x00 ∷ 0x04 ∷ 0x00 ∷ 0x01 ∷ 0xDA ∷ 0x10 ∷ []
 abbrev pub rm : List ℕ
 rm = 0x01 ∷ 0x00 ∷ 0x00 ∷ 0x00 ∷ []
 
--- IM and RM, the bot's GOF ( and its OBS with a pad, the server's OFF and FM, and then bytes of both, an end and the
+-- IM and RM, the bot's GOF ( and its OBS with a pad, the server's OFF and FM, and then bytes from both, an end and the
 -- timer, which do nothing
 abbrev pub session_events : List Event
 session_events =
@@ -396,8 +396,8 @@ pub one_session : Plays (initial_state usual) session_events
 unfolding last_items first_items parse_head is_alien im_of entries may_end_of table_answer class_of answer_bytes head_bytes
 one_session = computed refl refl refl refl refl
 
--- an end in the middle of a frame: an FM to the other side, and nothing of the frame; also where the wire toward the
--- other side failed
+-- an end in the middle of a frame: the other side gets an FM, and nothing of the frame; also if the wire to the other
+-- side failed
 ends_within_a_frame :
     Plays open_at_0 (bytes_come Bot (0x02 ∷ 0x00 ∷ 0x00 ∷ 0x04 ∷ 0x48 ∷ []) ++ Ends Bot ∷ []) [] fm Over L0
     × Plays open_at_0 (bytes_come Server (0x02 ∷ 0x00 ∷ 0x00 ∷ 0x04 ∷ 0x48 ∷ []) ++ Ends Server ∷ []) fm [] Over L0
@@ -411,7 +411,7 @@ ends_within_a_frame = (
   computed refl refl refl refl refl,
 )
 
--- the timer in the middle of the IM: EM 01 to the bot, and the rest of the IM does nothing
+-- the timer in the middle of the IM: the bot gets EM 01, and the rest of the IM does nothing
 timer_within_the_im :
     Plays (initial_state usual) (bytes_come Bot (take 5 im) ++ ImTimerExpired ∷ bytes_come Bot (drop 5 im)) (em 0x01) [] Over L0
 unfolding last_items first_items parse_head is_alien

@@ -1,5 +1,6 @@
--- Worked values of what a session holds, waits for and hands out: its bounds, its room, and what its calls keep. Each
--- is worked out by hand, so that a wrong factor or the other side in a definition does not check.
+-- Worked values of what a session holds, what it is missing and what it hands out: its bounds, its room, and what its
+-- calls keep. They were worked out from the documents, so that a wrong factor or the other side in a definition does
+-- not check.
 use Rattle.std.proofs.Common.{◌≡◌, ℕ, ◌≤◌, true, false, List, [], ◌∷◌, Some, None, refl, arith}
 use Rattle.daide_frame.specs.declared.side.Side.{Side}
 use Rattle.daide_frame.specs.declared.side.Side.TheVariants.{Bot, Server}
@@ -19,7 +20,7 @@ use Rattle.daide_protocol.specs.Wires.{SessionView, Holding, queued, room_of, is
 use Rattle.daide_protocol.specs.Wires.{sent_bytes, held_after, grown, counts_from, asked_at_most, looked_at_most}
 use Rattle.daide_protocol.specs.Weight.{weight_of, weight_bound, steps_bound, IsKeptSmall}
 
--- ---- sessions of which this is held
+-- ---- sessions with these values
 
 abbrev usual : Limits
 usual = record { cap = 65526; top_level = L60; max_depth = 62; words = [] }
@@ -27,12 +28,12 @@ usual = record { cap = 65526; top_level = L60; max_depth = 62; words = [] }
 abbrev small : Limits
 small = record { cap = 512; top_level = L60; max_depth = 62; words = [] }
 
--- these bytes of a side's frame, with 4 entries on its reader's stack, 9 answers of its table, 5 of them before this
--- message, and 7 tokens looked at for the level of an HLO
+-- these bytes of a frame, with 4 entries on its reader's stack, 9 look-ups, 5 of them before this message, and 7 tokens
+-- examined for the level of an HLO
 abbrev holds : List ℕ → Holding
 holds bytes = record { held = bytes; entries = 4; total = 9; total_before = 5; looked_at = 7 }
 
--- these bytes of the two sides came since their last whole frames, and nothing waits
+-- these bytes from the two sides arrived since their last whole frames, and nothing is queued
 abbrev holding_both : Limits → List ℕ → List ℕ → SessionView
 holding_both limits from_bot from_server = record {
   state = with_pending (with_pending (in_phase Open L0 (initial_state limits)) Bot from_bot) Server from_server;
@@ -45,15 +46,15 @@ holding_both limits from_bot from_server = record {
   summary = nothing_counted;
 }
 
--- a frame for a wire, the answer to a side's
+-- a frame for a wire, the answer to a side's frame
 abbrev answer : Side → Side → List ℕ → Sent
 answer to side bytes = record { to = to; answers = Some side; bytes = bytes }
 
--- a frame for a wire that answers none
+-- a frame for a wire that is no answer
 abbrev ending : Side → List ℕ → Sent
 ending to bytes = record { to = to; answers = None; bytes = bytes }
 
--- this frame of the bot is whole, and these frames wait
+-- this frame of the bot is whole, and these frames are queued
 abbrev answering_bot : Phase → List ℕ → List Sent → List Sent → SessionView
 answering_bot phase frame to_bot to_server = record {
   state = in_phase phase L0 (initial_state usual);
@@ -66,7 +67,7 @@ answering_bot phase frame to_bot to_server = record {
   summary = nothing_counted;
 }
 
--- this frame of the server
+-- the same for a frame of the server
 abbrev answering_server : Phase → List ℕ → List Sent → List Sent → SessionView
 answering_server phase frame to_bot to_server = record {
   state = in_phase phase L0 (initial_state usual);
@@ -94,25 +95,25 @@ unclosed_prn = 0x02 ∷ 0x00 ∷ 0x00 ∷ 0x0A ∷ 0x48 ∷ 0x13 ∷ 0x40 ∷ 0x
 abbrev map_begun : List ℕ
 map_begun = 0x01 ∷ 0x00 ∷ 0x00 ∷ 0x0C ∷ 0x41 ∷ 0x00 ∷ 0x40 ∷ 0x00 ∷ 0x41 ∷ 0x55 ∷ 0x53 ∷ 0x00 ∷ []
 
--- ---- the bound of the weight: the announced length, 8 an open bracket, and 16, for each side; and 64
+-- ---- the bound of the weight: the announced length, 8 for each open bracket, and 16, for each side; and 64
 
 -- nothing is held: 16 + 16 + 64
 bound_of_nothing : weight_bound (holding_both usual [] []) ≡ 96
 unfolding weight_bound announced head_in parse_head
 bound_of_nothing = refl
 
--- 250 bytes announced, two open brackets: 250 + 8 * 2 + 16, and 16 of the other side, and 64
+-- 250 bytes announced, two open brackets: 250 + 8 * 2 + 16, and 16 for the other side, and 64
 bound_of_a_huh : (weight_bound (holding_both usual huh_begun []) ≡ 362)
     × (weight_bound (holding_both usual [] huh_begun) ≡ 362)
 unfolding weight_bound announced head_in parse_head
 bound_of_a_huh = (refl, refl)
 
--- of both sides: 282 + 282 + 64
+-- for both sides: 282 + 282 + 64
 bound_of_two : weight_bound (holding_both usual huh_begun huh_begun) ≡ 628
 unfolding weight_bound announced head_in parse_head
 bound_of_two = refl
 
--- a header that is not whole announces nothing; a whole one counts before any of its body came: 250 + 16 + 16 + 64
+-- an incomplete header announces nothing; a whole one counts before any of its body arrived: 250 + 16 + 16 + 64
 bound_at_the_header : (weight_bound (holding_both usual (0x02 ∷ 0x00 ∷ 0x00 ∷ []) []) ≡ 96)
     × (weight_bound (holding_both usual (0x02 ∷ 0x00 ∷ 0x00 ∷ 0xFA ∷ []) []) ≡ 346)
     × (weight_bound (holding_both usual [] (0x02 ∷ 0x00 ∷ 0x00 ∷ [])) ≡ 96)
@@ -120,14 +121,15 @@ bound_at_the_header : (weight_bound (holding_both usual (0x02 ∷ 0x00 ∷ 0x00 
 unfolding weight_bound announced head_in parse_head
 bound_at_the_header = (refl, refl, refl, refl)
 
--- half of a bracket is none: HUH ( and the first byte of the second: 250 + 8 + 16 + 16 + 64
+-- half a bracket is no bracket: HUH ( and the first byte of the second: 250 + 8 + 16 + 16 + 64
 bound_within_a_token :
     (weight_bound (holding_both usual (0x02 ∷ 0x00 ∷ 0x00 ∷ 0xFA ∷ 0x48 ∷ 0x06 ∷ 0x40 ∷ 0x00 ∷ 0x40 ∷ []) []) ≡ 354)
     × (weight_bound (holding_both usual [] (0x02 ∷ 0x00 ∷ 0x00 ∷ 0xFA ∷ 0x48 ∷ 0x06 ∷ 0x40 ∷ 0x00 ∷ 0x40 ∷ [])) ≡ 354)
 unfolding weight_bound announced head_in parse_head
 bound_within_a_token = (refl, refl)
 
--- a length at the operator's cap counts, one above it is a fault and no header: 512 + 16 + 16 + 64, and 16 + 16 + 64
+-- a length equal to the operator's cap counts; one above it is a fault and no header: 512 + 16 + 16 + 64, and 16 + 16 +
+-- 64
 bound_at_the_cap : (weight_bound (holding_both small (0x02 ∷ 0x00 ∷ 0x02 ∷ 0x00 ∷ []) []) ≡ 608)
     × (weight_bound (holding_both small (0x02 ∷ 0x00 ∷ 0x02 ∷ 0x02 ∷ []) []) ≡ 96)
     × (weight_bound (holding_both small [] (0x02 ∷ 0x00 ∷ 0x02 ∷ 0x00 ∷ [])) ≡ 608)
@@ -135,7 +137,7 @@ bound_at_the_cap : (weight_bound (holding_both small (0x02 ∷ 0x00 ∷ 0x02 ∷
 unfolding weight_bound announced head_in parse_head
 bound_at_the_cap = (refl, refl, refl, refl)
 
--- a message that begins with PRN has no open bracket, nor has one with a KET too many: PRN ( ( of 10 bytes and
+-- a message that begins with PRN has no open bracket, and neither has one with a KET too many: PRN ( ( of 10 bytes and
 -- GOF ) ( of 6, so 10 + 16 + 16 + 64 and 6 + 16 + 16 + 64
 bound_without_brackets :
     (weight_bound (holding_both usual (0x02 ∷ 0x00 ∷ 0x00 ∷ 0x0A ∷ 0x48 ∷ 0x13 ∷ 0x40 ∷ 0x00 ∷ 0x40 ∷ 0x00 ∷ []) [])
@@ -145,20 +147,20 @@ bound_without_brackets :
 unfolding weight_bound announced head_in parse_head
 bound_without_brackets = (refl, refl)
 
--- no other frame has tokens: a map of 12 bytes, whose bytes 40 00 are no bracket: 12 + 16, and 16, and 64; beside
--- the HUH 282 + 28 + 64
+-- no other frame has tokens: a map of 12 bytes, whose bytes 40 00 are no bracket: 12 + 16, and 16, and 64; together
+-- with the HUH 282 + 28 + 64
 bound_of_a_map : (weight_bound (holding_both usual [] map_begun) ≡ 108)
     × (weight_bound (holding_both usual huh_begun map_begun) ≡ 374)
 unfolding weight_bound announced head_in parse_head
 bound_of_a_map = (refl, refl)
 
--- while the answer waits, its message is still held: 4 + 8 + 16, and 16, and 64
+-- while the answer is queued, its message is still held: 4 + 8 + 16, and 16, and 64
 bound_of_an_answer : (weight_bound (answering_bot Open unclosed (answer Bot Bot unclosed_prn ∷ []) []) ≡ 108)
     × (weight_bound (answering_server Open unclosed [] (answer Server Server unclosed_prn ∷ [])) ≡ 108)
 unfolding weight_bound announced head_in parse_head
 bound_of_an_answer = (refl, refl)
 
--- of a side that holds the HUH at most 8 * 2 + 16 entries are kept; four bytes of a body of two are too many
+-- a side that holds the HUH has at most 8 * 2 + 16 entries; four bytes of a body of two are too many
 kept_of_a_huh : (n : ℕ) →
     IsKeptSmall 65526 (record { held = huh_begun; entries = n; total = 9; total_before = 5; looked_at = 7 }) → n ≤ 32
 unfolding announced head_in parse_head
@@ -170,14 +172,14 @@ kept_of_two_bytes kept = let few : 4 ≤ 2 = kept.bytes in absurd (omega arith)
 
 -- ---- the weight: body bytes, entries and frames
 
--- six bytes of a body and four entries, and four of the other side's empty stack; header bytes count for nothing
+-- six bytes of a body and four entries, and four of the empty stack on the other side; header bytes do not count
 weight_of_a_huh : (weight_of (holding_both usual huh_begun []) ≡ 14)
     × (weight_of (holding_both usual [] huh_begun) ≡ 14)
     × (weight_of (holding_both usual (0x02 ∷ 0x00 ∷ 0x00 ∷ 0xFA ∷ []) (0x02 ∷ 0x00 ∷ 0x00 ∷ [])) ≡ 8)
 unfolding weight_of
 weight_of_a_huh = (refl, refl, refl)
 
--- four bytes of a body, two times four entries, and three frames
+-- four bytes of a body, twice four entries, and three frames
 weight_of_frames : (weight_of (answering_bot Over unclosed (answer Bot Bot unclosed_prn ∷ ending Bot fm_bytes ∷ [])
     (ending Server fm_bytes ∷ [])) ≡ 15)
     × (weight_of (answering_server Over unclosed (ending Bot fm_bytes ∷ [])
@@ -185,9 +187,9 @@ weight_of_frames : (weight_of (answering_bot Over unclosed (answer Bot Bot unclo
 unfolding weight_of
 weight_of_frames = (refl, refl)
 
--- ---- the table's answers: four a token, and four where the message is whole
+-- ---- the look-ups: four for each token, and four if the message is whole
 
--- three tokens, and two with the end; half of a token is none, and another frame has none
+-- three tokens, and two with the end; half a token is none, and another frame has none
 steps_of_messages : (steps_bound (holding_both usual huh_begun []) Bot ≡ 12)
     × (steps_bound (holding_both usual huh_begun []) Server ≡ 0)
     × (steps_bound (holding_both usual [] huh_begun) Server ≡ 12)
@@ -199,7 +201,7 @@ steps_of_messages : (steps_bound (holding_both usual huh_begun []) Bot ≡ 12)
 unfolding head_in parse_head
 steps_of_messages = (refl, refl, refl, refl, refl, refl, refl, refl)
 
--- a piece of five bytes ends or begins three tokens at most: 4 * 3, and 4
+-- a piece of five bytes completes or begins at most three tokens: 4 * 3, and 4
 asked_of_pieces : (asked_at_most (0x06 ∷ 0x40 ∷ 0x00 ∷ 0x40 ∷ 0x00 ∷ []) ≡ 16) × (asked_at_most (0x06 ∷ []) ≡ 8)
 asked_of_pieces = (refl, refl)
 
@@ -208,7 +210,7 @@ looked_at_of_pieces = (refl, refl)
 
 -- ---- the room
 
--- what is missing of the header, and then of the body; 250 - 6 in the HUH, 12 - 8 in the map
+-- the missing bytes of the header, and then of the body; 250 - 6 in the HUH, 12 - 8 in the map
 room_for_bytes : (room_of (holding_both usual [] huh_begun) Bot ≡ 4)
     × (room_of (holding_both usual [] huh_begun) Server ≡ 244)
     × (room_of (holding_both usual huh_begun map_begun) Bot ≡ 244)
@@ -218,7 +220,7 @@ room_for_bytes : (room_of (holding_both usual [] huh_begun) Bot ≡ 4)
 unfolding room_of missing head_in parse_head is_alien
 room_for_bytes = (refl, refl, refl, refl, refl, refl)
 
--- none for the side whose answer waits, on whichever wire, and none once it is over; the other side has room
+-- none for the side whose answer is queued, on either wire, and none once the session is over; the other side has room
 room_while_answering : (room_of (answering_bot Open unclosed (answer Bot Bot unclosed_prn ∷ []) []) Bot ≡ 0)
     × (room_of (answering_bot Open unclosed (answer Bot Bot unclosed_prn ∷ []) []) Server ≡ 4)
     × (room_of (answering_bot Open unclosed [] (answer Server Bot unclosed ∷ [])) Bot ≡ 0)
@@ -234,11 +236,11 @@ room_while_answering = (refl, refl, refl, refl, refl, refl, refl, refl, refl, re
 abbrev ended : SessionView
 ended = answering_bot Over [] (ending Bot fm_bytes ∷ []) (ending Server fm_bytes ∷ [])
 
--- an FM or EM of the session's own answers no frame, so it keeps no side waiting
+-- the session's own FM or EM is no answer, so it keeps no side waiting
 endings_answer_none : (is_awaited (queued ended) Bot ≡ false) × (is_awaited (queued ended) Server ≡ false)
 endings_answer_none = (refl, refl)
 
--- closed once it is over and both wires have all
+-- closed once it is over and both queues are empty
 closed_when_all_is_out : (is_closed (answering_bot Over [] [] []) ≡ true)
     × (is_closed (answering_bot Open [] [] []) ≡ false)
     × (is_closed (answering_bot Over [] (ending Bot fm_bytes ∷ []) []) ≡ false)
@@ -247,7 +249,7 @@ closed_when_all_is_out = (refl, refl, refl, refl)
 
 -- ---- what is held after bytes
 
--- a piece goes to the end of the header, or of the body, and no further
+-- a piece is taken to the end of the header, or of the body, and no further
 pieces_grow : (grown (holding_both usual (0x02 ∷ 0x00 ∷ []) []) Bot (0x00 ∷ 0x02 ∷ 0x48 ∷ 0x0F ∷ [])
     ≡ 0x02 ∷ 0x00 ∷ 0x00 ∷ 0x02 ∷ [])
     × (grown (holding_both usual (0x02 ∷ 0x00 ∷ 0x00 ∷ 0x02 ∷ []) []) Bot (0x48 ∷ 0x0F ∷ 0x02 ∷ [])
@@ -259,7 +261,7 @@ pieces_grow : (grown (holding_both usual (0x02 ∷ 0x00 ∷ []) []) Bot (0x00 �
 unfolding last_items first_items parse_head is_alien
 pieces_grow = (refl, refl, refl, refl)
 
--- a frame is kept for its answer, and only one that nobody gets is dropped
+-- a frame is kept for its answer; only a dropped one is not
 kept_or_dropped : (head : Head) (place : ℕ) → (held_after Notes.Nothing unclosed ≡ unclosed)
     × (held_after (Notes.Frame head Deeds.Relayed) unclosed ≡ unclosed)
     × (held_after (Notes.Frame head Deeds.Prn) unclosed ≡ unclosed)
@@ -274,12 +276,13 @@ dm = record { kind = Dm; len = 4 }
 abbrev fm : Head
 fm = record { kind = Fm; len = 0 }
 
--- the count before a message is the total at its header, 9; at another frame's, and as its bytes come, it stays 5
+-- the count before a message is the total at its header, 9; at another frame's header, and as its bytes arrive, it
+-- stays 5
 counts_at_a_header : (counts_from None (Some dm) (holds []) ≡ 9) × (counts_from None (Some fm) (holds []) ≡ 5)
     × (counts_from None None (holds []) ≡ 5) × (counts_from (Some dm) (Some dm) (holds unclosed) ≡ 5)
 counts_at_a_header = (refl, refl, refl, refl)
 
--- ---- what a wire takes
+-- ---- the bytes that a wire takes
 
 -- nine of fourteen bytes, and then five, after which the next frame is first
 taken_in_parts : (without 9 (answer Bot Bot unclosed_prn ∷ ending Bot fm_bytes ∷ [])

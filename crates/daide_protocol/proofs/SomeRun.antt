@@ -1,4 +1,5 @@
--- Each event has a step from each state, and events have a run: those that are computed by the protocol's own table.
+-- Each event has a transition from each state, and events have a run: the one that is computed with the protocol's own
+-- table.
 use Rattle.std.proofs.Common.{◌≡◌, ℕ, List, [], ◌∷◌, ◌++◌, Option, Some, None}
 use Rattle.std.proofs.Common.{refl, sym, ◌∙◌, ap, subst}
 use Rattle.daide_grammar.specs.Words.{Words}
@@ -10,7 +11,7 @@ use Rattle.daide_protocol.specs.Machine.{Limits, SessionState, Effect, Successor
 use Rattle.daide_protocol.specs.Machine.{side2_of, event_outcome, nothing}
 use Rattle.daide_protocol.proofs.LimitsKept.{event_limits}
 
--- a message has the grammar's verdict, and where none is judged it is Relay
+-- a message has the grammar's verdict; without a message it is Relay
 abbrev pub judged : ℕ → Option Question → Verdict
 judged max_depth None = Relay
 judged max_depth (Some q) = plain_verdict (side2_of q.side) q.level max_depth q.message
@@ -19,7 +20,7 @@ judged_right : (max_depth : ℕ) (q : Option Question) → IsCorrectVerdict [] m
 judged_right max_depth None = refl
 judged_right max_depth (Some q) = plain_verdict_right (side2_of q.side) q.level max_depth q.message
 
--- what an event makes of a state
+-- the outcome of an event
 abbrev pub outcome_at : SessionState → Event → Successor
 outcome_at old event = event_outcome old event (judged old.limits.max_depth (question old event))
 
@@ -37,7 +38,7 @@ pub some_step : (old : SessionState) (event : Event) → old.limits.words ≡ []
     (effects : List Effect) × (new : SessionState) × Transition old event effects new
 some_step old event none = ((outcome_at old event).effects, (outcome_at old event).state, step_at old event none)
 
--- what events in a row make of it
+-- the outcome of a list of events
 abbrev pub outcome_of : SessionState → List Event → Successor
 outcome_of old [] = nothing old
 outcome_of old (event ∷ events) =

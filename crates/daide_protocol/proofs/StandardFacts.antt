@@ -1,5 +1,5 @@
--- Rows of the protocol's table of faults and of the session's rules, computed from the definitions, so
--- that a wrong row of theirs does not check.
+-- Rows of the protocol's table of faults and of the session's rules, computed from the definitions, so that a wrong row
+-- of a definition does not check.
 use Rattle.std.proofs.Common.{◌≡◌, ℕ, List, [], ◌∷◌, ◌++◌, length, take, Some, None, refl}
 use Rattle.std.specs.Prelude.{pos}
 use Rattle.daide_frame.specs.declared.side.Side.{Side}
@@ -27,7 +27,7 @@ use Rattle.daide_protocol.specs.Machine.{with_coming, untimely, frame_outcome, f
 use Rattle.daide_protocol.specs.Machine.{over, with_ending}
 use Rattle.daide_protocol.specs.Wires.{sent_to, sent_bytes, note_of}
 
--- a session in a phase at level 0, of which nothing is held
+-- a session in a phase at level 0, with nothing held
 abbrev standing : Limits → Phase → SessionState
 standing limits phase = in_phase phase L0 (initial_state limits)
 
@@ -35,19 +35,19 @@ standing limits phase = in_phase phase L0 (initial_state limits)
 abbrev wire : Side → Successor → List ℕ
 wire side outcome = sent_bytes (sent_to side outcome.effects)
 
--- a header of this kind of a side, in this phase
+-- a header of this kind from a side, in this phase
 abbrev header : Limits → Phase → Side → Kind → Successor
 header limits phase side kind = header_outcome (standing limits phase) side (untimely phase side kind)
 
 abbrev fm : List ℕ
 fm = 0x03 ∷ 0x00 ∷ 0x00 ∷ 0x00 ∷ []
 
--- a whole frame of this kind of a side, in this phase; a DM is to be relayed
+-- a whole frame of this kind from a side, in this phase; a DM has the verdict Relay
 abbrev frame : Limits → Phase → Side → Kind → List ℕ → Successor
 frame limits phase side kind body =
     frame_outcome (standing limits phase) side (record { kind = kind; len = length body }) body Relay
 
--- a whole message of a side, with this verdict
+-- a whole message from a side, with this verdict
 abbrev message : Limits → Side → List ℕ → Verdict → Successor
 message limits side body verdict =
     frame_outcome (standing limits Open) side (record { kind = Dm; len = length body }) body verdict
@@ -62,8 +62,7 @@ obs = 0x48 ∷ 0x0F ∷ []
 abbrev em : ℕ → List ℕ
 em code = 0x04 ∷ 0x00 ∷ 0x00 ∷ 0x02 ∷ 0x00 ∷ code ∷ []
 
--- ---- untimely headers: an EM with the code to the side, an FM to the other, but nothing to the server
--- ---- before the IM
+-- ---- untimely headers: the side gets an EM with the code, the other an FM, but not the server before the IM
 
 module _ (limits : Limits) where
   bot_rm_first : (wire Bot (header limits WaitIm Bot Rm) ≡ em 0x02) × (wire Server (header limits WaitIm Bot Rm) ≡ [])
@@ -116,7 +115,7 @@ module _ (limits : Limits) where
       × (wire Bot (header limits Open Server Rm) ≡ fm)
   server_rm_open = (refl, refl)
 
-  -- ---- headers that go on: nothing is sent
+  -- ---- headers that are permitted: nothing is sent
 
   goes_on : ((header limits WaitIm Bot Im).effects ≡ []) × ((header limits WaitRm Server Rm).effects ≡ [])
       × ((header limits Open Bot Dm).effects ≡ []) × ((header limits Open Server Dm).effects ≡ [])
@@ -134,14 +133,14 @@ module _ (limits : Limits) where
 
   -- ---- frames, ends and the timer
 
-  -- a good IM goes on to the server, and the RM is waited for
+  -- a good IM is relayed to the server, and the RM is next
   im_goes_on : (wire Server (frame limits WaitIm Bot Im im) ≡ 0x00 ∷ 0x00 ∷ 0x00 ∷ 0x04 ∷ im)
       × (wire Bot (frame limits WaitIm Bot Im im) ≡ [])
       × ((frame limits WaitIm Bot Im im).state ≡ standing limits WaitRm)
   unfolding im_of answer_bytes head_bytes
   im_goes_on = (refl, refl, refl)
 
-  -- another magic number, or another version, is a fault of which the server hears nothing
+  -- another magic number, or another version, is a fault, of which the server gets nothing
   im_turned : (wire Bot (frame limits WaitIm Bot Im (0x00 ∷ 0x01 ∷ 0x10 ∷ 0xDA ∷ [])) ≡ em 0x03)
       × (wire Server (frame limits WaitIm Bot Im (0x00 ∷ 0x01 ∷ 0x10 ∷ 0xDA ∷ [])) ≡ [])
   unfolding im_of
@@ -155,7 +154,7 @@ module _ (limits : Limits) where
   unfolding im_of
   im_of_other_version = refl
 
-  -- an RM goes on to the bot, with its blocks if it has any, and the session is open at level 0
+  -- an RM is relayed to the bot, with its blocks if it has any, and the session is open at level 0
   rm_goes_on : (wire Bot (frame limits WaitRm Server Rm []) ≡ 0x01 ∷ 0x00 ∷ 0x00 ∷ 0x00 ∷ [])
       × (wire Server (frame limits WaitRm Server Rm []) ≡ [])
       × ((frame limits WaitRm Server Rm []).state ≡ standing limits Open)
@@ -177,7 +176,7 @@ module _ (limits : Limits) where
       × ((frame limits WaitIm Bot Em (0x00 ∷ 0x01 ∷ [])).state ≡ over (Error Bot) (initial_state limits))
   bot_em_first = (refl, refl, refl)
 
-  -- every other FM or EM goes on to the other side, and the session is over. An EM's code is not looked at.
+  -- Every other FM or EM is relayed to the other side, and the session is over. The code of an EM is not checked.
   fm_ends : (wire Bot (frame limits WaitIm Server Fm []) ≡ fm) × (wire Server (frame limits WaitIm Server Fm []) ≡ [])
       × (wire Server (frame limits WaitRm Bot Fm []) ≡ fm) × (wire Bot (frame limits WaitRm Bot Fm []) ≡ [])
       × (wire Bot (frame limits WaitRm Server Fm []) ≡ fm) × (wire Server (frame limits WaitRm Server Fm []) ≡ [])
@@ -200,7 +199,7 @@ module _ (limits : Limits) where
   fm_and_em_leave_nothing Bot = (refl, refl)
   fm_and_em_leave_nothing Server = (refl, refl)
 
-  -- a fault of a frame itself: an EM to the side that made it, an FM to the other
+  -- a fault of a frame itself: the side that made it gets an EM, the other an FM
   frame_faults : (wire Bot (fault (standing limits WaitIm) Bot WrongLength) ≡ em 0x09)
       × (wire Server (fault (standing limits WaitIm) Bot WrongLength) ≡ [])
       × (wire Server (fault (standing limits WaitIm) Server WrongLength) ≡ em 0x09)
@@ -212,7 +211,7 @@ module _ (limits : Limits) where
       × ((fault (standing limits Open) Server InvalidToken).state ≡ over (Fault Server InvalidToken) (initial_state limits))
   frame_faults = (refl, refl, refl, refl, refl, refl, refl, refl, refl)
 
-  -- an end, or a wire that fails: an FM to the other side, but none to the server before the IM
+  -- an end, or a wire that fails: the other side gets an FM, but not the server before the IM
   bot_end_first : (wire Server (end (standing limits WaitIm) (Ended Bot) Bot) ≡ [])
       × (wire Bot (end (standing limits WaitIm) (Ended Bot) Bot) ≡ [])
   bot_end_first = (refl, refl)
@@ -231,7 +230,7 @@ module _ (limits : Limits) where
       × (wire Server (end (standing limits Open) (Ended Server) Server) ≡ [])
   ends_later = (refl, refl, refl, refl, refl, refl, refl, refl)
 
-  -- a lost wire is an end, and told apart by what ended the session alone; once over, neither does anything
+  -- a lost wire is an end, and differs only in the session's ending; once over, neither does anything
   lost_as_ended : (phase : Phase) (side : Side) →
       let lost = event_outcome (standing limits phase) (Loses side) Relay in
       let ended = event_outcome (standing limits phase) (Ends side) Relay in
@@ -244,7 +243,7 @@ module _ (limits : Limits) where
   ended_twice : (side : Side) → event_outcome (standing limits Over) (Ends side) Relay ≡ nothing (standing limits Over)
   ended_twice side = refl
 
-  -- the timer is the bot's fault before the IM, and nothing later
+  -- the timer is a fault of the bot before the IM, and does nothing later
   im_timeout : (wire Bot (event_outcome (standing limits WaitIm) ImTimerExpired Relay) ≡ em 0x01)
       × (wire Server (event_outcome (standing limits WaitIm) ImTimerExpired Relay) ≡ [])
       × ((event_outcome (standing limits WaitIm) ImTimerExpired Relay).state ≡ over (Fault Bot ImTimeout) (initial_state limits))
@@ -257,7 +256,7 @@ module _ (limits : Limits) where
 
   -- ---- messages
 
-  -- a message goes to the other side, and PRN and HUH back to its sender alone
+  -- a message is relayed to the other side, and PRN and HUH are returned only to its sender
   obs_relayed : (wire Server (message limits Bot obs Relay) ≡ 0x02 ∷ 0x00 ∷ 0x00 ∷ 0x02 ∷ obs)
       × (wire Bot (message limits Bot obs Relay) ≡ [])
   unfolding answer_bytes head_bytes
@@ -282,7 +281,7 @@ module _ (limits : Limits) where
   messages_go_on Bot place = (refl, refl, refl)
   messages_go_on Server place = (refl, refl, refl)
 
-  -- the level is noted at the header: that of the session, which a later HLO does not change
+  -- the header records the level: that of the session, which a later HLO does not change
   noted_at_the_header : (coming (header_outcome (in_phase Open L30 (initial_state limits)) Bot None).state Bot).noted ≡ L30
   noted_at_the_header = refl
 
@@ -308,17 +307,17 @@ hlo_10 : first_level (0x4804 ∷ 0x4000 ∷ 0x4101 ∷ 0x4001 ∷ 0x4000 ∷ 0x0
     ∷ 0x4001 ∷ 0x4001 ∷ []) ≡ Some (pos 10)
 hlo_10 = refl
 
--- an option LVL without a number is passed over: ( ( LVL ) ( MTL 30 ) ( LVL 20 ) )
+-- an option LVL without a number is skipped: ( ( LVL ) ( MTL 30 ) ( LVL 20 ) )
 hlo_20 : first_level (0x4804 ∷ 0x4000 ∷ 0x4000 ∷ 0x4903 ∷ 0x4001 ∷ 0x4000 ∷ 0x4905 ∷ 0x001E ∷ 0x4001 ∷ 0x4000 ∷ 0x4903
     ∷ 0x0014 ∷ 0x4001 ∷ 0x4001 ∷ []) ≡ Some (pos 20)
 hlo_20 = refl
 
--- without one the level is 0, whatever it was
+-- without an option the level is 0, whatever it was
 hlo_without : level_reported L60 (0x4804 ∷ 0x4000 ∷ 0x4101 ∷ 0x4001 ∷ 0x4000 ∷ 0x04D2 ∷ 0x4001 ∷ 0x4000 ∷ 0x4001 ∷ []) L10
     ≡ L0
 hlo_without = refl
 
--- the greatest level not above the number and the operator's top level; level 0 for a negative number
+-- the greatest level at most the number and the operator's top level; level 0 for a negative number
 hlo_25 : level_reported L60 (hlo_with 25) L0 ≡ L20
 hlo_25 = refl
 
@@ -334,7 +333,7 @@ hlo_of_minus_1 = refl
 hlo_of_8191 : level_reported L60 (hlo_with 0x1FFF) L0 ≡ L60
 hlo_of_8191 = refl
 
--- only a relayed HLO of the server sets it: neither one of the bot nor one that is answered
+-- only a relayed HLO of the server sets it: not one of the bot, and not one that gets PRN or HUH
 hlo_sets : level_after L60 Dm Server Relay (hlo_with 10) L0 ≡ L10
 hlo_sets = refl
 
@@ -355,7 +354,7 @@ level_of_other_frames side = (refl, refl, refl, refl)
 hlo_with_two : first_level (0x4000 ∷ 0x4903 ∷ 0x0014 ∷ 0x4001 ∷ 0x4000 ∷ 0x4903 ∷ 0x000A ∷ 0x4001 ∷ []) ≡ Some (pos 20)
 hlo_with_two = refl
 
--- as the tokens come: the number is found with the bracket that closes its option, whatever comes later
+-- as the tokens arrive: the number is found at the bracket that closes its option, whatever follows
 found_token_by_token : (lvl_scan_of [] ≡ NoToken) × (lvl_scan_of (take 1 (hlo_with 25)) ≡ NoNumber 0 0 0x4804)
     × (lvl_scan_of (take 2 (hlo_with 25)) ≡ NoNumber 0 0x4804 0x4000)
     × (lvl_scan_of (take 9 (hlo_with 25)) ≡ NoNumber 0x4001 0x4000 0x4000)
@@ -365,35 +364,35 @@ found_token_by_token : (lvl_scan_of [] ≡ NoToken) × (lvl_scan_of (take 1 (hlo
     × (lvl_scan_of (hlo_with 25 ++ hlo_with 10) ≡ Number (pos 25))
 found_token_by_token = (refl, refl, refl, refl, refl, refl, refl, refl, refl)
 
--- an option without a number, or one that is not closed behind it, is passed over: ( LVL ( LVL 20 ( LVL 10 )
+-- an option without a number, or without its closing bracket, is skipped: ( LVL ( LVL 20 ( LVL 10 )
 found_after_broken_options : lvl_scan_of (0x4804 ∷ 0x4000 ∷ 0x4903 ∷ 0x4000 ∷ 0x4903 ∷ 0x0014 ∷ 0x4000 ∷ 0x4903 ∷ 0x000A
     ∷ 0x4001 ∷ []) ≡ Number (pos 10)
 found_after_broken_options = refl
 
--- in a message that is no HLO nothing is found, options or none: YES ( HLO ( .. ) ( .. ) ( ( LVL 25 ) ) )
+-- in a message other than an HLO nothing is found, with or without options: YES ( HLO ( .. ) ( .. ) ( ( LVL 25 ) ) )
 found_in_no_hlo : lvl_scan_of (0x481C ∷ 0x4000 ∷ hlo_with 25 ++ 0x4001 ∷ []) ≡ NoHlo
 found_in_no_hlo = refl
 
--- another message leaves it
+-- another message does not change the level
 other_message : level_reported L60 (0x4810 ∷ []) L10 ≡ L10
 other_message = refl
 
--- ---- what the last byte of a frame makes
+-- ---- the outcome of the last byte of a frame
 
 abbrev small : Limits
 small = record { cap = 512; top_level = L60; max_depth = 62; words = [] }
 
--- these bytes of the bot are pending, in this phase at level 30, and the last header came at level 10
+-- these bytes from the bot are pending, in this phase at level 30, and the last header arrived at level 10
 abbrev pending_in : Phase → List ℕ → SessionState
 pending_in phase bytes = with_coming (in_phase phase L30 (initial_state small)) Bot (record { pending = bytes; noted = L10 })
 
--- a message is judged by the level that held at its header
+-- a message is judged by the level at its header
 judged_by_the_noted_level : question (pending_in Open (0x02 ∷ 0x00 ∷ 0x00 ∷ 0x02 ∷ 0x48 ∷ [])) (Comes Bot 0x0F)
     ≡ Some (record { side = Bot; level = L10; message = 0x480F ∷ [] })
 unfolding last_items first_items parse_head is_alien
 judged_by_the_noted_level = refl
 
--- a message without tokens is whole with its header, and judged by the level that holds now
+-- a message without tokens is whole with its header, and judged by the current level
 empty_judged_by_the_level_now : question (pending_in Open (0x02 ∷ 0x00 ∷ 0x00 ∷ [])) (Comes Bot 0x00)
     ≡ Some (record { side = Bot; level = L30; message = [] })
 unfolding last_items first_items parse_head is_alien
@@ -419,7 +418,7 @@ faults_by_bytes : (wire Bot (event_outcome (pending_in WaitRm (0x00 ∷ 0x00 ∷
 unfolding last_items first_items parse_head is_alien
 faults_by_bytes = (refl, refl, refl, refl, refl)
 
--- what the moves are called
+-- the reports of the effects
 reported_by_bytes : (note_of (event_outcome (pending_in Open (0x03 ∷ 0x00 ∷ 0x00 ∷ [])) (Comes Bot 0x00) Relay).effects
     ≡ Notes.Frame (record { kind = Fm; len = 0 }) Deeds.Relayed)
     × (note_of (event_outcome (pending_in WaitIm (0x03 ∷ 0x00 ∷ 0x00 ∷ [])) (Comes Bot 0x00) Relay).effects

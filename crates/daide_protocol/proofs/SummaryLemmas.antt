@@ -1,4 +1,4 @@
--- Counts of moves, one stretch after another, and the same in numbers without a bound.
+-- The counts after one list of effects and then another, and the same in unbounded numbers.
 use Rattle.std.proofs.Common.{◌≡◌, ℕ, ◌+◌, ◌%◌, ◌^◌, List, [], ◌∷◌, ◌++◌, refl, sym, ap, ◌∙◌}
 use Rattle.std.proofs.Math.Nat.{mod-add-mod}
 use Rattle.daide_protocol.specs.declared.note.Deed.TheVariants as Deeds
@@ -12,12 +12,12 @@ pub tallied-append : (a b : List Effect) (s : Summary) → tallied (a ++ b) s �
 tallied-append [] b s = refl
 tallied-append (effect ∷ a) b s = tallied-append a b (counted_on effect.reported s)
 
--- the counts after one stretch, and after the next
+-- the counts after one list of effects, and after the next
 pub tallied_then : (a b : List Effect) (old mid new : Summary) → mid ≡ tallied a old → new ≡ tallied b mid →
     new ≡ tallied (a ++ b) old
 tallied_then a b old mid new first second = second ∙ (ap (tallied b) first ∙ sym (tallied-append a b old))
 
--- one more of a count modulo 2^64 is one more of the count, modulo 2^64
+-- adding one to a count modulo 2^64 is adding one to the count, modulo 2^64
 one_more_mod : (n : ℕ) → one_more (n % 2 ^ 64) ≡ (n + 1) % 2 ^ 64
 one_more_mod n = mod-add-mod n (2 ^ 64) 1
 

@@ -1,4 +1,4 @@
--- With an operator's words too, each event has a step from each state, and events have a run.
+-- With an operator's words too, each event has a transition from each state, and events have a run.
 use Rattle.std.proofs.Common.{◌≡◌, ℕ, true, List, [], ◌∷◌, ◌++◌, Option, Some, None, refl, sym, ◌∙◌, ap, subst}
 use Rattle.std.proofs.Common.{append-nil}
 use Rattle.daide_grammar.specs.Table.LawfulStack.{start_symbol}
@@ -17,7 +17,7 @@ use Rattle.daide_protocol.proofs.LimitsKept.{runs_limits}
 use Rattle.daide_protocol.proofs.WordedVerdicts.{worded_verdicts}
 
 module _ (words : Words) (free : are_free words ≡ true) where
-  -- a message has a verdict, and where none is judged it is Relay
+  -- a message has a verdict; without a message it is Relay
   some_right : (max_depth : ℕ) (q : Option Question) → (v : Verdict) × IsCorrectVerdict words max_depth q v
   some_right max_depth None = (Relay, refl)
   some_right max_depth (Some q) =

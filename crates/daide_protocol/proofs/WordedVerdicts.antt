@@ -16,14 +16,14 @@ use Rattle.daide_reader.specs.Verdict.{HasVerdict}
 use Rattle.daide_reader.specs.declared.verdict.Verdict.{Verdict}
 use Rattle.daide_reader.proofs.VerdictLemmas.{verdict_along}
 
--- a list of a side's form is one of its opening symbol
+-- a list that matches a side's form is derived by its start symbol
 opening_has : (words : Words) (side : Side2) (l : Level) (m : List ℕ) →
     Matches (dialect_of words) (message_form side l) m → SymbolMatchesIn (dialect_of words) (start_symbol_of side l) m
 unfolding form_of
 opening_has words Client l m h = h
 opening_has words ServerEnd l m h = h
 
--- the messages of the table's opening symbol are those of its side and level
+-- the messages of the table's start symbol are those of its side and level
 pub worded_messages : (words : Words) → are_free words ≡ true → (side : Side2) (l : Level) (m : List ℕ) →
     IsMessageOf (SymbolMatchesIn (dialect_of words) (start_symbol_of side l)) m ↔ IsMessageOver words side l m
 worded_messages words free side l m = (there, back)
@@ -38,7 +38,7 @@ worded_messages words free side l m = (there, back)
         let opened = opening_has words side l m h in
         inr (((start_symbol-language words free side l m).0 opened).1, opened)
 
--- so are the verdicts
+-- and so are the verdicts
 pub worded_verdicts : (words : Words) → are_free words ≡ true → (side : Side2) (l : Level) (max_depth : ℕ) (m : List ℕ)
     (v : Verdict) → HasVerdict (IsMessageOf (SymbolMatchesIn (dialect_of words) (start_symbol_of side l))) max_depth m v →
     HasVerdict (IsMessageOver words side l) max_depth m v
@@ -46,7 +46,7 @@ worded_verdicts words free side l max_depth m v =
     verdict_along (IsMessageOf (SymbolMatchesIn (dialect_of words) (start_symbol_of side l))) (IsMessageOver words side l)
     (worded_messages words free side l) max_depth m v
 
--- and the other way round
+-- and conversely
 worded_back : (words : Words) → are_free words ≡ true → (side : Side2) (l : Level) (max_depth : ℕ) (m : List ℕ)
     (v : Verdict) → HasVerdict (IsMessageOver words side l) max_depth m v →
     HasVerdict (IsMessageOf (SymbolMatchesIn (dialect_of words) (start_symbol_of side l))) max_depth m v
@@ -55,7 +55,7 @@ worded_back words free side l max_depth m v =
     verdict_along (IsMessageOver words side l) (IsMessageOf (SymbolMatchesIn (dialect_of words) (start_symbol_of side l)))
     (λ n. ((same n).1, (same n).0)) max_depth m v
 
--- the words that a table speaks have free codes
+-- the words that a table takes into account have free codes
 spoken_free : (words : Words) → are_free (spoken words) ≡ true
 unfolding spoken
 spoken_free words = go (are_free words) refl
@@ -64,14 +64,14 @@ spoken_free words = go (are_free words) refl
     go true e = e
     go false e = refl
 
--- a reader over a table judges by the words that the table speaks
+-- a reader over a table judges by the words that the table takes into account
 pub spoken_verdicts : (words : Words) (side : Side2) (l : Level) (max_depth : ℕ) (m : List ℕ) (v : Verdict) →
     HasVerdict (IsMessageOf (SymbolMatchesIn (spoken_dialect words) (start_symbol_of side l))) max_depth m v →
     HasVerdict (IsMessageOver (spoken words) side l) max_depth m v
 spoken_verdicts words side l max_depth m v =
     worded_verdicts (spoken words) (spoken_free words) side l max_depth m v
 
--- and by these it judges exactly where words are free, which are then spoken
+-- if the codes of the words are free, these are all the words
 pub free_verdicts : (words : Words) → are_free words ≡ true → (side : Side2) (l : Level) (max_depth : ℕ) (m : List ℕ)
     (v : Verdict) → HasVerdict (IsMessageOf (SymbolMatchesIn (spoken_dialect words) (start_symbol_of side l))) max_depth m v ↔
     HasVerdict (IsMessageOver words side l) max_depth m v

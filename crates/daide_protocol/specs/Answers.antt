@@ -1,5 +1,5 @@
--- What is sent for a frame: itself, or a DM that has its body within PRN or HUH, by docs/PROTOCOL.md,
--- "Verdicts". Each is written with pad 0.
+-- The answer to a frame: the frame itself, or a DM with its body within PRN or HUH, by docs/PROTOCOL.md, "Verdicts". It
+-- is written with pad 0.
 use Rattle.std.specs.Prelude.{ℕ, ◌+◌, ◌*◌, List, [], ◌∷◌, ◌++◌, take, drop}
 use Rattle.daide_frame.specs.declared.head.Kind.TheVariants.{Dm}
 use Rattle.daide_frame.specs.declared.head.Head.{Head}
@@ -7,7 +7,7 @@ use Rattle.daide_frame.specs.Head.{head_bytes}
 use Rattle.daide_reader.specs.declared.verdict.Verdict.{Verdict}
 use Rattle.daide_reader.specs.declared.verdict.Verdict.TheVariants.{Relay, Prn, Huh}
 
--- the bytes of the tokens PRN ( , of HUH ( , of ERR and of )
+-- the bytes of the tokens PRN (, of HUH (, of ERR and of )
 abbrev pub prn_open : List ℕ
 prn_open = 0x48 ∷ 0x13 ∷ 0x40 ∷ 0x00 ∷ []
 
@@ -20,8 +20,8 @@ err_bytes = 0x49 ∷ 0x02 ∷ []
 abbrev pub close_bytes : List ℕ
 close_bytes = 0x40 ∷ 0x01 ∷ []
 
--- the body of the answer to a body: PRN ( body ) where its brackets are not paired, HUH ( body ) with
--- ERR after as many of its tokens as are right where the grammar has no such message
+-- the body of the answer to a body: PRN ( body ) if its brackets are not paired; HUH ( body ), with ERR after `place`
+-- of its tokens, if the grammar has no such message
 abbrev pub answer_body : List ℕ → Verdict → List ℕ
 answer_body body Relay = body
 answer_body body Prn = prn_open ++ body ++ close_bytes

@@ -1,5 +1,5 @@
--- The calls of a session in a row, each by its contract, and what they come to: the events, and the bytes that
--- each wire took.
+-- A sequence of calls of a session, each by its contract, and their result: the events, and the bytes that each wire
+-- took.
 use Rattle.std.specs.Prelude.{◌≡◌, ℕ, Bool, true, false, ◌||◌, List, [], ◌∷◌, ◌++◌, length, if◌then◌else◌}
 use Rattle.daide_frame.specs.declared.side.Side.{Side}
 use Rattle.daide_protocol.specs.declared.note.Note.{Note}
@@ -16,12 +16,12 @@ pub data Call : Type 0 where
   Fails : (side : Side) → Call  -- `lost`: the wire toward a side failed
   Puts : (side : Side) → (bytes : List ℕ) → Call  -- `wrote`: the wire toward a side took these bytes
 
--- the bytes of the first frame that waits
+-- the bytes of the first queued frame
 abbrev pub first_bytes : List Sent → List ℕ
 first_bytes [] = []
 first_bytes (frame ∷ frames) = frame.bytes
 
--- one call took a session from old to new, as its contract says; a wire takes a front of its first frame
+-- one call took a session from old to new, by its contract; a wire takes a prefix of its first frame
 abbrev pub IsCall : SessionView → Call → SessionView → Type 0
 IsCall old (Feeds side piece) new = (reported : Note) × Refines old (bytes_come side piece) reported new
 IsCall old (Stops side) new = (reported : Note) × Refines old (Ends side ∷ []) reported new
@@ -30,12 +30,12 @@ IsCall old (Fails side) new = Lost old side new
 IsCall old (Puts side bytes) new =
     ((rest : List ℕ) × (first_bytes (queued old side) ≡ bytes ++ rest)) × Wrote old side (length bytes) new
 
--- these calls, one after the other
+-- the effect of these calls, in order
 abbrev pub AreCalls : SessionView → List Call → SessionView → Type 0
 AreCalls old [] new = new ≡ old
 AreCalls old (call ∷ calls) new = (mid : SessionView) × IsCall old call mid × AreCalls mid calls new
 
--- what they told the session
+-- the events of these calls
 abbrev pub events_of_calls : List Call → List Event
 events_of_calls [] = []
 events_of_calls (Feeds side piece ∷ calls) = bytes_come side piece ++ events_of_calls calls
@@ -44,7 +44,7 @@ events_of_calls (TimesOut ∷ calls) = ImTimerExpired ∷ events_of_calls calls
 events_of_calls (Fails side ∷ calls) = Loses side ∷ events_of_calls calls
 events_of_calls (Puts side bytes ∷ calls) = events_of_calls calls
 
--- the bytes that the wire toward a side took in them
+-- the bytes that the wire to a side took in these calls
 abbrev pub taken_by : Side → List Call → List ℕ
 taken_by side [] = []
 taken_by side (Feeds from piece ∷ calls) = taken_by side calls
@@ -53,7 +53,7 @@ taken_by side (TimesOut ∷ calls) = taken_by side calls
 taken_by side (Fails to ∷ calls) = taken_by side calls
 taken_by side (Puts to bytes ∷ calls) = if same_side to side then bytes ++ taken_by side calls else taken_by side calls
 
--- whether the wire toward a side failed in them
+-- whether the wire to a side failed in these calls
 abbrev pub some_call_fails : Side → List Call → Bool
 some_call_fails side [] = false
 some_call_fails side (Feeds from piece ∷ calls) = some_call_fails side calls
@@ -62,9 +62,9 @@ some_call_fails side (TimesOut ∷ calls) = some_call_fails side calls
 some_call_fails side (Fails to ∷ calls) = same_side to side || some_call_fails side calls
 some_call_fails side (Puts to bytes ∷ calls) = some_call_fails side calls
 
--- The session went by the machine, its moves are counted, and each wire got what the machine sends it: what it took,
--- and then what waits, are what waited at first and the frames of the run. What a wire took that failed is a front of
--- these, and nothing waits for it.
+-- The session followed the machine, its effects are counted, and each wire got the machine's frames. The bytes that a
+-- wire took and those still queued are the bytes queued at first and the frames of the run. The bytes that a failed
+-- wire took are a prefix of these, and its queue is empty.
 pub record Delivers (old : SessionView) (calls : List Call) (new : SessionView) : Type 0 where
   pub effects : List Effect
   pub run : Runs old.state (events_of_calls calls) effects new.state

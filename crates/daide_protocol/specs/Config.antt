@@ -1,4 +1,4 @@
--- The limits that an operator may set, and what a session makes of them. (own)
+-- The limits that an operator may set, and the limits of a session. (own)
 use Rattle.std.specs.Prelude.{ℕ, ◌%◌, Bool, ◌&&◌, nat_le, List, [], Result, Ok, Err, is_some, if◌then◌else◌, ◌==◌}
 use Rattle.std.specs.Option.{unwrap_or}
 use Rattle.daide_grammar.specs.declared.level.Level.TheVariants.{L0}
@@ -19,11 +19,11 @@ is_level n = is_some (level_of_number n)
 abbrev pub is_body : ℕ → Bool
 is_body n = (n % 2 == 0) && (nat_le least_body n && nat_le n longest_body)
 
--- how many brackets may be open at once
+-- the number of brackets that may be open at once
 abbrev pub is_depth : ℕ → Bool
 is_depth n = nat_le least_depth n && nat_le n greatest_depth
 
--- the first thing that is wrong
+-- the first error
 abbrev pub config_fault : Config → Result (Unit {0}) ConfigError
 config_fault config =
     if is_level config.top_level
@@ -32,7 +32,7 @@ config_fault config =
 
 -- ---- the limits of a session
 
--- what an operator sets, and the words that the operator adds
+-- the operator's limits, with the words that the operator added
 abbrev pub limits_with : Config → List Word → Limits
 limits_with config words = record {
   cap = config.max_body;
@@ -41,6 +41,6 @@ limits_with config words = record {
   words = grammar_words words;
 }
 
--- the same with no words
+-- the same without words
 abbrev pub limits_of : Config → Limits
 limits_of config = limits_with config []

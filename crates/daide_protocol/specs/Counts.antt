@@ -11,13 +11,13 @@ use Rattle.daide_protocol.specs.Events.{other}
 use Rattle.daide_protocol.specs.Machine.{Sent, Effect}
 use Rattle.daide_protocol.specs.Wires.{sent_to, is_answer}
 
--- ---- what a frame is
+-- ---- the kinds of sent frames
 
 abbrev pub begins_with : ℕ → List ℕ → Bool
 begins_with first [] = false
 begins_with first (number ∷ numbers) = number == first
 
--- a frame of the one side that is passed on to the other
+-- a frame that is relayed from one side to the other
 abbrev pub goes_on : Sent → Bool
 goes_on frame = is_answer (other frame.to) frame.answers
 
@@ -25,21 +25,21 @@ goes_on frame = is_answer (other frame.to) frame.answers
 abbrev pub goes_back : ℕ → Sent → Bool
 goes_back token frame = is_answer frame.to frame.answers && begins_with token (tokens_of (drop 4 frame.bytes))
 
--- the gateway's own EM, which tells a side its fault
+-- the gateway's own EM, which reports a side's fault to it
 abbrev pub reports_fault : Sent → Bool
 reports_fault frame = is_none frame.answers && begins_with (kind_number Em) frame.bytes
 
--- ---- how many there are
+-- ---- their numbers
 
--- of the frames that moves send toward a side
+-- the number of frames that effects send to a side, of those that pass a test
 abbrev pub number_to : Side → (Sent → Bool) → List Effect → ℕ
 number_to side test effects = length (filter test (sent_to side effects))
 
--- and of those toward both
+-- the number to both sides
 abbrev pub number_sent : (Sent → Bool) → List Effect → ℕ
 number_sent test effects = number_to Bot test effects + number_to Server test effects
 
--- the frames of the one side that went on to the other, the answers PRN and HUH, and the faults that were told
+-- the frames that one side sent and the other got, each PRN and HUH, and the reported faults
 abbrev pub frames_counted : List Effect → Summary
 frames_counted effects = record {
   relayed = number_sent goes_on effects;

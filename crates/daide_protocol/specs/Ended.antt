@@ -1,5 +1,5 @@
--- What ends a session, by docs/PROTOCOL.md, "The session": the end of a side's stream or the loss of a wire, an FM, an
--- EM or a fault of a side, and the time for the IM.
+-- What ends a session, by docs/PROTOCOL.md, "The session": the end of a stream or the loss of a wire, an FM, an EM, a
+-- fault, and the expiry of the IM timer.
 use Rattle.std.specs.Prelude.{◌≡◌, false, List, ◌∷◌, ◌++◌, Option, Some, None}
 use Rattle.daide_frame.specs.declared.side.Side.{Side}
 use Rattle.daide_frame.specs.declared.side.Side.TheVariants.{Bot}
@@ -12,7 +12,7 @@ use Rattle.daide_protocol.specs.Events.{Event, Comes, Ends, Loses, ImTimerExpire
 use Rattle.daide_protocol.specs.Machine.{SessionState, Effect, Transition, Runs, is_over}
 use Rattle.daide_protocol.specs.Fates.{EventCause, Frame, Fault, End, Timeout, cause_at}
 
--- a side's whole frame ends it where it is an FM or an EM
+-- a whole frame from a side ends the session if it is an FM or an EM
 abbrev pub frame_ending : Kind → Side → Option Ending
 frame_ending Im side = None
 frame_ending Rm side = None
@@ -20,8 +20,8 @@ frame_ending Dm side = None
 frame_ending Fm side = Some (Endings.Final side)
 frame_ending Em side = Some (Endings.Error side)
 
--- What a byte or the timer brings ends it so, if it does: a frame, or a fault, and that the time for the IM is over is one
--- of the bot. An end comes with neither.
+-- The ending by a frame or a fault, if it ends the session. An expired IM timer is a fault of the bot. The end of a
+-- stream has no cause here.
 abbrev pub cause_ending : Option EventCause → Option Ending
 cause_ending None = None
 cause_ending (Some (Frame side noted head body)) = frame_ending head.kind side
@@ -29,15 +29,15 @@ cause_ending (Some (Fault side code)) = Some (Endings.Fault side code)
 cause_ending (Some (End side)) = None
 cause_ending (Some Timeout) = Some (Endings.Fault Bot ImTimeout)
 
--- which ending an event is to a session that is not over, if it ends it
+-- the ending by an event, if it ends a session that is not over
 abbrev pub ending_at : SessionState → Event → Option Ending
 ending_at state (Comes side byte) = cause_ending (cause_at state (Comes side byte))
 ending_at state (Ends side) = Some (Endings.Ended side)
 ending_at state (Loses side) = Some (Endings.Lost side)
 ending_at state ImTimerExpired = cause_ending (cause_at state ImTimerExpired)
 
--- The first event that ended a run: before it the session was not over, it made the state in which the session is since
--- then, and the ending that is told is the one that this event is.
+-- The first event that ended a run. Before it the session was not over. It made the state that the session has had
+-- since, and its ending is the recorded one.
 pub record IsEndedBy (first : SessionState) (events : List Event) (new : SessionState) : Type 0 where
   pub before : List Event
   pub event : Event

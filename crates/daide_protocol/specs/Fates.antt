@@ -1,4 +1,4 @@
--- What comes to a session, each with its one fate, by docs/PROTOCOL.md, "The session" and "Verdicts".
+-- The inputs of a session, each with its one fate, by docs/PROTOCOL.md, "The session" and "Verdicts".
 use Rattle.std.specs.Prelude.{◌≡◌, ℕ, false, List, [], ◌∷◌, ◌++◌, Option, Some, None, Result, Ok, Err}
 use Rattle.std.specs.Prelude.{if◌then◌else◌}
 use Rattle.daide_token.specs.Token.{tokens_of}
@@ -26,20 +26,20 @@ use Rattle.daide_protocol.specs.Machine.{fm_to, may_reach, side2_of, initial_sta
 use Rattle.daide_protocol.specs.Wires.{same_side}
 use Rattle.daide_protocol.specs.Heard.{bytes_from}
 
--- ---- what comes
+-- ---- the inputs
 
--- what comes to a session
+-- an input of a session
 pub data EventCause : Type 0 where
-  -- a side's whole frame, with the level that held when its header became whole
+  -- a whole frame from a side, with the level at the time when its header was completed
   Frame : (side : Side) → (noted : Level) → (head : Head) → (body : List ℕ) → EventCause
-  -- a header, a body or an initial message of a side that is wrong or comes at the wrong time
+  -- a header, a body or an initial message from a side that is wrong, or not permitted in this phase
   Fault : (side : Side) → (code : Code) → EventCause
-  -- a side's stream ended, or the wire toward it failed
+  -- a side's stream ended, or the wire to it failed
   End : (side : Side) → EventCause
-  -- the time for the IM is over
+  -- the IM timer expired
   Timeout : EventCause
 
--- and the phase in which it comes
+-- an input, with the phase in which it arrives
 pub record Came : Type 0 where
   pub phase : Phase
   pub cause : EventCause
@@ -48,7 +48,7 @@ abbrev pub checked_frame : Side → Level → Head → List ℕ → Result (Unit
 checked_frame side noted head body (Ok nothing) = Frame side noted head body
 checked_frame side noted head body (Err code) = Fault side code
 
--- a whole frame, of which an IM is checked
+-- a whole frame; an IM is checked
 abbrev pub frame_cause : Side → Level → Head → List ℕ → EventCause
 frame_cause side noted head body = checked_frame side noted head body (if is_im head.kind then im_of body else Ok tt)
 
@@ -56,8 +56,7 @@ abbrev pub fault_or : Side → Option Code → Option EventCause → Option Even
 fault_or side None later = later
 fault_or side (Some code) later = Some (Fault side code)
 
--- what the items of a side are that end with one byte. A header is noted with the present level, unless it may not
--- come now.
+-- The input made of the frame events that end with one byte. A permitted header records the current level.
 abbrev pub items_cause : Side → Level → Level → (Kind → Option Code) → List FrameEvent → Option EventCause
 items_cause side noted now refusal [] = None
 items_cause side noted now refusal (Begun head ∷ items) =
@@ -71,7 +70,7 @@ timeout_in WaitRm = None
 timeout_in Open = None
 timeout_in Over = None
 
--- what comes with an event, if anything does; nothing once the session is over
+-- the input of an event, if it has one; none once the session is over
 abbrev pub cause_at : SessionState → Event → Option EventCause
 cause_at state (Comes side byte) =
     if is_over state.phase then None
@@ -85,16 +84,16 @@ abbrev pub came_in_phase : Phase → Option EventCause → List Came
 came_in_phase phase None = []
 came_in_phase phase (Some cause) = record { phase = phase; cause = cause } ∷ []
 
--- all that comes in a run, in the order in which it becomes whole
+-- all inputs of a run, in the order in which they were completed
 abbrev pub came_in : (old : SessionState) (events : List Event) (effects : List Effect) (new : SessionState) →
     Runs old events effects new → List Came
 came_in old [] effects new run = []
 came_in old (event ∷ events) effects new run =
     came_in_phase old.phase (cause_at old event) ++ came_in run.0 events run.2 new run.4
 
--- ---- what becomes of it
+-- ---- the fate of an input
 
--- a side's frame that is passed on to the other side, and what a side gets for a frame of its own
+-- a side's frame that is relayed to the other side, and the answer that a side gets to a frame of its own
 abbrev pub passed_on : Side → Head → List ℕ → Sent
 passed_on side head body = record { to = other side; answers = Some side; bytes = head_bytes head ++ body }
 
@@ -102,13 +101,13 @@ abbrev pub given_back : Side → Head → List ℕ → Verdict → Sent
 given_back side head body verdict =
     record { to = side; answers = Some side; bytes = answer_bytes head body verdict }
 
--- the verdict of a side's message at a level
+-- the verdict on a side's message at a level
 abbrev pub IsJudged : Limits → Side → Level → List ℕ → Verdict → Type 0
 IsJudged limits side noted body verdict =
     HasVerdict (IsMessageOver limits.words (side2_of side) noted) limits.max_depth (tokens_of body) verdict
 
--- The one fate of a message: it is passed on, where the grammar has it; or it goes back to its sender within PRN, where
--- its brackets are not paired, or within HUH, where they are and the grammar doesn't have it.
+-- The one fate of a message: it is relayed if the grammar has it. It is returned to its sender within PRN if its
+-- brackets are not paired. It is returned within HUH if they are and the grammar doesn't have it.
 pub data IsMessageFate (limits : Limits) (side : Side) (noted : Level) (head : Head) (body : List ℕ)
     (sent : List Sent) : Type 0 where
   is_passed_on : IsJudged limits side noted body Relay → sent ≡ passed_on side head body ∷ [] →
@@ -118,7 +117,7 @@ pub data IsMessageFate (limits : Limits) (side : Side) (noted : Level) (head : H
   is_answered_huh : (place : ℕ) → IsJudged limits side noted body (Huh place) →
       sent ≡ given_back side head body (Huh place) ∷ [] → IsMessageFate limits side noted head body sent
 
--- every other frame is passed on, but for an FM or EM of the bot before the IM
+-- every other frame is relayed, except for an FM or EM of the bot before the IM
 abbrev pub IsFrameFate : Kind → Limits → Phase → Side → Level → Head → List ℕ → List Sent → Type 0
 IsFrameFate Im limits phase side noted head body sent = sent ≡ passed_on side head body ∷ []
 IsFrameFate Rm limits phase side noted head body sent = sent ≡ passed_on side head body ∷ []
@@ -128,24 +127,24 @@ IsFrameFate Fm limits phase side noted head body sent =
 IsFrameFate Em limits phase side noted head body sent =
     sent ≡ (if may_reach phase (other side) then passed_on side head body ∷ [] else [])
 
--- A fault is told its side by an EM, and the other by an FM. An end is told the other side by an FM; that the time is
--- over is told the bot by an EM. No FM goes to the server before the IM.
+-- A side with a fault gets an EM, and the other side an FM. At an end the other side gets an FM. At the expiry of the
+-- IM timer the bot gets an EM. No FM is sent to the server before the IM.
 abbrev pub IsFate : Limits → Phase → EventCause → List Sent → Type 0
 IsFate limits phase (Frame side noted head body) sent = IsFrameFate head.kind limits phase side noted head body sent
 IsFate limits phase (Fault side code) sent = sent ≡ em_to side code ∷ fm_to phase (other side)
 IsFate limits phase (End side) sent = sent ≡ fm_to phase (other side)
 IsFate limits phase Timeout sent = sent ≡ em_to Bot ImTimeout ∷ []
 
--- one move each, in the order in which they came
+-- one effect for each input, in their order
 abbrev pub HaveFates : Limits → List Came → List Effect → Type 0
 HaveFates limits [] effects = effects ≡ []
 HaveFates limits (came ∷ more) [] = ⊥
 HaveFates limits (came ∷ more) (effect ∷ effects) =
     IsFate limits came.phase came.cause effect.sent × HaveFates limits more effects
 
--- ---- a side's frames
+-- ---- the frames from a side
 
--- the whole frames among some items
+-- the whole frames among some frame events
 abbrev pub frames_among : List FrameEvent → List FrameEvent
 frames_among [] = []
 frames_among (item ∷ items) = if is_whole_frame item then item ∷ frames_among items else frames_among items
@@ -156,16 +155,16 @@ whole_frame_from side (Fault from code) = []
 whole_frame_from side (End from) = []
 whole_frame_from side Timeout = []
 
--- a side's whole frames among what came
+-- the whole frames from a side among the inputs
 abbrev pub frames_from : Side → List Came → List FrameEvent
 frames_from side [] = []
 frames_from side (came ∷ more) = whole_frame_from side came.cause ++ frames_from side more
 
 -- ---- each message has one fate
 
--- Over a run: what came has one fate each, which are all the moves there are, in the order in which it came. The whole
--- frames of a side among it are those of the cut of all its bytes: every one of them while the session is not over, and
--- those before its end once it is.
+-- In any run each input has one fate. The fates are all the effects, in the order of the inputs. The whole frames from
+-- a side among the inputs are those of the cut of all its bytes: every one while the session is not over, and those
+-- before its end once it is.
 pub record HasOneFateEach (limits : Limits) (events : List Event) (effects : List Effect) (new : SessionState)
     (run : Runs (initial_state limits) events effects new) : Type 0 where
   pub fates : HaveFates limits (came_in (initial_state limits) events effects new run) effects
@@ -174,8 +173,8 @@ pub record HasOneFateEach (limits : Limits) (events : List Event) (effects : Lis
       ≡ frames_from side (came_in (initial_state limits) events effects new run) ++ later)
       × (is_over new.phase ≡ false → later ≡ [])
 
--- each message that comes is passed on, or answered with PRN, or with HUH, once, in the order in which they come, or
--- the session ended before; and nothing else is sent but IM, RM, FM and EM for their causes
+-- Each message is relayed, or gets PRN, or gets HUH, once, in order, unless the session ended before. Only IM, RM, FM
+-- and EM are sent besides, for their causes.
 abbrev pub EachMessageHasOneFate : Type 0
 EachMessageHasOneFate = (limits : Limits) (events : List Event) (effects : List Effect) (new : SessionState)
     (run : Runs (initial_state limits) events effects new) → HasOneFateEach limits events effects new run

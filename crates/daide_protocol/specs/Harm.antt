@@ -1,4 +1,4 @@
--- A message that is refused, and what a run would have been without it.
+-- A refused message, and the run without it.
 use Rattle.std.specs.Prelude.{◌≡◌, ℕ, List, [], ◌∷◌, ◌++◌, if◌then◌else◌}
 use Rattle.daide_frame.specs.declared.side.Side.{Side}
 use Rattle.daide_grammar.specs.declared.level.Level.{Level}
@@ -11,7 +11,7 @@ use Rattle.daide_protocol.specs.Wires.{same_side, sent_to}
 use Rattle.daide_protocol.specs.Heard.{items_heard}
 use Rattle.daide_protocol.specs.Fates.{frames_among}
 
--- the events without the bytes of a side
+-- the events without the bytes from one of the sides
 abbrev pub without_bytes : Side → List Event → List Event
 without_bytes side [] = []
 without_bytes side (Comes from byte ∷ events) =
@@ -20,7 +20,7 @@ without_bytes side (Ends from ∷ events) = Ends from ∷ without_bytes side eve
 without_bytes side (Loses from ∷ events) = Loses from ∷ without_bytes side events
 without_bytes side (ImTimerExpired ∷ events) = ImTimerExpired ∷ without_bytes side events
 
--- a move tells that a message got PRN or HUH
+-- an effect reports that a message got PRN or HUH
 abbrev pub IsRefusal : Note → Type 0
 IsRefusal Notes.Nothing = ⊥
 IsRefusal (Notes.Frame head Deeds.Relayed) = ⊥
@@ -29,10 +29,9 @@ IsRefusal (Notes.Frame head Deeds.Prn) = Unit {0}
 IsRefusal (Notes.Frame head (Deeds.Huh place)) = Unit {0}
 IsRefusal (Notes.Fault code) = ⊥
 
--- A run in which a side's message is refused: before its first byte nothing of the side's next frame is there; its
--- bytes
--- come, the other side's perhaps among them, and no frame of the side becomes whole; with one more byte it does, and is
--- refused; and then the run goes on.
+-- A run in which a side's message is refused. Before its first byte nothing of the side's next frame is pending. Its
+-- bytes arrive, perhaps with bytes from the other side between them, and no frame from the side is completed. With one
+-- more byte one is, and is refused. Then the run continues.
 pub record HasRefused (limits : Limits) (side : Side) (before between : List Event) (byte : ℕ) (after : List Event)
     (first among : List Effect) (refusal : Effect) (last : List Effect) (new : SessionState) : Type 0 where
   pub begun : SessionState
@@ -46,8 +45,8 @@ pub record HasRefused (limits : Limits) (side : Side) (before between : List Eve
   pub refused : IsRefusal refusal.reported
   pub last_run : Runs answered after last new
 
--- Without the message the run makes the same moves but for the refusal, and ends in the same state, but for the level
--- noted for the side. The refusal sends nothing to the other side, so this side is sent the same.
+-- Without the message the run has the same effects except the refusal, and ends in the same state, except for the level
+-- recorded for the side. The refusal sends nothing to the other side, so that side gets the same frames.
 pub record IsAsIfUnsent (limits : Limits) (side : Side) (before between after : List Event)
     (first among : List Effect) (refusal : Effect) (last : List Effect) (new : SessionState) : Type 0 where
   pub noted : Level
@@ -56,7 +55,7 @@ pub record IsAsIfUnsent (limits : Limits) (side : Side) (before between after : 
   pub sent : sent_to (other side) (first ++ (among ++ (refusal ∷ last))) ≡ sent_to (other side) (first ++
       (among ++ last))
 
--- what the other side is sent does not depend on a message that was refused
+-- the frames sent to the other side do not depend on a refused message
 abbrev pub ASideHarmsItselfAlone : Type 0
 ASideHarmsItselfAlone = (limits : Limits) (side : Side) (before between : List Event) (byte : ℕ) (after : List Event)
     (first among : List Effect) (refusal : Effect) (last : List Effect) (new : SessionState) →

@@ -1,4 +1,4 @@
--- The frames by which a run goes, to be held against those of all the bytes of a side.
+-- The frame events that a run uses, to be compared with those of all the bytes from a side.
 use Rattle.std.specs.Prelude.{ℕ, List, [], ◌∷◌, ◌++◌, if◌then◌else◌}
 use Rattle.daide_frame.specs.declared.side.Side.{Side}
 use Rattle.daide_frame.specs.Frames.{FrameEvent, last_items}
@@ -6,7 +6,7 @@ use Rattle.daide_protocol.specs.Events.{Event, Comes, Ends, Loses, ImTimerExpire
 use Rattle.daide_protocol.specs.Machine.{SessionState, Effect, Runs, coming, is_over}
 use Rattle.daide_protocol.specs.Wires.{same_side}
 
--- a side's bytes, of all that happens
+-- the bytes from a side, among all events
 abbrev pub bytes_from : Side → List Event → List ℕ
 bytes_from side [] = []
 bytes_from side (Comes from byte ∷ events) =
@@ -15,7 +15,7 @@ bytes_from side (Ends from ∷ events) = bytes_from side events
 bytes_from side (Loses from ∷ events) = bytes_from side events
 bytes_from side (ImTimerExpired ∷ events) = bytes_from side events
 
--- the items of a side by which a state goes at an event: none once it is over
+-- the frame events from a side that a state uses at an event: none once it is over
 abbrev pub heard_at : Side → SessionState → Event → List FrameEvent
 heard_at side state (Comes from byte) =
     if is_over state.phase then []
@@ -24,7 +24,7 @@ heard_at side state (Ends from) = []
 heard_at side state (Loses from) = []
 heard_at side state ImTimerExpired = []
 
--- the items of a side by which a run goes, in their order
+-- the frame events from a side that a run uses, in their order
 abbrev pub items_heard : (side : Side) (old : SessionState) (events : List Event) (effects : List Effect)
     (new : SessionState) → Runs old events effects new → List FrameEvent
 items_heard side old [] effects new run = []

@@ -1,6 +1,6 @@
--- What a session does, as a machine: a state, and what one event makes of it. The state holds for each
--- side the bytes since its last whole frame, so the frames of both sides come in the order in which
--- their last bytes do. The rules are those of docs/PROTOCOL.md, "The session"; a choice of ours is (own).
+-- A session as a state machine: a state, and the outcome of one event. The state has for each side the bytes since its
+-- last whole frame, so the frames from both sides are in the order of their last bytes. The rules are those of
+-- docs/PROTOCOL.md, "The session"; a choice of ours is (own).
 use Rattle.std.specs.Prelude.{◌≡◌, ℕ, Bool, true, false, List, [], ◌∷◌, ◌++◌}
 use Rattle.std.specs.Prelude.{Option, Some, None, is_some, Result, Ok, Err, if◌then◌else◌}
 use Rattle.daide_token.specs.Token.{tokens_of}
@@ -40,16 +40,16 @@ use Rattle.daide_protocol.specs.HloLevel.{level_reported}
 
 -- ---- the state
 
--- what the operator set: the longest body, the highest level of press, the most brackets open at once, and the
--- press words that were added to the grammar
+-- the operator's settings: the longest body, the highest level of press, the depth limit, and the press words that were
+-- added to the grammar
 pub record Limits : Type 0 where
   pub cap : ℕ
   pub top_level : Level
   pub max_depth : ℕ
   pub words : Words
 
--- a side's messages: the bytes since its last whole frame, and the level that held when the header of
--- its last message became whole
+-- the input from a side: the bytes since its last whole frame, and the level at the time when the header of its last
+-- message was completed
 pub record Coming : Type 0 where
   pub pending : List ℕ
   pub noted : Level
@@ -57,9 +57,9 @@ pub record Coming : Type 0 where
 pub record SessionState : Type 0 where
   pub limits : Limits
   pub phase : Phase
-  -- the level of press in the phase Open, level 0 in every other phase
+  -- the level of press in the phase Open; level 0 in every other phase
   pub level : Level
-  -- which event ended the session: none before the phase Over, and from then on that one
+  -- the event that ended the session: none before the phase Over, and that event from then on
   pub ending : Option Ending
   pub bot : Coming
   pub server : Coming
@@ -86,11 +86,11 @@ with_coming state Server c = record {
   server = c;
 }
 
--- the same with other bytes since the last whole frame
+-- the state with other bytes since the last whole frame
 abbrev pub with_pending : SessionState → Side → List ℕ → SessionState
 with_pending state side bytes = with_coming state side (record { pending = bytes; noted = (coming state side).noted })
 
--- the same with another level noted
+-- the state with another recorded level
 abbrev pub with_noted : SessionState → Side → Level → SessionState
 with_noted state side level = with_coming state side (record { pending = (coming state side).pending; noted = level })
 
@@ -114,7 +114,7 @@ with_ending ending state = record {
   server = state.server;
 }
 
--- ended by this
+-- the state after this ending
 abbrev pub over : Ending → SessionState → SessionState
 over ending state = in_phase Over L0 (with_ending (Some ending) state)
 
@@ -124,7 +124,7 @@ is_over WaitRm = false
 is_over Open = false
 is_over Over = true
 
--- nothing came yet
+-- the state before any event
 abbrev pub initial_state : Limits → SessionState
 initial_state limits = record {
   limits = limits;
@@ -135,9 +135,9 @@ initial_state limits = record {
   server = record { pending = []; noted = L0 };
 }
 
--- ---- what is sent
+-- ---- the frames that are sent
 
--- a frame for the wire toward a side, with the side whose last frame it answers, if any
+-- a frame for the wire to a side, with the side whose last frame it is the answer to, if any
 pub record Sent : Type 0 where
   pub to : Side
   pub answers : Option Side
@@ -149,7 +149,7 @@ fm_bytes = 3 ∷ 0 ∷ 0 ∷ 0 ∷ []
 abbrev pub em_bytes : Code → List ℕ
 em_bytes code = 4 ∷ 0 ∷ 0 ∷ 2 ∷ 0 ∷ code_number code ∷ []
 
--- before the IM was relayed nothing reaches the server (own)
+-- before the IM was relayed nothing is sent to the server (own)
 abbrev pub may_reach : Phase → Side → Bool
 may_reach WaitIm Bot = true
 may_reach WaitIm Server = false
@@ -157,47 +157,47 @@ may_reach WaitRm side = true
 may_reach Open side = true
 may_reach Over side = true
 
--- an FM, where it may reach that side
+-- an FM, if that side may be reached
 abbrev pub fm_to : Phase → Side → List Sent
 fm_to phase side = if may_reach phase side then record { to = side; answers = None; bytes = fm_bytes } ∷ [] else []
 
 abbrev pub em_to : Side → Code → Sent
 em_to side code = record { to = side; answers = None; bytes = em_bytes code }
 
--- ---- moves
+-- ---- effects
 
--- one move: what it is called, and the frames that it sends
+-- one effect: what it reports, and the frames that it sends
 pub record Effect : Type 0 where
   pub reported : Note
   pub sent : List Sent
 
--- what an item or an event makes of a state: the state after, and the moves that were made
+-- the outcome of a frame event or an event: the state after it, and the effects
 pub record Successor : Type 0 where
   pub state : SessionState
   pub effects : List Effect
 
--- no move
+-- no effect
 abbrev pub nothing : SessionState → Successor
 nothing state = record { state = state; effects = [] }
 
--- one move
+-- one effect
 abbrev pub one_effect : SessionState → Note → List Sent → Successor
 one_effect state reported sent = record { state = state; effects = record { reported = reported; sent = sent } ∷ [] }
 
--- a side's fault: an EM to it, an FM to the other
+-- a fault by a side: an EM to it, an FM to the other
 abbrev pub fault : SessionState → Side → Code → Successor
 fault state side code =
     one_effect (over (Endings.Fault side code) state) (Notes.Fault code)
     (em_to side code ∷ fm_to state.phase (other side))
 
--- a side's end, by its stream or its wire: an FM to the other; a frame that is not whole is dropped
+-- a side's stream ended or its wire failed: an FM to the other side; an incomplete frame is dropped
 abbrev pub end : SessionState → Ending → Side → Successor
 end state ending side = one_effect (over ending state) Notes.Nothing (fm_to state.phase (other side))
 
 -- ---- a header
 
--- the code of a header that may not come now, by phase, side and kind. That 02 is told of the bot's first
--- frame before 0D, and 08 of an RM before the IM, is (own).
+-- The code for a header that is not permitted now, by phase, side and kind. That an RM as the bot's first frame is 02
+-- and not 0D, and an RM of the server before the IM is 08, is (own).
 abbrev pub untimely : Phase → Side → Kind → Option Code
 untimely WaitIm Bot Im = None
 untimely WaitIm Bot Rm = Some ImNotFirst
@@ -240,7 +240,7 @@ untimely Over Server Dm = None
 untimely Over Server Fm = None
 untimely Over Server Em = None
 
--- a whole header: it is a fault, or the level is noted by which the message will be judged (own)
+-- a whole header: it is a fault, or the current level is recorded, by which the message will be judged (own)
 abbrev pub header_outcome : SessionState → Side → Option Code → Successor
 header_outcome state side None = nothing (with_noted state side state.level)
 header_outcome state side (Some code) = fault state side code
@@ -254,13 +254,13 @@ is_dm Dm = true
 is_dm Fm = false
 is_dm Em = false
 
--- where the answer to a side's frame goes: on to the other side, or back to its sender
+-- the destination of the answer to a side's frame: the other side, or its sender
 abbrev pub destination : Side → Verdict → Side
 destination side Relay = other side
 destination side Prn = side
 destination side (Huh place) = side
 
--- the phase after a frame of a kind was answered
+-- the phase after a frame of a kind was processed
 abbrev pub phase_after : Kind → Phase → Phase
 phase_after Im phase = WaitRm
 phase_after Rm phase = Open
@@ -268,7 +268,7 @@ phase_after Dm phase = phase
 phase_after Fm phase = Over
 phase_after Em phase = Over
 
--- what ended the session after a side's frame of a kind was answered: an FM or an EM does
+-- what ended the session after a side's frame of a kind was processed: only an FM or an EM ends it
 abbrev pub ending_after : Kind → Side → Option Ending → Option Ending
 ending_after Im side ending = ending
 ending_after Rm side ending = ending
@@ -276,7 +276,7 @@ ending_after Dm side ending = ending
 ending_after Fm side ending = Some (Endings.Final side)
 ending_after Em side ending = Some (Endings.Error side)
 
--- the level after a side's frame of a kind was answered: a relayed HLO of the server sets it
+-- the level after a side's frame of a kind was processed: a relayed HLO of the server sets it
 abbrev pub level_after : Level → Kind → Side → Verdict → List ℕ → Level → Level
 level_after top Im side verdict tokens level = L0
 level_after top Rm side verdict tokens level = L0
@@ -287,8 +287,8 @@ level_after top Dm Server (Huh place) tokens level = level
 level_after top Fm side verdict tokens level = L0
 level_after top Em side verdict tokens level = L0
 
--- whether the answer goes out: an FM or EM of the bot before the IM does not. (No RM or DM is whole then,
--- since its header is untimely.)
+-- whether the answer is sent: that to an FM or EM of the bot before the IM is not. (No RM or DM is whole then, since
+-- its header is untimely.)
 abbrev pub is_sent : Phase → Kind → Side → Bool
 is_sent phase Im to = true
 is_sent phase Rm to = true
@@ -306,7 +306,7 @@ abbrev pub reply_to : Side → Head → List ℕ → Verdict → Sent
 reply_to side head body verdict =
     record { to = destination side verdict; answers = Some side; bytes = answer_bytes head body verdict }
 
--- the answer to a frame: itself, sent on; but a DM goes by its verdict, which is Relay for every other kind
+-- the answer to a frame: the frame itself, relayed; but a DM by its verdict, which is Relay for every other kind
 abbrev pub answered : SessionState → Side → Head → List ℕ → Verdict → Successor
 answered state side head body verdict =
     let goes = is_sent state.phase head.kind (destination side verdict) in
@@ -333,7 +333,7 @@ item_outcome state side (Begun head) verdict = header_outcome state side (untime
 item_outcome state side (Whole head body) verdict = frame_outcome state side head body verdict
 item_outcome state side (Wrong code) verdict = fault state side code
 
--- the items of a side in order; once the session is over nothing moves
+-- the frame events from a side in order; once the session is over nothing happens
 abbrev pub items_outcome : SessionState → Side → List FrameEvent → Verdict → Successor
 items_outcome state side [] verdict = nothing state
 items_outcome state side (item ∷ items) verdict =
@@ -342,12 +342,12 @@ items_outcome state side (item ∷ items) verdict =
     let more = items_outcome first.state side items verdict in
     record { state = more.state; effects = first.effects ++ more.effects })
 
--- the items that end with the last of a side's bytes
+-- the frame events that end with the last byte from a side
 abbrev pub byte_outcome : SessionState → Side → List ℕ → Verdict → Successor
 byte_outcome state side bytes verdict =
     items_outcome (with_pending state side bytes) side (last_items state.limits.cap bytes) verdict
 
--- the timer: in the phase WaitIm the bot's fault
+-- the IM timer: in the phase WaitIm a fault of the bot
 abbrev pub im_timer_expired : Phase → SessionState → Successor
 im_timer_expired WaitIm state =
     one_effect (over (Endings.Fault Bot ImTimeout) state) (Notes.Fault ImTimeout) (em_to Bot ImTimeout ∷ [])
@@ -367,7 +367,7 @@ event_outcome state ImTimerExpired verdict = im_timer_expired state.phase state
 
 -- ---- the verdict
 
--- a message that is to be judged: whose it is, and by which level
+-- a message to be judged: its side and its level
 pub record Question : Type 0 where
   pub side : Side
   pub level : Level
@@ -377,8 +377,8 @@ abbrev pub question_of : Side → Level → Head → List ℕ → Option Questio
 question_of side level head body =
     if is_dm head.kind then Some (record { side = side; level = level; message = tokens_of body }) else None
 
--- by the level noted at the header, or by the present one where the header ends here too; a message
--- whose header is untimely is not judged
+-- by the level recorded at the header, or by the current one if the header ends here too; a message with an untimely
+-- header is not judged
 abbrev pub question_in : Side → Level → Level → (Kind → Option Code) → List FrameEvent → Option Question
 question_in side noted now refusal [] = None
 question_in side noted now refusal (Whole head body ∷ items) = question_of side noted head body
@@ -392,7 +392,7 @@ question_in side noted now refusal (Wrong code ∷ items) = None
 abbrev pub asked_by : SessionState → Side → List FrameEvent → Option Question
 asked_by state side items = question_in side (coming state side).noted state.level (untimely state.phase side) items
 
--- the message that an event asks the grammar about, if any
+-- the message that is judged at an event, if any
 abbrev pub question : SessionState → Event → Option Question
 question state (Comes side byte) =
     if is_over state.phase then None
@@ -406,7 +406,7 @@ abbrev pub side2_of : Side → Side2
 side2_of Bot = Client
 side2_of Server = ServerEnd
 
--- the verdict is that of the grammar with the operator's words, where a message is judged
+-- if a message is judged, the verdict is that of the grammar with the operator's words
 abbrev pub IsCorrectVerdict : Words → ℕ → Option Question → Verdict → Type 0
 IsCorrectVerdict words max_depth None verdict = verdict ≡ Relay
 IsCorrectVerdict words max_depth (Some q) verdict =
@@ -414,13 +414,13 @@ IsCorrectVerdict words max_depth (Some q) verdict =
 
 -- ---- runs
 
--- the machine goes by this event from old to new with these moves
+-- the machine goes from old to new at this event, with these effects
 pub record Transition (old : SessionState) (event : Event) (effects : List Effect) (new : SessionState) : Type 0 where
   pub verdict : Verdict
   pub right : IsCorrectVerdict old.limits.words old.limits.max_depth (question old event) verdict
   pub outcome : event_outcome old event verdict ≡ record { state = new; effects = effects }
 
--- the machine goes by these events from old to new with these moves
+-- the machine goes from old to new at these events, with these effects
 abbrev pub Runs : SessionState → List Event → List Effect → SessionState → Type 0
 Runs old [] effects new = (effects ≡ []) × (new ≡ old)
 Runs old (event ∷ events) effects new =

@@ -1,4 +1,5 @@
--- What a side is sent: whole frames, and of messages only those of the other side, and its own within PRN or HUH.
+-- The frames that a side gets: they are whole, and their messages are only those from the other side, and its own
+-- within PRN or HUH.
 use Rattle.std.specs.Prelude.{◌≡◌, ℕ, ◌+◌, ◌≤◌, ◌<◌, ◌^◌, true, false, List, [], ◌∷◌, ◌++◌, ◌⊎◌, length, take, drop}
 use Rattle.std.specs.List.{All}
 use Rattle.daide_token.specs.Token.{bra, ket, prn, huh, err, tokens_of}
@@ -18,33 +19,32 @@ use Rattle.daide_protocol.specs.Machine.{Limits, SessionState, Sent, Effect, Run
 use Rattle.daide_protocol.specs.Wires.{sent_to}
 use Rattle.daide_protocol.specs.Fates.{Frame, Came, came_in}
 
--- the bytes are one whole frame of a kind with this body, of a length that is right for the kind
+-- the bytes are one whole frame of a kind with this body, of a right length for the kind
 pub record IsFrame (kind : Kind) (body bytes : List ℕ) : Type 0 where
   pub whole : bytes ≡ head_bytes (record { kind = kind; len = length body }) ++ body
   pub right : has_right_length kind (length body) ≡ true
   pub short : length body < 2 ^ 16
 
--- among what came is this message of a side, for which this level was noted
+-- among the inputs is this message from a side, with this recorded level
 abbrev pub HasCome : List Came → Side → Level → List ℕ → Type 0
 HasCome [] side noted body = ⊥
 HasCome (came ∷ more) side noted body =
     (came.cause ≡ Frame side noted (record { kind = Dm; len = length body }) body) ⊎ HasCome more side noted body
 
--- a message that is passed on is one of its side at the level noted for it, its brackets are paired, and it is not too
--- deep
+-- a relayed message is a message of its side at the recorded level, its brackets are paired, and it is not too deep
 pub record IsPassed (limits : Limits) (side : Side) (noted : Level) (m : List ℕ) : Type 0 where
   pub is_message : IsMessageOver limits.words (side2_of side) noted m
   pub shallow : depth_of m ≤ limits.max_depth
   pub paired : IsPaired m
 
--- a message that its sender gets back within PRN is one whose brackets are not paired; the answer has no depth
+-- a message that is returned within PRN has unpaired brackets; the answer has no depth
 pub record IsWithinPrn (m answer : List ℕ) : Type 0 where
   pub answer_is : answer ≡ prn ∷ bra ∷ (m ++ ket ∷ [])
   pub unpaired : ¬ IsPaired m
   pub flat : depth_of answer ≡ 0
 
--- A message that its sender gets back within HUH, with ERR at a place, is one whose brackets are paired and that is not
--- passed on. The answer's brackets balance, and it is one bracket deeper.
+-- A message that is returned within HUH, with ERR at an index, has paired brackets and is not relayed. The brackets of
+-- the answer balance, and it is one bracket deeper.
 pub record IsWithinHuh (limits : Limits) (side : Side) (noted : Level) (place : ℕ) (m answer : List ℕ) : Type 0 where
   pub answer_is : answer ≡ huh ∷ bra ∷ ((take place m ++ err ∷ drop place m) ++ ket ∷ [])
   pub within : place ≤ length m
@@ -53,8 +53,8 @@ pub record IsWithinHuh (limits : Limits) (side : Side) (noted : Level) (place : 
   pub balanced : IsBalanced answer
   pub deeper : depth_of answer ≡ depth_of m + 1
 
--- a frame that a side is sent, by what came: no message, or a message of the other side, or one of its own within PRN
--- or HUH
+-- a frame that a side gets, given the inputs: no message, or a message from the other side, or one of its own within
+-- PRN or HUH
 pub data MayBeSent (limits : Limits) (came : List Came) (to : Side) (bytes : List ℕ) : Type 0 where
   no_message : (kind : Kind) (body : List ℕ) → is_dm kind ≡ false → IsFrame kind body bytes →
       MayBeSent limits came to bytes
@@ -65,8 +65,8 @@ pub data MayBeSent (limits : Limits) (came : List Came) (to : Side) (bytes : Lis
   within_huh : (noted : Level) (place : ℕ) (own body : List ℕ) → IsFrame Dm body bytes → HasCome came to noted own →
       IsWithinHuh limits to noted place (tokens_of own) (tokens_of body) → MayBeSent limits came to bytes
 
--- Over any run from a session's opening, with limits that a session takes, whatever a side is sent is a whole frame.
--- Where it is a message, it is one of the other side at the level noted for it, or one of its own within PRN or HUH.
+-- In any run from a session's start, with limits that a session accepts, every frame that a side gets is whole. If it
+-- is a message, it is one from the other side at the recorded level, or one of its own within PRN or HUH.
 abbrev pub OnlyMessagesPass : Type 0
 OnlyMessagesPass = (limits : Limits) (events : List Event) (effects : List Effect) (new : SessionState)
     (run : Runs (initial_state limits) events effects new) → limits.cap ≤ longest_body → (to : Side) →

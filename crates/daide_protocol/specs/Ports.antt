@@ -1,5 +1,5 @@
--- What ports tell of their answers, and what these answers mean for a session: the events by which it goes, and the
--- bytes that each wire took.
+-- The calls of ports with their results, and what they mean for a session: its events, and the bytes that each wire
+-- took.
 use Rattle.std.specs.Prelude.{◌≡◌, ℕ, ◌≤◌, Bool, true, false, ◌||◌, if◌then◌else◌}
 use Rattle.std.specs.Prelude.{List, [], ◌∷◌, ◌++◌, take, Option, Some, IfSome}
 use Rattle.daide_frame.specs.declared.side.Side.{Side}
@@ -10,49 +10,48 @@ use Rattle.daide_protocol.specs.declared.ports.Pull.TheVariants.{Got, Idle, Ende
 use Rattle.daide_protocol.specs.declared.ports.Put.{Put}
 use Rattle.daide_protocol.specs.declared.ports.Put.TheVariants.{Took, Failed}
 
--- ---- the record
+-- ---- the trace
 
--- one step of the ports: a turn of their session begins, of which nothing is asked of them; or one answer of theirs: of
--- the clock; of a pull, with the length of its buffer and the bytes that came; of a put, with the bytes handed in
+-- One step of the ports. Either a turn of their session begins, without a call; or it is a call with its result: of the
+-- clock; of a pull, with the length of its buffer and the bytes received; of a put, with the bytes offered.
 pub data PortCall : Type 0 where
   TurnBegins : PortCall
   Clock : (im_timer_expired : Bool) → PortCall
   Pulled : (side : Side) → (buffer : ℕ) → (pull : Pull) → (bytes : List ℕ) → PortCall
   Offered : (side : Side) → (bytes : List ℕ) → (put : Put) → PortCall
 
--- how many bytes a pull gave
+-- the number of bytes of a pull
 abbrev pub pulled_len : Pull → ℕ
 pulled_len (Got n) = n
 pulled_len Idle = 0
 pulled_len Ended = 0
 
--- a pull gives no more than its buffer holds
+-- a pull returns at most as many bytes as its buffer has
 abbrev pub IsPullWithin : Pull → ℕ → Type 0
 IsPullWithin (Got n) len = n ≤ len
 IsPullWithin Idle len = Unit {0}
 IsPullWithin Ended len = Unit {0}
 
--- a put takes no more than it was handed
+-- a put takes at most as many bytes as were offered
 abbrev pub IsPutWithin : Put → ℕ → Type 0
 IsPutWithin (Took n) len = n ≤ len
 IsPutWithin Failed len = Unit {0}
 
--- Ports went from old to new by these answers, one call for each, told or not; `transition` is what one call does to
--- them by its answer.
+-- The ports went from old to new by these calls, recorded or not; `transition` is the effect of one call with its
+-- result.
 abbrev pub EvolvesBy : {P : Type 0} → (P → PortCall → P → Type 0) → P → List PortCall → P → Type 0
 EvolvesBy transition old [] new = new ≡ old
 EvolvesBy {P} transition old (answer ∷ answers) new =
     (mid : P) × transition old answer mid × EvolvesBy transition mid answers new
 
--- What tells a record afterwards told one before, and these answers are all that came to it. What tells none
--- afterwards owes nothing.
+-- If there is a record afterwards, there was one before, and these calls were appended to it. Without a record
+-- afterwards it holds.
 abbrev pub AppendsTo : {A : Type 0} → Option (List A) → List A → Option (List A) → Type 0
 AppendsTo {A} old answers new = IfSome new (λ after. (before : List A) × (old ≡ Some before) × (after ≡ before ++ answers))
 
 -- ---- the events
 
--- what an answer tells the session: the timer, bytes of a side, its end, or a wire that failed; that a turn begins tells
--- it nothing
+-- the events of a call: the timer, bytes from a side, its end, or a failed wire; the beginning of a turn has none
 abbrev pub event_of : PortCall → List Event
 event_of TurnBegins = []
 event_of (Clock true) = ImTimerExpired ∷ []
@@ -63,7 +62,7 @@ event_of (Pulled side buffer Ended bytes) = Ends side ∷ []
 event_of (Offered side bytes (Took n)) = []
 event_of (Offered side bytes Failed) = Loses side ∷ []
 
--- all that a record tells it
+-- the events of a trace
 abbrev pub events_of : List PortCall → List Event
 events_of [] = []
 events_of (answer ∷ answers) = event_of answer ++ events_of answers
@@ -77,7 +76,7 @@ took side (Pulled from buffer pull bytes) = []
 took side (Offered to bytes (Took n)) = if same_side to side then take n bytes else []
 took side (Offered to bytes Failed) = []
 
--- the bytes that the wire toward a side took, in order
+-- the bytes that the wire to a side took, in order
 abbrev pub taken : Side → List PortCall → List ℕ
 taken side [] = []
 taken side (answer ∷ answers) = took side answer ++ taken side answers
@@ -89,7 +88,7 @@ put_fails side (Pulled from buffer pull bytes) = false
 put_fails side (Offered to bytes (Took n)) = false
 put_fails side (Offered to bytes Failed) = same_side to side
 
--- whether a put to the wire toward a side failed
+-- whether a put to the wire to a side failed
 abbrev pub has_failed : Side → List PortCall → Bool
 has_failed side [] = false
 has_failed side (answer ∷ answers) = put_fails side answer || has_failed side answers

@@ -1,5 +1,5 @@
--- The counts of a session's moves: of each kind of note one, by what became of the frame. What is counted, and that it is
--- counted modulo 2^64, is (own); `Counts` has the frames that are sent of it.
+-- The counts of a session's effects, by what was done with the frame. What is counted, and that it is counted modulo
+-- 2^64, is (own); `Counts` relates the counts to the frames that are sent.
 use Rattle.std.specs.Prelude.{ℕ, ◌+◌, ◌%◌, ◌^◌, ◌<◌, ◌≤◌, List, [], ◌∷◌}
 use Rattle.daide_protocol.specs.declared.note.Deed.TheVariants as Deeds
 use Rattle.daide_protocol.specs.declared.note.Note.{Note}
@@ -10,7 +10,7 @@ use Rattle.daide_protocol.specs.Machine.{Effect}
 abbrev pub nothing_counted : Summary
 nothing_counted = record { relayed = 0; prn = 0; huh = 0; faults = 0 }
 
--- the counts with one move more, by what one more is; frames that went nowhere and ends are counted nowhere
+-- the counts after one more effect, with `more` as the increment; dropped frames and ends are not counted
 abbrev pub counted_by : (ℕ → ℕ) → Note → Summary → Summary
 counted_by more Notes.Nothing s = s
 counted_by more (Notes.Frame head Deeds.Relayed) s =
@@ -23,7 +23,7 @@ counted_by more (Notes.Frame head (Deeds.Huh place)) s =
 counted_by more (Notes.Fault code) s =
     record { relayed = s.relayed; prn = s.prn; huh = s.huh; faults = more s.faults }
 
--- in numbers without a bound
+-- in unbounded numbers
 abbrev pub count_note : Note → Summary → Summary
 count_note reported s = counted_by (λ (n : ℕ). n + 1) reported s
 
@@ -34,7 +34,7 @@ one_more n = (n + 1) % 2 ^ 64
 abbrev pub counted_on : Note → Summary → Summary
 counted_on reported s = counted_by one_more reported s
 
--- a session's counts with these moves
+-- a session's counts after these effects
 abbrev pub tallied : List Effect → Summary → Summary
 tallied [] s = s
 tallied (effect ∷ effects) s = tallied effects (counted_on effect.reported s)
@@ -48,14 +48,14 @@ reduced s = record {
   faults = s.faults % 2 ^ 64;
 }
 
--- each count can grow by so many
+-- each count can grow by n
 pub record HasRoom (n : ℕ) (s : Summary) : Type 0 where
   pub relayed : s.relayed + n < 2 ^ 64
   pub prn : s.prn + n < 2 ^ 64
   pub huh : s.huh + n < 2 ^ 64
   pub faults : s.faults + n < 2 ^ 64
 
--- each count grew by so many at most
+-- each count grew by at most n
 pub record IsMoreBy (n : ℕ) (old new : Summary) : Type 0 where
   pub relayed : new.relayed ≤ old.relayed + n
   pub prn : new.prn ≤ old.prn + n

@@ -1,12 +1,12 @@
--- What a system answers the loop over sessions, and how it goes on by its answers.
+-- The calls of the loop over sessions on its system, and their effect on the system.
 use Rattle.std.specs.Prelude.{◌≡◌, Bool, List, [], ◌∷◌}
 use Rattle.daide_protocol.specs.declared.system.Connect.{Connect}
 use Rattle.daide_protocol.specs.declared.system.Notice.{Notice}
 use Rattle.daide_protocol.specs.declared.system.SessionEnd.{SessionEnd}
 
--- one answer: a round that was begun; a turn that was begun, of the session with these ports, and what it made of them;
--- whether a bot came; what became of a connect; ports that were taken, with how their session ended; a line that was
--- shown; and a wait that ended
+-- One call with its result: the beginning of a round; the beginning of a turn, with the ports of its session before and
+-- after; whether a bot arrived; the result of a connect; ports that were retired, with how their session ended; a line
+-- that was logged; and a wait that ended.
 pub data SystemCall (P : Type 0) : Type 0 where
   Begins : SystemCall P
   BeginsTurn : (before after : P) → SystemCall P
@@ -16,8 +16,7 @@ pub data SystemCall (P : Type 0) : Type 0 where
   Notifies : (notice : Notice) → SystemCall P
   Waits : (accepts : Bool) → SystemCall P
 
--- A system went from old to new by these answers, one call for each; `transition` is what one call does to it by its
--- answer.
+-- The system went from old to new by these calls; `transition` is the effect of one call with its result.
 abbrev pub TransitsBy : {P S : Type 0} → (S → SystemCall P → S → Type 0) → S → List (SystemCall P) → S → Type 0
 TransitsBy transition old [] new = new ≡ old
 TransitsBy {S = S} transition old (answer ∷ answers) new =

@@ -1,4 +1,4 @@
--- What a session holds, and its bound.
+-- The space that a session holds, and its bound.
 use Rattle.std.specs.Prelude.{◌≡◌, ℕ, ◌+◌, ◌*◌, ◌≤◌, false, min, List, [], length, drop, if◌then◌else◌}
 use Rattle.daide_token.specs.Token.{tokens_of}
 use Rattle.daide_frame.specs.declared.side.Side.{Side}
@@ -7,35 +7,34 @@ use Rattle.daide_grammar.specs.Depth.{open_brackets}
 use Rattle.daide_protocol.specs.Machine.{coming}
 use Rattle.daide_protocol.specs.Wires.{SessionView, Holding, holding, queued, is_awaited, is_dm_head}
 
--- the lengths of the six collections: two bodies, two stacks, two lists of frames that wait
+-- the lengths of the six collections: two bodies, two stacks, two send queues
 unfoldable pub weight_of : SessionView → ℕ
 weight_of g =
     length (drop 4 g.bot.held) + g.bot.entries + (length (drop 4 g.server.held) + g.server.entries)
     + (length g.to_bot + length g.to_server)
 
--- the whole tokens of the message that is held of a side, if its frame is a message
+-- the whole tokens of the message held from a side, if its frame is a message
 abbrev pub tokens_held : ℕ → List ℕ → List ℕ
 tokens_held cap held = if is_dm_head (head_in cap held) then tokens_of (drop 4 held) else []
 
--- one direction: the announced length of the frame that is held, capped, and eight entries an open
--- bracket, and sixteen
+-- one direction: the announced length of the held frame, capped; eight entries for each open bracket; and sixteen
 abbrev pub direction_bound : ℕ → List ℕ → ℕ
 direction_bound cap held = min (announced cap held) cap + 8 * open_brackets (tokens_held cap held) + 16
 
--- both, and 64 together
+-- both directions, and 64
 unfoldable pub weight_bound : SessionView → ℕ
 weight_bound g = direction_bound g.state.limits.cap g.bot.held + direction_bound g.state.limits.cap g.server.held + 64
 
--- what is held in one direction is within these: the announced length, capped, and the entries
+-- one direction is within these bounds: the announced length, capped, and the entries
 pub record IsKeptSmall (cap : ℕ) (h : Holding) : Type 0 where
   pub bytes : length (drop 4 h.held) ≤ min (announced cap h.held) cap
   pub entries : h.entries ≤ 8 * open_brackets (tokens_held cap h.held) + 16
 
--- the table's answers that a side's message may take: four a token, and four at its end
+-- the bound of the look-ups for a side's message: four for each token, and four at its end
 abbrev pub steps_bound : SessionView → Side → ℕ
 steps_bound g side =
     4 * length (tokens_held g.state.limits.cap (holding g side).held) + (if is_awaited (queued g) side then 4 else 0)
 
--- where no answer to a side's last frame waits, the bytes that are held are those since its last whole frame
+-- if no answer to a side's last frame is queued, the held bytes are those since its last whole frame
 abbrev pub IsTied : SessionView → Type 0
 IsTied g = (side : Side) → is_awaited (queued g) side ≡ false → (holding g side).held ≡ (coming g.state side).pending

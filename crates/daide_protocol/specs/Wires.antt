@@ -1,5 +1,5 @@
--- A session as its callers see it: its state, the frames that wait for each wire, and what it holds of
--- each side; and what each call does to these.
+-- A session as its callers see it: its state, the send queue of each wire, and what it holds from each side; and the
+-- effect of each call on these.
 use Rattle.std.specs.Prelude.{◌≡◌, ℕ, ◌+◌, ◌-◌, ◌*◌, ◌/◌, ◌%◌, ◌^◌, ◌<◌, Bool, true, false, ◌||◌, ◌&&◌, nat_lt}
 use Rattle.std.specs.Prelude.{List, [], ◌∷◌, ◌++◌, length, drop, Option, Some, None, if◌then◌else◌}
 use Rattle.daide_frame.specs.declared.side.Side.{Side}
@@ -21,20 +21,20 @@ same_side Bot Server = false
 same_side Server Bot = false
 same_side Server Server = true
 
--- ---- the answers on a wire
+-- ---- the frames on a wire
 
--- the frames for the wire toward a side
+-- the frames for the wire to a side
 abbrev pub frames_to : Side → List Sent → List Sent
 frames_to side [] = []
 frames_to side (frame ∷ frames) =
     if same_side frame.to side then frame ∷ frames_to side frames else frames_to side frames
 
--- those that moves send
+-- the frames that effects send to a side
 abbrev pub sent_to : Side → List Effect → List Sent
 sent_to side [] = []
 sent_to side (effect ∷ effects) = frames_to side effect.sent ++ sent_to side effects
 
--- frames as bytes, one after the other
+-- the concatenated bytes of frames
 abbrev pub sent_bytes : List Sent → List ℕ
 sent_bytes [] = []
 sent_bytes (frame ∷ frames) = frame.bytes ++ sent_bytes frames
@@ -44,16 +44,16 @@ note_or Notes.Nothing later = later
 note_or (Notes.Frame head deed) later = Notes.Frame head deed
 note_or (Notes.Fault code) later = Notes.Fault code
 
--- the first thing that moves tell
+-- the first report of some effects other than Nothing
 abbrev pub note_of : List Effect → Note
 note_of [] = Notes.Nothing
 note_of (effect ∷ effects) = note_or effect.reported (note_of effects)
 
--- ---- the value of a session
+-- ---- the abstract value of a session
 
--- what is held of a side: the bytes of its frame, also while the answer to it waits; the entries of its
--- reader's stack; the answers of its reader's table in all, and those before the present message; and how many
--- tokens were looked at for the level of an HLO. These three are modulo 2^64.
+-- What is held from a side: the bytes of its frame, also while the answer to it is queued; the height of its reader's
+-- stack; the look-ups of its reader's table, in all and before the current message; and the number of tokens examined
+-- for the level of an HLO. The last three are modulo 2^64.
 pub record Holding : Type 0 where
   pub held : List ℕ
   pub entries : ℕ
@@ -63,15 +63,15 @@ pub record Holding : Type 0 where
 
 pub record SessionView : Type 0 where
   pub state : SessionState
-  -- the frames that wait for each wire, the first perhaps in part
+  -- the queued frames of each wire; the first may be partly sent
   pub to_bot : List Sent
   pub to_server : List Sent
-  -- what is left of the first of them, in the parts in which it is handed over
+  -- the rest of the first of them, in the parts in which it is handed over
   pub bot_parts : List (List ℕ)
   pub server_parts : List (List ℕ)
   pub bot : Holding
   pub server : Holding
-  -- its moves counted, modulo 2^64
+  -- the counts of its effects, modulo 2^64
   pub summary : Summary
 
 abbrev pub queued : SessionView → Side → List Sent
@@ -82,18 +82,18 @@ abbrev pub parts_of : SessionView → Side → List (List ℕ)
 parts_of g Bot = g.bot_parts
 parts_of g Server = g.server_parts
 
--- the first of these parts of which something is left
+-- the first of these parts that is not empty
 abbrev pub next_part : List (List ℕ) → List ℕ
 next_part [] = []
 next_part ([] ∷ parts) = next_part parts
 next_part ((byte ∷ part) ∷ parts) = byte ∷ part
 
--- what is left of them after n bytes
+-- the rest of these parts after n bytes
 abbrev pub parts_after : ℕ → List (List ℕ) → List (List ℕ)
 parts_after n [] = []
 parts_after n (part ∷ parts) = drop n part ∷ parts_after (n - length part) parts
 
--- what is handed to a wire next: a front of its first frame; empty exactly where none waits
+-- the next bytes for a wire: a prefix of its first frame, empty exactly if its queue is
 abbrev pub front_of : SessionView → Side → List ℕ
 front_of g side = next_part (parts_of g side)
 
@@ -105,17 +105,17 @@ abbrev pub is_answer : Side → Option Side → Bool
 is_answer side None = false
 is_answer side (Some one) = same_side one side
 
--- whether one of the frames answers a side's last frame
+-- whether one of the frames is the answer to a side's last frame
 abbrev pub has_answer : Side → List Sent → Bool
 has_answer side [] = false
 has_answer side (frame ∷ frames) = is_answer side frame.answers || has_answer side frames
 
--- whether an answer to a side's last frame waits for one of the two wires
+-- whether an answer to a side's last frame is queued for one of the two wires
 abbrev pub is_awaited : (Side → List Sent) → Side → Bool
 is_awaited wires side = has_answer side (wires Bot) || has_answer side (wires Server)
 
--- how many bytes of a side are taken next: none where an answer to its last frame waits, or the session
--- is over; else what is missing of the header or the body
+-- the number of bytes that are accepted next from a side: 0 if an answer to its last frame is queued or the session is
+-- over; otherwise the bytes missing of the header or the body
 unfoldable pub room_of : SessionView → Side → ℕ
 room_of g side =
     if is_over g.state.phase || is_awaited (queued g) side then 0
@@ -125,11 +125,11 @@ abbrev pub no_frame : List Sent → Bool
 no_frame [] = true
 no_frame (frame ∷ frames) = false
 
--- over, and nothing waits
+-- over, and both queues are empty
 abbrev pub is_closed : SessionView → Bool
 is_closed g = is_over g.state.phase && (no_frame g.to_bot && no_frame g.to_server)
 
--- the first n bytes of the first frame are gone, and the frame where these are all
+-- the queue after n bytes of its first frame were sent; a frame that was sent whole is removed
 abbrev pub without : ℕ → List Sent → List Sent
 without n [] = []
 without n (frame ∷ frames) =
@@ -137,20 +137,19 @@ without n (frame ∷ frames) =
     then record { to = frame.to; answers = frame.answers; bytes = drop n frame.bytes } ∷ frames
     else frames
 
--- how many bytes are left of the first frame
+-- the number of bytes left of the first frame
 abbrev pub first_len : List Sent → ℕ
 first_len [] = 0
 first_len (frame ∷ frames) = length frame.bytes
 
--- xs is a front of the first frame that waits, and empty only where none waits
+-- xs is a prefix of the first queued frame, and empty only if the queue is
 abbrev pub IsFrontOf : List ℕ → List Sent → Type 0
 IsFrontOf xs [] = xs ≡ []
 IsFrontOf xs (frame ∷ frames) = (0 < length xs) × ((rest : List ℕ) × (frame.bytes ≡ xs ++ rest))
 
--- ---- what a call does
+-- ---- the effect of a call
 
--- a new session: nothing came, nothing is held, nothing waits, no table was asked, no token looked at and no move
--- counted
+-- a new session: no event, nothing held, nothing queued, no look-up, no token examined and no effect counted
 pub record IsNew (limits : Limits) (g : SessionView) : Type 0 where
   pub state : g.state ≡ initial_state limits
   pub to_bot : g.to_bot ≡ []
@@ -160,8 +159,8 @@ pub record IsNew (limits : Limits) (g : SessionView) : Type 0 where
   pub unlooked : (g.bot.looked_at ≡ 0) × (g.server.looked_at ≡ 0)
   pub uncounted : g.summary ≡ nothing_counted
 
--- By these events the session goes from old to new with what the note tells, what they cause waits behind what
--- waited, and their moves are counted.
+-- At these events the session goes from old to new and reports this note. The frames that they cause are appended to
+-- the queues, and the effects are counted.
 pub record Refines (old : SessionView) (events : List Event) (reported : Note) (new : SessionView) : Type 0 where
   pub effects : List Effect
   pub run : Runs old.state events effects new.state
@@ -169,14 +168,14 @@ pub record Refines (old : SessionView) (events : List Event) (reported : Note) (
   pub note : reported ≡ note_of effects
   pub counts : new.summary ≡ tallied effects old.summary
 
--- What is held of a side whose answer is gone: nothing; of any other, what was held. No table was asked.
+-- If a side's answer is gone, nothing is held from it; otherwise what is held is unchanged. No table made a look-up.
 pub record Releases (old new : SessionView) : Type 0 where
   pub gone : (side : Side) → is_awaited (queued old) side ≡ true → is_awaited (queued new) side ≡ false →
       ((holding new side).held ≡ []) × ((holding new side).total ≡ (holding old side).total)
   pub kept : (side : Side) → is_awaited (queued new) side ≡ is_awaited (queued old) side →
       holding new side ≡ holding old side
 
--- One event, after which the session is over and nothing waits for the wire that failed.
+-- One event, after which the session is over and the queue of the failed wire is empty.
 pub record Lost (old : SessionView) (side : Side) (new : SessionView) : Type 0 where
   pub effects : List Effect
   pub run : Runs old.state (Loses side ∷ []) effects new.state
@@ -186,7 +185,7 @@ pub record Lost (old : SessionView) (side : Side) (new : SessionView) : Type 0 w
   pub counts : new.summary ≡ tallied effects old.summary
   pub held : Releases old new
 
--- n bytes of what waited for a wire were taken, and nothing else changed of the state and the wires
+-- a wire took n bytes of its queue, and the rest of the state and the wires is unchanged
 pub record Wrote (old : SessionView) (side : Side) (n : ℕ) (new : SessionView) : Type 0 where
   pub same_state : new.state ≡ old.state
   pub taken : queued new side ≡ without n (queued old side)
@@ -197,7 +196,7 @@ pub record Wrote (old : SessionView) (side : Side) (n : ℕ) (new : SessionView)
 
 -- ---- what is held after a call
 
--- the number of the table's answers for the present message, modulo 2^64
+-- the number of look-ups for the current message, modulo 2^64
 abbrev pub steps_of : Holding → ℕ
 steps_of h = (h.total + (2 ^ 64 - h.total_before)) % 2 ^ 64
 
@@ -205,7 +204,7 @@ abbrev pub is_dm_head : Option Head → Bool
 is_dm_head None = false
 is_dm_head (Some head) = is_dm head.kind
 
--- the bytes of a side's frame after more of them came: none where the frame is dropped
+-- the held bytes of a frame after more of them arrived: none if the frame is dropped
 abbrev pub held_after : Note → List ℕ → List ℕ
 held_after Notes.Nothing bytes = bytes
 held_after (Notes.Frame head Deeds.Relayed) bytes = bytes
@@ -214,32 +213,32 @@ held_after (Notes.Frame head Deeds.Prn) bytes = bytes
 held_after (Notes.Frame head (Deeds.Huh place)) bytes = bytes
 held_after (Notes.Fault code) bytes = bytes
 
--- the count before the present message: the total where a message's header became whole
+-- the count before the current message: the total at the time when a message's header was completed
 abbrev pub counts_from : Option Head → Option Head → Holding → ℕ
 counts_from None None h = h.total_before
 counts_from None (Some head) h = if is_dm head.kind then h.total else h.total_before
 counts_from (Some head) later h = h.total_before
 
--- the bytes of a side's frame with more of them, up to the end of the frame
+-- the bytes of a frame and more of them, up to the end of the frame
 abbrev pub grown : SessionView → Side → List ℕ → List ℕ
 grown g side piece = fed g.state.limits.cap (holding g side).held piece
 
--- the header of a side's frame that has these bytes, once it is whole and good
+-- the header of a frame with these bytes, once it is whole and good
 abbrev pub head_by : SessionView → List ℕ → Option Head
 head_by g bytes = head_in g.state.limits.cap bytes
 
--- the most that a table is asked for a piece: four answers for each token that it ends or begins, and four
--- at a message's end
+-- the maximum number of look-ups for a piece: four for each token that it completes or begins, and four at a message's
+-- end
 abbrev pub asked_at_most : List ℕ → ℕ
 asked_at_most piece = 4 * (length piece / 2 + 1) + 4
 
--- the most tokens that are looked at for the level of an HLO: those that a piece may end
+-- the maximum number of tokens that are examined for the level of an HLO: those that a piece may complete
 abbrev pub looked_at_most : List ℕ → ℕ
 looked_at_most piece = length piece / 2 + 1
 
--- Bytes of a side came: its frame has them, its table was asked for a message alone, each token once and
--- as it came, as each was looked at for the level of an HLO, and nothing changed of what is held of the other
--- side. Where no byte came, nothing changed at all.
+-- Bytes arrived from a side, and its frame has them. Its table made look-ups only for a message: each token was read
+-- once on arrival, and examined once for the level of an HLO. What is held from the other side is unchanged. Without a
+-- byte nothing changed.
 pub record ReceivesBytes (old : SessionView) (side : Side) (piece : List ℕ) (reported : Note) (new : SessionView) : Type 0 where
   pub nothing : piece ≡ [] → holding new side ≡ holding old side
   pub bytes : (holding new side).held ≡ held_after reported (grown old side piece)
@@ -251,14 +250,14 @@ pub record ReceivesBytes (old : SessionView) (side : Side) (piece : List ℕ) (r
   pub looked_at : IsRaised (looked_at_most piece) (holding old side).looked_at (holding new side).looked_at
   pub other_side : holding new (other side) ≡ holding old (other side)
 
--- nothing changed of what is held
+-- what is held is unchanged
 abbrev pub HoldsTheSame : SessionView → SessionView → Type 0
 HoldsTheSame old new = (new.bot ≡ old.bot) × (new.server ≡ old.server)
 
--- no table was asked
+-- no table made a look-up
 abbrev pub AsksNothing : SessionView → SessionView → Type 0
 AsksNothing old new = (new.bot.total ≡ old.bot.total) × (new.server.total ≡ old.server.total)
 
--- no token was looked at for the level of an HLO
+-- no token was examined for the level of an HLO
 abbrev pub LooksAtNothing : SessionView → SessionView → Type 0
 LooksAtNothing old new = (new.bot.looked_at ≡ old.bot.looked_at) × (new.server.looked_at ≡ old.server.looked_at)

@@ -1,7 +1,7 @@
-//! The words round a frame's answer, and the frames that end a session.
+//! The fixed tokens around a frame's answer, and the frames that end a session.
 //!
-//! An answer is the body that came, with fixed words round it; so they stand here once, for whoever sends an
-//! answer and whoever prints one.
+//! An answer is the received body with fixed tokens around it. They are defined here once, for the code that sends an
+//! answer and for the code that prints one.
 
 ghost use Rattle.std.specs.Prelude.{◌≡◌, ◌≤◌};
 ghost use Rattle.daide_protocol.specs.Answers.{answer_head as head_of_answer};
@@ -11,7 +11,7 @@ ghost use Rattle.daide_protocol.specs.Machine.{em_bytes};
 use daide_frame::{Code, Head, Kind};
 use daide_reader::Verdict;
 
-/// `PRN (`, before a message whose brackets are not paired.
+/// `PRN (`, before a message with unpaired brackets.
 pub const PRN_OPEN: [u8; 4] = [0x48, 0x13, 0x40, 0x00];
 
 /// `HUH (`, before a message that is not in the grammar.
@@ -20,7 +20,7 @@ pub const HUH_OPEN: [u8; 4] = [0x48, 0x06, 0x40, 0x00];
 /// `ERR`, before the first token that no message continues.
 pub const ERR_WORD: [u8; 2] = [0x49, 0x02];
 
-/// `)`, behind the message.
+/// `)`, after the message.
 pub const CLOSE_WORD: [u8; 2] = [0x40, 0x01];
 
 /// A final message.

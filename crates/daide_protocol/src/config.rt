@@ -1,4 +1,4 @@
-//! What the operator sets of a session.
+//! The limits that the operator sets for a session.
 
 ghost use Rattle.std.specs.Prelude.{◌≡◌};
 ghost use Rattle.daide_protocol.specs.Config.{config_fault};
@@ -11,16 +11,16 @@ use daide_grammar::level::Level;
 pub struct Config {
     /// The highest level of press that an HLO may set: 0, 10, 20, 30, 40, 50 or 60.
     pub top_level: u16,
-    /// The longest body that is taken, in bytes: even, from 512 to 65,526.
+    /// The longest accepted body, in bytes: even, from 512 to 65,526.
     pub max_body: u16,
-    /// How many brackets of a message may be open at once: from 4 to 254.
+    /// The maximum number of brackets open at once in a message: from 4 to 254.
     pub max_depth: u16,
 }
 
-/// What is wrong of a `Config`, in the order in which it is looked at.
+/// The error of a `Config`, in the order of the checks.
 #[derive(Clone, Copy, Debug, PartialEq, Eq)]
 pub enum ConfigError {
-    /// `top_level` is no level.
+    /// `top_level` is not a level.
     Level,
     /// `max_body` is odd, or not from 512 to 65,526.
     Body,

@@ -2,17 +2,17 @@
 
 use daide_frame::{Code, Side};
 
-/// The event that ended a session, which is the first that could: nothing changes it afterwards.
+/// The event that ended a session. It is the first such event; no later one changes it.
 #[derive(Clone, Copy, Debug, PartialEq, Eq)]
 pub enum Ending {
     /// This side's stream ended.
     Ended(Side),
-    /// The wire toward this side failed.
+    /// The wire to this side failed.
     Lost(Side),
-    /// A final message (FM) of this side.
+    /// This side sent a final message (FM).
     Final(Side),
-    /// An error message (EM) of this side.
+    /// This side sent an error message (EM).
     Error(Side),
-    /// A fault of this side. The time for the initial message is the bot's.
+    /// This side made a fault. A late initial message is the bot's fault.
     Fault(Side, Code),
 }

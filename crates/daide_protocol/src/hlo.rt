@@ -1,8 +1,8 @@
-//! The level of press that a server's HLO sets, found as its tokens come.
+//! The level of press that a server's HLO sets, found as its tokens arrive.
 //!
-//! An HLO's options stand at its end, and a reader of messages keeps nothing of what it has read. So what matters
-//! of the tokens so far is kept beside it, in a value of fixed size: each token is looked at once, when it comes,
-//! and none any more once the number is found or the message is no HLO.
+//! The options are at the end of an HLO, and a reader keeps no token. So this module keeps what matters of the tokens
+//! so far, in a value of fixed size. It examines each token once, on arrival. It examines none after the number is
+//! found or after the first token of a message other than an HLO.
 
 ghost use Rattle.std.specs.Prelude.{◌≡◌, ℕ, ◌+◌, ◌-◌, ◌*◌, ◌/◌, ◌%◌, ◌^◌, ◌≤◌, true, List, [], ◌∷◌, ◌++◌, length, take};
 ghost use Rattle.daide_token.specs.Token.{tokens_of};
@@ -26,20 +26,20 @@ const HLO: u16 = 0x4804;
 /// The token `LVL`.
 const LVL: u16 = 0x4903;
 
-/// What is found in the tokens of a message so far.
+/// What was found in the tokens of a message so far.
 #[derive(Clone, Copy)]
 pub enum LvlScan {
-    /// No token came.
+    /// There was no token yet.
     NoToken,
-    /// The message is no HLO.
+    /// The message is not an HLO.
     NoHlo,
-    /// An HLO, without an option `( LVL n )` so far: its last three tokens, with 0 for one that is not there.
+    /// An HLO without an option `( LVL n )` so far: its last three tokens, with 0 for a missing one.
     NoNumber(Token, Token, Token),
     /// The number of the first option `( LVL n )` of an HLO.
     Number(i16),
 }
 
-/// The number of an option `( LVL n )`, if four tokens are one.
+/// Returns the number of an option `( LVL n )` if the four tokens are one.
 fn option_number(first: Token, word: Token, number: Token, last: Token) -> Option<i16>
     ensures { result ≡ number_of_option (first ∷ word ∷ number ∷ last ∷ []) }
 {
@@ -50,7 +50,7 @@ fn option_number(first: Token, word: Token, number: Token, last: Token) -> Optio
 }
 
 impl LvlScan {
-    /// Whether nothing that may still come of the message changes what is found.
+    /// Returns true only if no further token of the message can change what was found.
     fn is_settled(self) -> bool
         ensures { result ≡ true → (tokens more : List ℕ) → self ≡ lvl_scan_of tokens → self ≡ lvl_scan_of (tokens ++ more) }
     {
@@ -60,7 +60,7 @@ impl LvlScan {
         }
     }
 
-    /// What is found once the next token came.
+    /// Returns what is found after one more token.
     fn with(self, token: Token) -> LvlScan
         ensures { (tokens : List ℕ) → self ≡ lvl_scan_of tokens → result ≡ lvl_scan_of (tokens ++ token ∷ []) }
     {
@@ -82,7 +82,7 @@ impl LvlScan {
     }
 }
 
-/// An HLO as its tokens come, and how many tokens were looked at, of all messages, modulo 2^64.
+/// Scans an HLO as its tokens arrive, and counts the tokens examined in all messages, modulo 2^64.
 #[derive(Drop)]
 pub struct HloScan {
     found: LvlScan,
@@ -90,7 +90,7 @@ pub struct HloScan {
 }
 
 impl HloScan {
-    /// No token came, and none was looked at.
+    /// Creates a scan with no token examined.
     pub fn new() -> HloScan
         ensures found { result.found ≡ lvl_scan_of [] }
         ensures looked_at { result.looked_at ≡ 0 }
@@ -101,7 +101,7 @@ impl HloScan {
         }
     }
 
-    /// A message begins: no token of it came.
+    /// Begins a message.
     pub fn start(&mut self)
         ensures found { self.new.found ≡ lvl_scan_of [] }
         ensures looked_at { self.new.looked_at ≡ self.old.looked_at }
@@ -109,21 +109,21 @@ impl HloScan {
         self.found = LvlScan::NoToken;
     }
 
-    /// What is found in the tokens of the message so far.
+    /// Returns what was found in the tokens of the message so far.
     pub fn found(&self) -> LvlScan
         ensures { result ≡ self.now.found }
     {
         self.found
     }
 
-    /// How many tokens were looked at, of all messages, modulo 2^64.
+    /// Returns how many tokens were examined in all messages, modulo 2^64.
     pub fn looked_at(&self) -> u64
         ensures { result ≡ self.now.looked_at }
     {
         self.looked_at
     }
 
-    /// Looks at the next token, which is counted.
+    /// Examines the next token, and counts it.
     fn look(&mut self, token: Token)
         ensures found { (tokens : List ℕ) → self.old.found ≡ lvl_scan_of tokens →
             self.new.found ≡ lvl_scan_of (tokens ++ token ∷ []) }
@@ -133,7 +133,8 @@ impl HloScan {
         self.looked_at = self.looked_at.wrapping_add(1);
     }
 
-    /// Looks at the tokens of a body from the token `from` on, each once; those before it came before.
+    /// Examines the tokens of a body from index `from` on, each once. The tokens before `from` were passed in earlier
+    /// calls.
     fn read_on(&mut self, body: &[u8], from: usize)
         requires came_before { 2 * from ≤ length body.now }
         requires short { length body.now ≤ longest_message }

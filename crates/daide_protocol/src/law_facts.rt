@@ -1,5 +1,5 @@
-//! The laws of `laws` that are written out there, used once at values that were worked out by hand, so that a weaker law
-//! does not check; those that are definitions of `specs/` are used in `proofs/LawFacts`. Nothing here is called.
+//! Uses the laws that `laws` writes out once, at concrete values, so that a weaker law does not check.
+//! `proofs/LawFacts` uses those that are definitions of `specs/`. Nothing here is called.
 
 ghost use Rattle.std.specs.Prelude.{◌≡◌, true, ℕ, List, [], ◌∷◌};
 ghost use Rattle.daide_frame.specs.declared.side.Side.TheVariants.{Bot};
@@ -23,7 +23,7 @@ use daide_grammar::predict::Predict;
 use daide_words::extended::Extended;
 use daide_words::words::Words;
 
-/// The bytes of PRN (, HUH (, ERR, ) and of a final message, and the bounds in numbers.
+/// The bytes of PRN (, HUH (, ERR, ) and of a final message, and the limits as numbers.
 fn constants_at_values()
     ensures prn { PRN_OPEN ≡ 0x48 ∷ 0x13 ∷ 0x40 ∷ 0x00 ∷ [] }
     ensures huh { HUH_OPEN ≡ 0x48 ∷ 0x06 ∷ 0x40 ∷ 0x00 ∷ [] }
@@ -41,8 +41,8 @@ fn constants_at_values()
     laws::bounds_are_those_of_the_definitions();
 }
 
-/// With any one word that is accepted a byte of the bot has a step from each state, and the timer after it a run; and
-/// the verdicts of a session's reader are the grammar's, without words and with it.
+/// With any single accepted word, a byte from the bot has a transition in each state, and then the timer has a run. The
+/// verdicts of a session's reader are those of the grammar, without words and with the word.
 fn words_at_values()
     ensures step { (word : Word) (old : SessionState) → are_accepted (word ∷ []) ≡ true →
         old.limits.words ≡ grammar_words (word ∷ []) →
@@ -64,7 +64,7 @@ fn words_at_values()
     laws::verdicts_with_words_are_the_grammars();
 }
 
-/// So they are with the words of who holds them.
+/// The same holds for the words of any value of `Words`.
 fn held_at_values(words: &Words)
     ensures { (m : List ℕ) → let added = grammar_words (words_of words.now) in
         HasVerdict (IsMessageOf (⟦<Extended as Predict>⟧.language added (⟦<Extended as Predict>⟧.start_symbol Client L60))) 62

@@ -1,12 +1,13 @@
-//! What a session does, as definitions: a machine over events, and the frames that wait for the wires; and its
-//! tables in code.
+//! The behaviour of a session as definitions (a state machine over events, and the send queues), and its tables in
+//! code.
 //!
 //! `specs/` has the definitions, in the order Bounds, Events, Answers, HloLevel, Machine, Summary, Wires, Counts,
-//! Weight, Calls, Heard, Fates, Ended, Passing, Harm, Laws; then Ports and System, what is asked of the world outside.
-//! The code decides, and holds nothing but what is found of an HLO so far and the counts of moves: `transitions` and
-//! `hlo` answer what the machine's tables say, and `answers` has the words round an answer; so a session, and all that
-//! drives one, is proved over the same words. `ports` is what a session asks of its two wires and its clock, and
-//! `system` what a run asks of the system: so what meets the system waits for no session.
+//! Weight, Calls, Heard, Fates, Ended, Passing, Harm, Laws; then Ports and System, the interfaces to the environment.
+//!
+//! The code makes decisions; its only state is the scan of an HLO and the counts of effects. `transitions` and `hlo`
+//! implement the machine's tables, and `answers` has the fixed tokens of an answer. So the proofs of a session and of
+//! its callers use the same definitions. `ports` is the interface of a session to its two wires and its clock, and
+//! `system` that of a run to the operating system. So code that implements the system does not depend on a session.
 #![tactic(auto)]
 
 pub mod answers;

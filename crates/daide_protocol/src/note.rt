@@ -1,27 +1,26 @@
-//! What a call of a session made of the bytes that came.
+//! The result of a session's call for the bytes received.
 
 use daide_frame::{Code, Head};
 
-/// What became of a whole frame.
+/// What was done with a whole frame.
 #[derive(Clone, Copy, PartialEq, Eq)]
 pub enum Deed {
-    /// It was passed on to the other side.
+    /// It was relayed to the other side.
     Relayed,
-    /// It was passed on to nobody: an FM or EM of the bot before the IM was relayed.
+    /// It was dropped: an FM or EM of the bot before the IM was relayed.
     Dropped,
-    /// Its brackets are not paired: its sender gets PRN.
+    /// Its brackets are not paired: the sender gets PRN.
     Prn,
-    /// The grammar has no such message, or it is too deep: its sender gets HUH, with ERR after this
-    /// many of its tokens.
+    /// It is no message of the grammar, or too deep: the sender gets HUH, with ERR after this number of its tokens.
     Huh(u16),
 }
 
-/// The move that bytes or the timer made.
+/// What bytes or the timer caused.
 #[derive(Clone, Copy, PartialEq, Eq)]
 pub enum Note {
-    /// No frame became whole, and nothing was wrong.
+    /// No frame was completed, and there was no fault.
     Nothing,
-    /// A frame with this header became whole.
+    /// A frame with this header was completed.
     Frame(Head, Deed),
     /// A fault, which ended the session.
     Fault(Code),

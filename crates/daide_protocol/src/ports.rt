@@ -1,4 +1,4 @@
-//! The two wires and the clock, as a turn asks them.
+//! The two wires and the clock, as a turn calls them.
 
 ghost use Rattle.std.specs.Prelude.{length, take};
 ghost use Rattle.daide_protocol.specs.Ports.{PortCall, Clock, Pulled, Offered, IsPullWithin, IsPutWithin};
@@ -6,47 +6,47 @@ ghost use Rattle.daide_protocol.specs.Ports.{pulled_len};
 
 use daide_frame::side::Side;
 
-/// What a pull gave.
+/// The result of a pull.
 #[derive(Clone, Copy, Debug, PartialEq, Eq)]
 pub enum Pull {
-    /// So many bytes, at the front of the buffer. None is the same as `Idle`.
+    /// This number of bytes, at the front of the buffer. 0 is the same as `Idle`.
     Got(usize),
-    /// Nothing yet.
+    /// Nothing to read yet.
     Idle,
-    /// The side's stream ended, or failed.
+    /// The side's stream ended or failed.
     Ended,
 }
 
-/// What became of a put.
+/// The result of a put.
 #[derive(Clone, Copy, Debug, PartialEq, Eq)]
 pub enum Put {
-    /// The wire took so many of the bytes, from the first on; perhaps none yet.
+    /// The wire took this number of bytes from the front, perhaps 0.
     Took(usize),
-    /// The wire failed, and takes no more.
+    /// The wire failed, and takes no more bytes.
     Failed,
 }
 
-/// The wires toward a bot and a server, and the clock of the initial message.
+/// The wires to a bot and a server, and the clock of the initial message.
 ///
-/// Each call answers, and contracts of what drives ports speak of the answers of its calls. What an answer says of the
-/// ports is theirs to say: those that keep a record say that the answer came to it, and those over two streams which of
-/// them gave or took its bytes. A turn of a session with ports of a run begins in a call of the run's system.
+/// Contracts of a caller speak of the calls with their results. Each implementor defines the effect of a call on
+/// itself: ports with a record append the call to it, and those over two streams say which stream gave or took the
+/// bytes. In a run, a turn of a session begins with a call of the run's system.
 pub trait Ports: Drop {
-    /// What a call with this answer does to the ports, and what the system does to them where a turn begins.
+    /// The effect of a call with its result on the ports, and the effect of the system when a turn begins.
     ghost transition: { Self → PortCall → Self → Type 0 };
 
-    /// Reads what a side sent, into the front of the buffer.
+    /// Reads bytes from a side into the front of the buffer. Returns `Got`, `Idle` or `Ended`.
     fn pull(&mut self, side: Side, buffer: &mut [u8]) -> Pull
         ensures within { IsPullWithin result (length buffer.old) }
         ensures transition { transition self.old (Pulled side (length buffer.old) result
             (take (pulled_len result) buffer.new)) self.new };
 
-    /// Hands bytes to the wire toward a side, which may take fewer.
+    /// Offers bytes to the wire to a side, which may take fewer. Returns `Took` or `Failed`.
     fn put(&mut self, side: Side, bytes: &[u8]) -> Put
         ensures within { IsPutWithin result (length bytes.now) }
         ensures transition { transition self.old (Offered side bytes.now result) self.new };
 
-    /// Returns whether the time for the initial message is over. A question: by itself it counts, reads and writes nothing.
+    /// Returns whether the IM timer has expired. The call itself counts, reads and writes nothing.
     fn clock_popped(&mut self) -> bool
         ensures { transition self.old (Clock result) self.new };
 }

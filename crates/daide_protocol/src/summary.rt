@@ -1,25 +1,25 @@
-//! The counts of a session's moves.
+//! The counts of a session's effects.
 
 ghost use Rattle.std.specs.Prelude.{◌≡◌};
 ghost use Rattle.daide_protocol.specs.Summary.{count_note, counted_on, nothing_counted, HasRoom, IsMoreBy};
 
 use crate::note::{Deed, Note};
 
-/// How many frames were passed on, how many answered by PRN and by HUH, and how many faults there were.
+/// How many frames were relayed, how many got PRN and HUH, and how many faults there were.
 #[derive(Clone, Copy, Debug, PartialEq, Eq)]
 pub struct Summary {
-    /// Frames that were passed on to the other side.
+    /// Frames that were relayed to the other side.
     pub relayed: u64,
-    /// Messages that were answered by PRN.
+    /// Messages that got PRN.
     pub prn: u64,
-    /// Messages that were answered by HUH.
+    /// Messages that got HUH.
     pub huh: u64,
     /// Faults, each of which ended the session.
     pub faults: u64,
 }
 
 impl Summary {
-    /// Nothing counted.
+    /// Returns counts of 0.
     pub fn new() -> Summary
         ensures { result ≡ nothing_counted }
     {
@@ -31,7 +31,7 @@ impl Summary {
         }
     }
 
-    /// Counts a move, modulo 2^64. Frames that went nowhere and ends are counted nowhere.
+    /// Counts an effect, modulo 2^64. Dropped frames and ends are not counted.
     pub fn count(&mut self, reported: Note)
         ensures modulo { self.new ≡ counted_on reported self.old }
         ensures counted { HasRoom 1 self.old → self.new ≡ count_note reported self.old }

@@ -1,5 +1,5 @@
-//! The session's rules, one small function each: what may come when, where an answer goes, and what a frame
-//! changes. Each has the rows of its table in `specs/Machine`, in their order.
+//! The session's rules, one small function each: which frame may arrive in which phase, the destination of its answer,
+//! and what a frame changes. Each function has the rows of its table in `specs/Machine`, in their order.
 
 ghost use Rattle.std.specs.Prelude.{◌≡◌, ℕ, List};
 ghost use Rattle.daide_protocol.specs.Events.{other as opposite};

@@ -1,4 +1,4 @@
--- One symbol of a stack that lies in cells, and a rest on them.
+-- One symbol of a stack in cells, and a rest pushed on it.
 use Rattle.std.proofs.Common.{◌≡◌, ℕ, zero, suc, ◌+◌, ◌-◌, ◌%◌, ◌^◌, ◌<◌, ◌≤◌, Bool, true, false, Option, Some, None}
 use Rattle.std.proofs.Common.{IfSome}
 use Rattle.std.proofs.Common.{List, [], ◌∷◌, ◌++◌, length, get_or, take, reverse, refl, sym, ap, ◌∙◌, subst, arith}
@@ -13,7 +13,7 @@ use Rattle.daide_grammar.specs.Table.ParseActions.{is_take, is_stop, rest_of}
 use Rattle.daide_grammar.specs.Table.Stacks.{stack_after, ends_asked}
 use Rattle.daide_reader.specs.Stack.{steps_at}
 
--- a front that reaches into the second of two lists
+-- a prefix that extends into the second of two lists
 take-past : {X : Type 0} (n top : ℕ) (old rest : List X) → top ≤ length old →
     take (top + n) (take top old ++ rest) ≡ take top old ++ take n rest
 take-past n zero old rest h = rw zero-plus refl
@@ -34,7 +34,7 @@ rest_put {X = X} top n new old rest turned few inside put is =
     sym (take-take (top + n) (top + 8) new less) ∙ ap (take (top + n)) put ∙ take-past n top old rest inside
     ∙ ap (λ (xs : List X). take top old ++ xs) is
 
--- the last of the first cells is the top of the stack
+-- the last of the first `left` cells is the top of the stack
 pub on_top : (cells : List Sym) (left : ℕ) (blank : Sym) → 0 < left → left ≤ length cells
     → reverse (take left cells) ≡ get_or cells (left - 1) blank ∷ reverse (take (left - 1) cells)
 on_top cells zero blank some inside = absurd (omega arith)
@@ -43,7 +43,7 @@ on_top cells (suc top) blank some inside =
     rw less (ap reverse (take-suc cells top blank (omega arith))
     ∙ reverse-append (take top cells) (get_or cells top blank ∷ []))
 
--- the stack with a rest put on it
+-- the stack with a rest pushed on it
 pub put_on_top : (new old rest : List Sym) (cells : List Sym) (top n k : ℕ)
     → take (top + n) new ≡ take top old ++ take n cells → n ≡ length rest → k ≡ length rest
     → take (length rest) cells ≡ reverse rest
@@ -55,7 +55,7 @@ put_on_top new old rest cells top n k put here there is =
     ∙ reverse-append (take top old) (take n cells)
     ∙ ap (λ (xs : List Sym). xs ++ reverse (take top old)) (ap reverse turned ∙ reverse-reverse rest)
 
--- a rest in eight cells has eight symbols at most
+-- a rest in eight cells has at most eight symbols
 take_short : {X : Type 0} (n : ℕ) (xs : List X) → length (take n xs) ≤ length xs
 take_short zero xs = omega arith
 take_short (suc n) [] = omega arith
@@ -68,7 +68,7 @@ few_in_cells rest cells eight is =
     let short = take_short (length rest) cells in
     omega (arith, eight, same, short)
 
--- all eight cells were put, and a rest stands on the stack
+-- all eight cells were written, and the rest is on the stack
 pub rest_on_top : (top : ℕ) (new old rest cells : List Sym) (k : ℕ) → length cells ≡ 8 → top ≤ length old
     → take (top + 8) new ≡ take top old ++ cells → take (length rest) cells ≡ reverse rest → k ≡ top + length rest
     → reverse (take k new) ≡ rest ++ reverse (take top old)
@@ -79,7 +79,7 @@ rest_on_top top new old rest cells k eight inside put is height =
     refl)
     refl refl is
 
--- the first cells by the top's place
+-- the first cells, by the index of the top
 pub on_place : (cells : List Sym) (top : ℕ) (blank : Sym) → top < length cells
     → reverse (take (top + 1) cells) ≡ get_or cells top blank ∷ reverse (take top cells)
 on_place cells top blank inside =
@@ -87,7 +87,7 @@ on_place cells top blank inside =
     subst (λ (k : ℕ). reverse (take (top + 1) cells) ≡ get_or cells k blank ∷ reverse (take k cells)) less
     (on_top cells (top + 1) blank (omega arith) (omega arith))
 
--- what a symbol's answer makes of the stack, and how many questions there are
+-- the stack after an entry for its top, and the number of look-ups
 module _ (moves : Sym → Class → TableEntry) (class : Class) (s : Sym) (below : List Sym) where
   pub after_taken : (a : TableEntry) → moves s class ≡ a → is_take a ≡ true
       → stack_after moves class (s ∷ below) ≡ Some (rest_of a ++ below)
@@ -122,7 +122,7 @@ module _ (moves : Sym → Class → TableEntry) (class : Class) (s : Sym) (below
   steps_skipped Skip is takes stops = rw (is, steps_at) refl
   steps_skipped Stop is takes stops = absurd (cc)
 
--- at a message's end: whether a symbol may be empty, and how many questions there are
+-- at the end of a message: whether a symbol is nullable, and the number of look-ups
 module _ (ends : Sym → Bool) (s : Sym) (below : List Sym) where
   pub all_more : ends s ≡ true → list_all ends (s ∷ below) ≡ list_all ends below
   all_more is = rw (is, list_all) refl
@@ -136,7 +136,7 @@ module _ (ends : Sym → Bool) (s : Sym) (below : List Sym) where
   pub ends_stopped : ends s ≡ false → ends_asked ends (s ∷ below) ≡ 1
   ends_stopped is = rw (is, ends_asked) refl
 
--- the stack after a token that is taken has room
+-- the stack after a token that is taken fits
 pub room_after : (o : Option (List Sym)) (rest cells : List Sym) (top size : ℕ) → top ≤ length cells
     → o ≡ Some (rest ++ reverse (take top cells)) → IfSome o (λ after. length after ≤ size)
     → top + length rest ≤ size
@@ -148,7 +148,7 @@ room_after o rest cells top size inside is room =
     let all = length-append rest (reverse (take top cells)) in
     omega (arith, fits, below, all)
 
--- one question more, of those that are due
+-- one more look-up, of those in the bound
 pub asked_one : (before now due sum : ℕ) → now ≡ (before + 1) % 2 ^ 64 → due ≡ 1 → (before + due) % 2 ^ 64 ≡ sum
     → now % 2 ^ 64 ≡ sum
 asked_one before now due sum is one all =

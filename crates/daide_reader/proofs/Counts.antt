@@ -1,4 +1,4 @@
--- The numbers that reading goes by, apart from what is read: each is shown here once, where few facts are in sight.
+-- The arithmetic of reading, without the tokens. Each fact is shown here once, with few hypotheses in scope.
 use Rattle.std.proofs.Common.{◌≡◌, ◌≢◌, ℕ, ◌+◌, ◌-◌, ◌*◌, ◌/◌, ◌%◌, ◌^◌, ◌≤◌, ◌<◌, min, List, length, take, reverse}
 use Rattle.std.proofs.Common.{◌∙◌, arith}
 use Rattle.std.proofs.lemmas.List.{length-reverse, length-take-le}
@@ -19,7 +19,7 @@ module _ (size next : ℕ) (less : next < size / 2) where
   pub read_inside : (tokens : ℕ) → tokens ≡ next + 1 → tokens ≤ size / 2
   read_inside tokens one = omega arith
 
--- a stretch of a body ends where the body does, or so many tokens on
+-- a run ends at the end of the body, or `most` tokens further on
 module _ (size read most end : ℕ) (is : end ≡ min (size / 2) (read + most)) where
   pub end_inside : end ≤ size / 2
   end_inside = omega arith
@@ -49,7 +49,7 @@ next_within next end less = omega arith
 pub all_of : (next end : ℕ) → next ≤ end → end ≤ next → next ≡ end
 all_of next end upto all = omega arith
 
--- the brackets that may be open are few
+-- the number of brackets that may be open is small
 pub count_low : (opened max_depth size : ℕ) → opened ≤ max_depth → size ≤ most_symbols → 8 * max_depth + 16 ≤ size
     → opened < 65534
 count_low opened max_depth size deep small at_depth_limit = omega arith
@@ -61,11 +61,11 @@ fewer_left all next after less more = omega arith
 pub one_less : (all next : ℕ) → next < all → all - (next + 1) < all - next
 one_less all next less = omega arith
 
--- one more is behind those that were read
+-- one more token is after those that were read
 pub one_behind : (read next tokens : ℕ) → read ≤ next → tokens ≡ next + 1 → read < tokens
 one_behind read next tokens from one = omega arith
 
--- with fewer brackets open than may be
+-- with fewer open brackets than the limit
 module _ (opened end next max_depth : ℕ) (shallow : opened + (end - next) ≤ max_depth) (less : next < end) where
   pub less_deep : opened < max_depth
   less_deep = omega arith
@@ -73,7 +73,7 @@ module _ (opened end next max_depth : ℕ) (shallow : opened + (end - next) ≤ 
   pub shallow_next : (after : ℕ) → after ≤ opened + 1 → after + (end - (next + 1)) ≤ max_depth
   shallow_next after more = omega arith
 
--- what is left gets less: of the tokens, or else of the stack
+-- the measure decreases: fewer tokens, or a lower stack
 pub token_less : (end next after left size : ℕ) → next < end → after ≤ size → size ≤ most_symbols
     → (end - (next + 1)) * 4097 + after < (end - next) * 4097 + left
 token_less end next after left size less inside small = omega arith
@@ -98,7 +98,7 @@ module _ (left size : ℕ) (some : left ≢ 0) (inside : left ≤ size) where
   pub rest_inside : left - 1 ≤ size
   rest_inside = omega arith
 
-  -- the stack as a list is as long
+  -- the stack as a list has the same length
   pub room_on_top : (cells : List Sym) → left ≤ length cells → length (reverse (take left cells)) + 8 ≤ size
       → left - 1 + 8 ≤ size
   room_on_top cells long room =
@@ -106,7 +106,7 @@ module _ (left size : ℕ) (some : left ≢ 0) (inside : left ≤ size) where
       length-reverse (take left cells) ∙ length-take-le left cells long in
       omega (arith, same, room)
 
--- what the answers come to
+-- the sums of look-ups
 pub none_due : (asked due : ℕ) → due ≡ 0 → asked % 2 ^ 64 ≡ (asked + due) % 2 ^ 64
 none_due asked due none = omega arith
 
@@ -116,7 +116,7 @@ none_more asked due none = omega arith
 pub or_one_more : (n due : ℕ) → n ≤ due → n ≤ due + 1
 or_one_more n due few = omega arith
 
--- a symbol that stopped a token is asked once more
+-- a symbol that stopped a token is looked up once more
 pub once_more : (old mid new due due_then : ℕ) → due_then ≡ due → mid ≡ (old + 1) % 2 ^ 64
     → new % 2 ^ 64 ≡ (mid + due_then) % 2 ^ 64 → new % 2 ^ 64 ≡ (old + (due + 1)) % 2 ^ 64
 once_more old mid new due due_then same once steps = omega arith
@@ -124,7 +124,7 @@ once_more old mid new due due_then same once steps = omega arith
 pub word_stopped : (old new due : ℕ) → new ≡ (old + 1) % 2 ^ 64 → due ≡ 1 → new % 2 ^ 64 ≡ (old + due) % 2 ^ 64
 word_stopped old new due counts one = omega arith
 
--- the word's own answer, and those below it
+-- the look-up of the word, and those for the symbols below
 pub word_asked : (old mid new due left here : ℕ) → mid ≡ (old + 1) % 2 ^ 64 → new % 2 ^ 64 ≡ (mid + here) % 2 ^ 64
     → due ≡ 1 + left → here ≡ left → new % 2 ^ 64 ≡ (old + due) % 2 ^ 64
 word_asked old mid new due left here counts sum more same = omega arith

@@ -1,4 +1,4 @@
--- The fronts of tokens that no place was found in.
+-- The prefixes of tokens without an error place.
 use Rattle.std.proofs.Common.{◌≡◌, ℕ, zero, suc, ◌+◌, ◌≤◌, ◌<◌, List, [], ◌∷◌, ◌++◌, length, take, Option, None, Some}
 use Rattle.std.proofs.Common.{MatchOption, refl, sym, ap, subst, arith, inl, inr}
 use Rattle.daide_token.specs.Token.{prn, bra, ket}
@@ -22,7 +22,7 @@ fronts_allowed language max_depth p h (suc j) le =
     subst (λ (k : ℕ). IsAllowedPrefix (IsMessageOf language) max_depth (take k p)) (let e : j + 1 ≡ suc j = omega arith in e)
     (h j (omega arith))
 
--- what a stack or a place says of a place alone
+-- what a stack or a place says about the error place alone
 pub place_said : (language : Sym → List ℕ → Type 0) (first : Sym) (max_depth : ℕ) (stack : List Sym) (place : Option ℕ)
     (p : List ℕ) → StackOrPlace language first max_depth stack place p
     → MatchOption place (AreAllowed (IsMessageOf (language first)) max_depth p) (HasErrorIndex (language first) max_depth p)

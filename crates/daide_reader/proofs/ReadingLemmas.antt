@@ -23,12 +23,12 @@ use Rattle.daide_grammar.proofs.Counting.{excess_or_none-snoc}
 use Rattle.daide_reader.proofs.OutlineLemmas.{outline-snoc}
 use Rattle.daide_reader.proofs.ErrorPlaceLemmas.{expects_start, expects_taken, wrong_here}
 
--- what a reader's count says, in a message that does not begin with PRN
+-- a reader's count, in a message that does not begin with PRN
 pub counted_now : (u : Option ℕ) (p : List ℕ) → begins_with_prn p ≡ false
     → u ≡ (if begins_with_prn p then Some 0 else excess_or_none p) → u ≡ excess_or_none p
 counted_now u p not_prn e = e ∙ ap (λ (b : Bool). if b then Some 0 else excess_or_none p) not_prn
 
--- what a reader's count says of open brackets
+-- a reader's count gives the number of open brackets
 count_open : (u : Option ℕ) (report early : Bool) (n : ℕ)
     → u ≡ (if report then Some 0 else (if early then None else Some n))
     → unwrap_or u 0 ≡ (if report || early then 0 else n)
@@ -42,7 +42,7 @@ pub brackets_open-after : {T : Type 0} (table : Ghosts T) (words : Words) (first
 brackets_open-after table words first max_depth v p h =
     count_open v.unclosed (begins_with_prn p) (has_unmatched_ket p) (excess p) h.unclosed
 
--- what holds of a reader's value holds of the value that it equals
+-- equal values have read the same tokens
 pub stands_along : {T : Type 0} (table : Ghosts T) (words : Words) (first : Sym) (max_depth : ℕ) (old new : Reading T)
     (p : List ℕ)
     → new ≡ old → HasReadPrefix table words first max_depth old p → HasReadPrefix table words first max_depth new p
@@ -53,7 +53,7 @@ module _ {T : Type 0} (table : Ghosts T)
     (laws : (w : Words) →
     IsCorrectPrediction (table.class_of w) (table.language w) (table.moves w) (table.ends w) (table.lawful w))
     (words : Words) where
-  -- the stack after a token has room
+  -- the stack after a token fits
   pub room_more : (size t n max_depth : ℕ) (stack : List Sym) → table.lawful words stack n → n ≤ max_depth
       → 8 * max_depth + 16 ≤ size → (is_bra t ≡ true → n ≢ max_depth)
       → IfSome (stack_after (table.moves words) (table.class_of words t) stack) (λ after. length after ≤ size)
@@ -69,18 +69,18 @@ module _ {T : Type 0} (table : Ghosts T)
           let below = next.2 in
           omega arith
 
-  -- the answers for one token are four at most: one for each symbol that is asked, and one more as a word
+  -- a token needs at most four look-ups: one for each symbol, and one more as a word
   pub few_steps : (c : Class) (stack : List Sym) (n asked : ℕ) → table.lawful words stack n →
       asked ≤ steps_at (table.moves words) c stack + 1 → asked ≤ 4
   few_steps c stack n asked ok few = omega (arith, few, three_steps _ _ _ _ _ (laws words) c stack n ok)
 
--- nothing is open in a message that begins with PRN
+-- a message that begins with PRN has no open bracket
 report_count : (u : Option ℕ) (p q : List ℕ) → begins_with_prn (p ++ q) ≡ true
     → u ≡ (if begins_with_prn p then Some 0 else excess_or_none p) → u ≡ Some 0
 report_count u [] q begins e = e
 report_count u (x ∷ p) q begins e = e ∙ ap (λ (b : Bool). if b then Some 0 else excess_or_none (x ∷ p)) begins
 
--- no more brackets are open than tokens came
+-- at most as many brackets are open as there are tokens
 pub counts_more : (u : Option ℕ) (m : ℕ) (opens closes : Bool) → IfSome u (λ n. n ≤ m)
     → IfSome (count_one opens closes u) (λ n. n ≤ m + 1)
 counts_more None m opens closes h = tt
@@ -89,14 +89,14 @@ counts_more (Some zero) m false true h = tt
 counts_more (Some (suc n)) m false true h = omega arith
 counts_more (Some n) m false false h = omega arith
 
--- a stack on which one symbol was put
+-- a stack with one symbol
 pub lone_symbol : (first start_symbol : Sym) (empty items : List Sym) → empty ≡ [] → items ≡ empty ++ first ∷ [] →
     first ≡ start_symbol
     → reverse items ≡ start_symbol ∷ []
 lone_symbol first start_symbol empty items none put is =
     ap reverse (put ∙ (ap (λ (s : List Sym). s ++ first ∷ []) none ∙ ap (λ (s : Sym). s ∷ []) is))
 
--- a reader at the start of a message is steady
+-- a reader at the start of a message satisfies the invariant
 pub steady_start : (lawful : List Sym → ℕ → Type 0) (size max_depth : ℕ) (first : Sym) (stack : List Sym) (o : Outline)
     → size ≤ 4096 → 8 * max_depth + 16 ≤ size → stack ≡ first ∷ [] → o.tokens ≡ 0 → o.is_prn ≡ false →
     lawful (first ∷ []) 0
@@ -117,7 +117,7 @@ none_from_test None e = refl
 none_from_test (Some x) e = let f : false ≡ true = e in absurd cc
 
 module _ {T : Type 0} (table : Ghosts T) (words : Words) (first : Sym) (max_depth : ℕ) where
-  -- a reader whose counts moved on by a token, and whose place or stack says the same of one token more
+  -- a reader after one more token: its counts include the token, and so does its place or stack
   pub record Moves (old new : Reading T) (t : ℕ) : Type 0 where
     pub words_same : table.words new.table ≡ table.words old.table
     pub depth_same : new.max_depth ≡ old.max_depth
@@ -199,7 +199,7 @@ module _ {T : Type 0} (table : Ghosts T)
     (laws : (w : Words) →
     IsCorrectPrediction (table.class_of w) (table.language w) (table.moves w) (table.ends w) (table.lawful w))
     (words : Words) (first : Sym) (max_depth : ℕ) where
-  -- the stack and the count of a reader with no place
+  -- the stack and the count of a reader without an error place
   pub record Ready (old : Reading T) (n : ℕ) : Type 0 where
     pub no_place : false ≡ is_some old.place
     pub unclosed : old.unclosed ≡ Some n
@@ -231,7 +231,7 @@ module _ {T : Type 0} (table : Ghosts T)
           ≡ Some new.stack) h.words_kept e)
       go (Some i) e _ _ _ = let f : false ≡ true = e in absurd cc
 
-  -- no symbol took it
+  -- no symbol takes it
   pub stands_refused : (old new : Reading T) (t n : ℕ) (p : List ℕ)
       → Moves table words first max_depth old new t → Ready old n
       → ((is_bra t ≡ true) × (n ≡ old.max_depth))
@@ -261,7 +261,7 @@ module _ {T : Type 0} (table : Ghosts T)
               ≡ None) h.words_kept none)
       go (Some i) e _ _ _ = let f : false ≡ true = e in absurd cc
 
-  -- a reader at the start of a message stands after no tokens
+  -- a reader at the start of a message has read no tokens
   pub stands_start : (v : Reading T) → table.words v.table ≡ words → v.max_depth ≡ max_depth → IsOutlineOf v.outline []
       → v.stack ≡ first ∷ [] → v.unclosed ≡ Some 0 → v.place ≡ None → v.asked_before ≡ table.asked v.table →
       v.asked_before < 2 ^ 64
@@ -278,7 +278,7 @@ module _ {T : Type 0} (table : Ghosts T)
       nothing_yet : (now before few : ℕ) → before ≡ now → before < 2 ^ 64 → (now + (2 ^ 64 - before)) % 2 ^ 64 ≤ few
       nothing_yet now before few same word = omega arith
 
--- what is not settled has no place, and does not begin with PRN
+-- a message that is not settled has no error place, and does not begin with PRN
 pub unsettled : {T : Type 0} (v old : Reading T) → v ≡ old → v.place ≡ None → v.outline.is_prn ≡ false → ¬ IsSettled old
 unsettled {T = T} v old same none not_prn settled = go (subst (λ (r : Reading T). IsSettled r) (sym same) settled)
   where
@@ -286,7 +286,7 @@ unsettled {T = T} v old same none not_prn settled = go (subst (λ (r : Reading T
     go (inl placed) = let f : true ≡ false = sym placed ∙ ap is_some none in cc
     go (inr prn) = let f : true ≡ false = sym prn ∙ not_prn in cc
 
--- a reader stays steady with other answers counted, and the same words
+-- the invariant holds for another count of look-ups and the same words
 pub steady_along : {T : Type 0} (table : Ghosts T) (old new : T) (size max_depth : ℕ) (stack : List Sym) (o : Outline)
     (u place : Option ℕ) → table.words new ≡ table.words old
     → IsSteady (table.lawful (table.words old)) size max_depth stack o u place
@@ -294,7 +294,7 @@ pub steady_along : {T : Type 0} (table : Ghosts T) (old new : T) (size max_depth
 steady_along table old new size max_depth stack o u place same steady =
     subst (λ (w : Words). IsSteady (table.lawful w) size max_depth stack o u place) (sym same) steady
 
--- a table that meets the laws is asked four times at most at the end
+-- a table that satisfies the laws has at most four look-ups at the end
 pub four_ends : (may_end : Sym → Bool) (lawful : List Sym → ℕ → Type 0)
     → ((stack : List Sym) → lawful stack 0 → ends_asked may_end stack ≤ 4)
     → (size max_depth : ℕ) (stack : List Sym) (o : Outline) (u place : Option ℕ)
@@ -305,7 +305,7 @@ four_ends may_end lawful few size max_depth stack o u place steady not_prn none 
     let nothing : here.0 ≡ 0 = (let f = sym here.1 ∙ even in cc) in
     few stack (subst (λ (n : ℕ). lawful stack n) nothing here.3)
 
--- no more entries than the greatest depth allows
+-- the depth limit bounds the stack
 pub entries_at_most : (lawful : List Sym → ℕ → Type 0)
     → ((stack : List Sym) (k : ℕ) → lawful stack k → length stack ≤ 8 * k + 16)
     → (size max_depth : ℕ) (stack : List Sym) (o : Outline) (u place : Option ℕ)
@@ -321,7 +321,7 @@ entries_at_most lawful few size max_depth stack o u place steady = go o.is_prn p
         let held = few stack here.0 here.3 in
         omega (arith, shallow, held)
 
--- no more entries than the open brackets allow
+-- the open brackets bound the stack
 pub entries_few : (lawful : List Sym → ℕ → Type 0)
     → ((stack : List Sym) (k : ℕ) → lawful stack k → length stack ≤ 8 * k + 16)
     → (size max_depth : ℕ) (stack : List Sym) (o : Outline) (u place : Option ℕ)
@@ -336,7 +336,7 @@ entries_few lawful few size max_depth stack o u place steady = go o.is_prn place
         rw (here.1) (few stack here.0 here.3)
 
 module _ {T : Type 0} (table : Ghosts T) (words : Words) (first : Sym) (max_depth : ℕ) where
-  -- a reader that was finished: nothing changed but the table's count
+  -- a reader that was finished: only the table's count changed
   pub record Finishes (old new : Reading T) : Type 0 where
     pub words_same : table.words new.table ≡ table.words old.table
     pub depth_same : new.max_depth ≡ old.max_depth
@@ -383,7 +383,7 @@ module _ {T : Type 0} (table : Ghosts T) (words : Words) (first : Sym) (max_dept
           rw (same.finished, same.asked_same) (steps_within table words first max_depth
           (table.asked new.table) (table.asked old.table) n.0 (4 * length p) (2 ^ 64 - old.asked_before) n.2 n.1 before)
 
-  -- a reader that was finished with no question
+  -- a reader that was finished without a look-up
   pub stands_told : (v old : Reading T) (p : List ℕ) → v ≡ old → old.finished ≡ false
       → HasReadPrefix table words first max_depth old p
       → HasReadPrefix table words first max_depth (finished_reading v) p
@@ -403,11 +403,11 @@ module _ {T : Type 0} (table : Ghosts T) (words : Words) (first : Sym) (max_dept
       })
       (stands_along table words first max_depth old v p same h)
 
--- a table that was not asked
+-- a table without a look-up
 pub raised_none : {most : ℕ} (old new : ℕ) → new ≡ old → IsRaised most old new
 raised_none old new same = record { by = 0; few = omega arith; sum = omega arith }
 
--- a table that was asked n times
+-- a table with n look-ups
 pub raised_by : {most : ℕ} (n now old new : ℕ) → n ≤ most → now ≡ old → new % 2 ^ 64 ≡ (now + n) % 2 ^ 64
     → IsRaised most old new
 raised_by n now old new few same sum = record { by = n; few = few; sum = rw same at sum }

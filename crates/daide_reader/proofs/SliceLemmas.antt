@@ -1,4 +1,4 @@
--- A reader that is in locals, after one more token of a body.
+-- A reader in locals, after one more token of a body.
 use Rattle.std.proofs.Common.{◌≡◌, ◌≢◌, ℕ, zero, suc, ◌+◌, ◌-◌, ◌*◌, ◌%◌, ◌^◌, ◌≤◌, ◌<◌, Bool, true, false, List, []}
 use Rattle.std.proofs.Common.{◌∷◌, ◌++◌, length, get_or, take, Option, None, Some, IfSome, IfNone, IsSome, drop}
 use Rattle.std.proofs.Common.{reverse, refl, sym, ◌∙◌}
@@ -27,7 +27,7 @@ use Rattle.daide_reader.proofs.ErrorPlaceLemmas.{place_kept}
 use Rattle.daide_grammar.proofs.Counting.{excess_or_none-snoc}
 use Rattle.daide_reader.proofs.ReadingLemmas.{counted_now, counts_more, stands_report, stands_taken, stands_refused}
 
--- one token more of the tokens of a body
+-- one more token of a body
 pub tokens_of-next : (i : ℕ) (b : List ℕ) → 2 * i + 1 < length b
     → take (i + 1) (tokens_of b) ≡ take i (tokens_of b) ++ (get_or b (2 * i) 0 * 256 + get_or b (2 * i + 1) 0) ∷ []
 tokens_of-next zero [] h = absurd (omega arith)
@@ -41,7 +41,7 @@ tokens_of-next (suc i) (x ∷ y ∷ b) h =
     let low : 2 * suc i + 1 ≡ suc (suc (2 * i + 1)) = omega arith in
     rw (next, low, here) (ap (λ (ts : List ℕ). (x * 256 + y) ∷ ts) (tokens_of-next i b (omega arith)))
 
--- the tokens from one on
+-- the tokens from an index on
 pub tokens_of-rest : (i : ℕ) (b : List ℕ) → 2 * i + 1 < length b
     → drop i (tokens_of b) ≡ (get_or b (2 * i) 0 * 256 + get_or b (2 * i + 1) 0) ∷ drop (i + 1) (tokens_of b)
 tokens_of-rest zero [] h = absurd (omega arith)
@@ -64,7 +64,7 @@ tokens_of-front (suc i) (x ∷ y ∷ b) =
     let next : 2 * suc i ≡ suc (suc (2 * i)) = omega arith in
     rw next (ap (λ (ts : List ℕ). (x * 256 + y) ∷ ts) (tokens_of-front i b))
 
--- a front of a list that does not begin with PRN does not either
+-- a prefix of a list that does not begin with PRN does not begin with it either
 pub front_not_prn : (i : ℕ) (m : List ℕ) → begins_with_prn m ≡ false → begins_with_prn (take i m) ≡ false
 front_not_prn zero m h = refl
 front_not_prn (suc i) [] h = refl
@@ -75,7 +75,7 @@ length_front zero m h = refl
 length_front (suc i) [] h = absurd (omega arith)
 length_front (suc i) (t ∷ m) h = ap suc (length_front i m (omega arith))
 
--- so behind other tokens
+-- the same after other tokens
 pub front_not_prn_behind : (before : List ℕ) (i : ℕ) (m : List ℕ) → begins_with_prn (before ++ m) ≡ false
     → begins_with_prn (before ++ take i m) ≡ false
 front_not_prn_behind [] i m h = front_not_prn i m h
@@ -85,7 +85,7 @@ pub length_behind : (before : List ℕ) (i : ℕ) (m : List ℕ) → i ≤ lengt
     → length before + i ≡ length (before ++ take i m)
 length_behind before i m h = ap (λ (k : ℕ). length before + k) (length_front i m h) ∙ sym (length-append before (take i m))
 
--- the tokens of a body from one on are those of its bytes from there on
+-- the tokens of a body from an index on are those of its bytes from there on
 pub tokens_of-drop : (i : ℕ) (b : List ℕ) → tokens_of (drop (2 * i) b) ≡ drop i (tokens_of b)
 tokens_of-drop zero b = refl
 tokens_of-drop (suc i) [] = let next : 2 * suc i ≡ suc (suc (2 * i)) = omega arith in rw next refl
@@ -94,7 +94,7 @@ tokens_of-drop (suc i) (x ∷ y ∷ b) =
     let next : 2 * suc i ≡ suc (suc (2 * i)) = omega arith in
     rw next (tokens_of-drop i b)
 
--- the bytes from a place on, as a slice is taken
+-- the bytes from an offset on, as a slice has them
 pub slice_on : (n : ℕ) (b : List ℕ) → take (length b - n) (drop n b) ≡ drop n b
 slice_on n b = take_all (length b - n) (drop n b) (rw length-drop (omega arith))
 
@@ -189,7 +189,7 @@ count_all-few u n (t ∷ q) few =
     let same : n + 1 + length q ≡ n + suc (length q) = omega arith in
     rw same at more
 
--- a reader with no place, in locals
+-- a reader without an error place, in locals
 pub as_reading : {T : Type 0} (table : Ghosts T) (words : Words) (first : Sym) (depth n : ℕ) (v : Reading T)
     (p : List ℕ)
     → v.place ≡ None → v.unclosed ≡ Some n → v.finished ≡ false → HasReadPrefix table words first depth v p
@@ -205,7 +205,7 @@ as_reading table words first depth n v p none here unfinished h = record {
 }
 
 module _ {T : Type 0} (table : Ghosts T) (words : Words) (first : Sym) (max_depth : ℕ) where
-  -- a reader that goes on to count brackets, or not at all where it has no place
+  -- a reader that has counted the brackets of q without a look-up; without an error place q is empty
   pub record GoesOn (old new : Reading T) (p q m : List ℕ) : Type 0 where
     pub whole : p ++ q ≡ m
     pub table_same : new.table ≡ old.table
@@ -262,7 +262,7 @@ module _ {T : Type 0} (table : Ghosts T) (words : Words) (first : Sym) (max_dept
       (stands_report table words first max_depth old new p q same depth_same finished_same asked_same unclosed_same
       (λ o. subst (λ (r : List ℕ). IsOutlineOf new.outline r) (sym whole) (more o)) is_report h)
 
--- a reader stays steady with the outline of more tokens
+-- the invariant holds with the outline of more tokens
 pub steady_on : (old_lawful lawful : List Sym → ℕ →
     Type 0) (size max_depth : ℕ) (old_stack stack : List Sym) (old o : Outline)
     (old_unclosed old_place unclosed place : Option ℕ)
@@ -291,7 +291,7 @@ open_told n k e = go (nat_eq n 65535) e
     go true e = cc
     go false e = cc
 
--- the tokens of a body that a reader stands after, by its own count
+-- the tokens of a body that a reader has read, by its own count
 pub stands_before : {T : Type 0} (table : Ghosts T) (words : Words) (first : Sym) (max_depth : ℕ) (v old : Reading T)
     (b : List ℕ)
     → v ≡ old → HasReadPrefix table words first max_depth old (tokens_of (take (2 * tokens_read old) b))
@@ -301,7 +301,7 @@ stands_before {T = T} table words first max_depth v old b same h =
     (sym same)
     (subst (λ (p : List ℕ). HasReadPrefix table words first max_depth old p) (tokens_of-front (tokens_read old) b) h)
 
--- no token came
+-- no new token
 pub stands_still : {T : Type 0} (table : Ghosts T) (words : Words) (first : Sym) (max_depth : ℕ) (v old : Reading T)
     (b : List ℕ)
     → v ≡ old → v.outline.tokens ≡ length (tokens_of b)
@@ -317,7 +317,7 @@ pub counts_up : (u : Option ℕ) (a b : ℕ) → a ≤ b → IfSome u (λ n. n �
 counts_up None a b le h = tt
 counts_up (Some n) a b le h = omega arith
 
--- the count of a reader with no place
+-- the count of a reader without an error place
 pub count_is : (u : Option ℕ) (n count : ℕ) → u ≡ Some n → count ≡ unwrap_or u 0 → count ≡ n
 count_is u n count is e = rw is at e
 
@@ -328,14 +328,14 @@ pub closed_early : (opens closes : Bool) (n : ℕ) → opens ≡ false → close
     count_one opens closes (Some n) ≡ None
 closed_early opens closes n is_no is_ket none = rw (is_no, is_ket, none) refl
 
--- the count over the tokens of a body from one on, with those before it
+-- the count over the tokens of a body from an index on, with those before it
 pub counts_past : (u : Option ℕ) (before i total : ℕ) (m : List ℕ) → i ≤ length m → total ≡ before + length m
     → IfSome u (λ n. n ≤ before + i) → IfSome (count_all u (drop i m)) (λ n. n ≤ total)
 counts_past u before i total m inside sum few =
     let size : before + i + length (drop i m) ≡ total = rw length-drop (omega (arith, inside, sum)) in
     subst (λ (k : ℕ). IfSome (count_all u (drop i m)) (λ n. n ≤ k)) size (count_all-few u (before + i) (drop i m) few)
 
--- a place behind other tokens is there where the place is
+-- the index in the message is None only if the one in the body is
 pub behind_none : (before : ℕ) (place : Option ℕ) → place_behind before place ≡ None → place ≡ None
 behind_none before None e = refl
 behind_none before (Some i) e = absurd cc
@@ -349,7 +349,7 @@ pub behind_fits : (before tokens : ℕ) (place : Option ℕ) → IfSome place (�
 behind_fits before tokens None few room = tt
 behind_fits before tokens (Some i) few room = omega arith
 
--- the stack after a token, by the class that a table tells of it
+-- the stack after a token, by the class that a table gives it
 pub taken_at : (moves : Sym → Class → TableEntry) (told class : Class) (stack : List Sym)
     (left : Option ℕ) (cells : List Sym)
     → told ≡ class

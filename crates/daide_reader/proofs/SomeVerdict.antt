@@ -1,5 +1,5 @@
--- Each list of tokens has a verdict: the one that a table finds which keeps the laws of prediction. It is computed, so
--- that examples can be.
+-- Each list of tokens has a verdict, found with any table that satisfies the laws of prediction. The verdict is
+-- computed, so that examples can use it.
 use Rattle.std.proofs.Common.{◌≡◌, ◌≢◌, ℕ, zero, suc, ◌+◌, ◌-◌, ◌≤◌, ◌==◌, ◌&&◌, Bool, true, false, List, [], ◌∷◌, ◌++◌}
 use Rattle.std.proofs.Common.{length, reverse, drop, Option, None, Some, refl, sym, ap, subst, ◌∙◌, arith}
 use Rattle.std.proofs.Common.{append_assoc, append-nil}
@@ -33,7 +33,7 @@ use Rattle.daide_reader.proofs.PlainVerdicts.{plain_verdicts}
 use Rattle.daide_reader.proofs.StackLemmas.{lawful_more}
 use Rattle.daide_reader.proofs.VerdictLemmas.{ended, unended, placed, unbalanced, relayed_report, unpaired_report}
 
--- the ends of a list of tokens
+-- the outline of a list of tokens
 abbrev outline_of : List ℕ → Outline
 outline_of m = record {
   tokens = length m;
@@ -73,13 +73,13 @@ not_deeper n max_depth e same =
     let g : true ≡ false = sym f ∙ e in
     cc
 
--- what a walk over tokens comes to: the place of a wrong one, or the stack that is left
+-- the result of a walk over tokens: the index of a wrong one, or the stack after them
 pub data Walked : Type 0 where
   WrongAt : (place : ℕ) → Walked
   Left : (stack : List Sym) → Walked
 
 module _ (class_of : ℕ → Class) (moves : Sym → Class → TableEntry) (may_end : Sym → Bool) (max_depth : ℕ) where
-  -- `done` tokens came, and leave this stack and so many open brackets
+  -- the walk after `done` tokens, with this stack and this number of open brackets
   abbrev walk : List ℕ → List Sym → (opened done : ℕ) → Walked
   walk [] stack opened done = Left stack
   walk (t ∷ m) stack opened done =
@@ -107,7 +107,7 @@ module _ (class_of : ℕ → Class) (language : Sym → List ℕ → Type 0) (mo
     (may_end : Sym → Bool) (lawful : List Sym → ℕ → Type 0)
     (laws : IsCorrectPrediction class_of language moves may_end lawful) (first : Sym) (max_depth : ℕ)
     (begins : lawful (first ∷ []) 0) where
-  -- what a walk says of the tokens
+  -- what the result of a walk says about the tokens
   abbrev IsWalked : Walked → List ℕ → Type 0
   IsWalked (WrongAt i) m = HasErrorIndex (language first) max_depth m i
   IsWalked (Left stack) m = Expects language first max_depth stack m
@@ -171,7 +171,7 @@ module _ (class_of : ℕ → Class) (language : Sym → List ℕ → Type 0) (mo
       by_depth true e later = rw e (wrong (inl (both e)))
       by_depth false e later = by_stack e (stack_after moves (class_of t) stack) refl later
 
-  -- the verdict is the one of the messages
+  -- the verdict is that of the messages
   walked_right : (m : List ℕ) → begins_with_prn m ≡ false → excess_or_none m ≡ Some 0 → (w : Walked) → IsWalked w m →
       HasVerdict (IsMessageOf (language first)) max_depth m
       (verdict_walked class_of moves may_end max_depth (length m) w)

@@ -1,4 +1,4 @@
--- A reader that is in locals, in the midst of a token of a body.
+-- A reader in locals, inside a token of a body.
 use Rattle.std.proofs.Common.{◌≡◌, ◌≢◌, ℕ, zero, suc, ◌+◌, ◌-◌, ◌*◌, ◌%◌, ◌^◌, ◌≤◌, ◌<◌, Bool, true, false, ◌⊎◌, inr}
 use Rattle.std.proofs.Common.{List, [], ◌∷◌, ◌++◌, length, take, drop, Option, Some, None, IfSome, nat_eq}
 use Rattle.std.proofs.Common.{if◌then◌else◌, refl, sym, ap, ◌∙◌, subst, arith, append_assoc}
@@ -28,7 +28,7 @@ use Rattle.daide_reader.proofs.SliceLemmas.{count_is, counts_up, front_not_prn_b
 use Rattle.daide_reader.proofs.SliceLemmas.{run_refused, run_taken}
 use Rattle.daide_reader.proofs.StackLemmas.{lawful_more}
 
--- a count that goes up by the step of a token's class counts it
+-- adding the step of a token's class counts the token
 pub counted_by_step : (n t : ℕ) (known : Class) → known ≡ class_of t → n < 65534
     → count_one (is_bra t) (is_ket t) (Some n) ≡ open_count ((n + bracket_step known) % 65536)
 counted_by_step n t known is low =
@@ -52,14 +52,14 @@ counted_by_step n t known is low =
         let same : (n + 0) % 65536 ≡ n = omega arith in
         sym (ap open_count same ∙ other n (omega arith))
 
--- a token opens one bracket at most
+-- a token opens at most one bracket
 pub one_more : (b k : Bool) (n j : ℕ) → count_one b k (Some n) ≡ Some j → j ≤ n + 1
 one_more true k n j e = let same : n + 1 ≡ j = cc in omega (arith, same)
 one_more false true zero j e = absurd cc
 one_more false true (suc n) j e = let same : n ≡ j = cc in omega (arith, same)
 one_more false false n j e = let same : n ≡ j = cc in omega (arith, same)
 
--- one answer more at most
+-- at most one more look-up
 most_once : (n more : ℕ) → more ≤ 1 → n + more ≤ n + 1
 most_once n more few = omega arith
 
@@ -67,7 +67,7 @@ module _ {T : Type 0} (table : Ghosts T)
     (laws : (w : Words) →
     IsCorrectPrediction (table.class_of w) (table.language w) (table.moves w) (table.ends w) (table.lawful w))
     (max_depth : ℕ) (body : List ℕ) (read unclosed : ℕ) (old : SliceState T) where
-  -- the locals are a reader that stands after the tokens so far
+  -- the locals are a reader that has read the tokens so far
   pub record AtToken (i opened : ℕ) (now : SliceState T) : Type 0 where
     pub words : table.words now.table ≡ table.words old.table
     pub from : read ≤ i
@@ -97,7 +97,7 @@ module _ {T : Type 0} (table : Ghosts T)
     stands_after = λ words first depth base before plain h. h;
   }
 
-  -- the stack and the answers that are due at a token, by what a table says
+  -- the stack after a token and the look-ups in its bound, by the table's entries
   abbrev after_at : SliceState T → ℕ → List Sym → Option (List Sym)
   after_at now t stack = stack_after (table.moves (table.words now.table)) (table.class_of (table.words now.table) t)
       stack
@@ -105,12 +105,12 @@ module _ {T : Type 0} (table : Ghosts T)
   abbrev due_at : SliceState T → ℕ → List Sym → ℕ
   due_at now t stack = steps_at (table.moves (table.words now.table)) (table.class_of (table.words now.table) t) stack
 
-  -- a token has the answers that are due, and at most one more, where a symbol that stopped it is asked again
+  -- a token needs the look-ups in its bound, and at most one more, if the symbol that stopped it is looked up again
   abbrev AsksFor : ℕ → SliceState T → SliceState T → Type 0
   AsksFor t now new = (more : ℕ) × (more ≤ 1)
       × (table.asked new.table % 2 ^ 64 ≡ (table.asked now.table + (due_at now t now.stack + more)) % 2 ^ 64)
 
-  -- what a token that is taken makes of a reader
+  -- the effect of a token that is taken
   pub record TakesToken (t opened after : ℕ) (now new : SliceState T) : Type 0 where
     pub words : table.words new.table ≡ table.words now.table
     pub fits : is_bra t ≡ true → opened ≢ max_depth
@@ -159,7 +159,7 @@ module _ {T : Type 0} (table : Ghosts T)
             (at.stands_after words first depth base before plain h));
       }
 
-  -- all tokens up to one were read
+  -- all tokens up to an index were read
   pub reads_all : (i opened : ℕ) (now : SliceState T) → AtToken i opened now
       → ReadsTo table max_depth body read unclosed old i (Some opened) None now
   reads_all i opened now at = record {
@@ -173,7 +173,7 @@ module _ {T : Type 0} (table : Ghosts T)
     stands_after = at.stands_after;
   }
 
-  -- a token that isn't taken, and is counted
+  -- the effect of a token that is not taken and is counted
   pub record RefusesToken (t opened : ℕ) (after : Option ℕ) (now new : SliceState T) : Type 0 where
     pub words : table.words new.table ≡ table.words now.table
     pub why : ((is_bra t ≡ true) × (opened ≡ max_depth)) ⊎ (after_at now t now.stack ≡ None)
@@ -217,7 +217,7 @@ module _ {T : Type 0} (table : Ghosts T)
             (at.stands_after words first depth base before plain h));
       }
 
-  -- a stretch more: from where all tokens up to one were read
+  -- one more run: after all tokens up to an index were read
   pub reads_joined : (i opened tokens : ℕ) (unclosed' place : Option ℕ) (now new : SliceState T) → AtToken i opened now
       → ReadsTo table max_depth body i opened now tokens unclosed' place new
       → ReadsTo table max_depth body read unclosed old tokens unclosed' place new
@@ -235,7 +235,7 @@ module _ {T : Type 0} (table : Ghosts T)
         more.stands_after words first depth base before plain (at.stands_after words first depth base before plain h);
   }
 
-  -- all of it taken
+  -- a run in which all tokens were taken
   pub at_joined : (i opened tokens now_open : ℕ) (unclosed' place : Option ℕ) (now new : SliceState T)
       → AtToken i opened now
       → ReadsTo table max_depth body i opened now tokens unclosed' place new
@@ -262,7 +262,7 @@ module _ {T : Type 0} (table : Ghosts T)
             q) is (whole.stands_after words first depth base before plain h));
       }
 
-  -- in the midst of a token some symbols of the stack at its start were skipped, and asked
+  -- inside a token some symbols of the stack were looked up and skipped
   pub record MidToken (i opened end : ℕ) (now : SliceState T) : Type 0 where
     pub start : SliceState T
     pub at : AtToken i opened start
@@ -284,11 +284,11 @@ module _ {T : Type 0} (table : Ghosts T)
     whole = λ _. refl;
   }
 
-  -- at the end no token is half read
+  -- at the end no token is partly read
   pub ended : (i opened end : ℕ) (now : SliceState T) → i ≡ end → MidToken i opened end now → AtToken i opened now
   ended i opened end now last mid = subst (AtToken i opened) (mid.whole last) mid.at
 
-  -- what a table says of a token, by the words that it had at the token's start
+  -- the entries for a token, by the words that the table had at the token's start
   told_at : (now start : SliceState T) (s : Sym) (t : ℕ) (a : TableEntry) → table.words now.table ≡ table.words start.table
       → a ≡ table.moves (table.words now.table) s (table.class_of (table.words now.table) t)
       → table.moves (table.words start.table) s (table.class_of (table.words start.table) t) ≡ a
@@ -331,7 +331,7 @@ module _ {T : Type 0} (table : Ghosts T)
         whole = λ last. absurd (omega (arith, less, last));
       }
 
-  -- the token's last answer takes it
+  -- the last look-up for the token takes it
   pub takes_token : (i opened end t after : ℕ) (now new : SliceState T) → (mid : MidToken i opened end now)
       → drop i (tokens_of body) ≡ t ∷ drop (i + 1) (tokens_of body)
       → after_at now t now.stack ≡ Some new.stack
@@ -378,7 +378,7 @@ module _ {T : Type 0} (table : Ghosts T)
         steps = (due_at start t start.stack + counts.0, most_once _ _ counts.1, omega (arith, asked, due, sum));
       }
 
-  -- in the midst of a token there is room, as there was at its start
+  -- inside a token there is room, as there was at its start
   pub low_enough : (i opened end size : ℕ) (now : SliceState T) → MidToken i opened end now → opened < max_depth
       → 8 * max_depth + 16 ≤ size → length now.stack + 8 ≤ size
   low_enough i opened end size now mid less at_depth_limit =
@@ -400,7 +400,7 @@ module _ {T : Type 0} (table : Ghosts T)
       mid.words))
       room
 
-  -- a token refused in the midst of it
+  -- a token that is refused after some skips
   pub stops_here : (i opened end t tokens : ℕ) (after place : Option ℕ) (now new : SliceState T)
       → MidToken i opened end now
       → i ≤ length (tokens_of body) → take (i + 1) (tokens_of body) ≡ take i (tokens_of body) ++ t ∷ []
@@ -417,7 +417,7 @@ module _ {T : Type 0} (table : Ghosts T)
       subst (λ (k : ℕ). ReadsTo table max_depth body read unclosed old k after place new) (sym size)
       (subst (λ (o : Option ℕ). ReadsTo table max_depth body read unclosed old (i + 1) after o new) (sym is) whole)
 
-  -- a token taken, at last
+  -- a token that is taken after some skips
   pub goes_on : (i opened end t after : ℕ) (now new : SliceState T) → MidToken i opened end now
       → take (i + 1) (tokens_of body) ≡ take i (tokens_of body) ++ t ∷ []
       → drop i (tokens_of body) ≡ t ∷ drop (i + 1) (tokens_of body)
@@ -469,7 +469,7 @@ module _ {T : Type 0} (table : Ghosts T)
       goes_on i opened end t after now new mid front here taken same (0, omega arith, omega (arith, counts, due)) less
       counted
 
-  -- what is said of the same stack by a table that was asked once more
+  -- the same stack after one more look-up
   pub said_same : (t : ℕ) (now : SliceState T) (asked : T) (stack : List Sym) → table.words asked ≡ table.words now.table
       → stack ≡ now.stack
       → after_at now t now.stack

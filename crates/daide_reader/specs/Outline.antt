@@ -1,4 +1,4 @@
--- What is kept of a message's ends. (own)
+-- What a reader keeps of the ends of a message. (own)
 use Rattle.std.specs.Prelude.{Option, ◌≡◌, ℕ, ◌+◌, ◌==◌, ◌&&◌, nat_le, Bool, false, List, [], ◌∷◌, length, reverse}
 use Rattle.std.specs.Prelude.{drop, if◌then◌else◌}
 use Rattle.daide_token.specs.Token.{prn}
@@ -10,7 +10,7 @@ use Rattle.daide_reader.specs.declared.outline.Outline.{Outline}
 abbrev pub is_prn : ℕ → Bool
 is_prn t = t == prn
 
--- the list has a first token, and it passes
+-- the list has a first token, and it passes the test
 abbrev pub first_is : (ℕ → Bool) → List ℕ → Bool
 first_is test [] = false
 first_is test (t ∷ m) = test t
@@ -31,7 +31,7 @@ with_token o t = record {
   last_is_ket = is_ket t;
 }
 
--- a pair of brackets stands round everything after the first token
+-- brackets enclose everything after the first token
 abbrev pub has_outer_brackets : Outline → Bool
 has_outer_brackets o = nat_le 3 o.tokens && o.second_is_bra && o.last_is_ket
 
@@ -44,7 +44,7 @@ outline_of p = record {
   last_is_ket = first_is is_ket (reverse p);
 }
 
--- the outline of all tokens of a message, where that of its first ones is known
+-- the outline of all tokens of a message, from that of its first ones
 abbrev pub outline_on : Outline → List ℕ → Outline
 outline_on o m = record {
   tokens = length m;

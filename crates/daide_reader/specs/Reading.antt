@@ -1,4 +1,4 @@
--- What a contract sees of a reader, and what that says of the tokens since `start`. (own)
+-- The abstract value of a reader, and its relation to the tokens since `start`. (own)
 use Rattle.std.specs.Prelude.{◌≡◌, ℕ, ◌+◌, ◌-◌, ◌*◌, ◌%◌, ◌^◌, ◌≤◌, ◌<◌, List, [], ◌++◌, take, length, Bool, false}
 use Rattle.std.specs.Prelude.{true, Option, None, Some, MatchOption, IsSome, IfSome, ◌↔◌, ◌⊎◌, if◌then◌else◌}
 use Rattle.std.specs.Option.{unwrap_or}
@@ -22,54 +22,54 @@ pub record Reading (T : Type 0) : Type 0 where
   -- the symbols that must follow, the next one first
   pub stack : List Sym
   pub outline : Outline
-  -- the open brackets, or None once a KET came with nothing open
+  -- the number of open brackets, or None after a KET with nothing open
   pub unclosed : Option ℕ
-  -- the place of the first token that no message continues or that opens one bracket too many
+  -- the index of the first token that no message continues or that opens one bracket too many
   pub place : Option ℕ
-  -- how many answers the table had given at the last `start`
+  -- the table's count at the last `start`
   pub asked_before : ℕ
   pub finished : Bool
 
--- how many tokens came since the last `start`
+-- the number of tokens since the last `start`
 abbrev pub tokens_read : {T : Type 0} → Reading T → ℕ
 tokens_read v = v.outline.tokens
 
--- how many brackets are open
+-- the number of open brackets
 abbrev pub brackets_open : {T : Type 0} → Reading T → ℕ
 brackets_open v = unwrap_or v.unclosed 0
 
--- the table's answers since the last `start`
+-- the table's look-ups since the last `start`
 abbrev pub steps_since : {T : Type 0} → (T → ℕ) → Reading T → ℕ
 steps_since asked v = (asked v.table + (2 ^ 64 - v.asked_before)) % 2 ^ 64
 
--- a count that is told modulo 2^64 went up by at most so many
+-- a count modulo 2^64 went up by at most `most`
 pub record IsRaised (most old new : ℕ) : Type 0 where
   pub by : ℕ
   pub few : by ≤ most
   pub sum : new % 2 ^ 64 ≡ (old + by) % 2 ^ 64
 
--- the table has no say in what is left of the message: a place was found, or it begins with PRN (own)
+-- the rest of the message needs no look-up: an error place was found, or the message begins with PRN (own)
 abbrev pub IsSettled : {T : Type 0} → Reading T → Type 0
 IsSettled v = IsSome v.place ⊎ (v.outline.is_prn ≡ true)
 
--- no place was found in the tokens, and the stack's language is exactly what may follow them
+-- the tokens have no error place, and the stack's language is exactly what may follow them
 pub record Expects (language : Sym → List ℕ → Type 0) (first : Sym) (max_depth : ℕ) (stack : List Sym)
     (p : List ℕ) : Type 0 where
   pub allowed : (j : ℕ) → j < length p → IsAllowedPrefix (IsMessageOf (language first)) max_depth (take (j + 1) p)
   pub shallow : depth_of p ≤ max_depth
   pub follows : (r : List ℕ) → StackMatches language stack r ↔ language first (p ++ r)
 
--- the error place lies within the tokens
+-- the error place is within the tokens
 pub record HasErrorIndex (language : List ℕ → Type 0) (max_depth : ℕ) (p : List ℕ) (i : ℕ) : Type 0 where
   pub inside : i < length p
   pub is_place : IsErrorPlace (IsMessageOf language) max_depth p i
 
--- where the tokens have no place yet, the stack says what may follow; else the place is theirs
+-- without an error place the stack's language is what may follow; otherwise the place is that of the tokens
 abbrev pub StackOrPlace : (Sym → List ℕ → Type 0) → Sym → ℕ → List Sym → Option ℕ → List ℕ → Type 0
 StackOrPlace language first max_depth stack place p =
     MatchOption place (Expects language first max_depth stack p) (HasErrorIndex (language first) max_depth p)
 
--- the tokens since `start` are p, of a message that the symbol `first` stands for
+-- the tokens since `start` are p, of a message that the symbol `first` derives
 pub record HasReadPrefix {T : Type 0} (table : Ghosts T) (words : Words) (first : Sym) (max_depth : ℕ)
     (v : Reading T) (p : List ℕ) : Type 0 where
   pub words_kept : table.words v.table ≡ words
@@ -79,7 +79,7 @@ pub record HasReadPrefix {T : Type 0} (table : Ghosts T) (words : Words) (first 
   pub place : begins_with_prn p ≡ false → StackOrPlace (table.language words) first max_depth v.stack v.place p
   pub steps : steps_since table.asked v ≤ 4 * length p + (if v.finished then 4 else 0)
 
--- what holds of every reader with room for `size` symbols; `lawful` is its table's
+-- the invariant of a reader with room for `size` symbols; `lawful` is its table's
 pub record IsSteady (lawful : List Sym → ℕ → Type 0) (size max_depth : ℕ) (stack : List Sym)
     (outline : Outline) (unclosed place : Option ℕ) : Type 0 where
   pub small : size ≤ most_symbols
@@ -87,13 +87,13 @@ pub record IsSteady (lawful : List Sym → ℕ → Type 0) (size max_depth : ℕ
   pub counts : IfSome unclosed (λ n. n ≤ outline.tokens)
   pub tokens : outline.tokens ≤ most_tokens
   pub fresh : outline.tokens ≡ 0 → outline.is_prn ≡ false
-  -- with no place the stack is lawful at the open brackets
+  -- without an error place the stack is lawful for the open brackets
   pub lawful_stack : outline.is_prn ≡ false → place ≡ None
       → (n : ℕ) × (unclosed ≡ Some n) × (n ≤ max_depth) × lawful stack n
   pub none_left : IsSome place → stack ≡ []
   pub none_in_prn : outline.is_prn ≡ true → stack ≡ []
 
--- a reader in the midst of a message
+-- a reader inside a message
 abbrev pub reading : {T : Type 0} → T → ℕ → List Sym → Outline → Option ℕ → Option ℕ → ℕ → Reading T
 reading table max_depth stack outline unclosed place asked_before = record {
   table = table;

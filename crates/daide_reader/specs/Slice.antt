@@ -1,4 +1,4 @@
--- What reading some tokens of a body comes to, with what a reader holds in locals. (own)
+-- The effect of reading some tokens of a body, on what a reader holds in locals. (own)
 use Rattle.std.specs.Prelude.{◌≡◌, ◌++◌, ◌+◌, ◌<◌, ℕ, ◌-◌, ◌*◌, ◌≤◌, false, List, [], length, take, Option, None, Some}
 use Rattle.std.specs.Prelude.{IsSome, IfSome}
 use Rattle.daide_token.specs.Token.{tokens_of}
@@ -14,13 +14,13 @@ pub record SliceState (T : Type 0) : Type 0 where
   pub table : T
   pub stack : List Sym
 
--- the place in a message of one in a body that begins behind so many tokens
+-- the index in the message, for an index in a body that begins after `before` tokens
 abbrev pub place_behind : ℕ → Option ℕ → Option ℕ
 place_behind before None = None
 place_behind before (Some i) = Some (before + i)
 
--- the tokens of the body from one on were read up to another, where `opened` brackets are open, or up to one that no
--- message continues, whatever tokens the message had before the body
+-- The tokens of the body from `read` on were read up to `tokens`, after which `opened` brackets are open, or up to one
+-- that no message continues. This holds for any tokens of the message before the body.
 pub record ReadsTo {T : Type 0} (table : Ghosts T) (max_depth : ℕ) (body : List ℕ) (read unclosed : ℕ)
     (old : SliceState T) (tokens : ℕ) (opened place : Option ℕ) (new : SliceState T) : Type 0 where
   pub words : table.words new.table ≡ table.words old.table

@@ -1,4 +1,4 @@
-//! A message by the body that holds its tokens, as it comes or whole.
+//! A message in the body that contains its tokens, read in pieces or at once.
 
 ghost use Rattle.std.specs.Prelude.{◌≡◌, ◌-◌, ◌*◌, ◌/◌, ◌≤◌, ◌<◌, ◌+◌, ◌++◌, ◌∷◌, [], ℕ, false, true, length, take, drop};
 ghost use Rattle.daide_token.specs.Token.{tokens_of};
@@ -39,7 +39,7 @@ impl<T: Predict, const N: usize> Reader<T, N> {
     }
 }
 
-/// The token at a place of a body: two bytes, high byte first.
+/// Returns the token at an index of a body: two bytes, high byte first.
 #[inline(always)]
 pub fn token_at(body: &[u8], place: usize) -> Token
     requires inside { 2 * place + 1 < length body.now }

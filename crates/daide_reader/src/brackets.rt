@@ -1,8 +1,7 @@
-//! The three tokens that the reader knows by itself, and its count of open brackets.
+//! The three tokens that the reader itself knows, and its count of open brackets.
 //!
-//! Whether a message is paired does not depend on the grammar, so it is counted apart from the
-//! table: also after a token that no message continues, and in the words that the table takes
-//! for plain ones.
+//! Whether a message is paired does not depend on the grammar, so brackets are counted apart from the table, in every
+//! token, also after one that no message continues.
 
 ghost use Rattle.std.specs.Prelude.{◌≡◌, ◌≢◌, ◌<◌, ◌==◌, ◌↔◌, ◌||◌, IsTrue, true, false, Some, IsSome, IfSome, IfNone};
 ghost use Rattle.daide_grammar.specs.Table.Brackets.{is_bra as is_bra_token, is_ket as is_ket_token, count_one};
@@ -13,7 +12,7 @@ ghost use Rattle.daide_reader.specs.Outline.{is_prn as is_prn_token};
 use daide_grammar::column::Column;
 use daide_token::token::Token;
 
-/// Whether the token opens a bracket.
+/// Returns whether the token opens a bracket.
 #[inline(always)]
 pub fn is_bra(token: Token) -> bool
     ensures { result ≡ is_bra_token token }
@@ -21,7 +20,7 @@ pub fn is_bra(token: Token) -> bool
     token.code() == 0x4000
 }
 
-/// Whether the token closes a bracket.
+/// Returns whether the token closes a bracket.
 #[inline(always)]
 pub fn is_ket(token: Token) -> bool
     ensures { result ≡ is_ket_token token }
@@ -29,7 +28,7 @@ pub fn is_ket(token: Token) -> bool
     token.code() == 0x4001
 }
 
-/// Whether the token is PRN.
+/// Returns whether the token is PRN.
 #[inline(always)]
 pub fn is_prn(token: Token) -> bool
     ensures { result ≡ is_prn_token token }
@@ -37,7 +36,7 @@ pub fn is_prn(token: Token) -> bool
     token.code() == 0x4813
 }
 
-/// Whether just so many brackets are open.
+/// Returns whether exactly `count` brackets are open.
 #[inline(always)]
 pub fn are_open(unclosed: Option<u16>, count: u16) -> bool
     ensures { IsTrue result ↔ (unclosed ≡ Some count) }
@@ -45,8 +44,8 @@ pub fn are_open(unclosed: Option<u16>, count: u16) -> bool
     unclosed == Some(count)
 }
 
-/// Counts one more token, and answers whether it doesn't open one bracket too many. The class tells
-/// most tokens apart from brackets. The count wraps once a KET comes with nothing open.
+/// Counts one more token. Returns false if it opens one bracket more than the limit. The class shows that most tokens
+/// are no brackets. The count wraps at a KET with nothing open.
 #[inline(always)]
 pub fn recount(opened: &mut u16, token: Token, class: Column, limit: u16) -> bool
     requires low { opened.old < 65534 }

@@ -1,4 +1,4 @@
-//! The stack as an array and a count, on which a rest is put by one copy of a fixed length.
+//! The stack as an array and a count. A rest is pushed by one copy of a fixed length.
 
 ghost use Rattle.std.specs.Prelude.{◌≡◌, ◌≤◌, ◌<◌, ◌+◌, ◌%◌, ◌^◌, ◌++◌, List, None, Some, IfSome, IfNone, take, length, reverse};
 ghost use Rattle.daide_token.specs.Class.{class_of as known_class};
@@ -12,7 +12,7 @@ use daide_grammar::predict::{Move, Predict};
 use daide_grammar::symbol::Symbol;
 use daide_token::token::Token;
 
-/// Writes all eight cells from `at` on.
+/// Writes all eight cells from index `at` on.
 #[inline(always)]
 fn put_rest<const N: usize>(cells: &mut [Symbol; N], at: usize, rest: [Symbol; 8])
     requires size { N ≤ most_symbols }
@@ -26,7 +26,7 @@ fn put_rest<const N: usize>(cells: &mut [Symbol; N], at: usize, rest: [Symbol; 8
     }
 }
 
-/// Puts what a move leaves in the place of the top, and answers how many cells the stack has then.
+/// Replaces the top by the symbols that a move leaves, and returns the new height of the stack.
 #[inline(always)]
 pub(crate) fn put<const N: usize>(cells: &mut [Symbol; N], top: usize, answer: &Move) -> usize
     requires size { N ≤ most_symbols }
@@ -38,8 +38,8 @@ pub(crate) fn put<const N: usize>(cells: &mut [Symbol; N], top: usize, answer: &
     answer.height_after(top)
 }
 
-/// Takes a token of this class off the stack of the first `count` cells, whose last is the top, and answers how many
-/// cells the stack has then, where a symbol took it. It writes no cell past those.
+/// Applies a token of this class to the stack in the first `count` cells, the last of which is the top. Returns the new
+/// height if a symbol takes the token. Writes no cell above that height.
 #[inline(never)]
 pub(crate) fn follow<T: Predict, const N: usize>(
     table: &mut T,
@@ -76,8 +76,8 @@ pub(crate) fn follow<T: Predict, const N: usize>(
     None
 }
 
-/// The same where the protocol's own table stopped the token at the top: it is asked there once more, as an operator's
-/// word.
+/// Does the same after the protocol's own table stopped the token at the top. It looks that symbol up once more, with
+/// the token as an operator's word.
 #[cold]
 #[inline(never)]
 pub(crate) fn follow_word<T: Predict, const N: usize>(
@@ -116,7 +116,7 @@ pub(crate) fn follow_word<T: Predict, const N: usize>(
     follow(table, cells, top, class)
 }
 
-/// Writes the first of the symbols from `at` on.
+/// Writes the first `count` symbols from index `at` on.
 #[inline(always)]
 fn put_slowly<const N: usize>(cells: &mut [Symbol; N], at: usize, rest: [Symbol; 8], count: usize)
     requires size { N ≤ most_symbols }

@@ -1,5 +1,4 @@
-//! Each law of `laws`, used once at values that were worked out by hand, so that a weaker law does not check. Nothing
-//! here is called.
+//! Uses each law of `laws` once, at concrete values, so that a weaker law does not check. Nothing here is called.
 
 ghost use Rattle.std.specs.Prelude.{◌≡◌, ◌↔◌, List, [], ◌∷◌, ℕ};
 ghost use Rattle.daide_grammar.specs.declared.level.Level.TheVariants.{L0, L60};
@@ -14,8 +13,8 @@ use crate::laws;
 use daide_grammar::plain::Plain;
 use daide_grammar::predict::Predict;
 
-/// A message that has HUH at 1 has no HUH at 0, and one that has PRN is not relayed; GOF ( has a verdict, by the plain
-/// table and by the grammar; and that table relays what the grammar relays.
+/// A message with HUH at 1 does not have HUH at 0, and one with PRN is not relayed. GOF ( has a verdict by the plain
+/// table, and by the grammar. That table relays what the grammar relays.
 fn verdicts_at_values()
     ensures place { (m : List ℕ) →
         let message = IsMessageOf (⟦<Plain as Predict>⟧.language [] (⟦<Plain as Predict>⟧.start_symbol Client L0)) in

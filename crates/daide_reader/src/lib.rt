@@ -1,9 +1,8 @@
-//! A reader of messages, for any table of predictions.
+//! A reader of messages, over any table of predictions.
 //!
-//! It takes a message token by token, asks the table at most four times for each, and keeps no
-//! token: a stack of symbols that must follow, and a few counts. At the end it says what becomes
-//! of the message. What it answers is proved from the table's laws alone, so a reader over another
-//! table is another grammar and no other proof.
+//! It reads a message token by token, with at most four look-ups for each, and keeps no token: only a stack of expected
+//! symbols and a few counts. At the end it returns the verdict. The proof of the verdict uses only the table's laws, so
+//! a reader over another table reads another grammar with the same proof.
 #![tactic(auto)]
 
 mod body;

@@ -1,7 +1,7 @@
-//! The stack of symbols that must follow, in cells of its own.
+//! The stack of expected symbols, in an array.
 //!
-//! Its cells lie open to the loop over a slice, which writes eight of them at once and has their count in
-//! a local. docs/DECISIONS.md tells what that saves.
+//! The loop over a slice accesses the cells directly: it writes eight of them at once and has their count in a local.
+//! docs/DECISIONS.md says what that saves.
 
 ghost use Rattle.std.specs.Prelude.{◌≡◌, ◌≤◌, ◌<◌, ◌+◌, ◌*◌, ◌/◌, ◌++◌, ◌∷◌, [], None, take, length, reverse};
 ghost use Rattle.daide_reader.specs.Bounds.{longest_message, most_symbols};
@@ -30,7 +30,7 @@ impl<S, const N: usize> Model for ParseStack<S, N> {
 }
 
 impl<S: Copy, const N: usize> ParseStack<S, N> {
-    /// No symbols.
+    /// Creates an empty stack.
     pub fn new(blank: S) -> ParseStack<S, N>
         ensures { result ≡ [] }
     {
@@ -40,7 +40,7 @@ impl<S: Copy, const N: usize> ParseStack<S, N> {
         }
     }
 
-    /// How many symbols there are.
+    /// Returns the number of symbols.
     #[inline(always)]
     pub fn len(&self) -> usize
         ensures value { result ≡ length self.now }
@@ -49,7 +49,7 @@ impl<S: Copy, const N: usize> ParseStack<S, N> {
         self.count
     }
 
-    /// The symbols, the next one last.
+    /// Returns the symbols, the next one last.
     #[inline(always)]
     pub fn as_slice(&self) -> &[S]
         ensures value { result.now ≡ self.now }
@@ -59,7 +59,7 @@ impl<S: Copy, const N: usize> ParseStack<S, N> {
         &all[..self.count]
     }
 
-    /// Puts a symbol on top.
+    /// Pushes a symbol.
     pub fn push(&mut self, symbol: S)
         requires { length self.old < N }
         ensures items { self.new ≡ self.old ++ symbol ∷ [] }
@@ -69,7 +69,7 @@ impl<S: Copy, const N: usize> ParseStack<S, N> {
         self.count += 1;
     }
 
-    /// Takes all symbols off.
+    /// Removes all symbols.
     #[inline(always)]
     pub fn clear(&mut self)
         ensures { self.new ≡ [] }
@@ -79,7 +79,7 @@ impl<S: Copy, const N: usize> ParseStack<S, N> {
 }
 
 impl<const N: usize> ParseStack<Symbol, N> {
-    /// Reads the tokens of a body, with the open brackets of those before it.
+    /// Reads the tokens of a body, given the number of brackets open before it.
     #[inline(always)]
     pub fn read_tokens<T: Predict>(
         &mut self,

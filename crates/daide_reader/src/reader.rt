@@ -1,7 +1,7 @@
-//! The reader of one side's messages, a token at a time.
+//! The reader of the messages from one peer, token by token.
 //!
-//! Where no message continues, the place is kept and the stack dropped; the brackets are counted to
-//! the end, since a message that is not paired is answered as such wherever it went wrong before.
+//! At a token that no message continues, it records the index and drops the stack. It counts brackets to the end, since
+//! the verdict on an unpaired message is PRN, whatever its error place.
 
 ghost use Rattle.std.specs.Prelude.{◌≡◌, ◌≤◌, ◌<◌, ◌+◌, ◌-◌, ◌*◌, ◌/◌, ◌%◌, ◌^◌, ◌++◌, [], ◌∷◌, List, ℕ, Option, None, Some, MatchOption, IsSome, IsTrue, ◌↔◌, ◌⊎◌, if◌then◌else◌, false, true, length, take};
 ghost use Rattle.daide_token.specs.Token.{tokens_of};
@@ -30,7 +30,7 @@ use daide_grammar::symbol::Symbol;
 use daide_token::token::Token;
 use std::marker::Model;
 
-/// Reads messages as their tokens come, over a table `T` and with room for `N` symbols.
+/// Reads messages as their tokens arrive, over a table `T` and with room for `N` symbols.
 ///
 /// A message begins with `start`, continues with `push` for each token, or `read` for each piece of its body, and ends
 /// with `finish`. A contract sees a reader as a `Reading`, and `HasReadPrefix` says which tokens it has read since
@@ -169,7 +169,7 @@ impl<T: Predict, const N: usize> Reader<T, N> {
         self.go_on(outline, &body[2 * read..]);
     }
 
-    /// Reads the tokens that come next, as a body of their own. All tokens so far have the outline then.
+    /// Reads the next tokens, as a body of their own. `outline` is the outline of all tokens including them.
     fn go_on(&mut self, outline: Outline, body: &[u8])
         requires unfinished { self.old.finished ≡ false }
         requires bytes { length body.now ≤ longest_message }
@@ -246,14 +246,14 @@ impl<T: Predict, const N: usize> Reader<T, N> {
         Verdict::Relay
     }
 
-    /// How many tokens were read since the last `start`.
+    /// Returns the number of tokens that were read since the last `start`.
     pub fn tokens(&self) -> usize
         ensures { result ≡ tokens_read self.now }
     {
         self.outline.tokens as usize
     }
 
-    /// Whether as many tokens were read as a message may have.
+    /// Returns whether the message has the maximum number of tokens.
     pub fn is_full(&self) -> bool
         ensures { IsTrue result ↔ (most_tokens ≤ tokens_read self.now) }
     {
@@ -299,7 +299,7 @@ impl<T: Predict, const N: usize> Reader<T, N> {
         self.stack.len()
     }
 
-    /// The table that was handed to `new`, the only one that the reader has.
+    /// Returns the table that `new` received, the only one that the reader has.
     pub fn table(&self) -> &T
         ensures { result.now ≡ self.now.table }
     {

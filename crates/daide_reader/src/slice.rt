@@ -1,7 +1,7 @@
-//! The tokens of a slice in one loop, with all that changes at a token in a local.
+//! The tokens of a slice in one loop, with all mutable state in locals.
 //!
-//! What belongs to the message or to the slice is not looked at in the loop: whether the message
-//! begins with PRN, its outline, and whether a place was found.
+//! The loop does not read what is constant over the message or the slice: whether the message begins with PRN, its
+//! outline, and whether an error place was found.
 
 ghost use Rattle.std.specs.Prelude.{◌≡◌, ◌≢◌, ◌≤◌, ◌<◌, ◌+◌, ◌-◌, ◌*◌, ◌/◌, ◌%◌, ◌^◌, ◌⊎◌, List, ℕ, None, Some, IsSome, IfSome, IfNone, take, drop, length, reverse, true};
 ghost use Rattle.daide_token.specs.Token.{tokens_of};
@@ -20,18 +20,18 @@ use daide_grammar::predict::Predict;
 use daide_grammar::symbol::Symbol;
 use daide_token::token::Token;
 
-/// How far the tokens of a body were read: all of them, or up to the first that no message continues.
+/// The progress over the tokens of a body: to its end, or to the first token that no message continues.
 #[derive(Clone, Copy)]
 pub struct RunEnd {
     pub tokens: usize,
     pub unclosed: Option<u16>,
     pub place: Option<u16>,
-    /// The cells of the stack.
+    /// The height of the stack.
     pub count: usize,
 }
 
-/// One token against the stack of the first `count` cells, with the open brackets before it: how many
-/// cells the stack has then, and the open brackets, where the token is taken.
+/// Applies one token to the stack in the first `count` cells, and counts its bracket. Returns the new height if the
+/// token is taken.
 #[cold]
 fn read_token<T: Predict, const N: usize>(
     table: &mut T,
@@ -70,7 +70,7 @@ fn read_token<T: Predict, const N: usize>(
     follow(table, cells, count, class)
 }
 
-/// Where reading ends at a token that is not taken, which is counted.
+/// Returns the end of a run at a token that is not taken. The token is counted.
 #[inline(always)]
 fn reject_at(opened: u16, place: usize) -> RunEnd
     requires { place < most_tokens }
@@ -87,8 +87,8 @@ fn reject_at(opened: u16, place: usize) -> RunEnd
     }
 }
 
-/// Reads the tokens of a body from one on, so many that they can't open a bracket too many, whatever they are. So
-/// neither the depth nor the room for a rest is looked at, token by token.
+/// Reads tokens of a body from `read` on, at most as many as brackets may still be opened. So no token can open a
+/// bracket too many, and the loop checks neither the depth nor the room on the stack.
 #[inline(always)]
 fn run_below_depth_limit<T: Predict, const N: usize>(
     table: &mut T,
@@ -150,8 +150,8 @@ fn run_below_depth_limit<T: Predict, const N: usize>(
     }
 }
 
-/// Reads the tokens of a body, with the stack and the open brackets of those before it. Neither they nor a place
-/// in the message is known here: a place is told in the body.
+/// Reads the tokens of a body, given the stack and the number of open brackets before it. The index of an error is
+/// relative to the body.
 #[inline(always)]
 pub fn read_tokens<T: Predict, const N: usize>(
     table: &mut T,
@@ -204,7 +204,7 @@ pub fn read_tokens<T: Predict, const N: usize>(
     }
 }
 
-/// Counts the open brackets over the tokens of a body from one on.
+/// Counts the open brackets over the tokens of a body from an index on.
 pub fn count_from(unclosed: Option<u16>, body: &[u8], next: usize) -> Option<u16>
     requires room { length body.now ≤ longest_message }
     requires next { next ≤ length body.now / 2 }
@@ -229,7 +229,7 @@ pub fn count_from(unclosed: Option<u16>, body: &[u8], next: usize) -> Option<u16
     Some(opened)
 }
 
-/// The place in a message of one in a body that begins behind so many tokens.
+/// Returns the index in the message, for an index in a body that begins after `before` tokens.
 pub fn place_behind(before: u16, place: Option<u16>) -> Option<u16>
     requires { IfSome place (λ i. before + i ≤ 65535) }
     ensures { result ≡ place_behind before place }

@@ -1,6 +1,6 @@
-//! The end of a message, against the stack of symbols that must follow.
+//! The end of a message, by the stack of expected symbols.
 //!
-//! The stack lies with the next symbol at its end, and contracts see it reversed.
+//! The next symbol is the last of the array; the abstract value is in reverse order.
 
 ghost use Rattle.std.specs.Prelude.{◌≡◌, ◌≤◌, ◌+◌, ◌%◌, ◌^◌, false, reverse};
 ghost use Rattle.std.specs.List.{list_all};
@@ -11,7 +11,8 @@ use crate::parse_stack::ParseStack;
 use daide_grammar::predict::Predict;
 use daide_grammar::symbol::Symbol;
 
-/// Whether every symbol on the stack may be empty. It asks from the top, up to the first that may not.
+/// Returns whether every symbol on the stack is nullable. It looks symbols up from the top, until it finds one that is
+/// not.
 pub fn may_all_end<T: Predict, const N: usize>(table: &mut T, stack: &ParseStack<Symbol, N>) -> bool
     requires { N ≤ most_symbols }
     ensures all { result ≡ list_all (T.ends (T.words table.old)) (reverse stack.now) }

@@ -1,5 +1,5 @@
-//! Names of two addresses, of the server and to listen on. No machine need have such a name, so a runtime that knows one
-//! stands in for it.
+//! Host names with two addresses, of the server and to listen on. A machine need not have such a name, so a runtime
+//! that resolves each name to two addresses is used.
 
 use crate::doors::any_port;
 use crate::frames::{FM, IM};
@@ -13,7 +13,7 @@ use std::rt::Clock;
 use std::test::Fail;
 use std::time::Duration;
 
-/// Each name has these two addresses, whatever its port.
+/// A runtime that resolves each name to these two addresses, whatever the port.
 #[derive(Drop)]
 struct Named<'a> {
     rt: &'a HostRuntime,
@@ -58,10 +58,10 @@ impl Net for Named<'_> {
     }
 }
 
-/// The initial and the final message.
+/// The initial message and the final message.
 const IM_FM: &[u8] = b"\x00\x00\x00\x04\x00\x01\xda\x10\x03\x00\x00\x00";
 
-/// An output at whose first line a bot comes, which opens and ends its session and stays.
+/// An output that connects a bot when it gets its first line. The bot sends an IM and an FM, and stays connected.
 #[derive(Drop)]
 struct Announced<'a, R: Net> {
     rt: &'a R,
@@ -86,7 +86,7 @@ impl<R: Net> Write for Announced<'_, R> {
     }
 }
 
-/// A run with a bot that comes once it listens: what it prints is one line, and nothing is told.
+/// Runs with a bot that connects once the run listens. Checks that one line is printed, and nothing is logged.
 fn serves_one<R: AllocGlobal + Clock + Net>(
     rt: &R,
     (listen, at): (&str, &str),
@@ -108,7 +108,7 @@ fn serves_one<R: AllocGlobal + Clock + Net>(
     )
 }
 
-/// Whether a connection that waits at the server brought an IM and an FM.
+/// Accepts a connection that waits at the server, and returns whether it sent an IM and an FM.
 fn brought_both(rt: &HostRuntime, server: &TcpListener) -> Result<bool, Fail> {
     let (mut heard, _) = server.accept()?;
     heard.set_read_timeout(Some(Duration::from_secs(5)))?;
@@ -117,8 +117,8 @@ fn brought_both(rt: &HostRuntime, server: &TcpListener) -> Result<bool, Fail> {
     Ok(bytes.starts_with(IM) && bytes.ends_with(FM))
 }
 
-/// Of a name's addresses nobody listens at the first, and the server at the second: the bot is served there, and
-/// nothing is told.
+/// Nothing listens at the first of a name's addresses, and the server listens at the second. The bot is served there,
+/// and nothing is logged.
 #[test]
 fn second_address_of_the_server_is_tried(rt: HostRuntime) -> Result<(), Fail> {
     let server = TcpListener::bind(&rt, any_port())?;
@@ -133,7 +133,7 @@ fn second_address_of_the_server_is_tried(rt: HostRuntime) -> Result<(), Fail> {
     holds(brought_both(&rt, &server)?, "both frames")
 }
 
-/// The first of a name's addresses is taken by another: bots come at the second.
+/// The first of a name's addresses is in use. Bots are accepted at the second.
 #[test]
 fn second_address_is_listened_on(rt: HostRuntime) -> Result<(), Fail> {
     let server = TcpListener::bind(&rt, any_port())?;

@@ -1,5 +1,5 @@
-//! Bots that come, and their connects to the server, where that is seen from inside alone: a failed accept, a connect that
-//! isn't done, and small writes.
+//! Accepted bots and connects to the server, in cases that only a test inside the program can produce: a failed accept,
+//! a pending connect, and small writes.
 
 use crate::doors::{any_port, two_doors};
 use daide_gate::settings::{Settings, read_settings};
@@ -16,7 +16,8 @@ use std::net::{SocketAddr, TcpListener, TcpStream};
 use std::test::Fail;
 use std::time::Duration;
 
-/// After an accept that fails none is made for a while; then the bot that came is taken, and no moment is waited for.
+/// Checks that after a failed accept no accept is tried for a while, and that the bot is then accepted and no deadline
+/// is left.
 fn check_acceptor(
     poller: &Poller<&HostRuntime>,
     acceptor: &mut Acceptor<'_>,
@@ -30,7 +31,7 @@ fn check_acceptor(
     holds(flags.due.get().is_none(), "the pause is over")
 }
 
-/// The first row of a table, which stays free.
+/// Returns the first entry of a table, which stays free.
 fn first_row<'w>(
     poller: &'w Poller<&'w HostRuntime>,
     acceptor: &mut daide_sockets::TcpListener,
@@ -39,7 +40,7 @@ fn first_row<'w>(
     Some(place.flags)
 }
 
-/// The same of a listener, in the one row of a table.
+/// The same for a listener, in the only entry of a table.
 fn check_listener(rt: &HostRuntime, listener: daide_sockets::TcpListener) -> Result<(), Fail> {
     let poller = Poller::new(rt.alloc(), rt, rt, 1)?;
     let mut other = daide_sockets::TcpListener::bind(rt, any_port())?;
@@ -50,7 +51,7 @@ fn check_listener(rt: &HostRuntime, listener: daide_sockets::TcpListener) -> Res
     }
 }
 
-/// Where an accept fails, as for want of descriptors, none is made for a while, and then the bot that came is taken.
+/// After a failed accept, such as for lack of descriptors, none is tried for a while, and then the bot is accepted.
 #[test]
 fn failed_accept_is_made_again(rt: HostRuntime) -> Result<(), Fail> {
     let listener = daide_sockets::TcpListener::bind(&rt, any_port())?;
@@ -58,10 +59,10 @@ fn failed_accept_is_made_again(rt: HostRuntime) -> Result<(), Fail> {
     check_listener(&rt, listener)
 }
 
-/// How many connections fill the queue of a listener.
+/// The number of connections that fill the queue of a listener.
 const MORE_THAN_WAIT: usize = 160;
 
-/// Connects to an address as often as fills a queue, and lets the connections go.
+/// Connects to an address until its queue is full, and closes the connections.
 fn fill_queue(rt: &HostRuntime, address: SocketAddr) -> Result<(), Fail> {
     let mut queue = Vec::new(rt.alloc());
     for _ in 0..MORE_THAN_WAIT {
@@ -70,7 +71,7 @@ fn fill_queue(rt: &HostRuntime, address: SocketAddr) -> Result<(), Fail> {
     Ok(())
 }
 
-/// A listener whose queue is full of connections whose other ends are gone.
+/// Returns a listener whose queue is full of connections that were closed by their peers.
 fn full_listener(rt: &HostRuntime) -> Result<daide_sockets::TcpListener, Fail> {
     let listener = TcpListener::bind(rt, any_port())?;
     fill_queue(rt, listener.local_addr()?)?;
@@ -78,10 +79,10 @@ fn full_listener(rt: &HostRuntime) -> Result<daide_sockets::TcpListener, Fail> {
     Ok(daide_sockets::TcpListener::from_std(listener))
 }
 
-/// The most waits until a bot is joined with the server.
+/// The most waits until a bot is connected to the server.
 const MOST_WAITS: usize = 1_000;
 
-/// The ports of the first bot that comes, once it is joined with the server.
+/// Returns the ports of the first bot, once it is connected to the server.
 fn first_ports<'w>(
     system: &mut Sockets<'w, HostRuntime, &mut Vec<u8>>,
 ) -> Option<SocketPorts<'w, &'w HostRuntime>> {
@@ -99,7 +100,7 @@ fn first_ports<'w>(
     None
 }
 
-/// A run's sockets at this listener, towards these addresses.
+/// Returns a run's sockets with this listener and these server addresses.
 fn sockets_of<'w, 't>(
     rt: &'w HostRuntime,
     poller: &'w Poller<&'w HostRuntime>,
@@ -119,7 +120,7 @@ fn sockets_of<'w, 't>(
     )
 }
 
-/// A listener to which a bot came, and the bot.
+/// Returns a listener with a bot in its queue, and the bot.
 fn door_with_bot(
     rt: &HostRuntime,
 ) -> Result<(daide_sockets::TcpListener, daide_sockets::TcpStream), Fail> {
@@ -128,12 +129,12 @@ fn door_with_bot(
     Ok((listener, bot))
 }
 
-/// The settings of a run; its addresses are never looked up.
+/// Returns the settings of a run. Its addresses are not resolved.
 fn plain_settings(alloc: Global) -> Result<Settings, Fail> {
     Ok(read_settings(alloc, "listen = 'a'\nserver = 'b'")?)
 }
 
-/// Whether both sockets of a session send small writes at once.
+/// Returns whether both sockets of a session send small writes without delay.
 fn are_undelayed<'w>(ports: SocketPorts<'w, &'w HostRuntime>) -> bool {
     let (bot, server) = ports.into_sockets();
     let both = (
@@ -143,7 +144,7 @@ fn are_undelayed<'w>(ports: SocketPorts<'w, &'w HostRuntime>) -> bool {
     matches!(both, (Ok(true), Ok(true)))
 }
 
-/// The same of the first bot that comes.
+/// The same for the first bot.
 fn are_first_undelayed<'w>(system: &mut Sockets<'w, HostRuntime, &mut Vec<u8>>) -> bool {
     match first_ports(system) {
         Some(ports) => are_undelayed(ports),
@@ -151,7 +152,7 @@ fn are_first_undelayed<'w>(system: &mut Sockets<'w, HostRuntime, &mut Vec<u8>>) 
     }
 }
 
-/// The same of the first bot that comes to this listener, towards these addresses.
+/// The same for the first bot at this listener, with these server addresses.
 fn sends_at_once<'w>(
     rt: &'w HostRuntime,
     poller: &'w Poller<&'w HostRuntime>,
@@ -165,7 +166,7 @@ fn sends_at_once<'w>(
     }
 }
 
-/// What is known of the socket in the third row of a table, if there are three, in which no row is taken.
+/// Returns the flags of the third entry of a table without registrations, if it has three.
 fn third_free<'w>(
     poller: &'w Poller<&'w HostRuntime>,
     acceptors: &mut (daide_sockets::TcpListener, daide_sockets::TcpListener),
@@ -177,7 +178,7 @@ fn third_free<'w>(
     Some(third.flags)
 }
 
-/// The same for acceptors of its own.
+/// The same with listeners of its own.
 fn third_row<'w>(
     rt: &HostRuntime,
     poller: &'w Poller<&'w HostRuntime>,
@@ -187,8 +188,8 @@ fn third_row<'w>(
     Ok(third_free(poller, &mut acceptors, &mut acceptor))
 }
 
-/// Whether both sockets of the first bot's session send small writes at once, in this table, of which no row is taken; and
-/// whether no moment is waited for then in the third.
+/// Returns whether both sockets of the first bot's session send small writes without delay, in this table without
+/// registrations; and whether the third entry then has no deadline.
 fn sends_at_once_at<'w>(
     rt: &'w HostRuntime,
     poller: &'w Poller<&'w HostRuntime>,
@@ -210,8 +211,9 @@ fn sends_at_once_towards(rt: &HostRuntime, servers: &[SocketAddr]) -> Result<(bo
     sends_at_once_at(rt, &poller, servers, &settings)
 }
 
-/// A short frame is not kept back by the system until the one before it was acknowledged. The server is at the second of
-/// two addresses, and its connect has the row of the one to the first; once it is done, its time is not waited for.
+/// The system does not delay a short frame until the frame before it was acknowledged. The server is at the second of
+/// two addresses, and its connect uses the table entry of the connect to the first. Once it is connected, the entry has
+/// no deadline.
 #[test]
 fn small_writes_are_not_delayed(rt: HostRuntime) -> Result<(), Fail> {
     let nobody = TcpListener::bind(&rt, any_port())?.local_addr()?;
@@ -223,7 +225,8 @@ fn small_writes_are_not_delayed(rt: HostRuntime) -> Result<(), Fail> {
     )
 }
 
-/// Whether a connect is under way though its socket, in the row behind the acceptor's and the bot's, is told to take bytes.
+/// Returns whether a connect is pending although its socket, in the entry after the acceptor's and the bot's, is
+/// flagged as writable.
 fn is_under_way(system: &mut Sockets<'_, HostRuntime, &mut Vec<u8>>, flags: &Flags) -> bool {
     for _ in 0..MOST_WAITS {
         system.begin_round();
@@ -236,7 +239,7 @@ fn is_under_way(system: &mut Sockets<'_, HostRuntime, &mut Vec<u8>>, flags: &Fla
     false
 }
 
-/// The same of the first bot that comes to this listener, towards these addresses.
+/// The same for the first bot at this listener, with these server addresses.
 fn is_first_under_way<'w>(
     rt: &'w HostRuntime,
     poller: &'w Poller<&'w HostRuntime>,
@@ -251,7 +254,7 @@ fn is_first_under_way<'w>(
     }
 }
 
-/// The same in this table, of which no row is taken.
+/// The same in this table without registrations.
 fn is_under_way_at<'w>(
     rt: &'w HostRuntime,
     poller: &'w Poller<&'w HostRuntime>,
@@ -273,7 +276,7 @@ fn is_under_way_towards(rt: &HostRuntime, servers: &[SocketAddr]) -> Result<bool
     is_under_way_at(rt, &poller, servers, &settings)
 }
 
-/// A connect that isn't done is no connection, whatever the system tells of its socket.
+/// A pending connect is no connection, whatever the poller reports of its socket.
 #[test]
 fn connect_under_way_is_no_connection(rt: HostRuntime) -> Result<(), Fail> {
     let server = full_listener(&rt)?;

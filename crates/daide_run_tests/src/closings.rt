@@ -1,6 +1,6 @@
-//! Sockets that close, over streams in memory: what they hold is written first, and their end is waited for.
+//! Closing sockets, over streams in memory: their write buffers are written first, then they wait for the peer's end.
 //!
-//! A stream is owned by its socket, so what is seen of one that closes are the flags of its row.
+//! A socket owns its stream, so the tests see only the flags of its table entry.
 
 use crate::doors::any_port;
 use crate::wires::{Steps, Wire, broken, hurries, socket_over, table, two_rows};
@@ -12,13 +12,13 @@ use daide_test_support::rows::{holds, same};
 use std::test::Fail;
 use std::time::Duration;
 
-/// A step of a socket that closes: whether its end is waited for, whether it may go on at once, and whether it is closed.
+/// A step of a closing socket: whether it has a deadline, whether it may go on at once, and whether it is closed.
 type Closes = (bool, bool, bool);
 
-/// What its writes take, the first of them at once, the next a step each.
+/// The bytes that its writes accept: the first at once, and one in each later step.
 const TAKES: &[usize] = &[0, 0, 0, 0, 0, 2, 1];
 
-/// Three bytes are held: they are waited for, and then a second for the peer's end.
+/// Three bytes are in the write buffer. They are written first; then the peer's end has one second.
 const CLOSES: &[Closes] = &[
     (false, false, false),
     (false, false, false),
@@ -31,7 +31,7 @@ const CLOSES: &[Closes] = &[
     (true, false, true),
 ];
 
-/// Goes on with what closes, where a call of the socket in this row may do something.
+/// Advances the closing sockets, with the socket of this entry ready.
 fn goes_on(poller: &Poller<Steps>, closings: &mut Closings<'_, Wire>, flags: &Flags) -> Closes {
     poller.wait();
     flags.note(true, true);
@@ -43,7 +43,7 @@ fn goes_on(poller: &Poller<Steps>, closings: &mut Closings<'_, Wire>, flags: &Fl
     )
 }
 
-/// The first step that comes to something else, if there is one.
+/// Returns the index of the first step with another result, if there is one.
 fn wrong_step(
     poller: &Poller<Steps>,
     closings: &mut Closings<'_, Wire>,
@@ -58,7 +58,7 @@ fn wrong_step(
     None
 }
 
-/// A socket that holds three bytes, and that waited for a moment that is long over.
+/// Returns a socket with three bytes in its write buffer, and a deadline long past.
 fn holding<'w>(poller: &'w Poller<Steps>, wire: Wire, flags: &'w Flags) -> Socket<'w, Wire> {
     flags.due.set(poller.after(Duration::ZERO));
     flags.note(true, true);
@@ -67,7 +67,7 @@ fn holding<'w>(poller: &'w Poller<Steps>, wire: Wire, flags: &'w Flags) -> Socke
     socket
 }
 
-/// One socket closes, step by step.
+/// Closes one socket, step by step.
 fn closes_one(rt: &HostRuntime, poller: &Poller<Steps>) -> Result<(), Fail> {
     let (flags, _) = two_rows(rt, poller)?;
     let mut closings = Closings::new(rt.alloc())?;
@@ -86,7 +86,7 @@ fn closes_one_beside(
     closes_one(rt, poller)
 }
 
-/// What a socket holds is waited for, and its end for a second; until it is written, no moment is.
+/// A closing socket writes its write buffer, and then gives its peer's end one second. It has no deadline before that.
 #[test]
 fn closing_socket_writes_what_it_holds(rt: HostRuntime) -> Result<(), Fail> {
     let mut acceptor = TcpListener::bind(&rt, any_port())?;
@@ -94,10 +94,11 @@ fn closing_socket_writes_what_it_holds(rt: HostRuntime) -> Result<(), Fail> {
     closes_one_beside(&rt, &poller, &mut acceptor)
 }
 
-/// What writes of the first of two take: all that is held, once the second is closed.
+/// The bytes that writes of the first of two sockets accept: all, after the second is closed.
 const LATE: &[usize] = &[0, 0, 0, 0, 0, 3];
 
-/// Whether of two the second alone is closed after so many steps, and whether the first's end is waited for a step later.
+/// Returns whether only the second of two sockets is closed after four steps, and whether the first has a deadline a
+/// step later.
 fn closes_second(
     poller: &Poller<Steps>,
     closings: &mut Closings<'_, Wire>,
@@ -111,7 +112,7 @@ fn closes_second(
     (is_alone, goes_on(poller, closings, first).0)
 }
 
-/// Two sockets close, of which the second's writing fails.
+/// Closes two sockets, the second of which has writes that fail.
 fn closes_two(rt: &HostRuntime, poller: &Poller<Steps>) -> Result<(), Fail> {
     let flags = two_rows(rt, poller)?;
     let mut closings = Closings::new(rt.alloc())?;
@@ -131,7 +132,7 @@ fn closes_two_beside(
     closes_two(rt, poller)
 }
 
-/// Two sockets close; the second's writing fails, and it is closed at its end. The first goes on.
+/// Two sockets close. The second one's writes fail, and it is closed at its peer's end. The first goes on.
 #[test]
 fn one_closes_before_another(rt: HostRuntime) -> Result<(), Fail> {
     let mut acceptor = TcpListener::bind(&rt, any_port())?;
@@ -139,7 +140,8 @@ fn one_closes_before_another(rt: HostRuntime) -> Result<(), Fail> {
     closes_two_beside(&rt, &poller, &mut acceptor)
 }
 
-/// Three bytes are held for a peer that takes none for a second: the third step gives up, and then a second is waited.
+/// Three bytes are in the write buffer, and the peer accepts none for a second. The third step gives up, and then the
+/// peer's end has one second.
 const STALLS: &[Closes] = &[
     (false, false, false),
     (false, false, false),
@@ -149,7 +151,7 @@ const STALLS: &[Closes] = &[
     (true, false, true),
 ];
 
-/// One socket closes whose peer takes nothing.
+/// Closes a socket whose peer accepts nothing, step by step.
 fn closes_stalled(rt: &HostRuntime, poller: &Poller<Steps>) -> Result<(), Fail> {
     let (flags, _) = two_rows(rt, poller)?;
     let mut closings = Closings::new(rt.alloc())?;
@@ -172,7 +174,7 @@ fn closes_stalled_beside(
     closes_stalled(rt, poller)
 }
 
-/// A socket whose peer takes nothing is given up after its time, and closed.
+/// A socket whose peer accepts nothing is given up after its timeout, and closed.
 #[test]
 fn stalled_socket_is_closed(rt: HostRuntime) -> Result<(), Fail> {
     let mut acceptor = TcpListener::bind(&rt, any_port())?;

@@ -1,4 +1,4 @@
-//! Frames that tests of ports and of runs send and hear.
+//! Frames that tests of ports and of runs send and expect.
 
 /// The initial message.
 pub const IM: &[u8] = b"\x00\x00\x00\x04\x00\x01\xda\x10";

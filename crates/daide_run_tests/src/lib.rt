@@ -1,6 +1,7 @@
-//! Tests of the program and of its sockets, where something is seen from inside alone.
+//! Tests of the program and of its sockets, in cases that only a test inside the program can see.
 //!
-//! There is nothing here to call. They stand apart, since a crate with tests is proved twice, with them and without.
+//! There is nothing here to call. These tests are in a crate of their own, because a crate with tests is proved twice,
+//! with them and without.
 #![tactic(auto)]
 
 #[cfg(test)]

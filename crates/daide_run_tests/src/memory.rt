@@ -1,7 +1,8 @@
-//! The ports that ship, driven over streams in memory: what each of a session's sides takes is known to the byte.
+//! The socket ports of the program, driven over streams in memory, so that the bytes accepted by each side are known
+//! exactly.
 //!
-//! Slow streams give and take little at once, are interrupted, and often have nothing. So a frame comes and goes in pieces.
-//! The others take at once all that is written, and their writes are counted.
+//! Slow streams return and accept few bytes at once, are interrupted, and often have nothing. So frames are received
+//! and sent in pieces. The other streams accept each write whole, and their writes are counted.
 
 use crate::frames::{FM, IM, ITS_PRN, OBS, RM, UNCLOSED};
 use crate::wires::two_rows;
@@ -17,41 +18,42 @@ use std::io;
 use std::io::ErrorKind;
 use std::test::Fail;
 
-/// The most bytes that one read gives.
+/// The most bytes that one read returns.
 const MOST_GIVEN: usize = 5;
 
-/// The most bytes that one write takes.
+/// The most bytes that one write accepts.
 const MOST_TAKEN: usize = 3;
 
-/// The most turns of a talk.
+/// The most turns of a conversation.
 const MOST_TURNS: usize = 1000;
 
-/// Any session will do.
+/// The limits of the session. Any would do.
 const CONFIG: Config = Config {
     top_level: 60,
     max_body: 512,
     max_depth: 8,
 };
 
-/// A second initial message came.
+/// The EM for a second initial message.
 const EM_SECOND_IM: &[u8] = b"\x04\x00\x00\x02\x00\x06";
 
-/// `OBS GOF`, and `HUH ( OBS ERR GOF )`.
+/// `OBS GOF`. Its answer, `HUH ( OBS ERR GOF )`, follows.
 const OBS_GOF: &[u8] = b"\x02\x00\x00\x04\x48\x0f\x48\x03";
 
 const ITS_HUH: &[u8] = b"\x02\x00\x00\x0c\x48\x06\x40\x00\x48\x0f\x49\x02\x48\x03\x40\x01";
 
-/// What one end says: when it took so many bytes, these; no bytes are its end.
+/// A part of what one end sends: the number of bytes that it must have accepted first, and the bytes; no bytes are its
+/// end.
 type Part = (usize, &'static [u8]);
 
 /// A stream in memory.
 #[derive(Drop)]
 struct Line {
-    /// What it says, in order.
+    /// The parts that it sends, in order.
     says: &'static [Part],
-    /// Whether it gives and takes little at once, and often has nothing.
+    /// Whether it returns and accepts few bytes at once, and often has nothing.
     is_slow: bool,
-    /// Which of these is next, and how many bytes of it were given.
+    /// The index of the next part, and the number of its bytes that were returned.
     part: usize,
     given: usize,
     took: Vec<u8>,
@@ -59,7 +61,7 @@ struct Line {
     writes: usize,
 }
 
-/// Of three calls one is interrupted, and one finds nothing.
+/// Interrupts one call of three, and returns `WouldBlock` for another.
 fn hold_up(call: usize) -> io::Result<()> {
     match call % 3 {
         0 => Err(ErrorKind::Interrupted.into()),
@@ -69,7 +71,7 @@ fn hold_up(call: usize) -> io::Result<()> {
 }
 
 impl Line {
-    /// A stream that says these parts, and took nothing yet.
+    /// Creates a stream that sends these parts, and has accepted nothing yet.
     fn new(alloc: Global, says: &'static [Part], is_slow: bool) -> Line {
         Line {
             says,
@@ -82,7 +84,7 @@ impl Line {
         }
     }
 
-    /// So many bytes more were given of a part that has this many. Its end stays the end.
+    /// Counts `count` more returned bytes of a part of `len` bytes. The end of the stream stays the end.
     fn go_on(&mut self, count: usize, len: usize) {
         self.given = self.given.saturating_add(count);
         if len > 0 && self.given >= len {
@@ -137,7 +139,7 @@ impl Duplex for Line {
     fn end_writing(&mut self) {}
 }
 
-/// What the bot and the server say, and what each of them gets.
+/// The parts that the bot and the server send, and the frames that each of them gets.
 struct Talk {
     is_slow: bool,
     bot: &'static [Part],
@@ -146,7 +148,7 @@ struct Talk {
     to_server: &'static [&'static [u8]],
 }
 
-/// Turns until the session is closed; whether it is. Before each, a call of any stream may do something.
+/// Makes turns until the session is closed, and returns whether it is. Before each turn all streams are ready.
 fn relay_to_the_end<'w, A: Allocator>(
     session: &mut Session<A>,
     ports: &mut SocketPorts<'w, &HostRuntime, Line>,
@@ -164,7 +166,7 @@ fn relay_to_the_end<'w, A: Allocator>(
     false
 }
 
-/// Writes what is held.
+/// Writes the write buffer.
 fn write_out(socket: &mut Socket<'_, Line>) {
     for _ in 0..MOST_TURNS {
         socket.registration.flags.note(true, true);
@@ -172,7 +174,8 @@ fn write_out(socket: &mut Socket<'_, Line>) {
     }
 }
 
-/// Whether these frames, and no other bytes, were taken: by a stream that isn't slow, each in one write.
+/// Returns whether the stream accepted exactly these frames; a stream that is not slow must have accepted each in one
+/// write.
 fn has_taken(line: &Line, wanted: &[&[u8]]) -> bool {
     let mut left = line.took.as_slice();
     for bytes in wanted {
@@ -184,7 +187,7 @@ fn has_taken(line: &Line, wanted: &[&[u8]]) -> bool {
     left.is_empty() && (line.is_slow || line.writes == wanted.len())
 }
 
-/// The ports of a session between the two ends of a talk, in these rows.
+/// Returns the ports of a session between the two ends of a conversation, with these table entries.
 fn ports_of<'w>(
     alloc: Global,
     poller: &'w Poller<&'w HostRuntime>,
@@ -200,7 +203,7 @@ fn ports_of<'w>(
     )
 }
 
-/// Whether the bot's end, and the server's, took just what they should, once what is held is written.
+/// Returns whether the bot's end and the server's accepted exactly these frames, after the write buffers are written.
 fn have_taken<'w>(
     ports: SocketPorts<'w, &'w HostRuntime, Line>,
     to_bot: &[&[u8]],
@@ -215,7 +218,8 @@ fn have_taken<'w>(
     )
 }
 
-/// Whether a session between the two ends of a talk is closed, and both took just what they should.
+/// Returns whether a session between the two ends of a conversation is closed, and whether both accepted exactly their
+/// frames.
 fn is_talked<'w>(
     session: &mut Session,
     ports: SocketPorts<'w, &'w HostRuntime, Line>,
@@ -227,7 +231,7 @@ fn is_talked<'w>(
     (is_closed, have_taken(ports, talk.to_bot, talk.to_server))
 }
 
-/// A session between the two ends of a talk, until it is closed, in the rows of this table.
+/// Checks a session between the two ends of a conversation until it is closed, with entries of this table.
 fn talks_at<'w>(
     rt: &HostRuntime,
     poller: &'w Poller<&'w HostRuntime>,
@@ -250,7 +254,7 @@ fn talks(rt: &HostRuntime, talk: &Talk) -> Result<(), Fail> {
     talks_at(rt, &poller, talk)
 }
 
-/// A message whose bracket never closes goes back to the bot in a `PRN`, and the server sees nothing of it.
+/// A message with an unclosed bracket is returned to the bot in a `PRN`, and the server gets no byte of it.
 const UNCLOSED_BRACKET: Talk = Talk {
     is_slow: true,
     bot: &[(0, IM), (4, UNCLOSED), (4, OBS), (4, FM)],
@@ -259,7 +263,7 @@ const UNCLOSED_BRACKET: Talk = Talk {
     to_server: &[IM, OBS, FM],
 };
 
-/// A second initial message is an error, told to the bot; the server hears the end.
+/// A second initial message is an error, reported to the bot. The server gets an FM.
 const SECOND_IM: Talk = Talk {
     is_slow: true,
     bot: &[(0, IM), (4, IM)],
@@ -268,7 +272,7 @@ const SECOND_IM: Talk = Talk {
     to_server: &[IM, FM],
 };
 
-/// A server that goes without a word: the bot hears the end, and what it said before has come.
+/// The server closes its connection without an FM. The bot gets an FM, and its earlier frames were forwarded.
 const SERVER_GOES: Talk = Talk {
     is_slow: true,
     bot: &[(0, IM), (4, OBS)],
@@ -277,7 +281,7 @@ const SERVER_GOES: Talk = Talk {
     to_server: &[IM, OBS],
 };
 
-/// Each answer of the gateway's own goes out in one write, as a frame that is passed on does.
+/// Each answer of the gateway is sent in one write, as is each forwarded frame.
 const ANSWERED: Talk = Talk {
     is_slow: false,
     bot: &[(0, IM), (4, UNCLOSED), (18, OBS_GOF), (34, FM)],

@@ -1,4 +1,4 @@
-//! What the program tells of its faults and gives as its status, and what a person who types is told.
+//! The program's error messages, its exit status, and the hint to a person who types.
 
 use daide_commands::answer;
 use daide_commands::gateway::GatewayFault;
@@ -15,7 +15,7 @@ use std::io;
 use std::io::{Eprint, IsTerminal, Read};
 use std::test::Fail;
 
-/// The faults of a run, and the text of each.
+/// A fault of a run | its text.
 const FAULTS: &[(RunFault, &str)] = &[
     (RunFault::Unreadable, "settings could not be read"),
     (RunFault::Memory, "out of memory"),
@@ -29,7 +29,7 @@ const FAULTS: &[(RunFault, &str)] = &[
     ),
 ];
 
-/// Whether the fault has this text.
+/// Returns whether the fault has this text.
 fn has_text(rt: &HostRuntime, fault: &RunFault, text: &str) -> Result<bool, AllocError> {
     let told = fault.to_string(rt.alloc())?;
     Ok(told.as_str() == text)
@@ -43,7 +43,7 @@ fn faults_of_a_run_have_their_texts(rt: HostRuntime) -> Result<(), Fail> {
     Ok(())
 }
 
-/// Words with a fault each: of a run, of the input, of a word that the program knows, and of one that it doesn't.
+/// Arguments with one fault each: of a run, of the input, of a known subcommand, and of an unknown one.
 const FAULTY: &[&[&str]] = &[
     &["daide-gate", "run", "no-such-file"],
     &["daide-gate"],
@@ -55,7 +55,7 @@ const FAULTY: &[&[&str]] = &[
     &["daide-gate", "tell"],
 ];
 
-/// Whether a run with these words ends with no status of its own, where nothing can be told.
+/// Returns whether the program fails with these arguments if its standard error can't be written.
 fn is_untold(rt: &HostRuntime, words: &[&str]) -> bool {
     let mut output = Vec::new(rt.alloc());
     let mut errors = FailsAtWrite {
@@ -66,7 +66,7 @@ fn is_untold(rt: &HostRuntime, words: &[&str]) -> bool {
     ended.is_err()
 }
 
-/// A fault that can't be told is the program's to answer for, by status 1, and is never a run that went well.
+/// A fault that can't be printed is an error of the program, with exit status 1, and never a success.
 #[test]
 fn fault_that_cannot_be_told_is_an_error(rt: HostRuntime) -> Result<(), Fail> {
     for words in FAULTY {
@@ -75,7 +75,7 @@ fn fault_that_cannot_be_told_is_an_error(rt: HostRuntime) -> Result<(), Fail> {
     Ok(())
 }
 
-/// An input that is a terminal, or is none.
+/// An input that is a terminal, or is not.
 #[derive(Drop)]
 struct Typed {
     bytes: &'static [u8],
@@ -112,7 +112,7 @@ impl Eprint for Lines {
     }
 }
 
-/// How many lines are told before an input is read, and once it was read to its end.
+/// Returns the number of lines printed before an input is read, and after it was read to its end.
 fn told_of(is_terminal: bool) -> io::Result<(u32, u32)> {
     let lines = Lines(Cell::new(0));
     let typed = Typed {
@@ -128,7 +128,7 @@ fn told_of(is_terminal: bool) -> io::Result<(u32, u32)> {
     Ok((before, lines.0.get()))
 }
 
-/// Where a person types, one line says what is waited for, and only once something is.
+/// If the input is a terminal, one line says what the program waits for, and only when it reads.
 #[test]
 fn hint_stands_at_a_terminal_only(_rt: HostRuntime) -> Result<(), Fail> {
     same(&told_of(true)?, &(0, 1), &"a terminal")?;

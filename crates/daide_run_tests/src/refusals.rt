@@ -1,4 +1,4 @@
-//! Runs and `show` where a read, a write or a growth is refused.
+//! Runs and `show` if a read, a write or an allocation is refused.
 
 use daide_commands::answer;
 use daide_frame::side::Side;
@@ -12,7 +12,7 @@ use std::io;
 use std::io::{ErrorKind, Read};
 use std::test::Fail;
 
-/// An input without end, which counts what it gave.
+/// An endless input, which counts the bytes that it returned.
 #[derive(Drop)]
 struct HasNoEnd {
     given: u64,
@@ -27,16 +27,16 @@ impl Read for HasNoEnd {
     }
 }
 
-/// What `show` answers.
+/// The result of `show`.
 type Shown = Result<bool, ShowFault>;
 
-/// A frame whose bracket never closes.
+/// A frame with an unclosed bracket.
 const FRAME: &[u8] = b"0200000448034000";
 
-/// The text shown for the frame that the tests of refusals read.
+/// The text shown for `FRAME`.
 const SHOWN: &[u8] = b"DM 4\nGOF (\nPRN\nPRN ( GOF ( )\n";
 
-/// `show` of an unclosed bracket, whose input fails at a read, has this answer, and writes this.
+/// Checks the result and the output of `show` for `FRAME`, with a reader that fails at a read.
 fn check_reads(alloc: Global, reads: usize, want: Shown, written: &[u8]) -> Result<(), Fail> {
     let mut reader = FailsAtRead {
         bytes: FRAME,
@@ -57,7 +57,7 @@ fn each_read_refused_in_turn(rt: HostRuntime) -> Result<(), Fail> {
     check_reads(rt.alloc(), 7, Ok(false), SHOWN)
 }
 
-/// `show` of the same frame onto an output that fails at a write: its answer, and what the output took.
+/// Shows `FRAME` with a writer that fails at a write. Returns the result, and the bytes that the writer accepted.
 fn taken_of(alloc: Global, writes: usize) -> (Shown, Vec<u8>) {
     let mut reader = FRAME;
     let mut writer = FailsAtWrite {
@@ -68,7 +68,7 @@ fn taken_of(alloc: Global, writes: usize) -> (Shown, Vec<u8>) {
     (answer, writer.taken)
 }
 
-/// A write fails, and what was taken before is the start of what is shown.
+/// Checks that a failed write is returned, and that a prefix of the text was accepted before it.
 fn check_writes(alloc: Global, writes: usize) -> Result<(), Fail> {
     let (answer, taken) = taken_of(alloc, writes);
     same(&answer, &Err(ShowFault::Write), &writes)?;
@@ -85,13 +85,13 @@ fn each_write_refused_in_turn(rt: HostRuntime) -> Result<(), Fail> {
     same(&taken.as_slice(), &SHOWN, &8)
 }
 
-/// `show` of the same frame on a heap.
+/// Shows `FRAME` with its memory on a heap.
 fn show_on(heap: &LocalHeap, output: &mut Vec<u8>) -> Shown {
     let mut reader = FRAME;
     show(heap, Side::Bot, Level::L0, &mut reader, output)
 }
 
-/// Whether `show` finds memory on a heap. Where it doesn't, it says so and writes nothing.
+/// Returns whether a heap has enough memory for `show`. If not, checks that it returns `Memory` and writes nothing.
 fn is_shown_on(alloc: Global, heap: &LocalHeap) -> Result<bool, Fail> {
     let mut output = Vec::new(alloc);
     match show_on(heap, &mut output) {
@@ -106,7 +106,7 @@ fn is_shown_on(alloc: Global, heap: &LocalHeap) -> Result<bool, Fail> {
     }
 }
 
-/// The same on a heap of this size, which is empty again then.
+/// The same on a heap of this size, which must be empty at the end.
 fn is_shown_within(alloc: Global, size: usize) -> Result<bool, Fail> {
     let heap = LocalHeap::new(alloc, size)?;
     let is_shown = is_shown_on(alloc, &heap)?;
@@ -114,8 +114,8 @@ fn is_shown_within(alloc: Global, size: usize) -> Result<bool, Fail> {
     Ok(is_shown)
 }
 
-/// The heap gives out multiples of 16 bytes, so each growth is the first that does not fit at some size. The cutter
-/// takes its 65,526 at once: nothing new is refused between.
+/// The heap allocates multiples of 16 bytes, so each allocation is the first that does not fit at some size. The cutter
+/// allocates its 65,526 bytes at once, so the sizes between the two ranges refuse nothing new.
 #[test]
 fn growth_refused_in_turn(rt: HostRuntime) -> Result<(), Fail> {
     for unit in 0..32usize {
@@ -145,7 +145,7 @@ fn input_without_end_is_left(rt: HostRuntime) -> Result<(), Fail> {
     )
 }
 
-/// The read of this run fails, and is reported.
+/// Checks that a failed read of this run is reported.
 fn check_failed_read(rt: &HostRuntime, words: &[&str]) -> Result<(), Fail> {
     let mut reader = FailsAtRead {
         bytes: b"",
@@ -169,7 +169,7 @@ fn failed_read_is_told(rt: HostRuntime) -> Result<(), Fail> {
     check_failed_read(&rt, &["daide-gate", "frame"])
 }
 
-/// A write of this run fails, and is told.
+/// Checks that a failed write of this run is reported.
 fn check_failed_write(rt: &HostRuntime, words: &[&str]) -> Result<(), Fail> {
     let mut input = b"02000002480F".as_slice();
     let mut writer = FailsAtWrite {

@@ -1,4 +1,4 @@
-//! The lines of sessions, and those of what is wrong of their records: the text of each.
+//! The log lines of sessions, and of faults of their records: the text of each.
 
 use daide_commands::RecordNotice;
 use daide_frame::code::Code;
@@ -11,7 +11,7 @@ use daide_test_support::rows::{holds, same};
 use std::alloc::Global;
 use std::test::Fail;
 
-/// Why a session is over, and the text of that.
+/// Why a session is over | the text.
 #[rattlefmt::skip]
 const CAUSES: &[(Why, &str)] = &[
     (Why::Ended(Cause::Session(Ending::Ended(Side::Bot))), "bot ended"),
@@ -33,7 +33,7 @@ const CAUSES: &[(Why, &str)] = &[
     (Why::NoServer, "no server"),
 ];
 
-/// The line of a session that is over for this cause has this text.
+/// Returns whether the reason has this text.
 fn is_told_as(alloc: Global, why: Why, text: &str) -> Result<bool, Fail> {
     let told = why.to_string(alloc)?;
     Ok(told.as_str() == text)
@@ -47,25 +47,25 @@ fn causes_have_their_texts(rt: HostRuntime) -> Result<(), Fail> {
     Ok(())
 }
 
-/// A side of which nothing came for too long.
+/// A side that sent nothing until its timeout.
 const SILENT: Timed = Timed {
     is_silent: true,
     ..Timed::NONE
 };
 
-/// A side that took nothing for too long.
+/// A side that accepted nothing until its timeout.
 const STALLED: Timed = Timed {
     is_stalled: true,
     ..Timed::NONE
 };
 
-/// A side that took nothing for too long, and was taken as ended for that.
+/// A side that accepted nothing until its timeout, and whose stream was treated as ended for that reason.
 const STALLED_END: Timed = Timed {
     ends_stalled: true,
     ..STALLED
 };
 
-/// What ended a session, what the times of its bot and of its server came to, and why it is over.
+/// The ending of a session | the timeouts of its bot | those of its server | why it is over.
 #[rattlefmt::skip]
 const TIMES: &[(Ending, Timed, Timed, Why)] = &[
     (Ending::Ended(Side::Bot), SILENT, Timed::NONE, Why::Silent(Side::Bot)),
@@ -79,7 +79,7 @@ const TIMES: &[(Ending, Timed, Timed, Why)] = &[
     (Ending::Ended(Side::Bot), STALLED_END, Timed::NONE, Why::Stalled(Side::Bot, 60)),
 ];
 
-/// A side's silence is named instead of its end, and that it took nothing instead of its loss.
+/// The log line names a side's silence instead of its end, and its stall instead of its loss.
 #[test]
 fn times_are_named_in_place_of_the_event(_rt: HostRuntime) -> Result<(), Fail> {
     for (ending, bot, server, want) in TIMES {
@@ -89,7 +89,7 @@ fn times_are_named_in_place_of_the_event(_rt: HostRuntime) -> Result<(), Fail> {
     Ok(())
 }
 
-/// Three whole lines.
+/// Three complete lines.
 #[test]
 fn lines_of_a_session(rt: HostRuntime) -> Result<(), Fail> {
     let end = SessionEnd {
@@ -116,7 +116,7 @@ fn lines_of_a_session(rt: HostRuntime) -> Result<(), Fail> {
     same(&lines, &want, &"lines")
 }
 
-/// What is wrong of a record, and the text of that.
+/// A fault of a record | its text.
 #[rattlefmt::skip]
 const RECORDS: &[(RecordNotice, &str)] = &[
     (RecordNotice::IsThere(1), "session 1 is not recorded: its file is there already"),
@@ -125,7 +125,7 @@ const RECORDS: &[(RecordNotice, &str)] = &[
     (RecordNotice::Full(4), "record of session 4 broke off: it has 1000000 lines"),
 ];
 
-/// Whether it has this text.
+/// Returns whether the fault has this text.
 fn has_text(alloc: Global, notice: RecordNotice, text: &str) -> Result<bool, Fail> {
     let told = notice.to_string(alloc)?;
     Ok(told.as_str() == text)

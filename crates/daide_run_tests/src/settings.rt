@@ -1,4 +1,4 @@
-//! The text of a file of settings: its bound, and what can't be read.
+//! The text of a settings file: its greatest length, and texts that can't be read.
 
 use daide_commands::running::{RunFault, text_of};
 use daide_commands::text::{SettingsTextFault, read_text};
@@ -9,7 +9,7 @@ use std::io;
 use std::io::{ErrorKind, Read};
 use std::test::Fail;
 
-/// A reader that fails with one kind of error.
+/// A reader that fails with this kind of error.
 #[derive(Drop)]
 struct Fails(ErrorKind);
 
@@ -19,7 +19,7 @@ impl Read for Fails {
     }
 }
 
-/// A reader that gives a byte at a time, and is interrupted before each.
+/// A reader that returns one byte at a time, and is interrupted before each.
 #[derive(Drop)]
 struct Halting {
     bytes: &'static [u8],
@@ -39,12 +39,12 @@ impl Read for Halting {
     }
 }
 
-/// Why a text of settings is refused, if it is.
+/// Returns why a settings text is refused, if it is.
 fn refusal(alloc: Global, input: &mut impl Read) -> Option<SettingsTextFault> {
     read_text(alloc, input).err()
 }
 
-/// Why a text is refused that can't be read to its end for an error of this kind.
+/// Returns why a settings text is refused if a read fails with this kind of error.
 fn refusal_at(alloc: Global, kind: ErrorKind) -> Option<SettingsTextFault> {
     refusal(alloc, &mut Fails(kind))
 }
@@ -77,18 +77,18 @@ fn settings_that_cannot_be_read(rt: HostRuntime) -> Result<(), Fail> {
     same(&memory, &Some(SettingsTextFault::Memory), &"want of memory")
 }
 
-/// What a run is told where its settings can't be read for an error of this kind.
+/// Returns the fault of a run if a read of its settings fails with this kind of error.
 fn told_at(alloc: Global, kind: ErrorKind) -> Option<RunFault> {
     text_of(alloc, &mut Fails(kind)).err()
 }
 
-/// What it is told where their text is to lie in a heap of so many bytes.
+/// Returns the fault of a run if the text of its settings is allocated on a heap of this size.
 fn told_within(alloc: Global, size: usize) -> Result<Option<RunFault>, Fail> {
     let heap = LocalHeap::new(alloc, size)?;
     Ok(text_of(&heap, &mut b"listen = ".as_slice()).err())
 }
 
-/// A run tells want of memory for the text of its settings as such, and nothing else.
+/// A run reports a refused allocation for its settings text as such.
 #[test]
 fn want_of_memory_for_settings_is_told(rt: HostRuntime) -> Result<(), Fail> {
     let other = told_at(rt.alloc(), ErrorKind::Other);

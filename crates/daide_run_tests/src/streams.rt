@@ -1,5 +1,5 @@
-//! A pull, a put and a dropped piece, a row for each answer that a stream's calls may give: what is told of it, and
-//! whether a call may do something behind it.
+//! Pulls, puts and discarded pieces, with a row for each result of a stream's calls: what they return, and the
+//! readiness after them.
 
 use crate::streams::Answer::{Fails, Gives, Takes};
 use daide_buffered_io::buffered::Buffered;
@@ -16,22 +16,22 @@ use std::io::ErrorKind;
 use std::io::ErrorKind::{BrokenPipe, ConnectionReset, Interrupted, WouldBlock};
 use std::test::Fail;
 
-/// What one call of a stream answers.
+/// The result of one call of a stream.
 #[derive(Clone, Copy)]
 enum Answer {
-    /// A read gives these, as far as there is room; none are the end.
+    /// A read returns these bytes, as many as fit; none are the end.
     Gives(&'static [u8]),
-    /// A write takes so many, as far as there are.
+    /// A write accepts this many bytes at most.
     Takes(usize),
     Fails(ErrorKind),
 }
 
-/// A stream whose calls answer what a row says, and would wait behind that.
+/// A stream whose calls have the results of a row, and would block after these.
 #[derive(Drop)]
 struct Scripted {
     answers: &'static [Answer],
     calls: usize,
-    /// The most bytes that one write was handed.
+    /// The greatest number of bytes in one write.
     handed: usize,
 }
 
@@ -89,21 +89,21 @@ impl Duplex for Scripted {
     fn end_writing(&mut self) {}
 }
 
-/// A call may do something, and one that moves less than it might is the last.
+/// Both directions are ready, and a call that moves less than it could is the last.
 const READY: Readiness = Readiness {
     may_read: true,
     may_write: true,
     reads_on: false,
 };
 
-/// The end was told, a failure, or an urgent byte.
+/// The poller reported the end, a failure, or an urgent byte.
 const READS_ON: Readiness = Readiness {
     may_read: true,
     may_write: true,
     reads_on: true,
 };
 
-/// Eight interruptions, which is as often as a call is made.
+/// Eight interruptions, the number of times that a call is tried.
 const ALL_INTERRUPTED: &[Answer] = &[
     Fails(Interrupted),
     Fails(Interrupted),
@@ -116,10 +116,11 @@ const ALL_INTERRUPTED: &[Answer] = &[
     Gives(b"abc"),
 ];
 
-/// A pull: what the stream answers; what is told, and whether a read may give something then; how many reads there are.
+/// A pull: the stream's results | the result of the pull | whether a read may then return something | the number of
+/// reads.
 type Pulling = (&'static [Answer], Pull, bool, usize);
 
-/// Into four bytes, where something may be there.
+/// Pulls into four bytes, from a stream that may be readable.
 const PULLS: &[Pulling] = &[
     (&[Gives(b"ab")], Pull::Got(2), false, 1),
     (&[Gives(b"abcd")], Pull::Got(4), true, 1),
@@ -161,7 +162,8 @@ fn pulls_by_rows(rt: HostRuntime) -> Result<(), Fail> {
     Ok(())
 }
 
-/// Behind an end, a failure or an urgent byte a short read isn't the last: it is told but once.
+/// After the event of an end, a failure or an urgent byte a short read is not the last, because the event occurs only
+/// once.
 #[test]
 fn short_read_goes_on_where_the_end_was_told(rt: HostRuntime) -> Result<(), Fail> {
     let mut stream = Scripted::new(&[Gives(b"ab"), Gives(b"")]);
@@ -177,7 +179,7 @@ fn short_read_goes_on_where_the_end_was_told(rt: HostRuntime) -> Result<(), Fail
     same(&pull, &Pull::Ended, &"the end")
 }
 
-/// Where nothing can be there, or there is no room, the stream is left alone.
+/// If the stream is known not to be readable, or there is no room, no call is made.
 #[test]
 fn pulls_that_ask_nothing(rt: HostRuntime) -> Result<(), Fail> {
     let mut stream = Scripted::new(&[Gives(b"ab")]);
@@ -196,10 +198,11 @@ fn pulls_that_ask_nothing(rt: HostRuntime) -> Result<(), Fail> {
     same(&stream.calls, &0, &"reads")
 }
 
-/// A put: what the stream answers; what is told, and whether a write may take something then; how many writes there are.
+/// A put: the stream's results | the result of the put | whether a write may then accept something | the number of
+/// writes.
 type Putting = (&'static [Answer], Put, bool, usize);
 
-/// Of 20,000 bytes, where some may be taken.
+/// Puts of 20,000 bytes, to a stream that may be writable.
 const PUTS: &[Putting] = &[
     (&[Takes(3)], Put::Took(3), false, 1),
     (&[Takes(20_000)], Put::Took(16_384), true, 1),
@@ -249,13 +252,13 @@ fn put_that_asks_nothing(rt: HostRuntime) -> Result<(), Fail> {
     same(&stream.calls, &0, &"writes")
 }
 
-/// A drop: how much may be dropped; what the stream answers; which piece is the last, counted from 0.
+/// A draining: its budget | the stream's results | the index of the last piece, counted from 0.
 type Drops = (usize, &'static [Answer], usize);
 
 /// More than one piece.
 const MANY: &[u8] = &[7; 5_000];
 
-/// A stream that waits is not at its end, nor is one that was interrupted. A piece has 4,096 bytes at most.
+/// A stream that would block is not at its end, nor is one that was interrupted. A piece has at most 4,096 bytes.
 const DROPS: &[Drops] = &[
     (4_097, &[Gives(MANY), Gives(b"a")], 1),
     (9, &[Gives(b"abc"), Gives(b"")], 1),
@@ -266,7 +269,8 @@ const DROPS: &[Drops] = &[
     (9, &[Fails(WouldBlock), Gives(b"")], 1),
 ];
 
-/// So many pieces are dropped, each where a read may give something: only the last is told as the last.
+/// Checks that this many pieces are discarded from a readable stream, and that only the last one is returned as the
+/// last.
 fn drops(alloc: Global, row: usize, drop: &Drops) -> Result<(), Fail> {
     let (most, answers, last) = *drop;
     let pool = Pool::new(alloc);

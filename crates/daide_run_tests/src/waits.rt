@@ -1,4 +1,4 @@
-//! When the system is asked, and how long a wait is, of sockets over streams in memory.
+//! The times at which the poller is called, and the length of a wait, for sockets over streams in memory.
 
 use crate::doors::any_port;
 use crate::wires::{STEP, Steps, Wire, WirePorts, hurries, row_for, socket_over, table, two_rows};
@@ -13,13 +13,14 @@ use std::rt::Clock;
 use std::test::Fail;
 use std::time::Duration;
 
-/// So many sessions take turns; at which of these turns, counted from 1, it is known that somebody is at the acceptor, and at
-/// which that somebody else is.
+/// The number of sessions that take turns | the turn, counted from 1, at which a first caller at the acceptor is known
+/// | the turn at which a second one is.
 type Asked = (usize, usize, usize);
 
 const ASKED: &[Asked] = &[(1, 33, 65), (2, 33, 65), (3, 34, 67), (40, 41, 81)];
 
-/// At which turn it is known that somebody is at the acceptor, behind so many. A round begins where all of so many had a turn.
+/// Returns the turn at which a caller at the acceptor is known, after this number of turns. A round begins after each
+/// of the `count` sessions had a turn.
 fn turn_that_knows(
     ports: &mut WirePorts<'_>,
     poller: &Poller<Steps>,
@@ -39,7 +40,8 @@ fn turn_that_knows(
     199
 }
 
-/// At which turn it is known that one came to the acceptor, and at which that another came once that was known.
+/// Returns the turn at which a first caller at the acceptor is known, and the turn at which a second one is, who calls
+/// after that.
 fn knowing_turns(
     rt: &HostRuntime,
     ports: &mut WirePorts<'_>,
@@ -59,7 +61,7 @@ fn knowing_turns(
     ))
 }
 
-/// The ports of a session in two rows, that has nothing to do.
+/// Returns the ports of a session in two table entries, which has nothing to do.
 fn idle_ports<'w, R: Clock>(
     poller: &'w Poller<R>,
     flags: (&'w Flags, &'w Flags),
@@ -69,7 +71,7 @@ fn idle_ports<'w, R: Clock>(
     SocketPorts::new(poller, bot, server)
 }
 
-/// Each row holds at this acceptor.
+/// Checks each row with this acceptor.
 fn are_known(
     rt: &HostRuntime,
     ports: &mut WirePorts<'_>,
@@ -83,7 +85,7 @@ fn are_known(
     Ok(())
 }
 
-/// The same of an acceptor in the first row of a table.
+/// The same with an acceptor in the first entry of a table.
 fn are_known_at(
     rt: &HostRuntime,
     poller: &Poller<Steps>,
@@ -99,7 +101,7 @@ fn are_known_at(
     )
 }
 
-/// The system is asked after 32 turns, though all of them move something, and at the next round where that is later.
+/// The poller is called after 32 turns, even if all of them move something, and at the next round if that is later.
 #[test]
 fn system_is_asked_after_32_turns(rt: HostRuntime) -> Result<(), Fail> {
     let mut acceptor = TcpListener::bind(&rt, any_port())?;
@@ -108,13 +110,13 @@ fn system_is_asked_after_32_turns(rt: HostRuntime) -> Result<(), Fail> {
     are_known_at(&rt, &poller, (&mut acceptor, at))
 }
 
-/// Whether the clock popped, asked twice in a turn that begins.
+/// Begins a turn, and returns the results of two timer queries in it.
 fn popped_in_turn(ports: &mut WirePorts<'_>) -> (bool, bool) {
     ports.begin_turn();
     (ports.clock_popped(), ports.clock_popped())
 }
 
-/// The moment of an initial message is told in one turn, however often it is asked there, and before a turn begins it isn't.
+/// An expired IM timer is returned in one turn, however often it is queried there, and not before a turn begins.
 #[test]
 fn moment_is_told_once(rt: HostRuntime) -> Result<(), Fail> {
     let poller = table(&rt)?;
@@ -134,14 +136,14 @@ fn moment_is_told_once(rt: HostRuntime) -> Result<(), Fail> {
     )
 }
 
-/// Waits in a table where the first row waits for a moment to come; whether it is over then.
+/// Waits in a table whose first entry has a deadline, and returns whether the deadline is then past.
 fn waits_for<R: Clock>(poller: &Poller<R>, waits: &Flags) -> bool {
     waits.due.set(poller.after(Duration::from_millis(STEP)));
     poller.wait();
     poller.is_over(waits.due.get())
 }
 
-/// The same, where a row that no socket has any more waited for one that is over.
+/// The same beside an entry without a socket, whose deadline is past.
 fn waits_beside_free<R: Clock>(
     rt: &HostRuntime,
     poller: &Poller<R>,
@@ -153,7 +155,7 @@ fn waits_beside_free<R: Clock>(
     Ok(waits_for(poller, place.flags))
 }
 
-/// A moment is waited for by a socket that is there, and by no row that is free.
+/// A wait ends at the deadline of a registered socket, and not at that of a free entry.
 #[test]
 fn free_row_is_not_waited_for(rt: HostRuntime) -> Result<(), Fail> {
     let mut acceptor = TcpListener::bind(&rt, any_port())?;
@@ -164,7 +166,7 @@ fn free_row_is_not_waited_for(rt: HostRuntime) -> Result<(), Fail> {
     )
 }
 
-/// Begins so many turns that the system is asked.
+/// Begins as many turns as cause a call of the poller.
 fn asks_by_turns<R: Clock>(ports: &mut SocketPorts<'_, R, Wire>, poller: &Poller<R>) {
     for _ in 0..32 {
         ports.begin_turn();
@@ -172,7 +174,7 @@ fn asks_by_turns<R: Clock>(ports: &mut SocketPorts<'_, R, Wire>, poller: &Poller
     poller.look_by_turns();
 }
 
-/// Whether the wait behind a look that was told something is none, and the one behind that waits.
+/// Returns whether the wait after a poll with an event does not block, and whether the wait after that one blocks.
 fn waits_once_more<'w, R: Clock>(
     rt: &HostRuntime,
     poller: &'w Poller<R>,
@@ -188,7 +190,8 @@ fn waits_once_more<'w, R: Clock>(
     ))
 }
 
-/// What a look was told may have come behind the calls that ask for it: the next wait is none, and the one behind it waits.
+/// An event of a poll may have occurred after the calls that depend on it. So the next wait does not block, and the one
+/// after it does.
 #[test]
 fn one_wait_is_none_behind_a_look(rt: HostRuntime) -> Result<(), Fail> {
     let mut acceptor = TcpListener::bind(&rt, any_port())?;

@@ -1,7 +1,7 @@
-//! Sockets over streams in memory that take what a row lets them: what is written when, and what is known behind each
+//! Sockets over streams in memory that accept what a row allows: the time of each write, and the readiness after each
 //! call.
 //!
-//! All have rows of one small table that reads a clock of its own. `closings` and `waits` take both from here.
+//! All of them have entries in one small table with a clock of its own. `closings` and `waits` use both.
 
 ghost use Rattle.std.specs.Prelude.{◌≡◌, IfOk};
 
@@ -22,10 +22,10 @@ use std::rt::Clock;
 use std::test::Fail;
 use std::time::Duration;
 
-/// A clock by which so many milliseconds pass between two looks at it.
+/// The milliseconds that pass between two reads of the clock.
 pub const STEP: u64 = 400;
 
-/// A clock that counts how often it was read.
+/// A clock that advances at each read.
 #[derive(Drop)]
 pub struct Steps(Cell<u64>);
 
@@ -44,18 +44,18 @@ impl Clock for Steps {
 /// A stream in memory.
 #[derive(Drop)]
 pub struct Wire {
-    /// How many bytes each write takes at most, one after another; at none, and behind the last, it would wait.
+    /// The most bytes that each write accepts, in order. A write with 0, or after the last one, would block.
     takes: &'static [usize],
-    /// How many bytes it still gives; at none a read would wait.
+    /// The number of bytes that it still returns. With none left, a read would block.
     gives: usize,
     writes: usize,
     took: usize,
-    /// Whether a write fails.
+    /// Whether writes fail.
     fails: bool,
 }
 
 impl Wire {
-    /// A stream whose writes take so much, and that gives so many bytes.
+    /// Creates a stream whose writes accept these numbers of bytes, and that returns `gives` bytes.
     pub fn new(takes: &'static [usize], gives: usize) -> Wire {
         Wire {
             takes,
@@ -67,7 +67,7 @@ impl Wire {
     }
 }
 
-/// So many bytes; none at all would wait.
+/// Returns `count`, or `WouldBlock` if it is 0.
 pub fn some(count: usize) -> io::Result<usize>
     ensures same { IfOk result (λ moved. moved ≡ count) }
 {
@@ -106,10 +106,10 @@ impl Duplex for Wire {
     fn end_writing(&mut self) {}
 }
 
-/// The ports of a session over two of them.
+/// The ports of a session over two such streams.
 pub type WirePorts<'w> = SocketPorts<'w, Steps, Wire>;
 
-/// A row of the table for a stream in memory: a listener's, since the system must know what it follows.
+/// Returns a table entry for a stream in memory. It is a listener's, because the poller needs a socket of the system.
 pub fn row_for<'w, R: Clock>(
     poller: &'w Poller<R>,
     acceptor: &mut TcpListener,
@@ -120,7 +120,7 @@ pub fn row_for<'w, R: Clock>(
     }
 }
 
-/// The next two rows of a table, if there are two, which stay free.
+/// Returns the next two entries of a table, which stay free, if there are two.
 pub fn free_rows<'w, R: Clock>(
     poller: &'w Poller<R>,
     acceptors: &mut (TcpListener, TcpListener),
@@ -130,7 +130,7 @@ pub fn free_rows<'w, R: Clock>(
     Some((first.flags, second.flags))
 }
 
-/// What is known of the sockets in the next two rows of a table, which stay free.
+/// The same with listeners of its own.
 pub fn two_rows<'w, R: Clock>(
     rt: &HostRuntime,
     poller: &'w Poller<R>,
@@ -142,12 +142,12 @@ pub fn two_rows<'w, R: Clock>(
     }
 }
 
-/// A table of three sockets.
+/// Creates a table for three sockets.
 pub fn table(rt: &HostRuntime) -> Result<Poller<Steps>, Fail> {
     Ok(Poller::new(rt.alloc(), Steps(Cell::new(0)), rt, 3)?)
 }
 
-/// A socket over this stream, in this row.
+/// Returns a socket over this stream, with this table entry.
 pub fn socket_over<'w, R: Clock>(
     poller: &'w Poller<R>,
     wire: Wire,
@@ -156,14 +156,14 @@ pub fn socket_over<'w, R: Clock>(
     Socket::over(poller, wire, Registration { flags })
 }
 
-/// A stream whose writes fail.
+/// Returns a stream whose writes fail.
 pub fn broken() -> Wire {
     let mut wire = Wire::new(ALL, 0);
     wire.fails = true;
     wire
 }
 
-/// Takes a row whose moment is over, so that each wait is a look.
+/// Takes an entry with a past deadline, so that no wait blocks.
 pub fn hurries<'w>(
     poller: &'w Poller<Steps>,
     acceptor: &mut TcpListener,
@@ -173,18 +173,19 @@ pub fn hurries<'w>(
     Ok(place)
 }
 
-/// What is done with a session's ports.
+/// A call of a session's ports.
 #[derive(Clone, Copy)]
 enum Step {
-    /// So many bytes are put to a side.
+    /// This number of bytes is put to a side.
     Puts(Side, usize),
     /// A side is pulled from, and has nothing.
     Idles(Side),
-    /// So many turns begin.
+    /// This number of turns begins.
     Turns(usize),
 }
 
-/// What writes of the bot's and the server's streams take; what is done; what they took then.
+/// The bytes that the bot's writes accept | those that the server's writes accept | the calls | the bytes that each
+/// stream then accepted.
 type Written = (
     &'static [usize],
     &'static [usize],
@@ -192,11 +193,11 @@ type Written = (
     (usize, usize),
 );
 
-/// Takes all that is written.
+/// A stream that accepts every write whole.
 const ALL: &[usize] = &[9_999, 9_999, 9_999, 9_999];
 
-/// A few bytes are held until their session has nothing more to do, there is no room, or 32 turns began; many are written
-/// at once, with what is held before them.
+/// A few bytes stay in the write buffer until their session has nothing else to do, the buffer is full, or 32 turns
+/// began. Many bytes are written at once, together with the write buffer before them.
 const WRITTEN: &[Written] = &[
     (ALL, ALL, &[Puts(Side::Server, 3)], (0, 0)),
     (ALL, ALL, &[Puts(Side::Server, 3), Idles(Side::Bot)], (0, 3)),
@@ -207,7 +208,7 @@ const WRITTEN: &[Written] = &[
         &[Puts(Side::Server, 3), Idles(Side::Server)],
         (0, 0),
     ),
-    // A wire that takes nothing may be all that its session waits for, so what is for the other is written.
+    // If a stream accepts nothing, its session may wait only for it. So the other side's write buffer is written.
     (
         &[],
         ALL,
@@ -248,7 +249,7 @@ const WRITTEN: &[Written] = &[
         &[Puts(Side::Server, 3), Turns(32), Turns(1)],
         (0, 3),
     ),
-    // The turns are counted for each side, and anew once some of what was held for it was written.
+    // Turns are counted for each side, and from 0 again after a part of its write buffer was written.
     (
         ALL,
         ALL,
@@ -283,7 +284,7 @@ const WRITTEN: &[Written] = &[
         &[Puts(Side::Server, 3), Puts(Side::Server, 4_093)],
         (0, 0),
     ),
-    // There is room behind the last byte alone, and none where bytes are gone from the front.
+    // The free space is only after the last byte; removing bytes from the front adds none.
     (
         ALL,
         &[1_000, 9_999],
@@ -295,7 +296,7 @@ const WRITTEN: &[Written] = &[
         (0, 4_000),
     ),
     (ALL, ALL, &[Puts(Side::Server, 5_000)], (0, 5_000)),
-    // Many bytes go out in one write with what is held before them; fewer stay together.
+    // Many bytes are sent in one write with the write buffer before them; fewer are kept together.
     (
         ALL,
         &[9_999],
@@ -320,7 +321,8 @@ const WRITTEN: &[Written] = &[
         &[Puts(Side::Server, 3), Idles(Side::Bot)],
         (0, 2),
     ),
-    // What a stream left of these fills all room to its end: once it takes the rest, more goes out in the same put.
+    // The rest that a stream did not accept fills the buffer to its end. Once the stream accepts it, more is written in
+    // the same put.
     (
         ALL,
         &[1_000, 9_999, 9_999],
@@ -333,10 +335,9 @@ const WRITTEN: &[Written] = &[
     ),
 ];
 
-/// Many bytes.
 const BYTES: &[u8] = &[7; 5_000];
 
-/// Does it; whether a pull was of nothing.
+/// Makes a call of the ports, and returns whether its result is right: no failure of a put, and an idle pull.
 fn does(ports: &mut WirePorts<'_>, step: Step) -> bool {
     match step {
         Puts(side, count) => ports.put(side, &BYTES[..count.min(BYTES.len())]) != Put::Failed,
@@ -350,7 +351,7 @@ fn does(ports: &mut WirePorts<'_>, step: Step) -> bool {
     }
 }
 
-/// Does all of a row, where a call of any stream may do something before each step.
+/// Makes the calls of a row, with both streams ready before each, and returns whether all results are right.
 fn does_all(ports: &mut WirePorts<'_>, flags: (&Flags, &Flags), steps: &[Step]) -> bool {
     let mut are_right = true;
     for step in steps.iter() {
@@ -361,7 +362,7 @@ fn does_all(ports: &mut WirePorts<'_>, flags: (&Flags, &Flags), steps: &[Step]) 
     are_right
 }
 
-/// What the streams of a row took, where each call did what it should.
+/// Returns the bytes that the streams of a row accepted, if all results are right.
 fn took_of<'w>(
     poller: &'w Poller<Steps>,
     flags: (&'w Flags, &'w Flags),
@@ -377,7 +378,7 @@ fn took_of<'w>(
     if are_right { Some(took) } else { None }
 }
 
-/// Each row holds, in the rows of this table.
+/// Checks each row, with entries of this table.
 fn are_written(rt: &HostRuntime, poller: &Poller<Steps>) -> Result<(), Fail> {
     let flags = two_rows(rt, poller)?;
     for (row, written) in WRITTEN.iter().enumerate() {
@@ -392,7 +393,7 @@ fn bytes_are_held_and_written_by_rows(rt: HostRuntime) -> Result<(), Fail> {
     are_written(&rt, &poller)
 }
 
-/// What is done with one socket: bytes are put, it is flushed, or it is pulled from.
+/// A call of one socket: a put, a flush or a pull.
 #[derive(Clone, Copy)]
 enum Call {
     Put(usize),
@@ -400,8 +401,8 @@ enum Call {
     Pull,
 }
 
-/// What writes of a stream take, and what it gives; what is done; whether a read, and a write, may do something then, and
-/// how many bytes were pulled.
+/// The bytes that the stream's writes accept | the bytes that it returns | the calls | whether a read and a write may
+/// then make progress, and the number of bytes pulled.
 type Flagged = (
     &'static [usize],
     usize,
@@ -409,8 +410,8 @@ type Flagged = (
     (bool, bool, usize),
 );
 
-/// A call that found nothing, or less than it had room for, is the last of its kind until the system tells more; what was
-/// read ahead is handed out without one.
+/// A call that moved nothing, or less than it could, is the last of its kind until the poller reports an event. Pulls
+/// return the read buffer without a call.
 const FLAGGED: &[Flagged] = &[
     (&[], 0, &[Call::Pull], (false, true, 0)),
     (&[], 8, &[Call::Pull], (false, true, 4)),
@@ -423,7 +424,7 @@ const FLAGGED: &[Flagged] = &[
     (&[3], 0, &[Call::Put(3), Call::Flush], (true, true, 0)),
 ];
 
-/// Makes a call of a socket; how many bytes it pulled.
+/// Makes a call of a socket, and returns the number of bytes pulled.
 fn calls(socket: &mut Socket<'_, Wire>, call: Call) -> usize {
     match call {
         Call::Put(count) => {
@@ -441,7 +442,7 @@ fn calls(socket: &mut Socket<'_, Wire>, call: Call) -> usize {
     }
 }
 
-/// What is known behind the calls of a row, and what was pulled.
+/// Returns the readiness after the calls of a row, and the number of bytes pulled.
 fn known_of<'w>(
     poller: &'w Poller<Steps>,
     flags: &'w Flags,
@@ -459,7 +460,7 @@ fn known_of<'w>(
     (readiness.may_read, readiness.may_write, pulled)
 }
 
-/// Each row holds, in the rows of this table.
+/// Checks each row, with entries of this table.
 fn are_flagged(rt: &HostRuntime, poller: &Poller<Steps>) -> Result<(), Fail> {
     let (flags, _) = two_rows(rt, poller)?;
     for (row, flagged) in FLAGGED.iter().enumerate() {
@@ -474,8 +475,7 @@ fn flags_by_rows(rt: HostRuntime) -> Result<(), Fail> {
     are_flagged(&rt, &poller)
 }
 
-/// What a put, a flush and a put behind it tell of a socket: of each put its answer, and whether something may be written
-/// then.
+/// Puts, flushes and puts again. Returns the result of each put, and whether the write buffer may be written then.
 fn puts_of(socket: &mut Socket<'_, Wire>) -> ((Put, bool), (Put, bool)) {
     let first = (socket.put(b"abc"), socket.stream.is_behind());
     socket.flush();
@@ -483,7 +483,7 @@ fn puts_of(socket: &mut Socket<'_, Wire>) -> ((Put, bool), (Put, bool)) {
     (first, (socket.put(b"d"), is_behind))
 }
 
-/// The same of a stream whose writes fail.
+/// The same for a stream whose writes fail.
 fn failing_puts(
     rt: &HostRuntime,
     poller: &Poller<Steps>,
@@ -493,7 +493,7 @@ fn failing_puts(
     Ok(puts_of(&mut socket_over(poller, broken(), flags)))
 }
 
-/// A write that fails is told by the next put, and what it left is no reason to write again.
+/// The put after a failed write returns `Failed`, and the rest of the write buffer is not written again.
 #[test]
 fn failed_flush_is_told_by_the_next_put(rt: HostRuntime) -> Result<(), Fail> {
     let poller = table(&rt)?;
@@ -502,7 +502,8 @@ fn failed_flush_is_told_by_the_next_put(rt: HostRuntime) -> Result<(), Fail> {
     holds(told == wanted, "held and may be written, then the failure")
 }
 
-/// What a put of many bytes, which are written at once, and one of a few behind it tell of a stream whose writes fail.
+/// Returns the results of a put of many bytes, which are written at once, and of a small put after it, for a stream
+/// whose writes fail.
 fn failing_many(rt: &HostRuntime, poller: &Poller<Steps>) -> Result<(Put, Put), Fail> {
     let (flags, _) = two_rows(rt, poller)?;
     flags.note(true, true);
@@ -510,7 +511,7 @@ fn failing_many(rt: &HostRuntime, poller: &Poller<Steps>) -> Result<(Put, Put), 
     Ok((socket.put(BYTES), socket.put(b"d")))
 }
 
-/// A failure is told from then on.
+/// Every put after a failure returns `Failed`.
 #[test]
 fn failure_is_told_again(rt: HostRuntime) -> Result<(), Fail> {
     let poller = table(&rt)?;
@@ -518,7 +519,7 @@ fn failure_is_told_again(rt: HostRuntime) -> Result<(), Fail> {
     holds(told == (Put::Failed, Put::Failed), "the failure, twice")
 }
 
-/// Whether a row that is taken anew knows nothing of the socket before.
+/// Returns whether an entry that is taken again has no flags of the socket before.
 fn is_taken_anew(poller: &Poller<Steps>, acceptors: &mut (TcpListener, TcpListener)) -> bool {
     let Some(first) = poller.follow(&mut acceptors.0, Interest::READABLE) else {
         return false;

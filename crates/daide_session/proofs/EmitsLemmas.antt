@@ -1,4 +1,4 @@
--- How the moves of an outcome are made on the traffic.
+-- The channels carry out the moves of an outcome.
 use Rattle.std.proofs.Common.{◌≡◌, ℕ, Bool, true, false, cond, List, [], ◌∷◌, ◌++◌, Option, Some, refl, sym, ap}
 use Rattle.std.proofs.Common.{◌∙◌, subst, append_assoc, append-nil, ◌<◌, ◌≤◌, length, arith}
 use Rattle.daide_frame.specs.declared.side.Side.{Side}
@@ -28,13 +28,13 @@ pub waiting_at : (t : Channels) (s : ProtocolState) (wire : Side) → queued (vi
 waiting_at t s Bot = refl
 waiting_at t s Server = refl
 
--- what waits, where what the traffic lets wait is the same
+-- the queued frames of a session are the same if those of its channels are
 pub waits_same : (t u : Channels) (s r : ProtocolState) (wire : Side) → u.queued ≡ t.queued →
     queued (view_of u r) wire ≡ queued (view_of t s) wire
 waits_same t u s r wire e =
     waiting_at u r wire ∙ (ap (λ (w : PerSide (List Sent)). at w wire) e ∙ sym (waiting_at t s wire))
 
--- ---- frames that come to wait
+-- ---- frames that are appended
 
 pub frames_to-cons : (wire : Side) (frame : Sent) (frames : List Sent) →
     frames_to wire (frame ∷ frames) ≡ frames_to wire (frame ∷ []) ++ frames_to wire frames
@@ -57,7 +57,7 @@ posted_at w frame wire = go frame.to wire
     go Server Bot = sym (append-nil w.bot)
     go Server Server = refl
 
--- a frame for one wire leaves the other alone
+-- a frame for one wire leaves the other wire unchanged
 pub other_post : (w : PerSide (List Sent)) (side : Side) (code : Option Code) →
     at (posted w (final_frame_to side code)) (other side) ≡ at w (other side)
 other_post w Bot code = refl
@@ -65,7 +65,7 @@ other_post w Server code = refl
 
 -- ---- the end
 
--- the same with other counts
+-- the same state with other counts
 abbrev pub with_counts : ProtocolState → Summary → ProtocolState
 with_counts protocol summary = record {
   top_level = protocol.top_level;
@@ -75,7 +75,7 @@ with_counts protocol summary = record {
   summary = summary;
 }
 
--- ended by this
+-- the state ended by this event
 abbrev pub ended_by : Ending → ProtocolState → ProtocolState
 ended_by ending protocol = record {
   top_level = protocol.top_level;
@@ -115,7 +115,7 @@ pub coming_at : (t : Channels) (s : ProtocolState) (side : Side) → coming (sta
 coming_at t s Bot = refl
 coming_at t s Server = refl
 
--- where a session takes bytes
+-- the session accepts bytes of this side
 pub record IsFree (g : SessionView) (side : Side) : Type 0 where
   pub live : is_over g.state.phase ≡ false
   pub free : is_awaited (queued g) side ≡ false
@@ -134,13 +134,13 @@ pub not_empty : (piece : List ℕ) → (length piece == 0) ≡ false → 0 < len
 not_empty [] e = absurd (cc)
 not_empty (x ∷ piece) e = omega arith
 
--- a piece that has a byte and for which there is room
+-- a piece with at least one byte that fits into the room
 pub free_for : {g now : SessionView} {empty : Bool} (side : Side) (piece : List ℕ) → g ≡ now →
     empty ≡ (length piece == 0) → empty ≡ false → length piece ≤ room_of now side → IsFree g side
 free_for {g} side piece same e f few =
     free_of g side (rw same (let some = not_empty piece (sym e ∙ f) in omega (arith, some, few)))
 
--- what has room, as the traffic sees it
+-- a piece that fits into the room, as the channels see it
 pub fits : (t : Channels) (s : ProtocolState) (side : Side) (piece : List ℕ) (now : SessionView) → view_of t s ≡ now →
     room_of (view_of t s) side ≡ missing t.cap (coming (state_of t s) side).pending →
     length piece ≤ room_of now side → length piece ≤ missing t.cap (pending t side)

@@ -1,4 +1,4 @@
--- What a piece of bytes makes of a session: a stretch of a run, and what is held after it.
+-- The effect of a piece of bytes on a session: a part of a run, and the bytes held after it.
 use Rattle.std.proofs.Common.{◌≡◌, ℕ, ◌*◌, ◌<◌, Bool, true, false, cond, List, [], ◌∷◌, ◌++◌, length}
 use Rattle.std.proofs.Common.{drop}
 use Rattle.std.proofs.Common.{Option, Some, None, refl, sym, ap, ◌∙◌, subst, arith, ◌⊎◌, inl, inr, ⊎_elim}
@@ -49,7 +49,7 @@ pending_phase : (s : SessionState) (side : Side) (bytes : List ℕ) → (with_pe
 pending_phase s Bot bytes = refl
 pending_phase s Server bytes = refl
 
--- the whole piece was taken, or a fault ended the session
+-- the whole piece was consumed, or a fault ended the session
 pub taken_or_over : (s : SessionState) (side : Side) (piece : List ℕ) (v : Verdict) (step : Step) (head : Option Head)
     (body : List ℕ) → is_over s.phase ≡ false →
     fed_items s.limits.cap (coming s side).pending piece ≡ items_of_step step head body →
@@ -63,7 +63,7 @@ taken_or_over s side piece v step head body live items h = ⊎_elim
     (λ (all : fed s.limits.cap (coming s side).pending piece ≡ (coming s side).pending ++ piece). inl all)
     h
 
--- the question that items ask does not look at the bytes since the last whole frame
+-- the question of frame events does not depend on the bytes since the last whole frame
 asks_same : (s : SessionState) (side : Side) (bytes : List ℕ) (items : List FrameEvent) (v : Verdict) →
     IsCorrectVerdict (with_pending s side bytes).limits.words (with_pending s side bytes).limits.max_depth
     (asked_by (with_pending s side bytes) side items) v →
@@ -108,7 +108,7 @@ goes_piece g m n side piece note live state wait counts taken r = record {
         (subst (λ (s : SessionState). IsCorrectVerdict s.limits.words s.limits.max_depth (asked_by s side items) r.verdict)
         state r.right)
 
--- ---- the traffic after a piece
+-- ---- the channels after a piece
 
 pub fed_state : (t u : Channels) (s : ProtocolState) (side : Side) (bytes : List ℕ) → Keeps side t u →
     (at u.sides side).coming ≡ record { pending = bytes; noted = (at t.sides side).coming.noted } →
@@ -116,7 +116,7 @@ pub fed_state : (t u : Channels) (s : ProtocolState) (side : Side) (bytes : List
 fed_state t u s Bot bytes keeps e = rw (keeps.cap, keeps.rules, keeps.other_side, e) refl
 fed_state t u s Server bytes keeps e = rw (keeps.cap, keeps.rules, keeps.other_side, e) refl
 
--- a side's piece was fed, and what its last byte made was gone by
+-- a side's piece was fed, and the effect of its last byte was handled
 pub goes_fed : (t u v : Channels) (s r : ProtocolState) (side : Side) (piece : List ℕ) (step : Step) (note : Note) →
     is_over s.phase ≡ false → Keeps side t u → u.queued ≡ t.queued →
     IsGrown t.cap (at t.sides side) (fed t.cap (pending t side) piece) (at u.sides side) →
@@ -150,7 +150,7 @@ goes_fed t u v s r side piece step note live keeps wait grown items whole h =
         (sym (ap (λ (c : Coming). c.pending) grown.coming) ∙ e)))
         whole
 
--- ---- what is held
+-- ---- the held bytes
 
 counts_idle : (a b : Option Head) (h : Holding) → (is_dm_head a ≡ false → h.total_before ≡ h.total) →
     counts_from a b h ≡ h.total_before
@@ -172,7 +172,7 @@ fed_longer limit b x piece = go (is_nothing (last_items limit (b ++ x ∷ [])))
         let g = fed_grows limit (b ++ x ∷ []) piece in
         omega (arith, length-append b (x ∷ []), ap length g.longer, length-append (b ++ x ∷ []) g.more)
 
--- what is not read after some bytes was no message before them
+-- if no byte of a message was read after some bytes, the frame was no message before them
 unread_before : (limit : ℕ) (b : List ℕ) (x : ℕ) (piece : List ℕ) → HasNoMessageBytes limit (fed limit b (x ∷ piece)) →
     is_dm_head (head_in limit b) ≡ false
 unread_before limit b x piece h = ⊎_elim
@@ -185,7 +185,7 @@ unread_before limit b x piece h = ⊎_elim
     no_dm_before limit b g.more (ap (λ (y : List ℕ). is_dm_head (head_in limit y)) (sym g.longer) ∙ e))
     h
 
--- what is held of a side after a piece
+-- a side's held bytes after a piece
 record TakesIn (limit : ℕ) (piece : List ℕ) (note : Note) (old new : Holding) : Type 0 where
   bytes : new.held ≡ held_after note (fed limit old.held piece)
   base : new.total_before ≡ counts_from (head_in limit old.held) (head_in limit (fed limit old.held piece)) old
@@ -226,7 +226,7 @@ takes_in limit a b new x piece note pending raised looked_at held asks = record 
     uncounted e =
         grown.uncounted (ap (λ (y : List ℕ). is_dm_head (head_in limit y)) (sym grown.held_before) ∙ e)
 
-    -- the bytes after the piece, of which nothing was read
+    -- the bytes after the piece, none of which was read
     from_now : HasNoMessageBytes limit fed_bytes → new.total_before ≡ b.holding.total →
         new.total_before ≡ a.holding.total_before
     from_now unread e = e ∙ (⊎_elim
@@ -264,7 +264,7 @@ takes_piece t u v s r side x piece items note keeps grown raised looked_at h = r
         (takes_in t.cap (at t.sides side) (at u.sides side) now x piece note grown raised looked_at
         (h.held ∙ ap (λ (k : Holding). held_after note k.held) (holding_at u s side)) asks)
 
--- the same for any piece that has a byte
+-- the same for any piece with at least one byte
 pub takes_some : (t u v : Channels) (s r : ProtocolState) (side : Side) (piece : List ℕ) (items : List FrameEvent) (note : Note) →
     0 < length piece → Keeps side t u →
     IsGrown t.cap (at t.sides side) (fed t.cap (pending t side) piece) (at u.sides side) →
@@ -277,7 +277,7 @@ takes_some t u v s r side [] items note some keeps grown raised looked_at h = ab
 takes_some t u v s r side (x ∷ piece) items note some keeps grown raised looked_at h =
     takes_piece t u v s r side x piece items note keeps grown raised looked_at h
 
--- its table was asked for the tokens that the piece ended, and at the message's end
+-- the look-ups are those for the tokens that the piece completes, and those at the message's end
 pub piece_worked : (t u v : Channels) (s r : ProtocolState) (side : Side) (piece : List ℕ) (items : List FrameEvent) (step : Step)
     (note : Note) → (view_of v r).state.limits ≡ (view_of t s).state.limits → 0 < missing t.cap (pending t side) →
     Keeps side t u → IsGrown t.cap (at t.sides side) (fed t.cap (pending t side) piece) (at u.sides side) →

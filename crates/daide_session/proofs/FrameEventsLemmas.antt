@@ -1,4 +1,4 @@
--- What the items that end with a byte make of a session's value.
+-- The effect on a session's value of the frame events that end with a byte.
 use Rattle.std.proofs.Common.{◌≡◌, ℕ, true, false, List, [], ◌∷◌, ◌++◌, length, drop, Option}
 use Rattle.std.proofs.Common.{Some, None, Ok}
 use Rattle.std.proofs.Common.{refl, sym, ap, ◌∙◌, subst, append-nil, arith, inl, inr, ⊎_elim}
@@ -60,7 +60,7 @@ noted_phase : (s : SessionState) (side : Side) (level : Level) → (with_noted s
 noted_phase s Bot level = refl
 noted_phase s Server level = refl
 
--- a header that is timely, and its empty body
+-- a timely header, and its empty body
 empty_outcome : (s : SessionState) (side : Side) (head : Head) (v : Verdict) → is_over s.phase ≡ false →
     untimely s.phase side head.kind ≡ None →
     items_outcome s side (Begun head ∷ Whole head [] ∷ []) v ≡ frame_outcome (with_noted s side s.level) side head [] v
@@ -74,7 +74,7 @@ pub holding_at : (t : Channels) (s : ProtocolState) (side : Side) → holding (v
 holding_at t s Bot = refl
 holding_at t s Server = refl
 
--- what is held of a side, where all that came of it is the same
+-- a side's held bytes are the same if its receive state is
 pub holding_same : (t u : Channels) (s r : ProtocolState) (side : Side) → at u.sides side ≡ at t.sides side →
     holding (view_of u r) side ≡ holding (view_of t s) side
 holding_same t u s r side e =
@@ -88,9 +88,9 @@ noted_state : (t u : Channels) (s : ProtocolState) (side : Side) → Keeps side 
 noted_state t u s Bot keeps e = rw (keeps.cap, keeps.rules, keeps.other_side, e) refl
 noted_state t u s Server keeps e = rw (keeps.cap, keeps.rules, keeps.other_side, e) refl
 
--- ---- a header
+-- ---- a timely header
 
--- a header that is timely, of whose body nothing came
+-- a timely header whose body is still empty
 pub begun_alone : (t u : Channels) (s : ProtocolState) (side : Side) (head : Head) → is_over s.phase ≡ false →
     untimely s.phase side head.kind ≡ None → drop 4 (pending t side) ≡ [] →
     (at t.sides side).holding.held ≡ pending t side → StartsMessage side t s u s →
@@ -123,13 +123,13 @@ begun_alone t u s side head live timely bodiless tied b = record {
 
 -- ---- a header whose body is empty
 
--- what is called by a code, and isn't nothing, has one
+-- a note made of a code is Nothing, or the code exists
 pub some_code : (code : Option Code) (items_of_step : Note) → items_of_step ≡ note_by code → (items_of_step ≡ Notes.Nothing → ⊥) →
     (x : Code) × (code ≡ Some x)
 some_code None items_of_step called more = absurd (more called)
 some_code (Some x) items_of_step called more = (x, refl)
 
--- a header that is untimely ends the session, so that its empty body is no more looked at
+-- an untimely header ends the session, so its empty body has no effect
 pub begun_late : (o n : SessionView) (side : Side) (head : Head) (items_of_step : Note) (code : Code) →
     untimely o.state.phase side head.kind ≡ Some code →
     HandlesFrameEvents o side (Begun head ∷ []) items_of_step n → HandlesFrameEvents o side (Begun head ∷ Whole head [] ∷ []) items_of_step n
@@ -226,7 +226,7 @@ begun_and_empty t u v s r q side head items_of_step live timely bodiless b h = r
 
 -- ---- a whole frame that is dropped
 
--- only an FM or EM may not go out
+-- only an FM or EM can be unsent
 record IsLast (kind : Kind) (top : Level) (side : Side) (tokens : List ℕ) (level : Level) : Type 0 where
   not_dm : is_dm kind ≡ false
   not_im : is_im kind ≡ false
@@ -240,7 +240,7 @@ last_of phase Dm to top side tokens level e = absurd (cc)
 last_of phase Fm to top side tokens level e = record { not_dm = refl; not_im = refl; ends = refl }
 last_of phase Em to top side tokens level e = record { not_dm = refl; not_im = refl; ends = refl }
 
--- a stage after a frame that was dropped
+-- a protocol state after a frame was dropped
 abbrev dropped_protocol : ProtocolState → Phase → Option Ending → ProtocolState
 dropped_protocol s phase ending =
     record { top_level = s.top_level; phase = phase; level = L0; ending = ending; summary = s.summary }
@@ -298,7 +298,7 @@ dropped_whole t u s side head body phase ending live unsent tied head_is now by 
     total : (holding (view_of u later) side).total ≡ (holding (view_of t s) side).total
     total = rw (holding_at u later side, holding_at t s side) cleared.total
 
--- ---- the items that a step tells
+-- ---- the frame events of a step
 
 pub reported_empty : (head : Head) (body : List ℕ) → length body ≡ head.len → head.len ≡ 0 →
     items_of_step Bodied (Some head) body ≡ Begun head ∷ Whole head [] ∷ []
@@ -313,7 +313,7 @@ pub no_code : (code : Option Code) → Notes.Nothing ≡ note_by code → code �
 no_code None e = refl
 no_code (Some code) e = absurd (cc)
 
--- ---- a whole frame that is answered
+-- ---- a whole frame with its answer
 
 whole_good : (s : SessionState) (side : Side) (kind : Kind) (len : ℕ) (body : List ℕ) (v : Verdict) →
     check_of kind body ≡ Ok tt →
@@ -326,7 +326,7 @@ whole_good s side Dm len body v good = refl
 whole_good s side Fm len body v good = refl
 whole_good s side Em len body v good = refl
 
--- only a message may go back to its sender
+-- only a message can be returned to its sender
 goes_out : (phase : Phase) (side : Side) (noted : Level) (kind : Kind) (len : ℕ) (body : List ℕ) (v : Verdict)
     (words : Words) (depth : ℕ) →
     IsCorrectVerdict words depth (question_of side noted (record { kind = kind; len = len }) body) v →
@@ -342,7 +342,7 @@ held_on head Relay bytes = refl
 held_on head Prn bytes = refl
 held_on head (Huh place) bytes = refl
 
--- only of a message the tokens count
+-- the level depends on the tokens of a message only
 level_of_held : (cap : ℕ) (held : List ℕ) (top : Level) (kind : Kind) (len : ℕ) (side : Side) (v : Verdict) (level : Level) →
     head_in cap held ≡ Some (record { kind = kind; len = len }) →
     level_after top kind side v (tokens_held cap held) level ≡ level_after top kind side v (tokens_of (drop 4 held)) level
@@ -362,7 +362,7 @@ level_held t u side top head v level keeps answered_by tied head_is =
     ∙ (ap (λ (b : List ℕ). level_after top head.kind side v (tokens_held t.cap b) level) (answered_by.held ∙ tied)
     ∙ level_of_held t.cap (pending t side) top head.kind head.len side v level head_is)
 
--- a stage after a frame that was answered
+-- a protocol state after the answer to a frame is queued
 abbrev answered_protocol : ProtocolState → Phase → Level → Option Ending → Summary → ProtocolState
 answered_protocol s phase level ending counts =
     record { top_level = s.top_level; phase = phase; level = level; ending = ending; summary = counts }

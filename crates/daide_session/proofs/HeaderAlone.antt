@@ -1,4 +1,4 @@
--- A header is told when its fourth byte comes, so nothing of its body came then.
+-- A header is reported with its fourth byte, so its body is still empty then.
 use Rattle.std.proofs.Common.{◌≡◌, ℕ, Bool, true, false, cond, eqb, List, [], ◌∷◌, ◌++◌, length, drop}
 use Rattle.std.proofs.Common.{Option, Some, None, Result, Ok, Err, refl, ap, arith}
 use Rattle.daide_frame.specs.declared.head.Head.{Head}
@@ -11,7 +11,7 @@ use Rattle.daide_frame.specs.Frames.{alien_in, fed, fed_items, items_of_step}
 use Rattle.daide_frame.proofs.ListLemmas.{ltb_no, eqb_no}
 use Rattle.daide_frame.proofs.FramesLemmas.{last_items-body4, parse_head-append4, at_body}
 
--- whether the first of some items is a header
+-- whether the first of some frame events is a header
 abbrev begins : List FrameEvent → Bool
 begins [] = false
 begins (Begun head ∷ items) = true
@@ -38,7 +38,7 @@ refused limit p q r s y w code e =
     (rw (parse_head-append4 limit p q r s (y ∷ w))
     (rw e (rw (eqb_no 4 (length (p ∷ q ∷ r ∷ s ∷ y ∷ w)) (omega arith)) refl)))
 
--- with a fifth byte none begins
+-- the fifth byte starts no header
 fifth : (limit p q r s y : ℕ) (w : List ℕ) → begins (last_items limit (p ∷ q ∷ r ∷ s ∷ y ∷ w)) ≡ false
 fifth limit p q r s y w = go (parse_head (p ∷ q ∷ r ∷ s ∷ []) limit) refl
   where
@@ -68,7 +68,7 @@ header_alone limit b (x ∷ piece) e =
     go true f later = let now = rw f at e in rw f (later now)
     go false f later = let now = rw f at e in rw f (alone limit (b ++ x ∷ []) now)
 
--- where a header is told, nothing of its body came
+-- if a header is reported, its body is empty
 pub headed_alone : (limit : ℕ) (b piece body : List ℕ) (head : Head) →
     fed_items limit b piece ≡ items_of_step Headed (Some head) body → drop 4 (fed limit b piece) ≡ []
 headed_alone limit b piece body head e = header_alone limit b piece (ap begins e)

@@ -1,4 +1,5 @@
--- What one gateway sends, the next with the same limits and words passes on, but for a lower level and one bracket.
+-- With the same limits and words, the next gateway relays each message from the first, except for a lower level and one
+-- bracket.
 use Rattle.std.proofs.Common.{◌≡◌, ℕ, ◌+◌, ◌≤◌, ◌<◌, true, false, List, [], ◌∷◌, ◌++◌, take, drop}
 use Rattle.std.proofs.Common.{inl, inr, refl, sym, ◌∙◌, subst, arith, ◌⊎◌}
 use Rattle.std.specs.List.{All}
@@ -46,9 +47,9 @@ no_dm Dm n e = absurd (cc)
 no_dm Fm n e = absurd (omega arith)
 no_dm Em n e = absurd (omega arith)
 
--- ---- a verdict of a message that is paired
+-- ---- a verdict on a paired message
 
--- is to pass it on, or HUH where it is not passed on
+-- the verdict relays the message, or is HUH if the message is not relayed
 pub paired_verdict : (message : List ℕ → Type 0) (max_depth : ℕ) (m : List ℕ) (v : Verdict) → IsPaired m →
     HasVerdict message max_depth m v →
     (v ≡ Relay) ⊎ ((place : ℕ) × (v ≡ Huh place) × (¬ IsRelayed message max_depth m))
@@ -60,7 +61,7 @@ paired_verdict message max_depth m (Huh place) p h = inr (place, refl, h.1)
 not_within : (a b : ℕ) → (a ≤ b → ⊥) → b < a
 not_within a b h = elim (cases_lt b a) [ inl l ↦ l | inr l ↦ absurd (h l) ]
 
--- ---- what the next makes of it
+-- ---- the next gateway's verdict
 
 module _ (words : Words) (free : are_free words ≡ true) (limits : Limits) (same : limits.words ≡ words)
     (came : List Came) (to : Side) (level : Level) (body : List ℕ) (v : Verdict) where
@@ -153,7 +154,7 @@ module _ (words : Words) (free : are_free words ≡ true) (limits : Limits) (sam
       at_one_level (huh_next noted place own come
       (subst (λ (b : List ℕ). IsWithinHuh limits to noted place (tokens_of own) (tokens_of b)) e w) h)
 
--- each of the frames that a side is sent
+-- each of the frames sent to a side
 pub all_next : (words : Words) → are_free words ≡ true → (limits : Limits) → limits.words ≡ words → (came : List Came)
     (to : Side) (frames : List Sent) →
     All (λ (sent : Sent). MayBeSent limits came to sent.bytes) frames →

@@ -1,4 +1,4 @@
--- The next of two joined gateways hears the frames that the one sent, and goes by them.
+-- The next of two joined gateways hears the frames that the first sent, and handles them.
 use Rattle.std.proofs.Common.{◌≡◌, ℕ, zero, suc, ◌+◌, ◌≤◌, ◌<◌, ◌^◌, Bool, true, false, ◌&&◌, cond, leb, ltb, eqb}
 use Rattle.std.proofs.Common.{List, [], ◌∷◌, ◌++◌, length, take, drop, Option, Some, None, Result, Ok, Err}
 use Rattle.std.proofs.Common.{refl, sym, ◌∙◌, ap, subst, arith}
@@ -43,7 +43,7 @@ use Rattle.daide_session.specs.InARow.{IsVerdictOfNext, InARowOver}
 use Rattle.daide_session.specs.Joined.{AreFirst, IsFateAtNext, HaveFatesAtNext}
 use Rattle.daide_session.specs.Joined.{JoinedSessionsOver}
 
--- ---- the frames that are sent are whole
+-- ---- the sent frames are whole
 
 abbrev IsSomeFrame : List ℕ → Type 0
 IsSomeFrame bytes = (kind : Kind) × (body : List ℕ) × IsFrame kind body bytes
@@ -55,7 +55,7 @@ some_frame limits came to bytes (passed noted body f h p) = (Dm, body, f)
 some_frame limits came to bytes (within_prn noted own body f h w) = (Dm, body, f)
 some_frame limits came to bytes (within_huh noted place own body f h w) = (Dm, body, f)
 
--- ---- a header that is read is the one that was written
+-- ---- the header read is the header written
 
 kind_is : (kind : Kind) → kind_of (kind_number kind) ≡ Some kind
 kind_is Im = refl
@@ -79,9 +79,9 @@ judged_is kind n cap head e = go (is_im kind && eqb n 0x0400) (has_right_length 
     go false true false h = cc
     go false false c h = absurd (cc)
 
--- ---- the first frame of some bytes that were sent
+-- ---- the first frame of some sent bytes
 
--- the bytes behind the header
+-- the bytes after the header
 abbrev IsHeader : ℕ → ℕ → ℕ → ℕ → List ℕ → Kind → List ℕ → List ℕ → Type 0
 IsHeader p q r s v kind body more =
     (p ≡ kind_number kind) × (q ≡ 0) × (r ∷ s ∷ [] ≡ to_be_bytes w16 (length body)) × (v ≡ body ++ more)
@@ -112,18 +112,18 @@ read_is p q r s v rest kind body more cap head h short e =
     (ap (λ (n : ℕ). judged (Some kind) n cap) (sym len)
     ∙ (ap (λ (o : Option Kind). judged o (from_be_bytes w16 (r ∷ s ∷ [])) cap) (sym kinds) ∙ e))
 
--- ---- the cut of what was sent
+-- ---- the cut of the sent bytes
 
 frame_events_of-moved : (by : ℕ) (placed : List EventAtOffset) → frame_events_of (moved by placed) ≡ frame_events_of placed
 frame_events_of-moved by [] = refl
 frame_events_of-moved by (p ∷ more) = ap (λ (t : List FrameEvent). p.item ∷ t) (frame_events_of-moved by more)
 
--- whatever is left out at the end, and whatever comes behind it
+-- whatever is cut off at the end, and whatever follows it
 abbrev Fronts : ℕ → ℕ → Type 0
 Fronts cap n = (bytes rest : List ℕ) (sent : List Sent) → All (λ (s : Sent). IsSomeFrame s.bytes) sent →
     sent_bytes sent ≡ bytes ++ rest → AreFirst (frames_among (frame_events_of (cut_frames n cap bytes))) sent
 
--- one frame is whole, and what is behind it is a front of the other frames
+-- one frame is whole, and the bytes after it are a front of the other frames
 one_front : (cap n p q r s : ℕ) (v rest : List ℕ) (head : Head) (sent : List Sent) → Fronts cap n →
     All (λ (s : Sent). IsSomeFrame s.bytes) sent → parse_head (p ∷ q ∷ r ∷ s ∷ v) cap ≡ Ok head →
     sent_bytes sent ≡ p ∷ q ∷ r ∷ s ∷ (v ++ rest) → head.len ≤ length v →
@@ -163,7 +163,7 @@ one_front cap n p q r s v rest head (frame ∷ more) fronts all e b l =
         some.2.whole ∙ (ap (λ (h : Head). head_bytes h ++ some.1) same ∙ ap (λ (b : List ℕ). head_bytes head ++ b)
         (sym body_is))
 
--- the items of one frame, and the others if it is whole
+-- the frame events of one frame, and those of the others if it is whole
 abbrev then_others : ℕ → ℕ → List ℕ → List EventAtOffset → List EventAtOffset
 then_others cap n bytes items =
     items ++ or_nothing (λ len. moved len (cut_frames n cap (drop len bytes))) (frame_end items)
@@ -225,7 +225,7 @@ cut_front : (cap : ℕ) (bytes rest : List ℕ) (sent : List Sent) → All (λ (
 unfolding cut
 cut_front cap bytes rest sent all b = frames_front cap (length bytes) bytes rest sent all b
 
--- the first of them are first too
+-- a front of the first frames is first too
 fewer_first : (items later : List FrameEvent) (sent : List Sent) → AreFirst (items ++ later) sent → AreFirst items sent
 fewer_first [] later sent f = tt
 fewer_first (Begun head ∷ items) later sent f = f
@@ -233,10 +233,10 @@ fewer_first (Wrong code ∷ items) later sent f = f
 fewer_first (Whole head body ∷ items) later [] f = f
 fewer_first (Whole head body ∷ items) later (frame ∷ sent) f = (f.0, fewer_first items later sent f.1)
 
--- ---- what becomes of them
+-- ---- the next gateway's moves
 
 module _ (limits : Limits) (small : limits.cap ≤ longest_body) (one : List Came) (to : Side) where
-  -- what the next makes of a message with these bytes
+  -- the next gateway's verdict on a message with these bytes
   abbrev Next : List ℕ → Type 0
   Next bytes = (body : List ℕ) (level : Level) (verdict : Verdict) → IsFrame Dm body bytes →
       IsJudged limits (other to) level body verdict → IsVerdictOfNext limits one to level body verdict
@@ -291,7 +291,7 @@ module _ (limits : Limits) (small : limits.cap ≤ longest_body) (one : List Cam
   frame_fate phase side noted Fm len body sent w f next e k = absurd (cc)
   frame_fate phase side noted Em len body sent w f next e k = absurd (cc)
 
-  -- the messages of the side where the one stands
+  -- the messages from the side of the first gateway
   cause_fate : (phase : Phase) (cause : EventCause) (sent : List Sent) → IsGood limits.cap cause →
       IsFate limits phase cause sent → EachNext (whole_frame_from (other to) cause) →
       IsFateAtNext (IsVerdictOfNext limits one to) to cause sent

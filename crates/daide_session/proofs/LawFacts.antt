@@ -1,5 +1,5 @@
--- Each law of two gateways, used once at values that were worked out by hand: with a depth of 62, messages of 61 brackets
--- at most, and level 60 or the bot's side. Each fact takes the law alone, so that a weaker one does not check.
+-- Each law of two gateways, used once at worked values: depth 62, messages of at most 61 brackets, and level 60 or the
+-- bot's side. Each fact takes only the law, so that a weaker law does not check.
 use Rattle.std.proofs.Common.{◌≡◌, ℕ, ◌≤◌, ◌<◌, List, [], ◌∷◌, ◌++◌, refl, subst}
 use Rattle.std.proofs.Common.{arith}
 use Rattle.std.specs.List.{All}
@@ -30,7 +30,7 @@ use Rattle.daide_session.specs.Joined.{AreFirst, AreJoined, HaveFatesAtNext, Joi
 abbrev usual : Limits
 usual = record { cap = 65526; top_level = L60; max_depth = 62; words = [] }
 
--- of all messages that came of a side none has more than 61 brackets open
+-- none of the messages received from a side has more than 61 brackets open
 abbrev AreShallow : List Came → Side → Type 0
 AreShallow came side = (noted : Level) (own : List ℕ) → HasCome came side noted own → depth_of (tokens_of own) ≤ 61
 
@@ -51,14 +51,14 @@ module _ (came : List Came) (to : Side) (shallow : AreShallow came to) (body : L
   not_too_deep (too_deep noted place at own come within deep is) =
       let few = shallow noted own come in absurd (omega (arith, few, deep))
 
-  -- and none was passed on by a higher level than 60
+  -- and none was relayed at a higher level than 60
   not_lower : IsVerdictOfNext usual came to L60 body verdict → verdict ≡ Relay
   not_lower (at_one_level h) = not_too_deep h
   not_lower (lower noted place come less is) = absurd (none_above noted less)
 
 -- ---- in a row
 
--- at level 60 the next gateway passes on whatever message the one sends it
+-- at level 60 the next gateway relays every message from the first
 next_passes_on : TwoSessionsInARow → (events : List Event) (effects : List Effect) (new : SessionState)
     (run : Runs (initial_state usual) events effects new) → AreShallow (came_in (initial_state usual) events effects new run) Bot →
     All (λ (sent : Sent). (body : List ℕ) (verdict : Verdict) → IsFrame Dm body sent.bytes →
@@ -69,13 +69,13 @@ next_passes_on law events effects new run shallow k d less body verdict frame ju
 
 -- ---- joined
 
--- what came first to the next
+-- the first cause of the next
 module _ (phase : Phase) (noted : Level) (head : Head) (body : List ℕ) where
   abbrev HasFirst : Side → List Came → Type 0
   HasFirst side came = (more : List Came)
       × (came ≡ record { phase = phase; cause = Frame side noted head body } ∷ more)
 
-  -- its move, which is by a verdict of this kind
+  -- its move, made by a verdict of this kind
   first_move : (Is : Level → List ℕ → Verdict → Type 0) (to : Side) (came : List Came) (effects : List Effect) →
       HasFirst (other to) came → head.kind ≡ Dm → HaveFatesAtNext Is to came effects →
       (effect : Effect) × (more : List Effect) × (effects ≡ effect ∷ more)
@@ -86,13 +86,13 @@ module _ (phase : Phase) (noted : Level) (head : Head) (body : List ℕ) where
       let all = subst (λ (c : List Came). HaveFatesAtNext Is to c (effect ∷ effects)) is.1 h in
       (effect, effects, refl, all.0 refl dm)
 
-  -- a move by Relay passes it on
+  -- a move by Relay relays it
   by_relay : (side : Side) (effect : Effect) (verdict : Verdict) → verdict ≡ Relay →
       effect.sent ≡ reply_to side head body verdict ∷ [] → effect.sent ≡ reply_to side head body Relay ∷ []
   by_relay side effect verdict is sent = subst (λ (v : Verdict). effect.sent ≡ reply_to side head body v ∷ []) is sent
 
--- A server's message that comes first to the next, nearer the bot, with the level 60 noted: it is the first frame that the
--- one sent, and is passed on.
+-- A server's message that is the first input of the next, nearer the bot, with level 60 noted. It is the first frame
+-- that the first gateway sent, and is relayed.
 first_passed_on : JoinedSessions → (phase : Phase) (head : Head) (body : List ℕ) (events next_events : List Event)
     (effects next_effects : List Effect) (new next_new : SessionState) (run : Runs (initial_state usual) events effects new)
     (next_run : Runs (initial_state usual) next_events next_effects next_new) → AreJoined Bot effects next_events →
@@ -134,7 +134,7 @@ heard_in_order law head body more events next_events effects next_effects new ne
 
 -- ---- toward the bot
 
--- nearer the bot it is passed on also without press
+-- if the next is nearer the bot, it relays the message at level 0 too
 first_passed_on_to_the_bot : LevelsAgreeTowardTheBot → (phase : Phase) (head : Head) (body : List ℕ)
     (events next_events : List Event) (effects next_effects : List Effect) (new next_new : SessionState)
     (run : Runs (initial_state usual) events effects new)

@@ -1,5 +1,5 @@
--- The level of press over a run: a server's message is judged by the level that holds, which follows the HLOs that are
--- passed on.
+-- The level of press over a run: a server's message is judged by the present level, which follows the HLOs that are
+-- relayed.
 use Rattle.std.proofs.Common.{◌≡◌, ℕ, ◌<◌, Bool, true, false, cond, eqb, List, [], ◌∷◌, ◌++◌, length}
 use Rattle.std.proofs.Common.{Option, Some, None, Result, Ok, Err, refl, sym, ◌∙◌, ap, subst, arith, append-nil}
 use Rattle.std.proofs.Common.{length-append}
@@ -35,9 +35,9 @@ use Rattle.daide_protocol.proofs.LimitsKept.{runs_limits}
 use Rattle.daide_protocol.proofs.OneRun.{one_run}
 use Rattle.daide_protocol.proofs.PieceRuns.{over_stays}
 
--- ---- what a byte does to a side's header
+-- ---- the effect of a byte on a side's header
 
--- the items that end with a byte, with the header before it and the header after it
+-- the frame events that end with a byte, with the header before it and the header after it
 pub data Turn (before after : Option Head) : List FrameEvent → Type 0 where
   quiet : after ≡ before → Turn before after []
   headed : (head : Head) → after ≡ Some head → Turn before after (Begun head ∷ [])
@@ -64,7 +64,7 @@ head_turn before (Ok head) = go (eqb head.len 0)
     go true = at_once head
     go false = headed head refl
 
--- a later one
+-- a later byte
 body_turn : (head : Head) (v : List ℕ) (alien : Option ℕ) → Turn (Some head) (Some head) (at_body head v alien)
 body_turn head v (Some n) = go (eqb n (length v))
   where
@@ -108,16 +108,16 @@ turn cap (p ∷ q ∷ r ∷ s ∷ y ∷ w) x =
     rw (long_head cap p q r s (y ∷ w), long_head cap p q r s (y ∷ w ++ x ∷ []))
     (later_turn cap p q r s y (w ++ x ∷ []) (parse_head (p ∷ q ∷ r ∷ s ∷ []) cap) refl)
 
--- ---- what is so of a state that is not over
+-- ---- facts about a state that is not over
 
--- level 0 but in the phase Open
+-- level 0, except in the phase Open
 abbrev IsCalm : Phase → Level → Type 0
 IsCalm WaitIm level = level ≡ L0
 IsCalm WaitRm level = level ≡ L0
 IsCalm Open level = Unit {0}
 IsCalm Over level = Unit {0}
 
--- a side's header that came may come in this phase
+-- a header received from a side is timely in this phase
 abbrev IsTimely : Phase → Side → Option Head → Type 0
 IsTimely phase side header = (head : Head) → header ≡ Some head → untimely phase side head.kind ≡ None
 
@@ -148,7 +148,7 @@ ready_first limits = record {
   noted = none_noted limits.cap L0 L0;
 }
 
--- a header that may come before the IM, or before the RM, may come after it: an FM or an EM
+-- a header that is timely before the IM, or before the RM, is timely after it: an FM or an EM
 still_timely : (kind : Kind) → untimely WaitIm Server kind ≡ None → untimely WaitRm Server kind ≡ None
 still_timely Im e = absurd (cc)
 still_timely Rm e = absurd (cc)
@@ -163,9 +163,9 @@ and_then Dm e = refl
 and_then Fm e = refl
 and_then Em e = refl
 
--- ---- what came, and the level
+-- ---- the frames received, and the level
 
--- a message of the server is judged by the level that holds, and makes this of it
+-- a message of the server is judged by the present level; the frames sent and the new level are these
 abbrev pub IsLevelled : Kind → Limits → Level → Level → Head → List ℕ → List Sent → Level → Type 0
 IsLevelled Im limits level noted head body sent then = then ≡ level
 IsLevelled Rm limits level noted head body sent then = then ≡ level
@@ -176,7 +176,7 @@ IsLevelled Dm limits level noted head body sent then =
 IsLevelled Fm limits level noted head body sent then = then ≡ level
 IsLevelled Em limits level noted head body sent then = then ≡ level
 
--- nothing else changes it
+-- no other cause changes the level
 abbrev pub LevelAt : Limits → Level → EventCause → List Sent → Level → Type 0
 LevelAt limits level (Frame Bot noted head body) sent then = then ≡ level
 LevelAt limits level (Frame Server noted head body) sent then =
@@ -185,7 +185,7 @@ LevelAt limits level (Fault side code) sent then = then ≡ level
 LevelAt limits level (End side) sent then = then ≡ level
 LevelAt limits level Timeout sent then = then ≡ level
 
--- from one level to another, by what came and its moves
+-- from one level to another, by the causes received and their moves
 abbrev pub HaveLevels : Limits → Level → List Came → List Effect → Level → Type 0
 HaveLevels limits level [] effects then = (effects ≡ []) × (then ≡ level)
 HaveLevels limits level (came ∷ more) [] then = ⊥
@@ -198,13 +198,13 @@ levels_join limits [] b x y l m n h k = rw h.0 (subst (λ (j : Level). HaveLevel
 levels_join limits (c ∷ a) b [] y l m n h k = absurd h
 levels_join limits (c ∷ a) b (e ∷ x) y l m n h k = (h.0, h.1, levels_join limits a b x y h.0 m n h.2 k)
 
--- what an event makes of a state
+-- the level and the moves after an event
 record Follows (limits : Limits) (level : Level) (came : List Came) (o : Successor) : Type 0 where
   next : Level
   levels : HaveLevels limits level came o.effects next
   ready : is_over o.state.phase ≡ false → (o.state.level ≡ next) × Ready o.state
 
--- where the session is over
+-- the session is over
 over_follows : (limits : Limits) (level : Level) (came : List Came) (o : Successor) → is_over o.state.phase ≡ true →
     HaveLevels limits level came o.effects level → Follows limits level came o
 over_follows limits level came o e h = record {
@@ -326,9 +326,9 @@ server_frame phase t noted Fm len body v e o u c b n r =
 server_frame phase t noted Em len body v e o u c b n r =
     over_follows t.limits t.level _ _ refl (t.level, refl, (refl, refl))
 
--- ---- the items that end with one byte
+-- ---- the frame events that end with one byte
 
--- nothing follows a whole frame
+-- no frame event follows a whole frame
 alone : (limits : Limits) (level : Level) (came : List Came) (t : SessionState) (side : Side) (head : Head)
     (body : List ℕ) (v : Verdict) → is_over t.phase ≡ false → Follows limits level came (frame_outcome t side head body v) →
     Follows limits level came (items_outcome t side (Whole head body ∷ []) v)
@@ -516,7 +516,7 @@ none_came : (limits : Limits) (came : List Came) → HaveFates limits came [] �
 none_came limits [] f = refl
 none_came limits (c ∷ more) f = absurd f
 
--- nothing comes once it is over
+-- after the end of the session there are no further causes
 over_levels : (s : SessionState) (events : List Event) (effects : List Effect) (new : SessionState)
     (run : Runs s events effects new) (limits : Limits) (level : Level) → is_over s.phase ≡ true →
     HaveLevels limits level (came_in s events effects new run) effects level

@@ -1,4 +1,4 @@
--- The next of two joined gateways, where it stands nearer the bot, judges by the levels of the one.
+-- The next of two joined gateways, if it is nearer the bot, judges by the levels of the first.
 use Rattle.std.proofs.Common.{◌≡◌, ℕ, ◌≤◌, Bool, true, false, cond, List, [], ◌∷◌, ◌++◌}
 use Rattle.std.proofs.Common.{inl, inr, refl, sym, ◌∙◌, ap, subst}
 use Rattle.std.specs.Prelude.{◌==◌}
@@ -38,7 +38,7 @@ use Rattle.daide_session.specs.Joined.{LevelsAgreeTowardTheBotOver}
 use Rattle.daide_session.proofs.InARowLemmas.{same_frame, no_dm, prn_next, huh_next}
 use Rattle.daide_session.proofs.LevelRuns.{IsLevelled, LevelAt, HaveLevels, run_levels, ready_first}
 
--- a message of the server came
+-- the cause is a message of the server
 abbrev is_message : EventCause → Bool
 is_message (Frame Bot noted head body) = false
 is_message (Frame Server noted head body) = is_dm head.kind
@@ -48,10 +48,10 @@ is_message Timeout = false
 
 module _ (words : Words) (free : are_free words ≡ true) (limits : Limits) (same : limits.words ≡ words)
     (small : limits.cap ≤ longest_body) (all : List Came) where
-  -- ---- what the one sends toward the bot, with its levels
+  -- ---- the frames that the one sends to the bot, with its levels
 
-  -- A message with these bytes that is judged by the one level is passed on, or is too deep by one bracket; and with it
-  -- the level becomes the other.
+  -- A message with these bytes, judged at level `level`, is relayed or too deep by one bracket. After it the level is
+  -- `then`.
   record IsSentAt (level : Level) (bytes : List ℕ) (then : Level) : Type 0 where
     message : (body : List ℕ) (v : Verdict) → IsFrame Dm body bytes → IsJudged limits Server level body v →
         IsVerdictAtOneLevel limits all Bot body v
@@ -67,7 +67,7 @@ module _ (words : Words) (free : are_free words ≡ true) (limits : Limits) (sam
       IsFrame Dm b bytes → ⊥
   not_both_kinds kind a b bytes n f g = no_dm kind n (same_frame kind Dm a b bytes f g).0
 
-  -- a message that the one passed on by this level
+  -- a message that the first gateway relayed at this level
   passed_at : (level : Level) (body bytes : List ℕ) → IsFrame Dm body bytes → IsJudged limits Server level body Relay →
       IsSentAt level bytes (level_after limits.top_level Dm Server Relay (tokens_of body) level)
   passed_at level body bytes f j = record {
@@ -91,7 +91,7 @@ module _ (words : Words) (free : are_free words ≡ true) (limits : Limits) (sam
   no_hlo level Prn token m e = refl
   no_hlo level (Huh place) token m e = refl
 
-  -- any other frame of what came at once
+  -- any other frame that a cause at the first gateway sends
   quiet_at : (level : Level) (came : Came) (bytes : List ℕ) → is_message came.cause ≡ false →
       ((noted : Level) (own : List ℕ) → HasCome (came ∷ []) Bot noted own → HasCome all Bot noted own) →
       MayBeSent limits (came ∷ []) Bot bytes → IsSentAt level bytes level
@@ -222,12 +222,12 @@ module _ (words : Words) (free : are_free words ≡ true) (limits : Limits) (sam
       first_come c more noted own (inl e) = inl e
       first_come c more noted own (inr e) = absurd e
 
-  -- ---- what the next makes of it
+  -- ---- the verdict of the next
 
   abbrev IsFateHere : EventCause → List Sent → Type 0
   IsFateHere cause sent = IsFateAtNext (λ (level : Level). IsVerdictAtOneLevel limits all Bot) Bot cause sent
 
-  -- what is left of the frames that were sent, with the level of the next
+  -- the rest of the sent frames, with the level of the next
   abbrev RefinesOn : List Came → Level → Type 0
   RefinesOn more level = (sent : List Sent) × AreFirst (frames_from Server more) sent × AreSentAt level sent
 

@@ -1,4 +1,4 @@
--- What a run sends that leaves a session open: answers, and no end.
+-- A run that leaves a session open sends replies to frames, and no final frame.
 use Rattle.std.proofs.Common.{◌≡◌, ℕ, Bool, true, false, cond, List, [], ◌∷◌, ◌++◌, Option, Some, None}
 use Rattle.std.proofs.Common.{Result, Ok, Err, refl, sym, ap, ◌∙◌, subst}
 use Rattle.std.specs.Prelude.{◌||◌}
@@ -20,7 +20,7 @@ use Rattle.daide_protocol.proofs.WireLemmas.{sent_to-append}
 use Rattle.daide_protocol.proofs.FramesHeard.{not_both, over_for_good, ended, lost}
 use Rattle.daide_channels.specs.Channels.{is_final_frame, has_final_frame}
 
--- for neither wire is an end among what moves send
+-- the moves send no final frame to either wire
 abbrev pub NoEnd : List Effect → Type 0
 NoEnd effects = (wire : Side) → has_final_frame (sent_to wire effects) ≡ false
 
@@ -32,7 +32,7 @@ has_final_frame-append (x ∷ a) b e f = both (is_final_frame x.answers) (has_fi
     both true d p later = absurd (cc)
     both false d p later = later p
 
--- ---- one item
+-- ---- one frame event
 
 begun_sends : (s : SessionState) (side : Side) (code : Option Code) → is_over (header_outcome s side code).state.phase ≡ false →
     NoEnd (header_outcome s side code).effects
@@ -74,7 +74,7 @@ item_sends s side (Begun head) v o = begun_sends s side (untimely s.phase side h
 item_sends s side (Whole head body) v o = whole_sends s side head body v (is_im head.kind) o
 item_sends s side (Wrong code) v o = absurd (cc)
 
--- ---- items
+-- ---- frame events
 
 items_send : (s : SessionState) (side : Side) (items : List FrameEvent) (v : Verdict) →
     is_over (items_outcome s side items v).state.phase ≡ false → NoEnd (items_outcome s side items v).effects

@@ -1,4 +1,4 @@
--- What a session hands a wire next stays, where nothing is handed to it.
+-- The next chunk of a wire stays the same if nothing is sent to the wire.
 use Rattle.std.proofs.Common.{◌≡◌, ℕ, ◌<◌, Bool, false, eqb, List, [], ◌∷◌, ◌++◌, length, refl, sym, ap, ◌∙◌, subst}
 use Rattle.std.proofs.Common.{arith}
 use Rattle.std.proofs.lemmas.Bool.Decides.{nat_tests}
@@ -15,12 +15,12 @@ use Rattle.daide_session.specs.declared.protocol_state.ProtocolState.{ProtocolSt
 use Rattle.daide_session.specs.Session.{view_of}
 use Rattle.daide_session.proofs.EmitsLemmas.{posted_at}
 
--- the parts are of the first frame alone, whatever waits behind it
+-- only the first frame has parts, whatever is queued after it
 same_first : (parts : List (List ℕ)) (y : Sent) (ys rest : List Sent) → AreFresh parts (y ∷ ys) →
     AreFresh parts (y ∷ ys ++ rest)
 same_first parts y ys rest h = h
 
--- frames come behind what waited, twice
+-- frames are appended to a queue, twice
 kept_on : (f g h : List (List ℕ)) (xs ys zs more rest : List Sent) → ys ≡ xs ++ more → zs ≡ ys ++ rest →
     ArePartsKept f xs g ys → ArePartsKept g ys h zs → ArePartsKept f xs h zs
 kept_on f g h [] [] zs more rest e k a b = record {
@@ -55,7 +55,7 @@ fronts_same t u f w = λ to.
     (subst (λ (x : PerSide (List Sent)). ArePartsKept (at t.parts to) (at t.queued to) (at t.parts to) (at x to)) (sym w)
     (fronts_stay t to))
 
--- they are the same at first, and then kept
+-- the fronts are the same in the first call, and kept by the second
 pub fronts_from : (t u v : Channels) → u.parts ≡ t.parts → u.queued ≡ t.queued → KeepsFronts u v → KeepsFronts t v
 fronts_from t u v f w h = λ to.
     subst (λ (x : PerSide (List (List ℕ))). ArePartsKept (at x to) (at t.queued to) (at v.parts to) (at v.queued to)) f
@@ -64,7 +64,7 @@ fronts_from t u v f w h = λ to.
 
 -- ---- a session
 
--- nothing was done
+-- no change
 pub gateway_stays : (g : SessionView) (side : Side) → KeepsFront g side g
 gateway_stays g side = record {
   same = λ some. refl;
@@ -80,7 +80,7 @@ pub fronts_seen : (t u : Channels) (s r : ProtocolState) → KeepsFronts t u →
 fronts_seen t u s r h Bot = h Bot
 fronts_seen t u s r h Server = h Server
 
--- frames for the other wire are gone
+-- frames for the other wire are removed
 pub other_front : (t u v : Channels) (s r : ProtocolState) (side : Side) (frames : List Sent) → KeepsFronts t u →
     v.queued ≡ put u.queued side frames → at v.parts (other side) ≡ at u.parts (other side) →
     KeepsFront (view_of t s) (other side) (view_of v r)
@@ -98,7 +98,7 @@ other_front t u v s r Server frames h w f =
 pub apart : (n : ℕ) → 0 < n → eqb n 0 ≡ false
 apart n h = grind (arith, nat_tests)
 
--- a front tells by its length whether nothing waits
+-- a front is empty exactly if no frame is queued
 pub none_waits : (xs : List ℕ) (frames : List Sent) (b : Bool) → b ≡ eqb (length xs) 0 → IsFrontOf xs frames →
     b ≡ no_frame frames
 none_waits xs [] b e f = e ∙ ap (λ (ys : List ℕ). eqb (length ys) 0) f

@@ -1,4 +1,4 @@
--- How what a session does is a stretch of a run of the machine, and what holds of it stays.
+-- Each call of a session is a part of a run of the machine, and keeps the invariant.
 use Rattle.std.proofs.Common.{◌≡◌, ℕ, ◌<◌, Bool, true, false, List, [], ◌∷◌, length, Option, None, refl, sym, ap}
 use Rattle.std.proofs.Common.{◌∙◌, subst, arith, append-nil}
 use Rattle.std.specs.Prelude.{◌||◌, nat_lt}
@@ -50,7 +50,7 @@ one_event s e o q h =
       sym (append-nil o.effects),
     )
 
--- what one event makes of a session
+-- the effect of one event on a session
 pub goes_event : (g n : SessionView) (e : Event) (o : Successor) (reported : Note) → question g.state e ≡ None →
     event_outcome g.state e Relay ≡ o → Emits g o n → reported ≡ note_of o.effects → Refines g (e ∷ []) reported n
 goes_event g n e o reported q h m t = record {
@@ -77,7 +77,7 @@ stopped_over s ending side = go (is_over s.phase) refl
     go true e = rw e e
     go false e = rw e refl
 
--- the timer, in the phase that waits for the IM
+-- the IM timer, in the phase that waits for the IM
 pub goes_im_timer_expired : (g n : SessionView) (reported : Note) → g.state.phase ≡ WaitIm → Emits g (fault g.state Bot ImTimeout) n →
     reported ≡ Notes.Fault ImTimeout → Refines g (ImTimerExpired ∷ []) reported n
 goes_im_timer_expired g n reported waits m t =
@@ -86,7 +86,7 @@ goes_im_timer_expired g n reported waits m t =
     (subst (λ (o : Successor). Emits g o n) same m)
     (t ∙ ap (λ (o : Successor). note_of o.effects) same)
 
--- ---- what holds between calls
+-- ---- the invariant between calls
 
 pub standing_on : (g n : SessionView) (events : List Event) (reported : Note) → Refines g events reported n → IsConsistentSession g →
     IsConsistentSession n
@@ -162,7 +162,7 @@ standing_dropped g n side d standing = record {
 
 -- ---- a new session
 
--- nothing came, and nothing is counted
+-- nothing received, and nothing counted
 abbrev new_protocol : Level → Summary → ProtocolState
 new_protocol level counts =
     record { top_level = level; phase = WaitIm; level = L0; ending = None; summary = counts }
@@ -172,7 +172,7 @@ quiet_state : (cap : ℕ) (rules : ReaderLimits) (t : Channels) (level : Level) 
     ≡ initial_state (record { cap = cap; top_level = level; max_depth = rules.max_depth; words = rules.words })
 quiet_state cap rules t level counts q = rw (q.cap_set, q.rules_set, q.coming Bot, q.coming Server) refl
 
--- by what a session of this configuration judges
+-- the limits by which a session of this configuration judges
 abbrev rules_with : Config → List Word → ReaderLimits
 rules_with config words = record { max_depth = config.max_depth; words = grammar_words words }
 

@@ -1,4 +1,4 @@
--- What a session weighs, and what its readers' tables were asked.
+-- The weight of a session, and the look-ups in its readers' tables.
 use Rattle.std.proofs.Common.{◌≡◌, ℕ, ◌+◌, ◌*◌, ◌≤◌, Bool, true, false, cond, List, length, drop, refl, sym, ap}
 use Rattle.std.proofs.Common.{subst, arith}
 use Rattle.std.specs.Prelude.{min, ◌||◌, ◌==◌}
@@ -18,7 +18,7 @@ use Rattle.daide_channels.specs.Channels.{Channels, pending}
 use Rattle.daide_session.specs.Session.{view_of}
 use Rattle.daide_session.proofs.FrameEventsLemmas.{holding_at}
 
--- ---- the open brackets of a message that is held
+-- ---- the open brackets of a held message
 
 bras_few : (p : List ℕ) → bras p ≤ length p
 bras_few p = count_by-le-length (λ t. t == bra) p
@@ -77,7 +77,7 @@ pub weight_few : (t : Channels) (s : ProtocolState) (a b c d k l : ℕ) → a + 
 unfolding weight_bound
 weight_few t s a b c d k l x y m n = omega (arith, x, y, m, n)
 
--- what is held of a side that waits for no answer, as both its calls tell it
+-- the held bytes without a queued answer, as both calls return them
 pub tied_by : (t : Channels) (s : ProtocolState) →
     (is_awaited (at t.queued) Bot ≡ false → t.sides.bot.holding.held ≡ pending t Bot) →
     (is_awaited (at t.queued) Server ≡ false → t.sides.server.holding.held ≡ pending t Server) →
@@ -95,7 +95,7 @@ steps_few t s side steps few =
     steps ≤ 4 * length (tokens_held t.cap h.held) + cond (is_awaited (queued (view_of t s)) side) 4 0)
     (sym (holding_at t s side)) few
 
--- what holds of each side
+-- a statement that holds for both sides holds for each side
 pub on_both : (P : Side → Type 0) → P Bot → P Server → (side : Side) → P side
 on_both P bot server Bot = bot
 on_both P bot server Server = server

@@ -1,4 +1,4 @@
--- How often the tables are asked, stretch after stretch.
+-- The number of table look-ups, over consecutive parts of a run.
 use Rattle.std.proofs.Common.{◌≡◌, ℕ, ◌+◌, ◌-◌, ◌*◌, ◌/◌, ◌<◌, ◌≤◌, Bool, true, false, cond, List, []}
 use Rattle.std.proofs.Common.{length, drop, Option, Some, None, refl, sym, ap, ◌∙◌, subst, arith, ◌⊎◌, inl, ⊎_elim}
 use Rattle.std.proofs.Common.{length-append, length-drop}
@@ -26,7 +26,7 @@ use Rattle.daide_channels.proofs.ReceiverLemmas.{none_held, not_below_four}
 use Rattle.daide_session.specs.Work.{is_whole_message, answers_for, left_of, unspent, IsPaidBy, HoldsNoMore}
 use Rattle.daide_session.specs.FrameEvents.{Asks}
 
--- ---- nothing is asked
+-- ---- no look-up
 
 pub nothing_left : (cap : ℕ) → left_of cap [] ≡ 0
 nothing_left cap = omega arith
@@ -66,7 +66,7 @@ pub paid_freed : (a b : SessionView) → b.state.limits ≡ a.state.limits → A
 paid_freed a b limits asked held Bot = paid_idle Bot a b limits asked.0 (held Bot)
 paid_freed a b limits asked held Server = paid_idle Server a b limits asked.1 (held Server)
 
--- ---- one stretch after another
+-- ---- one part of a run after another
 
 pub paid_then : (m n : ℕ) (side : Side) (a b c : SessionView) → IsPaidBy m side a b → IsPaidBy n side b c →
     IsPaidBy (m + n) side a c
@@ -78,7 +78,7 @@ paid_then m n side a b c h k = record {
 
 -- ---- a piece
 
--- the answers for bytes that are no message, and for those of one
+-- the look-ups permitted for bytes that are no message, and for those of one
 no_answers : (cap : ℕ) (held : List ℕ) → is_dm_head (head_in cap held) ≡ false → answers_for cap held ≡ 0
 no_answers cap held e = rw e refl
 
@@ -113,7 +113,7 @@ unfinished : (cap : ℕ) (held : List ℕ) → 0 < missing cap held → is_dm_he
     answers_for cap held ≡ 4 * length (tokens_held cap held)
 unfinished cap held wanted e = rw (e, not_nothing (missing cap held) wanted) (omega arith)
 
--- for the tokens that a piece ends, and at the message's end, no more is asked than two answers a byte
+-- the look-ups for the tokens that a piece completes, and at the message's end, are at most two a byte
 pub piece_paid : (cap : ℕ) (b piece : List ℕ) (e : ℕ) → 0 < missing cap b → e ≤ at_end cap (fed cap b piece) →
     4 * tokens_ended cap b piece + e + left_of cap (fed cap b piece) ≤ 2 * length piece + left_of cap b
 piece_paid cap b piece e wanted few = by_test (is_dm_head (head_in cap now)) refl
@@ -170,7 +170,7 @@ piece_paid cap b piece e wanted few = by_test (is_dm_head (head_in cap now)) ref
             let paid = unfinished cap b wanted before in
             omega (arith, few, longer, no_longer, ended, left_now, left_before, tokens, long, old, paid, at_end_few cap now)
 
--- ---- what the last byte of a piece makes
+-- ---- the effect of the last byte of a piece
 
 missing_behind : (cap : ℕ) (held : List ℕ) → nat_lt (length held) 4 ≡ false →
     missing cap held ≡ missing_of_body (head_in cap held) (drop 4 held)
@@ -181,7 +181,7 @@ body_missing : (head : Head) (n : ℕ) (found : Option ℕ) → n ≡ head.len �
 body_missing head n None e = omega (arith, e)
 body_missing head n (Some place) e = refl
 
--- nothing is missing of a body that is whole
+-- a whole body lacks no byte
 whole_missing : (cap : ℕ) (held : List ℕ) → IsWholeBody (head_in cap held) (drop 4 held) → missing cap held ≡ 0
 whole_missing cap held full = by_head (head_in cap held) refl full (nat_lt (length held) 4) refl
   where
@@ -195,7 +195,7 @@ whole_missing cap held full = by_head (head_in cap held) refl full (nat_lt (leng
         ∙ (ap (λ (o : Option Head). missing_of_body o (drop 4 held)) e
         ∙ body_missing head (length (drop 4 held)) (alien_in head (drop 4 held)) h.1)
 
--- a table is asked for the end of a message alone, once it is whole
+-- the look-ups at a message's end are made only once it is whole
 pub end_paid : (cap : ℕ) (old new : Holding) (step : Step) → Asks cap old new →
     (step ≡ Bodied → IsWholeBody (head_in cap old.held) (drop 4 old.held)) →
     (step ≡ Bodied) ⊎ (new.total ≡ old.total) → IsRaised (at_end cap old.held) old.total new.total
@@ -221,7 +221,7 @@ held_after_less cap (Notes.Frame head Deeds.Prn) bytes = omega arith
 held_after_less cap (Notes.Frame head (Deeds.Huh place)) bytes = omega arith
 held_after_less cap (Notes.Fault code) bytes = omega arith
 
--- what is held of a side, before a piece, after it, and after what its last byte made
+-- a side's held bytes before a piece, after it, and after the effect of its last byte
 pub fed_paid : (side : Side) (a b : SessionView) (mid : Holding) (piece : List ℕ) (note : Note) →
     let cap = a.state.limits.cap in
     let now = fed cap (holding a side).held piece in

@@ -1,4 +1,4 @@
--- What is written and what is lost, as the clauses of a session say it.
+-- The bytes written and the bytes lost, as the clauses of a session state them.
 use Rattle.std.proofs.Common.{◌≡◌, ℕ, Bool, true, false, cond, List, [], ◌∷◌, ◌++◌, drop, None, refl}
 use Rattle.std.proofs.Common.{sym, ap}
 use Rattle.std.proofs.Common.{◌∙◌, subst, ◌⊎◌, inl, inr}
@@ -26,7 +26,7 @@ use Rattle.daide_session.proofs.EmitsLemmas.{waiting_at}
 use Rattle.daide_session.proofs.FrameEventsLemmas.{holding_at}
 use Rattle.daide_session.proofs.SessionLemmas.{goes_event, stop_note, stopped_over}
 
--- ---- an end lets nobody wait
+-- ---- a final frame makes no side wait
 
 has_answer-append : (side : Side) (a b : List Sent) → has_answer side b ≡ false →
     has_answer side (a ++ b) ≡ has_answer side a
@@ -53,7 +53,7 @@ end_quiet one wire s ending side = go (is_over s.phase) refl
     go true e = rw e refl
     go false e = rw e (reached (may_reach s.phase (other side)) refl)
 
--- after a side's end the same sides wait for an answer
+-- after a side's end the queues have the same answer frames
 stopped_awaited : (t u : Channels) (s r : ProtocolState) (ending : Ending) (side one : Side) →
     Emits (view_of t s) (stopped (state_of t s) ending side) (view_of u r) →
     is_awaited (queued (view_of u r)) one ≡ is_awaited (queued (view_of t s)) one
@@ -65,7 +65,7 @@ stopped_awaited t u s r ending side one m = both
     both : {a b c d : Bool} → a ≡ b → c ≡ d → (a || c) ≡ (b || d)
     both e f = rw (e, f) refl
 
--- ---- what is held
+-- ---- the held bytes
 
 gone_state : (u v : Channels) (s : ProtocolState) → ReleasesChannels u v → state_of v s ≡ state_of u s
 gone_state u v s l = rw (l.cap, l.rules, l.coming Bot, l.coming Server) refl
@@ -88,7 +88,7 @@ lets_go t u v s r same sides l = record {
     before : (one : Side) → (at u.sides one).holding ≡ holding (view_of t s) one
     before one = ap (λ (x : PerSide ReceiveState). (at x one).holding) sides ∙ sym (holding_at t s one)
 
--- of each side what was held is held still, or nothing is
+-- each side holds the bytes that it held, or none
 pub holds_less : (t u v : Channels) (s r : ProtocolState) → u.sides ≡ t.sides → ReleasesChannels u v →
     HoldsNoMore (view_of t s) (view_of v r)
 holds_less t u v s r sides l one =
@@ -109,7 +109,7 @@ holds_less t u v s r sides l one =
     by_answers false e true f = absurd (let none = sym f ∙ l.fewer one e in cc)
     by_answers false e false f = kept (f ∙ sym e)
 
--- ---- what a call does
+-- ---- the effect of a call
 
 pub wrote_of : (t v : Channels) (s : ProtocolState) (side : Side) (n : ℕ) → ReleasesChannels t v →
     v.queued ≡ put t.queued side (without n (at t.queued side)) →

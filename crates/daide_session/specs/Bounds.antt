@@ -1,12 +1,12 @@
--- What a session keeps within, wherever it stands: the first half of the headline.
+-- The bounds that a session keeps in every state: the first half of the headline.
 use Rattle.std.specs.Prelude.{◌+◌, ◌≤◌, length}
 use Rattle.daide_frame.specs.declared.side.Side.{Side}
 use Rattle.daide_protocol.specs.Wires.{SessionView, holding, steps_of}
 use Rattle.daide_protocol.specs.Weight.{weight_of, weight_bound, steps_bound, IsKeptSmall}
 
 pub record IsWithinBounds (g : SessionView) : Type 0 where
-  -- in each direction at most one message's announced length, capped, and eight stack entries for each open
-  -- bracket plus sixteen
+  -- in each direction at most one message's announced length, capped, and eight stack entries for each open bracket
+  -- plus sixteen
   pub each_direction : (side : Side) → IsKeptSmall g.state.limits.cap (holding g side)
   -- 64 further entries in all
   pub further : length g.to_bot + length g.to_server ≤ 64

@@ -1,4 +1,4 @@
--- What a session's functions make of its value: the moves of the machine, and what is held after them.
+-- The effect of a session's functions on its value: the moves of the machine, and the bytes held after them.
 use Rattle.std.specs.Prelude.{◌≡◌, ℕ, false, ◌++◌, ◌⊎◌, List, [], drop}
 use Rattle.std.specs.Prelude.{Option, Some, None, Result, Ok, if◌then◌else◌}
 use Rattle.daide_frame.specs.declared.side.Side.{Side}
@@ -20,13 +20,13 @@ use Rattle.daide_session.specs.declared.protocol_state.ProtocolState.{ProtocolSt
 use Rattle.daide_channels.specs.PerSide.{at}
 use Rattle.daide_channels.specs.Channels.{Channels, Keeps, IsStarted}
 
--- The moves of an outcome were made: its state, its frames behind what waited, and its moves counted.
+-- The session made the moves of an outcome: its state, its frames appended to the queues, and its moves counted.
 pub record Emits (old : SessionView) (o : Successor) (new : SessionView) : Type 0 where
   pub state : new.state ≡ o.state
   pub sent : (wire : Side) → queued new wire ≡ queued old wire ++ sent_to wire o.effects
   pub counts : new.summary ≡ tallied o.effects old.summary
 
--- nothing changed of what came and of what is held
+-- the receive state and the limits are unchanged
 pub record KeepsSides (old new : Channels) : Type 0 where
   pub cap : new.cap ≡ old.cap
   pub rules : new.rules ≡ old.rules
@@ -44,24 +44,24 @@ check_of Dm body = Ok tt
 check_of Fm body = Ok tt
 check_of Em body = Ok tt
 
--- nothing of a message was read: no byte of a body came, or the frame is no message
+-- no byte of a message was read: the body is still empty, or the frame is no message
 abbrev pub HasNoMessageBytes : ℕ → List ℕ → Type 0
 HasNoMessageBytes cap held = (drop 4 held ≡ []) ⊎ (is_dm_head (head_in cap held) ≡ false)
 
--- A table was asked for a message alone, at its end. Its answers are counted from where they were, or, where
--- nothing of a message was read, from now on. No token was looked at for the level of an HLO.
+-- Look-ups are made for a message only, and only at its end. The count's start stays or, if no byte of a message was
+-- read, is set to the present count. The HLO scan reads no token.
 pub record Asks (cap : ℕ) (old new : Holding) : Type 0 where
   pub base : (new.total_before ≡ old.total_before) ⊎ (HasNoMessageBytes cap old.held × (new.total_before ≡ old.total))
   pub raised : IsRaised 4 old.total new.total
   pub no_message : is_dm_head (head_in cap old.held) ≡ false → new.total ≡ old.total
   pub looked_at : new.looked_at ≡ old.looked_at
 
--- what a header's code is called
+-- the note for a header: a fault if it has a code
 abbrev pub note_by : Option Code → Note
 note_by None = Notes.Nothing
 note_by (Some code) = Notes.Fault code
 
--- a side's message begins at the level that holds now
+-- a side's message starts at the present level
 pub record StartsMessage (side : Side) (old : Channels) (protocol : ProtocolState) (new : Channels) (protocol_after : ProtocolState) : Type 0 where
   pub protocol_kept : protocol_after ≡ protocol
   pub keeps : Keeps side old new
@@ -69,7 +69,7 @@ pub record StartsMessage (side : Side) (old : Channels) (protocol : ProtocolStat
   pub fronts : new.parts ≡ old.parts
   pub started : IsStarted (at old.sides side) protocol.level (at new.sides side)
 
--- The items that end with a side's last byte were moved by.
+-- The session handled the frame events that end with a side's last byte.
 pub record HandlesFrameEvents (old : SessionView) (side : Side) (items : List FrameEvent) (reported : Note) (new : SessionView) : Type 0 where
   pub verdict : Verdict
   pub right : IsCorrectVerdict old.state.limits.words old.state.limits.max_depth (asked_by old.state side items) verdict

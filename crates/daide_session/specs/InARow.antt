@@ -1,5 +1,5 @@
--- Two gateways in a row: what one sends, and what the next makes of it, as docs/PROTOCOL.md, "Verdicts", has it of
--- each; that a gateway may stand behind another is (own).
+-- Two gateways in a row: the messages that the first sends, and the verdicts of the next. Each gateway follows
+-- docs/PROTOCOL.md, "Verdicts"; that a gateway may be the peer of another is (own).
 use Rattle.std.specs.Prelude.{◌≡◌, ℕ, ◌+◌, ◌≤◌, ◌<◌, true, List}
 use Rattle.std.specs.List.{All}
 use Rattle.daide_token.specs.Token.{tokens_of}
@@ -20,8 +20,8 @@ use Rattle.daide_protocol.specs.Wires.{sent_to}
 use Rattle.daide_protocol.specs.Fates.{Came, came_in, IsJudged}
 use Rattle.daide_protocol.specs.Passing.{IsFrame, HasCome, IsWithinHuh}
 
--- What the next gateway makes of a message that one sends it, where no level is between them: it is passed on; unless
--- it is the one's own answer HUH, too deep by the bracket that the answer adds. It is never answered with PRN.
+-- The next gateway's verdict on a message from the first, if both read it at the same level. It relays the message,
+-- unless the message is the first gateway's own HUH and too deep by the bracket that HUH adds. Its answer is never PRN.
 pub data IsVerdictAtOneLevel (limits : Limits) (came : List Came) (to : Side) (body : List ℕ) (verdict : Verdict) :
     Type 0 where
   passes : verdict ≡ Relay → IsVerdictAtOneLevel limits came to body verdict
@@ -30,7 +30,7 @@ pub data IsVerdictAtOneLevel (limits : Limits) (came : List Came) (to : Side) (b
       limits.max_depth < depth_of (tokens_of own) + 1 → verdict ≡ Huh at →
       IsVerdictAtOneLevel limits came to body verdict
 
--- And by whatever level: the same, or HUH where the one passed it on by a higher level.
+-- At any level: the same verdict, or HUH if the first gateway relayed the message at a higher level.
 pub data IsVerdictOfNext (limits : Limits) (came : List Came) (to : Side) (level : Level) (body : List ℕ)
     (verdict : Verdict) : Type 0 where
   at_one_level : IsVerdictAtOneLevel limits came to body verdict → IsVerdictOfNext limits came to level body verdict
@@ -38,8 +38,8 @@ pub data IsVerdictOfNext (limits : Limits) (came : List Came) (to : Side) (level
       level_number level < level_number noted → verdict ≡ Huh place →
       IsVerdictOfNext limits came to level body verdict
 
--- Of two gateways with the same limits and these words, over any run of the one: each message that it sends toward the
--- next, its own answers too, has at the next such a verdict, by whatever level is noted for it there.
+-- Two gateways with the same limits and these words, over any run of the first. Each message that it sends to the next,
+-- also its own answer, gets such a verdict there, at whatever level is noted for it.
 abbrev pub InARowOver : List Word → Type 0
 InARowOver words = (limits : Limits) (events : List Event) (effects : List Effect)
     (new : SessionState) (run : Runs (initial_state limits) events effects new) →
@@ -49,6 +49,6 @@ InARowOver words = (limits : Limits) (events : List Event) (effects : List Effec
     IsVerdictOfNext limits (came_in (initial_state limits) events effects new run) to level body verdict)
     (sent_to to effects)
 
--- So it is with all words that are accepted one after the other.
+-- This holds for all words that are accepted one after the other.
 abbrev pub TwoSessionsInARow : Type 0
 TwoSessionsInARow = (words : List Word) → are_accepted words ≡ true → InARowOver words

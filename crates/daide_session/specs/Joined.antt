@@ -1,5 +1,5 @@
--- Two gateways that are joined: what the one sends toward a side comes to the next as the bytes of its other side. Each
--- keeps the rules of docs/PROTOCOL.md, "The session"; that two are joined is (own).
+-- Two joined gateways: the bytes that the first sends to a side arrive at the next as the bytes of its other side. Each
+-- gateway follows docs/PROTOCOL.md, "The session"; that two are joined is (own).
 use Rattle.std.specs.Prelude.{◌≡◌, ℕ, ◌≤◌, true, List, [], ◌∷◌, ◌++◌}
 use Rattle.daide_frame.specs.declared.side.Side.{Side}
 use Rattle.daide_frame.specs.declared.side.Side.TheVariants.{Bot}
@@ -19,12 +19,12 @@ use Rattle.daide_protocol.specs.Heard.{bytes_from}
 use Rattle.daide_protocol.specs.Fates.{EventCause, Frame, Fault, End, Timeout, Came, came_in, frames_from}
 use Rattle.daide_session.specs.InARow.{IsVerdictAtOneLevel, IsVerdictOfNext}
 
--- what came to the next of the side where the one stands is a front of the bytes that the one sent toward it, in
--- whatever pieces, and whatever else happens to either
+-- the bytes that the next received from the first are a front of the bytes that the first sent to it, in any pieces,
+-- with any other events at either gateway
 abbrev pub AreJoined : Side → List Effect → List Event → Type 0
 AreJoined to sent events = (rest : List ℕ) × (sent_bytes (sent_to to sent) ≡ bytes_from (other to) events ++ rest)
 
--- these whole frames are the first of those that were sent, byte for byte and in their order
+-- these whole frames are the first of the sent frames, byte for byte and in their order
 abbrev pub AreFirst : List FrameEvent → List Sent → Type 0
 AreFirst [] sent = Unit {0}
 AreFirst (Begun head ∷ items) sent = ⊥
@@ -32,8 +32,7 @@ AreFirst (Wrong code ∷ items) sent = ⊥
 AreFirst (Whole head body ∷ items) [] = ⊥
 AreFirst (Whole head body ∷ items) (frame ∷ sent) = (frame.bytes ≡ head_bytes head ++ body) × AreFirst items sent
 
--- a message from the one is answered at the next by a verdict that is so of the level noted for it there and of its
--- body
+-- the next gives each message from the first a verdict that fits the message's body and the level noted for it
 abbrev pub IsFateAtNext : (Level → List ℕ → Verdict → Type 0) → Side → EventCause → List Sent → Type 0
 IsFateAtNext Is to (Frame side noted head body) sent =
     side ≡ other to → head.kind ≡ Dm →
@@ -42,22 +41,21 @@ IsFateAtNext Is to (Fault side code) sent = Unit {0}
 IsFateAtNext Is to (End side) sent = Unit {0}
 IsFateAtNext Is to Timeout sent = Unit {0}
 
--- what came to the next, each with its move
+-- the inputs of the next, each with its move
 abbrev pub HaveFatesAtNext : (Level → List ℕ → Verdict → Type 0) → Side → List Came → List Effect → Type 0
 HaveFatesAtNext Is to [] effects = effects ≡ []
 HaveFatesAtNext Is to (came ∷ more) [] = ⊥
 HaveFatesAtNext Is to (came ∷ more) (effect ∷ effects) =
     IsFateAtNext Is to came.cause effect.sent × HaveFatesAtNext Is to more effects
 
--- The next hears the frames that the one sent. Each message among them it passes on toward that side, or answers with
--- HUH for a lower level or for one bracket, never with PRN.
+-- The next hears the frames that the first sent. It relays each message among them, or its answer is HUH because of a
+-- lower level or one bracket too many; its answer is never PRN.
 pub record RefinesByWhatItIsSent (limits : Limits) (one : List Came) (to : Side) (sent : List Effect) (next : List Came)
     (effects : List Effect) : Type 0 where
   pub in_order : AreFirst (frames_from (other to) next) (sent_to to sent)
   pub fates : HaveFatesAtNext (IsVerdictOfNext limits one to) to next effects
 
--- Of any run of the one and any run of the next, with the same limits and these words, where the next stands toward a
--- side, and hears of it what the one sent.
+-- For any runs of the two gateways with the same limits and these words, if the next is joined to the first at a side.
 abbrev pub JoinedSessionsOver : List Word → Type 0
 JoinedSessionsOver words = (limits : Limits) (to : Side) (events next_events : List Event)
     (effects next_effects : List Effect) (new next_new : SessionState)
@@ -67,15 +65,15 @@ JoinedSessionsOver words = (limits : Limits) (to : Side) (events next_events : L
     RefinesByWhatItIsSent limits (came_in (initial_state limits) events effects new run) to effects
     (came_in (initial_state limits) next_events next_effects next_new next_run) next_effects
 
--- so it is with all words that are accepted one after the other
+-- this holds for all words that are accepted one after the other
 abbrev pub JoinedSessions : Type 0
 JoinedSessions = (words : List Word) → are_accepted words ≡ true → JoinedSessionsOver words
 
 -- ---- toward the bot
 
--- Where the next stands nearer the bot, it hears each HLO that the one passed on, in its place. So it judges each
--- message by the level by which the one passed it on: it passes all on, but for a HUH of the one that is too deep by one
--- bracket.
+-- If the next is nearer the bot, it hears each HLO that the first relayed, in its place among the messages. So it
+-- judges each message at the level at which the first relayed it. It relays all of them, except a HUH of the first that
+-- is too deep by one bracket.
 abbrev pub LevelsAgreeTowardTheBotOver : List Word → Type 0
 LevelsAgreeTowardTheBotOver words = (limits : Limits) (events next_events : List Event)
     (effects next_effects : List Effect) (new next_new : SessionState)
@@ -85,6 +83,6 @@ LevelsAgreeTowardTheBotOver words = (limits : Limits) (events next_events : List
     HaveFatesAtNext (λ level. IsVerdictAtOneLevel limits (came_in (initial_state limits) events effects new run) Bot) Bot
     (came_in (initial_state limits) next_events next_effects next_new next_run) next_effects
 
--- so it is with all words that are accepted one after the other
+-- this holds for all words that are accepted one after the other
 abbrev pub LevelsAgreeTowardTheBot : Type 0
 LevelsAgreeTowardTheBot = (words : List Word) → are_accepted words ≡ true → LevelsAgreeTowardTheBotOver words

@@ -1,4 +1,4 @@
--- How a session's parts stand for its value, and what holds of it between calls.
+-- The abstraction function of a session, and its invariant between calls.
 use Rattle.std.specs.Prelude.{◌≡◌, ℕ, ◌<◌, [], false, is_some, Ok, Err}
 use Rattle.daide_frame.specs.declared.side.Side.{Side}
 use Rattle.daide_frame.specs.Frames.{missing}
@@ -19,7 +19,8 @@ use Rattle.daide_channels.specs.Channels.{Channels, has_final_frame}
 
 -- ---- the value
 
--- the machine's state: the limits with the operator's words, where the session stands, and what came of each side
+-- the machine's state: the limits with the operator's words, the phase and the level, and the bytes received from each
+-- side
 abbrev pub state_of : Channels → ProtocolState → SessionState
 state_of t protocol = record {
   limits = record {
@@ -35,7 +36,7 @@ state_of t protocol = record {
   server = t.sides.server.coming;
 }
 
--- that state, what waits for each wire, what is held of each side, and the counts
+-- that state, the queued frames for each wire, the held bytes from each side, and the counts
 abbrev pub view_of : Channels → ProtocolState → SessionView
 view_of t protocol = record {
   state = state_of t protocol;
@@ -57,8 +58,8 @@ level_in Over level = L0
 
 -- ---- between calls
 
--- While a session is not over, bytes of each side's next frame are missing, so none lies there whole; and no
--- frame that waits ends the session. What ended it is known exactly once it is over.
+-- While a session is not over, each side's next frame lacks bytes, so no whole frame is held unanswered; and no queued
+-- frame ends the session. The ending is known exactly if the session is over.
 pub record IsConsistentSession (g : SessionView) : Type 0 where
   pub wanted : is_over g.state.phase ≡ false → (side : Side) →
       0 < missing g.state.limits.cap (coming g.state side).pending
@@ -67,8 +68,8 @@ pub record IsConsistentSession (g : SessionView) : Type 0 where
 
 -- ---- what is dropped
 
--- nothing waits for a wire any more, and nothing else changed of the state, the wires and the counts: the other wire is
--- handed what it was, no table was asked and no token looked at
+-- The queue of a wire is emptied. The state, the counts, and the frames and parts of the other wire are unchanged; no
+-- table look-up is made, and no HLO scan reads a token.
 pub record Dropped (old : SessionView) (side : Side) (new : SessionView) : Type 0 where
   pub same_state : new.state ≡ old.state
   pub dropped : queued new side ≡ []
@@ -81,8 +82,8 @@ pub record Dropped (old : SessionView) (side : Side) (new : SessionView) : Type 
 
 -- ---- refusals
 
--- The limits are checked first. Memory is requested only if they are right, and the error is then that room for a body of
--- the longest length was refused; `Refuses` is the allocator's relation of that name.
+-- The limits are checked first. Memory is requested only if they are right; the error is then that the allocator
+-- refused a body of the longest length. `Refuses` is the allocator's relation of that name.
 abbrev pub IsCause : (ℕ → Type 0) → Config → SessionError → Type 0
 IsCause Refuses config (Errors.Config fault) = config_fault config ≡ Err fault
 IsCause Refuses config Errors.Memory = (config_fault config ≡ Ok tt) × Refuses config.max_body

@@ -1,4 +1,4 @@
-//! What the last byte of a piece makes of a session.
+//! The transitions of a session on frame events: the effects of the last byte of a piece.
 
 ghost use Rattle.std.specs.Prelude.{◌≡◌, ◌⊎◌, false, [], ◌∷◌, length, drop, Some, None, Ok};
 ghost use Rattle.daide_frame.specs.declared.side.Side.{Side};
@@ -28,7 +28,7 @@ use daide_protocol::transitions::{
 };
 use std::alloc::Allocator;
 
-/// Checks a whole frame by its body: an IM must have the protocol's magic number and version.
+/// Checks the body of a whole frame: an IM must have the protocol's magic number and version.
 #[tactic(auto, unfolding(daide_frame::specs::InitialMessage::im_of))]
 fn check_frame(kind: Kind, body: &[u8]) -> Result<(), Code>
     requires { kind ≡ Kinds.Im → length body.now ≡ 4 }
@@ -40,8 +40,8 @@ fn check_frame(kind: Kind, body: &[u8]) -> Result<(), Code>
     }
 }
 
-/// A side's header is whole: it is untimely, which ends the session, or its message is begun at the
-/// level that holds now.
+/// Handles a whole header. An untimely header is a fault and ends the session; otherwise its message starts at the
+/// present level.
 #[inline(always)]
 fn begin<A: Allocator>(
     channels: &mut Channels<A>,
@@ -69,8 +69,8 @@ fn begin<A: Allocator>(
     Note::Nothing
 }
 
-/// A side's frame is whole and its check went well: it is judged, and the answer waits for its wire; or the
-/// frame is dropped, where the answer may not go out. What became of it is counted.
+/// Handles a whole frame that passed its check: judges it, queues its answer, and counts the move. Drops the frame
+/// without counting it if the answer must not be sent.
 #[inline(always)]
 fn answer<A: Allocator>(
     channels: &mut Channels<A>,
@@ -87,7 +87,7 @@ fn answer<A: Allocator>(
         (Whole head (drop 4 (pending channels.old side)) ∷ []) result (view_of channels.new protocol.new) }
     ensures fronts { KeepsFronts channels.old channels.new }
 {
-    // Only an FM or EM may not go out, and these are relayed.
+    // Only an FM or EM can be unsent here, and both are relayed.
     if !is_sent(protocol.phase, head.kind, other(side)) {
         channels.clear(side);
         protocol.phase = phase_after(head.kind, protocol.phase);
@@ -111,7 +111,7 @@ fn answer<A: Allocator>(
     note
 }
 
-/// A side's frame is whole: an IM is checked, and then the frame is answered.
+/// Handles a whole frame: checks it, and then queues its answer.
 #[inline(always)]
 fn complete<A: Allocator>(
     channels: &mut Channels<A>,
@@ -135,8 +135,8 @@ fn complete<A: Allocator>(
     }
 }
 
-/// A side's header is whole and has no body, so that it is the whole frame: its message is begun, and then completed
-/// where the header is timely.
+/// Handles a whole header without a body, which is a whole frame: starts its message and, if the header is timely,
+/// completes it.
 #[inline(always)]
 fn begin_and_complete<A: Allocator>(
     channels: &mut Channels<A>,
@@ -161,7 +161,7 @@ fn begin_and_complete<A: Allocator>(
     }
 }
 
-/// Goes by what the last byte of a piece made of a side's frame.
+/// Handles the step that the last byte of a piece completed in a side's frame.
 pub fn on_frame_event<A: Allocator>(
     channels: &mut Channels<A>,
     protocol: &mut ProtocolState,

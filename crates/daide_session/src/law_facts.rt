@@ -1,5 +1,5 @@
-//! The laws of `laws` over words that are held, used once, so that a weaker law does not check; the others are used in
-//! `proofs/LawFacts`. Nothing here is called.
+//! Uses of the laws in `laws` that are about held words, each at one value, so that a weaker law does not check.
+//! `proofs/LawFacts` uses the other laws. No function here is called.
 
 ghost use Rattle.std.specs.Prelude.{◌≡◌, ℕ, List, [], ◌∷◌};
 ghost use Rattle.daide_frame.specs.declared.side.Side.TheVariants.{Bot, Server};
@@ -19,8 +19,9 @@ ghost use Rattle.daide_session.specs.Joined.{AreFirst, AreJoined, HaveFatesAtNex
 use crate::laws;
 use daide_words::words::Words;
 
-/// With bodies of 512 bytes at most, and these words: the one message that a bot is sent is judged so at the next; what
-/// the next hears of the bot are the first frames that the one sent; and nearer the bot its levels agree.
+/// Proof only. With these words and bodies of at most 512 bytes: the next gateway gives such a verdict on the one
+/// message sent to a bot. The frames that it hears are the first of those that the first gateway sent. Its levels agree
+/// if it is nearer the bot.
 fn held_at_values(words: &Words)
     ensures row { (limits : Limits) (events : List Event) (effects : List Effect) (new : SessionState)
         (run : Runs (initial_state limits) events effects new) → limits.words ≡ grammar_words (words_of words.now) →

@@ -1,8 +1,8 @@
-//! A session between a bot and a server: what came in, what is to go out, and nothing else.
+//! A session between a bot and a server: the bytes received and the bytes to send, without any I/O.
 //!
-//! What came of both sides and what waits for the wires is a `Channels` of `daide_channels`. `session` adds the phase
-//! and the levels (`protocol_state`) and goes by what each piece of bytes makes (`frame_events`). What moves its bytes
-//! stands above it, in `daide_driver`.
+//! `Channels` of `daide_channels` has the receive state of both sides and the send queues. `session` adds the phase and
+//! the levels (`protocol_state`) and handles the frame events of each piece (`frame_events`). `daide_driver`, one layer
+//! above, moves the bytes.
 #![tactic(auto)]
 
 mod frame_events;

@@ -1,6 +1,6 @@
-//! Where a session stands in the machine, and how it ends: by a side's fault, or by a side's end.
+//! The protocol state of a session, and how the session ends: by a side's fault, or by a side's end.
 //!
-//! Only this module and `frame_events`, where a frame is answered, change the phase or the level, and count moves.
+//! Only this module and `frame_events` change the phase or the level, and count moves.
 
 ghost use Rattle.std.specs.Prelude.{◌≡◌, ◌++◌, false, Some};
 ghost use Rattle.daide_frame.specs.declared.side.Side.{Side};
@@ -28,24 +28,23 @@ use daide_protocol::summary::Summary;
 use daide_protocol::transitions::{may_reach, other};
 use std::alloc::Allocator;
 
-/// The phase of a session, the level of press, and the highest level that an HLO may set; what ended the session,
-/// and its moves counted.
+/// The phase of a session, its level of press, the highest level that an HLO may set, the event that ended it, and its
+/// counted moves.
 #[derive(Clone, Copy, Debug, PartialEq, Eq)]
 pub struct ProtocolState {
     /// The highest level that an HLO may set.
     pub top_level: Level,
-    /// Where the session stands.
+    /// The phase of the session.
     pub phase: Phase,
-    /// The level of press in the phase Open, level 0 in every other phase.
+    /// The level of press in the phase Open; level 0 in every other phase.
     pub level: Level,
-    /// What ended the session, in the phase Over alone.
+    /// The event that ended the session; `None` unless the phase is Over.
     pub ending: Option<Ending>,
-    /// The moves of the session.
+    /// The counted moves of the session.
     pub summary: Summary,
 }
 
 impl ProtocolState {
-    /// Whether the session is over.
     pub fn is_over(&self) -> bool
         ensures { result ≡ is_over_phase self.now.phase }
     {
@@ -53,7 +52,7 @@ impl ProtocolState {
     }
 }
 
-/// A side's end: the other side gets an FM, where one may reach it, and the session is over.
+/// Ends the session, and queues an FM for the peer of `side` if an FM may be sent to it.
 fn terminate<A: Allocator>(
     channels: &mut Channels<A>,
     protocol: &mut ProtocolState,
@@ -81,7 +80,7 @@ fn terminate<A: Allocator>(
     protocol.ending = Some(ending);
 }
 
-/// A side's end, by its stream or its wire, where the session is not over.
+/// Handles a side's end, by its stream or its wire. Has no effect if the session is over.
 pub fn on_peer_closed<A: Allocator>(
     channels: &mut Channels<A>,
     protocol: &mut ProtocolState,
@@ -100,7 +99,7 @@ pub fn on_peer_closed<A: Allocator>(
     terminate(channels, protocol, side, ending);
 }
 
-/// A side's fault: an EM to it, and an FM to the other side.
+/// Handles a side's fault: queues an EM for it and an FM for the other side, and ends the session.
 pub fn fail<A: Allocator>(
     channels: &mut Channels<A>,
     protocol: &mut ProtocolState,

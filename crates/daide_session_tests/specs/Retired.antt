@@ -1,8 +1,8 @@
--- The ports that a scene's system was handed back. (own)
+-- The ports that a scene's system got back. (own)
 use Rattle.std.specs.Prelude.{◌≡◌, ◌⊎◌, List, [], ◌∷◌, ◌++◌}
 use Rattle.daide_protocol.specs.System.{SystemCall, Begins, BeginsTurn, Accepts, Connects, Retires, Notifies, Waits}
 
--- Ports that are retired are kept as the last, or dropped for want of memory. No other call changes those that are kept.
+-- Retired ports are appended, or dropped if memory is refused. No other call changes the ports that are kept.
 abbrev pub KeepsRetired : {P : Type 0} → List P → SystemCall P → List P → Type 0
 KeepsRetired old (Retires ports end) new = (new ≡ old ++ ports ∷ []) ⊎ (new ≡ old)
 KeepsRetired old Begins new = new ≡ old

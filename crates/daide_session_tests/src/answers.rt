@@ -1,5 +1,6 @@
-//! The worked examples of what a frame of the bot gets, by their names in docs/EXAMPLES.md: the bytes on both wires, in
-//! an open session, whole and byte by byte. The verdicts on these messages stand in `daide_codec_tests`.
+//! The worked examples of answers to frames of the bot, by their names in docs/EXAMPLES.md: the bytes on both
+//! connections of an open session, fed whole and byte by byte. The verdicts on these messages are in
+//! `daide_codec_tests`.
 
 use crate::script::Act::Says;
 use crate::script::{Scene, assert_scenes};
@@ -69,7 +70,7 @@ const WRAPPED: &str = "02 00 00 0C  48 13 40 00 48 13 40 00 40 00 40 01";
 const REPORTS_GO_ON: &[Scene] = &[
     (&[Says(Bot, REPORT)], "", REPORT),
     (&[Says(Bot, "02 00 00 06  48 13 40 00 40 00")], WRAPPED, ""),
-    // the next gateway passes the answer on to its bot
+    // the next gateway relays the answer to its bot
     (&[Says(Server, WRAPPED)], WRAPPED, ""),
 ];
 

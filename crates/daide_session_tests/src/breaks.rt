@@ -1,8 +1,8 @@
-//! A session whose wires break: at every place of a conversation a side's stream ends, or the wire toward it fails.
+//! A session whose connections break. At every point of a conversation a side's stream ends, or a write to it fails.
 //!
-//! One conversation has a relayed message, an HLO, a PRN and a HUH; the other a name, an HLO and a press message. Both
-//! come in single bytes, with one byte a put. What each side may have been sent was worked out by hand: the frames of
-//! the whole conversation up to some place, and then a final message.
+//! One conversation has a relayed message, an HLO, a PRN and a HUH; the other has a name, an HLO and a press message.
+//! Both are received in single bytes, with one byte a put. The bytes that each side may get are worked out from the
+//! protocol: the frames of the whole conversation up to some point, and then a final message.
 
 use crate::relays::{NEVER, sent};
 use crate::script::WIDEST;
@@ -21,7 +21,7 @@ const HLO: &[u8] = &[
     0x40, 0, 0x40, 0, 0x49, 0x03, 0, 0x0A, 0x40, 0x01, 0x40, 0x01,
 ];
 
-/// What both sides say, what each is sent where nothing breaks, and how many bytes that is.
+/// The reads of both sides; the frames that each side gets if nothing breaks, and their length in bytes.
 #[derive(Clone, Copy)]
 pub struct Conversation {
     bot: Script<'static>,
@@ -30,14 +30,14 @@ pub struct Conversation {
     to_server: (&'static [&'static [u8]], usize),
 }
 
-/// The RM, and an HLO, both of which came before the bot's next message.
+/// The RM and an HLO, both received before the bot's next message.
 const FROM_THE_SERVER: Script<'static> = Script {
     pulls: &[ScriptedRead::Bytes(&[1, 0, 0, 0]), ScriptedRead::Bytes(HLO)],
     puts: &[],
 };
 
-/// The IM; then OBS, which goes on; `GOF (`, which gets PRN; and an empty message, which gets HUH. The bot is sent the
-/// RM, the HLO, PRN and HUH, and the server the IM and OBS.
+/// The IM; then OBS, which is relayed; `GOF (`, which gets PRN; and an empty message, which gets HUH. The bot gets the
+/// RM, the HLO, PRN and HUH; the server gets the IM and OBS.
 pub const ANSWERS: Conversation = Conversation {
     bot: Script {
         pulls: &[
@@ -77,7 +77,8 @@ const PRESS: &[u8] = &[
     0x10, 0x40, 0, 0x41, 0x01, 0x41, 0x02, 0x40, 0x01, 0x40, 0x01, 0x40, 0x01,
 ];
 
-/// The IM; then a name, and press, both of which go on: the HLO came before the header of the press.
+/// The IM; then a name and a press message, both relayed, since the HLO is received before the header of the press
+/// message.
 const PRESS_GOES_ON: Conversation = Conversation {
     bot: Script {
         pulls: &[
@@ -95,7 +96,7 @@ const PRESS_GOES_ON: Conversation = Conversation {
 /// A final message.
 const FM: &[u8] = &[3, 0, 0, 0];
 
-/// Where a conversation breaks: a put to a side fails, or else a pull from it ends; by the number of the call, from 1.
+/// The call at which a conversation breaks: the put to a side, or the pull from it, with this number, counted from 1.
 #[derive(Clone, Copy)]
 pub struct Break {
     pub is_put: bool,
@@ -104,14 +105,14 @@ pub struct Break {
 }
 
 impl Break {
-    /// Whether this call breaks.
+    /// Returns whether the conversation breaks at this call.
     fn is_at(self, is_put: bool, side: Side, number: usize) -> bool {
         self.is_put == is_put && self.side == side && self.number == number
     }
 }
 
-/// Ports that give and take a byte at a time, and break once. The bot waits after its IM until the RM has come, and the
-/// server until the IM has.
+/// Ports that return and accept one byte a call, and break once. The bot is idle after its IM until the RM was
+/// received, and the server until the IM was.
 #[derive(Drop)]
 pub struct Breaking {
     pub ports: MemoryPorts<'static>,
@@ -123,7 +124,7 @@ pub struct Breaking {
     server_puts: usize,
 }
 
-/// Ports of a conversation before their first call, which break there.
+/// Creates the ports of a conversation that breaks at a call.
 pub fn breaking_at(alloc: Global, conversation: Conversation, at: Break) -> Breaking {
     Breaking {
         ports: MemoryPorts::new(alloc, conversation.bot, conversation.server, NEVER),
@@ -136,14 +137,14 @@ pub fn breaking_at(alloc: Global, conversation: Conversation, at: Break) -> Brea
     }
 }
 
-/// One more of a count, which it answers.
+/// Increments a count, and returns it.
 fn count(number: &mut usize) -> usize {
     *number = number.saturating_add(1);
     *number
 }
 
 impl Breaking {
-    /// How many calls were made: pulls from the bot and the server, puts to the bot and the server.
+    /// Returns the numbers of calls: pulls from the bot and the server, puts to the bot and the server.
     pub fn counts(&self) -> [usize; 4] {
         [
             self.bot_pulls,
@@ -153,7 +154,7 @@ impl Breaking {
         ]
     }
 
-    /// The number of this pull, and whether the side has nothing to say yet.
+    /// Returns the number of the next pull, and whether the side has nothing to send yet.
     fn next_pull(&mut self, side: Side) -> (usize, bool) {
         match side {
             Bot => {
@@ -167,7 +168,7 @@ impl Breaking {
         }
     }
 
-    /// The number of this put.
+    /// Returns the number of the next put.
     fn next_put(&mut self, side: Side) -> usize {
         match side {
             Bot => count(&mut self.bot_puts),
@@ -206,8 +207,8 @@ impl Ports for Breaking {
     }
 }
 
-/// Whether bytes are some of the frames, from the first on, and then perhaps a final message; of a wire that failed the
-/// last frame may be there in part.
+/// Returns whether the bytes are a prefix of the frames, optionally followed by a final message. If a put failed, the
+/// last frame may be incomplete.
 fn are_sent(bytes: &[u8], frames: &[&[u8]], failed: bool) -> bool {
     let mut rest = bytes;
     for frame in frames {
@@ -223,7 +224,7 @@ fn are_sent(bytes: &[u8], frames: &[&[u8]], failed: bool) -> bool {
     rest.is_empty() || rest == FM || (failed && FM.starts_with(rest))
 }
 
-/// A side was sent whole frames of its own, and all of them where nothing broke.
+/// Checks that a side got whole frames of its own, and all of them if nothing broke.
 fn assert_sent_well(alloc: Global, ports: &Breaking, side: Side, is_all: bool) -> Result<(), Fail> {
     let bytes = sent(alloc, ports.ports.calls().unwrap_or(&[]), side)?;
     let failed = ports.at.is_put && ports.at.side == side;
@@ -235,16 +236,17 @@ fn assert_sent_well(alloc: Global, ports: &Breaking, side: Side, is_all: bool) -
     holds(!is_all || bytes.len() == count, "all was sent")
 }
 
-/// At most so many turns.
+/// The most turns of a relay.
 pub const TURNS: u64 = 400;
 
-/// The end of a relay of a fresh session over ports that break.
+/// Relays a new session over ports that break, and returns the end of the relay.
 pub fn end_of(alloc: Global, ports: &mut Breaking) -> Result<RelayEnd, Fail> {
     let mut session = Session::new(alloc, WIDEST)?;
     Ok(relay(&mut session, ports, TURNS))
 }
 
-/// Relays a conversation, which breaks there, looks at what each side was sent, and answers whether it was closed.
+/// Relays a conversation that breaks at a call, checks the bytes of each side, and returns whether the session was
+/// closed.
 fn is_closed_well(alloc: Global, conversation: Conversation, at: Break) -> Result<bool, Fail> {
     let mut ports = breaking_at(alloc, conversation, at);
     let is_closed = end_of(alloc, &mut ports)? == RelayEnd::Closed;
@@ -253,10 +255,10 @@ fn is_closed_well(alloc: Global, conversation: Conversation, at: Break) -> Resul
     Ok(is_closed)
 }
 
-/// Whether it is a put that breaks, or a pull, and of which side.
+/// The kinds of breaks: whether a put or a pull, and the side.
 pub const KINDS: &[(bool, Side)] = &[(false, Bot), (false, Server), (true, Bot), (true, Server)];
 
-/// How many conversations that break at calls of this number are closed.
+/// Returns how many conversations that break at calls of this number are closed.
 fn closed_at(alloc: Global, conversation: Conversation, number: usize) -> Result<usize, Fail> {
     let mut closed = 0_usize;
     for (is_put, side) in KINDS {
@@ -272,7 +274,7 @@ fn closed_at(alloc: Global, conversation: Conversation, number: usize) -> Result
     Ok(closed)
 }
 
-/// A conversation that breaks at each of its first calls is closed so often, at least.
+/// Checks that at least `least` conversations are closed, of those that break at each of the first calls.
 fn assert_closed(
     alloc: Global,
     conversation: Conversation,
@@ -288,8 +290,8 @@ fn assert_closed(
 
 #[test]
 fn ends_and_failures_at_every_place(rt: HostRuntime) -> Result<(), Fail> {
-    // 60 puts to the bot, 14 to the server, and their pulls up to the last that gives a byte, of which the bot waits
-    // for 32 and the server for 20
+    // 60 puts to the bot and 14 to the server; their pulls up to the last one that returns a byte, 32 of the bot's and
+    // 20 of the server's being idle
     let least = 60 + 14 + (26 + 32) + (34 + 20);
     assert_closed(rt.alloc(), ANSWERS, 109, least)
 }

@@ -1,5 +1,5 @@
-//! Two sessions in a hub, one of which breaks: at every place of its conversation a side's stream ends, or the wire
-//! toward it fails. It ends as it does alone, and the other's calls and bytes are what they are alone.
+//! Two sessions in a hub, one of which breaks. At every point of its conversation a side's stream ends, or a write to
+//! it fails. It ends as it does alone, and the calls and bytes of the other are those that it has alone.
 
 use crate::breaks::{ANSWERS, Break, Breaking, KINDS, TURNS, breaking_at, end_of};
 use crate::relays::sent;
@@ -10,21 +10,21 @@ use daide_test_support::rows::holds;
 use std::alloc::Global;
 use std::test::Fail;
 
-/// No call has the number 0, so nothing breaks.
+/// A break at no call: calls are counted from 1.
 const NOWHERE: Break = Break {
     is_put: false,
     side: Bot,
     number: 0,
 };
 
-/// The ports of a relay alone, which breaks there.
+/// Returns the ports of a session that breaks at a call, relayed alone.
 fn alone_at(alloc: Global, at: Break) -> Result<Breaking, Fail> {
     let mut ports = breaking_at(alloc, ANSWERS, at);
     end_of(alloc, &mut ports)?;
     Ok(ports)
 }
 
-/// As many calls of each kind were made of these ports as of those of a session alone, and its wires took the same.
+/// Checks that these ports had as many calls of each kind as those of a session alone, and accepted the same bytes.
 fn assert_as_alone(alloc: Global, ports: &Breaking, alone: &Breaking) -> Result<(), Fail> {
     let calls = ports.ports.calls().unwrap_or(&[]);
     let alone_calls = alone.ports.calls().unwrap_or(&[]);
@@ -43,7 +43,7 @@ fn turn_each(hub: &mut Hub<Breaking>) {
     }
 }
 
-/// The ports of the session at a place, which is taken out if it is closed.
+/// Takes out the session at an index if it is closed, and returns its ports.
 fn take_out(hub: &mut Hub<Breaking>, place: usize) -> Option<Breaking> {
     if place < hub.count() {
         hub.remove_over(place).map(|removed| removed.ports)
@@ -52,8 +52,8 @@ fn take_out(hub: &mut Hub<Breaking>, place: usize) -> Option<Breaking> {
     }
 }
 
-/// Turns the sessions of a hub round by round, as many turns each as a relay makes. The ports of the session at a
-/// place, if it was closed: it is taken out then, and the other one goes on.
+/// Turns the sessions of a hub round by round, as many turns each as a relay makes. Takes out the session at an index
+/// once it is closed, and returns its ports; the other one goes on.
 fn play(hub: &mut Hub<Breaking>, place: usize) -> Option<Breaking> {
     let mut out = None;
     for _round in 0..TURNS {
@@ -65,7 +65,7 @@ fn play(hub: &mut Hub<Breaking>, place: usize) -> Option<Breaking> {
     out
 }
 
-/// A hub of two sessions, which break there.
+/// Creates a hub of two sessions, which break at these calls.
 fn hub_of(alloc: Global, first: Break, second: Break) -> Result<Hub<Breaking>, Fail> {
     let mut hub = Hub::new(alloc, WIDEST, 2)?;
     for at in [first, second] {
@@ -77,7 +77,7 @@ fn hub_of(alloc: Global, first: Break, second: Break) -> Result<Hub<Breaking>, F
     Ok(hub)
 }
 
-/// The last session of a hub went as it does alone.
+/// Checks that the last session of a hub had the same calls and bytes as alone.
 fn assert_last(alloc: Global, hub: &Hub<Breaking>, alone: &Breaking) -> Result<(), Fail> {
     match hub.count() {
         0 => Err(Fail::new("no session is left")),
@@ -85,7 +85,7 @@ fn assert_last(alloc: Global, hub: &Hub<Breaking>, alone: &Breaking) -> Result<(
     }
 }
 
-/// Beside a session that breaks nowhere, at place 1 or 0, one at the other place breaks there. Answers whether it was
+/// Runs a session that breaks at a call beside one that breaks nowhere, and checks both. Returns whether the first was
 /// closed.
 fn goes_as_alone(alloc: Global, at: Break, is_first: bool, whole: &Breaking) -> Result<bool, Fail> {
     let (mut hub, place) = if is_first {
@@ -106,7 +106,7 @@ fn goes_as_alone(alloc: Global, at: Break, is_first: bool, whole: &Breaking) -> 
     }
 }
 
-/// How many sessions that break at calls of this number were closed, each beside one that goes on.
+/// Returns how many sessions that break at calls of this number were closed, each beside one that goes on.
 fn closed_at(alloc: Global, number: usize, whole: &Breaking) -> Result<usize, Fail> {
     let mut closed = 0_usize;
     for (is_put, side) in KINDS {

@@ -1,4 +1,4 @@
-//! Two sessions in a row, as two gateways stand between a bot and a server, and the deepest messages through one.
+//! Two sessions in a chain, like two gateways between a bot and a server, and the deepest messages through one session.
 
 use crate::script::Act::{Says, Sees};
 use crate::script::{
@@ -10,7 +10,7 @@ use daide_session::session::Session;
 use std::alloc::Global;
 use std::test::Fail;
 
-/// What waits for a side of one session comes from a side of the other, as much as it has room for.
+/// Moves the bytes queued for a side of one session to a side of the other, as many as it has room for.
 fn hand_on(from: &mut Session, to_side: Side, to: &mut Session, from_side: Side) {
     for _piece in 0..64 {
         let front = from.front(to_side);
@@ -27,10 +27,10 @@ struct Chain {
     far: Script,
 }
 
-/// What an end says, and what reaches the bot and the server then.
+/// An end, the bytes that it sends, and the bytes that the bot and the server then get.
 type Line = (Side, &'static str, &'static str, &'static str);
 
-/// The widest limits but for this depth.
+/// Returns the widest limits with this depth limit.
 fn config_of(max_depth: u16) -> Config {
     Config {
         max_depth,
@@ -38,14 +38,14 @@ fn config_of(max_depth: u16) -> Config {
     }
 }
 
-/// Two sessions of these depths.
+/// Creates two sessions with these depth limits.
 fn chain_of(alloc: Global, near_depth: u16, far_depth: u16) -> Result<Chain, Fail> {
     let near = script_of(alloc, config_of(near_depth))?;
     let far = script_of(alloc, config_of(far_depth))?;
     Ok(Chain { near, far })
 }
 
-/// A byte of a side comes, where there is room for it.
+/// Feeds a side's byte, if there is room for it.
 fn hear_byte(session: &mut Session, side: Side, byte: u8) {
     if session.room(side) > 0 {
         session.feed(side, &[byte]);
@@ -53,7 +53,7 @@ fn hear_byte(session: &mut Session, side: Side, byte: u8) {
 }
 
 impl Chain {
-    /// Hands on what waits between the two until both rest, and takes what waits at both ends.
+    /// Moves the bytes between the two sessions until neither has any, and takes the bytes queued at both ends.
     fn settle(&mut self) -> Result<(), Fail> {
         for _round in 0..4 {
             hand_on(&mut self.near.session, Server, &mut self.far.session, Bot);
@@ -64,7 +64,7 @@ impl Chain {
         Ok(())
     }
 
-    /// One end sends bytes, one by one.
+    /// Feeds the bytes of one end, one by one.
     fn say(&mut self, side: Side, bytes: &[u8]) -> Result<(), Fail> {
         for byte in bytes {
             match side {
@@ -76,7 +76,7 @@ impl Chain {
         Ok(())
     }
 
-    /// One end says this, and just that reaches the two ends.
+    /// Checks that exactly these bytes reach the two ends after one end sent its bytes.
     fn assert_line(&mut self, alloc: Global, line: &Line) -> Result<(), Fail> {
         let (side, text, to_bot, to_server) = line;
         let bytes = bytes_of(alloc, text)?;
@@ -85,7 +85,7 @@ impl Chain {
         self.far.assert_sent(alloc, Server, to_server)
     }
 
-    /// Lines one after the other.
+    /// Checks lines, in order.
     fn assert_lines(&mut self, alloc: Global, lines: &[Line]) -> Result<(), Fail> {
         for line in lines {
             self.assert_line(alloc, line)?;
@@ -93,17 +93,17 @@ impl Chain {
         Ok(())
     }
 
-    /// The IM and the RM go through, and then these lines.
+    /// Checks the IM and the RM, and then these lines.
     fn assert_opened(&mut self, alloc: Global, lines: &[Line]) -> Result<(), Fail> {
         self.assert_lines(alloc, OPENING_LINES)?;
         self.assert_lines(alloc, lines)
     }
 }
 
-/// The IM and the RM go through.
+/// The IM and the RM, each forwarded to the other end.
 const OPENING_LINES: &[Line] = &[(Bot, IM, "", IM), (Server, RM, RM, "")];
 
-/// Through two fresh sessions of these depths the IM and the RM go, and then these lines.
+/// Checks these lines, after the IM and the RM, in a new chain with these depth limits.
 fn assert_chain(
     alloc: Global,
     near_depth: u16,
@@ -146,7 +146,7 @@ fn gateway_next_to_the_sender_answers_alone(rt: HostRuntime) -> Result<(), Fail>
     assert_chain(rt.alloc(), 62, 62, ANSWERED_AT_ONCE)
 }
 
-// HUH and five brackets, and the answer of a gateway with a depth of four
+// HUH with five brackets, and the answer of a gateway with a depth limit of four
 const FIVE: &str = "02 00 00 16  48 06 40 00 40 00 40 00 40 00 40 00 40 01 40 01 40 01 40 01 40 01";
 
 const ANSWER_TO_FIVE: &str = "02 00 00 1E  48 06 40 00 48 06 40 00 40 00 40 00 40 00 49 02 40 00 \
@@ -162,14 +162,14 @@ fn huh_of_the_far_gateway_is_relayed_and_not_answered(rt: HostRuntime) -> Result
     assert_chain(rt.alloc(), 4, 62, OF_THE_SERVER)
 }
 
-/// What a gateway sends to its bot for `GOF (`, and for `PRN (`; and to its server for `OFF (`.
+/// The answers of a gateway to its bot's `GOF (` and `PRN (`, and to its server's `OFF (`.
 const PRN_OF_GOF: &str = "02 00 00 0A 48 13 40 00 48 03 40 00 40 01";
 
 const PRN_OF_PRN: &str = "02 00 00 0C 48 13 40 00 48 13 40 00 40 00 40 01";
 
 const PRN_OF_OFF: &str = "02 00 00 0A 48 13 40 00 48 10 40 00 40 01";
 
-/// It comes to a second gateway as its server's.
+/// Each answer is then fed to a second gateway, as its server's message.
 const PRNS_OF_A_GATEWAY: &[Scene] = &[
     (&[Says(Bot, "02 00 00 04  48 03 40 00")], PRN_OF_GOF, ""),
     (&[Says(Server, PRN_OF_GOF)], PRN_OF_GOF, ""),
@@ -186,7 +186,7 @@ fn prn_of_one_gateway_is_relayed_by_the_next_and_not_answered(rt: HostRuntime) -
     assert_scenes(rt.alloc(), true, PRNS_OF_A_GATEWAY)
 }
 
-/// The same of the server: what one gateway sends to its server comes to a second one as its bot's.
+/// The same for the server: the answer of one gateway to its server is fed to a second one as its bot's message.
 const PRNS_TO_A_SERVER: &[Scene] = &[
     (&[Says(Server, "02 00 00 04  48 10 40 00")], "", PRN_OF_OFF),
     (&[Says(Bot, PRN_OF_OFF)], "", PRN_OF_OFF),
@@ -197,8 +197,8 @@ fn prn_to_a_server_is_relayed_by_the_next_and_not_answered(rt: HostRuntime) -> R
     assert_scenes(rt.alloc(), true, PRNS_TO_A_SERVER)
 }
 
-/// As many brackets as may be open go on, of either side, and one more gets HUH: ERR comes before it. 62 brackets make
-/// 125 tokens; one bracket more makes two tokens more, and its answer four beside.
+/// A message with as many brackets as allowed is relayed from either side, and one more bracket gets HUH, with ERR
+/// before it. 62 brackets are 125 tokens. One more bracket adds two tokens, and its answer four more.
 const AT_62: &[Scene] = &[(
     &[
         Says(Bot, "02 00 00 FA  48 06  62*4000  62*4001"),
@@ -219,7 +219,7 @@ const AT_62: &[Scene] = &[(
     "02 00 01 06  48 06 40 00  48 06  62*4000  49 02 40 00  64*4001",
 )];
 
-/// The same of 254, which make 509 tokens.
+/// The same with 254 brackets, which are 509 tokens.
 const AT_254: &[Scene] = &[(
     &[
         Says(Bot, "02 00 03 FA  48 06  254*4000  254*4001"),

@@ -1,7 +1,7 @@
-//! Frames that are cut after each byte: the side's stream ends there, and nothing of the frame goes on.
+//! Frames that are cut after each byte: the side's stream ends there, and nothing of the frame is forwarded.
 //!
-//! The expected bytes were worked out by hand: a frame that is not whole is dropped, and the other side gets an FM, if
-//! it may be reached.
+//! The expected bytes are worked out from the protocol: an incomplete frame is dropped, and the other side gets an FM
+//! if it may be sent one.
 
 use crate::script::Act::Ends;
 use crate::script::{IM, PIECES, RM, WIDEST, bytes_of, script_of};
@@ -12,13 +12,13 @@ use std::test::Fail;
 /// A final message.
 const FM: &str = "03 00 00 00";
 
-/// A frame that is cut: whether the IM and the RM came before it, whose it is, and the frame.
+/// Whether the IM and the RM precede the frame | the side that sends it | the frame.
 type Row = (bool, Side, &'static str);
 
-/// The frames of the first worked examples, each with a header that is good.
+/// The frames of the first worked examples, each with a valid header.
 #[rattlefmt::skip]
 const FRAMES: &[Row] = &[
-    // before the IM, nothing reaches the server
+    // before the IM, nothing is sent to the server
     (false, Bot, IM),
     (false, Server, RM),
     // OBS, and a name
@@ -37,17 +37,17 @@ const FRAMES: &[Row] = &[
     (true, Bot, "02 00 00 06  48 13 40 00 40 00"),
     // GOF ) (
     (true, Bot, "02 00 00 06  48 03 40 01 40 00"),
-    // the same of the server: NOW, an FM and an EM
+    // frames of the server: NOW, an FM and an EM
     (true, Server, "02 00 00 0A  48 0E 40 00 47 00 07 6D 40 01"),
     (true, Server, "03 00 00 00"),
     (true, Server, "04 00 00 02 00 FF"),
-    // a wrong length, and one above the cap, which are faults at the fourth byte
+    // a wrong length, and a length above the cap, which are faults at the fourth byte
     (true, Bot, "02 00 00 03"),
     (true, Bot, "02 00 FF FE"),
 ];
 
-/// The other side gets an FM of a side that ended here, and its own side nothing; before the IM only the bot may be
-/// reached.
+/// Returns the bytes sent to the bot and to the server if a side ended: an FM for the other side, and nothing for its
+/// own. Before the IM nothing is sent to the server.
 fn sent_at_an_end(is_open: bool, side: Side) -> (&'static str, &'static str) {
     match side {
         Bot if is_open => ("", FM),
@@ -56,7 +56,7 @@ fn sent_at_an_end(is_open: bool, side: Side) -> (&'static str, &'static str) {
     }
 }
 
-/// The side ends after these bytes, which are no whole frame.
+/// Checks the bytes sent if the side ends after these bytes, which are an incomplete frame.
 fn assert_cut(
     alloc: Global,
     is_open: bool,
@@ -75,7 +75,7 @@ fn assert_cut(
     script.assert_sent(alloc, Server, to_server)
 }
 
-/// A frame is cut before each of its bytes.
+/// Checks a frame that is cut before each of its bytes.
 fn assert_cuts(alloc: Global, row: &Row, piece: usize) -> Result<(), Fail> {
     let (is_open, side, frame) = row;
     let bytes = bytes_of(alloc, frame)?;
@@ -95,7 +95,7 @@ fn frame_cut_at_each_byte_goes_nowhere(rt: HostRuntime) -> Result<(), Fail> {
     Ok(())
 }
 
-/// The longest message, of 32,763 times GOF.
+/// The longest message: 32,763 times GOF.
 const LONGEST: &str = "02 00 FF F6  32763*4803";
 
 #[test]

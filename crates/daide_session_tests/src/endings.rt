@@ -1,4 +1,4 @@
-//! How sessions end, and what they counted till then.
+//! How sessions end, and their counts.
 
 use crate::script::{Act, IM, Look, RM, WIDEST, assert_acts, script_of};
 use daide_frame::code::Code;
@@ -7,21 +7,21 @@ use daide_session::session::Ending;
 use std::alloc::Global;
 use std::test::Fail;
 
-/// A message of a bot, one whose bracket is not closed, and a word that is no message of either side.
+/// A message of a bot. The next ones are one with an unclosed bracket, and one that is valid from neither side.
 const OBS: &str = "02 00 00 02 480F";
 
 const UNCLOSED: &str = "02 00 00 04 4803 4000";
 
 const NO_MESSAGE: &str = "02 00 00 02 4806";
 
-/// Frames come whole.
+/// The size of a piece that has any frame whole.
 const WHOLE: usize = 65_530;
 
 const FM: &str = "03 00 00 00";
 
 const EM: &str = "04 00 00 02 00 09";
 
-/// Each is played in a session that relayed three frames, and answered one by PRN and two by HUH.
+/// A session that relayed three frames, and answered one with PRN and two with HUH.
 const AT_WORK: &[Act] = &[
     Act::Sees(Look::Ending(None, [0, 0, 0, 0])),
     Act::Says(Bot, IM),
@@ -33,7 +33,7 @@ const AT_WORK: &[Act] = &[
     Act::Sees(Look::Ending(None, [3, 1, 2, 0])),
 ];
 
-/// What could have ended it, once it is over.
+/// Events that could have ended the session, after it is over.
 const LATER: &[Act] = &[
     Act::ImTimerExpired,
     Act::Says(Bot, FM),
@@ -44,7 +44,7 @@ const LATER: &[Act] = &[
     Act::Loses(Server),
 ];
 
-/// What ends a session at work, which event it tells then, and its counts.
+/// The event that ends the session | its ending | its counts.
 const ENDINGS: &[(Act, Ending, [u64; 4])] = &[
     (Act::Ends(Bot), Ending::Ended(Bot), [3, 1, 2, 0]),
     (Act::Ends(Server), Ending::Ended(Server), [3, 1, 2, 0]),
@@ -66,7 +66,7 @@ const ENDINGS: &[(Act, Ending, [u64; 4])] = &[
     ),
 ];
 
-/// A session at work ends by an act, and stays as it is seen then.
+/// Checks the ending and the counts after an event, and that later events do not change them.
 fn assert_end(alloc: Global, row: &(Act, Ending, [u64; 4])) -> Result<(), Fail> {
     let (ends, ending, counts) = *row;
     let sees = Act::Sees(Look::Ending(Some(ending), counts));
@@ -86,7 +86,7 @@ fn first_event_that_ends_a_session_is_told(rt: HostRuntime) -> Result<(), Fail> 
     Ok(())
 }
 
-/// Before the IM: the timer, and an FM that goes nowhere and is counted nowhere.
+/// Before the IM: the timer, and an FM that is dropped and not counted.
 const FIRST: &[&[Act]] = &[
     &[
         Act::ImTimerExpired,

@@ -1,4 +1,4 @@
-//! How often a session takes memory, and how much: twice, in `new`, a body each.
+//! The allocations of a session: two, in `new`, one for each body.
 
 use crate::script::{IM, PIECES, RM, Sent, bytes_of};
 use daide_frame::side::Side::{self, Bot, Server};
@@ -16,7 +16,7 @@ const CONFIG: Config = Config {
     max_depth: 62,
 };
 
-/// A heap that has nothing left but two holes of these sizes, apart from each other: `walls` keep the rest.
+/// Fills a heap but for two separate holes of these sizes. The walls that are returned keep the rest allocated.
 fn holes_of<'a>(
     heap: &'a LocalHeap,
     first: usize,
@@ -31,7 +31,7 @@ fn holes_of<'a>(
     Ok((wall, last))
 }
 
-/// The sizes of two holes, and whether a session finds room in them.
+/// The sizes of two holes | whether a session can be allocated in them.
 const HOLES: &[(usize, usize, bool)] = &[
     (0, 0, false),
     (512, 0, false),
@@ -44,7 +44,7 @@ const HOLES: &[(usize, usize, bool)] = &[
     (496, 1024, true),
 ];
 
-/// A session in a heap, with an operator's words or without.
+/// Creates a session on a heap, with an operator's words or without.
 fn session_in(heap: &LocalHeap, has_words: bool) -> Result<Session<&LocalHeap>, SessionError> {
     if has_words {
         return Session::with_words(heap, CONFIG, two_words());
@@ -52,7 +52,7 @@ fn session_in(heap: &LocalHeap, has_words: bool) -> Result<Session<&LocalHeap>, 
     Session::new(heap, CONFIG)
 }
 
-/// Beside two walls of 16 bytes a session takes 1,024 bytes, or none where it is refused.
+/// Checks that a session takes 1,024 bytes beside two walls of 16 bytes, or none if it is refused.
 fn assert_taken(heap: &LocalHeap, has_words: bool, is_enough: bool) -> Result<(), Fail> {
     holds(heap.used() == 32, "two walls")?;
     match session_in(heap, has_words) {
@@ -70,7 +70,7 @@ fn assert_taken(heap: &LocalHeap, has_words: bool, is_enough: bool) -> Result<()
     }
 }
 
-/// The same of a heap with two holes of these sizes.
+/// The same on a heap with two holes of these sizes.
 fn assert_taken_of_holes(
     alloc: Global,
     first: usize,
@@ -93,7 +93,7 @@ fn new_takes_two_bodies_and_no_byte_more(rt: HostRuntime) -> Result<(), Fail> {
     Ok(())
 }
 
-/// All that a session can be told before its end: relays, answers, HLO and press, and the longest bodies.
+/// All kinds of frames before a session's end: relayed messages, answers, an HLO, press, and the longest bodies.
 #[rattlefmt::skip]
 const TOLD: &[(Side, &str)] = &[
     (Bot, IM),
@@ -104,12 +104,12 @@ const TOLD: &[(Side, &str)] = &[
     (Server, "02 00 00 02  48 0F"),
     (Server, "02 00 00 1A  48 04 40 00 41 01 40 01 40 00 04 D2 40 01 40 00 40 00 49 03 00 0A 40 01 40 01"),
     (Bot, "02 00 00 1C  48 17 40 00 41 02 40 01 40 00 4A 13 40 00 4A 10 40 00 41 01 41 02 40 01 40 01 40 01"),
-    // a message of 512 bytes: HUH and 255 times GOF, and so a word too many after its first
+    // a message of 512 bytes: HUH and 255 times GOF, so that it has one token too many
     (Bot, "02 00 02 00  48 06  255*4803"),
     (Server, "02 00 02 00  48 06  255*4803"),
 ];
 
-/// A session in a heap, which is as full as it is after each step, and what it sent.
+/// A session on a heap, which must stay as full as it is now, and the bytes that it sent.
 #[derive(Drop)]
 struct Watched<'a> {
     session: Session<&'a LocalHeap>,
@@ -119,13 +119,13 @@ struct Watched<'a> {
 }
 
 impl Watched<'_> {
-    /// A side's bytes come, and take no memory.
+    /// Feeds a side's bytes, and checks that no memory is allocated.
     fn hear(&mut self, side: Side, bytes: &[u8], piece: usize) -> Result<(), Fail> {
         self.sent.hear(&mut self.session, side, bytes, piece)?;
         holds(self.heap.used() == self.used, "memory is taken")
     }
 
-    /// What is told in turn takes no memory.
+    /// Feeds all frames in order, and checks that no memory is allocated.
     fn hear_all(&mut self, alloc: Global, piece: usize) -> Result<(), Fail> {
         for (side, text) in TOLD {
             let bytes = bytes_of(alloc, text)?;
@@ -134,7 +134,7 @@ impl Watched<'_> {
         Ok(())
     }
 
-    /// The bot's end takes no memory either.
+    /// Ends the bot's stream, and checks that no memory is allocated.
     fn end(&mut self) -> Result<(), Fail> {
         self.session.ended(Bot);
         self.sent.deliver(&mut self.session)?;
@@ -143,7 +143,7 @@ impl Watched<'_> {
     }
 }
 
-/// A session in a heap, which takes two bodies.
+/// Creates a session on a heap, which allocates two bodies.
 fn watched_in(alloc: Global, heap: &LocalHeap) -> Result<Watched<'_>, Fail> {
     let session = Session::new(heap, CONFIG)?;
     let used = heap.used();
@@ -155,7 +155,7 @@ fn watched_in(alloc: Global, heap: &LocalHeap) -> Result<Watched<'_>, Fail> {
     })
 }
 
-/// What a whole session in a heap sent, whose two bodies are all that it takes.
+/// Returns the bytes that a session on a heap sent up to its end. Checks that it allocated only its two bodies.
 fn sent_over(alloc: Global, heap: &LocalHeap, piece: usize) -> Result<Sent, Fail> {
     let mut watched = watched_in(alloc, heap)?;
     watched.hear_all(alloc, piece)?;
@@ -164,17 +164,17 @@ fn sent_over(alloc: Global, heap: &LocalHeap, piece: usize) -> Result<Sent, Fail
     Ok(watched.sent)
 }
 
-/// The same in a heap of so many bytes. One that has room for the two bodies alone is full once the session is made.
+/// The same on a heap of this size. If it has room only for the two bodies, it is full once the session is created.
 fn sent_in(alloc: Global, bytes: usize, piece: usize) -> Result<Sent, Fail> {
     let heap = LocalHeap::new(alloc, bytes)?;
     sent_over(alloc, &heap, piece)
 }
 
-/// How much was sent to both sides: the frames that are told, 512 + 8 + 4 bytes of HUH for each longest message, and an
-/// FM.
+/// The number of bytes sent to both sides: the frames that are relayed, 512 + 8 + 4 bytes of HUH for each longest
+/// message, and an FM.
 const SENT: usize = 8 + 4 + 18 + 14 + 14 + 14 + 30 + 32 + 2 * 524 + 4;
 
-/// In an ample heap and in one of two bodies the same is sent.
+/// Checks that the same bytes are sent on a large heap and on one that has room only for two bodies.
 fn assert_sent_alike(alloc: Global, piece: usize) -> Result<(), Fail> {
     let want = sent_in(alloc, 65_536, piece)?;
     let sent = sent_in(alloc, 1024, piece)?;
@@ -192,7 +192,7 @@ fn nothing_is_taken_after_new(rt: HostRuntime) -> Result<(), Fail> {
     Ok(())
 }
 
-/// The IM, the RM, the bot's `GOF (`, and what the bot gets: the RM, and PRN ( GOF ( )
+/// The IM, the RM and the bot's `GOF (`. The bytes that the bot gets follow: the RM and PRN ( GOF ( ).
 const SAID: &[(Side, &[u8])] = &[
     (Bot, &[0, 0, 0, 4, 0, 1, 0xDA, 0x10]),
     (Server, &[1, 0, 0, 0]),
@@ -203,7 +203,8 @@ const ANSWERED: &[u8] = &[
     1, 0, 0, 0, 2, 0, 0, 10, 0x48, 0x13, 0x40, 0, 0x48, 0x03, 0x40, 0, 0x40, 1,
 ];
 
-/// Takes what waits for both wires, which stores none of it. The bot gets the start of this; what is left is answered.
+/// Takes the bytes queued for both sides without storing them. Checks that the bot gets a prefix of `want`, and returns
+/// the rest.
 fn take_fronts<'a>(session: &mut Session, want: &'a [u8]) -> Result<&'a [u8], Fail> {
     let mut left = want;
     for _front in 0..4 {
@@ -219,7 +220,7 @@ fn take_fronts<'a>(session: &mut Session, want: &'a [u8]) -> Result<&'a [u8], Fa
     Ok(left)
 }
 
-/// A side says bytes one by one, of which what the bot gets is the start of this; what is left is answered.
+/// Feeds a side's bytes, one by one. Checks that the bot gets a prefix of `want`, and returns the rest.
 fn say_bytes<'a>(
     session: &mut Session,
     side: Side,
@@ -236,7 +237,7 @@ fn say_bytes<'a>(
     Ok(left)
 }
 
-/// Both sides say all of it, and the bot gets all that is answered.
+/// Feeds the bytes of both sides, and checks that the bot gets all its answers.
 fn say_all(session: &mut Session) -> Result<(), Fail> {
     let mut left = ANSWERED;
     for (side, bytes) in SAID {
@@ -245,9 +246,9 @@ fn say_all(session: &mut Session) -> Result<(), Fail> {
     holds(left.is_empty(), "the bot gets all of it")
 }
 
-/// Under `rt try --test --fail-alloc N` the Nth growth of this test is refused. The first and the second are the
-/// session's own; the third is the test's, after all that was said, so no growth of the session stands before or
-/// between them, even one that is let go at once. `scripts/refused-growths` runs it so.
+/// `rt try --test --fail-alloc N` refuses the Nth allocation of this test. The first and the second are the session's
+/// own. The third is the test's, after all bytes were fed. So the session makes no allocation before or between them,
+/// not even one that it frees at once. `scripts/refused-growths` runs the test in this way.
 #[test]
 fn third_growth_is_not_the_sessions(rt: HostRuntime) -> Result<(), Fail> {
     let mut session = Session::new(rt.alloc(), CONFIG)?;

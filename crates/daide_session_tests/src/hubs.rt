@@ -1,4 +1,4 @@
-//! Many sessions in one loop: places, refusals, and that none hears of another.
+//! Many sessions in one hub: their indices, refusals, and their independence.
 
 use crate::relays::{NEVER, OPENS, QUIET, assert_sent};
 use crate::script::{WIDEST, bytes_of};
@@ -13,7 +13,7 @@ use linked_list_allocator::LocalHeap;
 use std::alloc::Global;
 use std::test::Fail;
 
-/// Limits and sizes of a hub, and the fault that is told, if one is.
+/// The level limit | the size of a hub | the fault, if there is one.
 const SIZES: &[(u16, usize, Option<HubError>)] = &[
     (65, 0, Some(HubError::Config(ConfigError::Level))),
     (60, 0, Some(HubError::Sessions)),
@@ -41,7 +41,7 @@ const FINISHES: Script<'static> = Script {
     puts: &[],
 };
 
-/// A bot that opens.
+/// A bot that sends its IM.
 const BEGINS: Script<'static> = Script {
     pulls: &[
         ScriptedRead::Idle,
@@ -50,13 +50,13 @@ const BEGINS: Script<'static> = Script {
     puts: &[],
 };
 
-/// A bot whose wire keeps a byte of an FM waiting for a while.
+/// A bot that accepts three bytes of an FM, and the last one later.
 const KEEPS_A_BYTE: Script<'static> = Script {
     pulls: &[],
     puts: &[Acceptance::Takes(3), Acceptance::Takes(0)],
 };
 
-/// A bot that sends GOF and an open bracket in single bytes, and ends.
+/// A bot that sends GOF and an open bracket in single bytes, and then ends.
 const BY_BYTES: Script<'static> = Script {
     pulls: &[
         ScriptedRead::Bytes(&[0, 0, 0, 4, 0, 1, 0xDA, 0x10]),
@@ -94,12 +94,12 @@ const BEGINS_THE_LONGEST: Script<'static> = Script {
     puts: &[],
 };
 
-/// Ports in memory whose bot sends GOF over and over after some of its pulls, and then ends.
+/// Ports in memory whose bot sends GOF repeatedly after some of its pulls, and then ends.
 #[derive(Drop)]
 struct Feeding {
     ports: MemoryPorts<'static>,
     gofs: Vec<u8>,
-    /// How many pulls of the bot come first, and how many bytes of GOF after them.
+    /// The number of the bot's pulls before the GOFs, and the number of bytes of the GOFs.
     before: usize,
     left: usize,
 }
@@ -132,8 +132,8 @@ impl Ports for Feeding {
     }
 }
 
-/// What stands at a place of a hub: what its bot and its server send, how often its clock is quiet, and how many pulls of
-/// the bot go by its script before how many bytes of GOF.
+/// A session of a hub: the scripts of its bot and its server, and the number of timer queries before the timer expires.
+/// `before` pulls of the bot follow its script; `gofs` bytes of GOF follow them.
 #[derive(Clone, Copy)]
 struct Seat {
     bot: Script<'static>,
@@ -143,7 +143,7 @@ struct Seat {
     gofs: usize,
 }
 
-/// A seat where nothing comes; with a bot's script it goes by that alone.
+/// A session without any input, the base of the others. A bot that is put in follows its script only.
 const SEAT: Seat = Seat {
     bot: QUIET,
     server: QUIET,
@@ -152,36 +152,36 @@ const SEAT: Seat = Seat {
     gofs: 0,
 };
 
-/// A seat whose server ends the session.
+/// A session whose server ends it.
 const FINISHING: Seat = Seat {
     server: FINISHES,
     ..SEAT
 };
 
-/// A seat whose bot opens.
+/// A session whose bot sends its IM.
 const BEGINNING: Seat = Seat {
     bot: BEGINS,
     ..SEAT
 };
 
-/// A seat whose clock pops at once.
+/// A session whose timer expires at once.
 const LATE: Seat = Seat { quiet: 0, ..SEAT };
 
-/// A seat whose server ends the session while the bot's wire keeps a byte waiting.
+/// A session whose server ends it while a byte is queued for the bot.
 const KEEPING: Seat = Seat {
     bot: KEEPS_A_BYTE,
     server: FINISHES,
     ..SEAT
 };
 
-/// A seat whose bot sends `GOF (` in single bytes, and ends.
+/// A session whose bot sends `GOF (` in single bytes, and ends.
 const SPELLING: Seat = Seat {
     bot: BY_BYTES,
     server: OPENS,
     ..SEAT
 };
 
-/// A seat whose bot sends the longest body, and ends.
+/// A session whose bot sends the longest body, and ends.
 const POURING: Seat = Seat {
     bot: BEGINS_THE_LONGEST,
     server: OPENS,
@@ -190,7 +190,7 @@ const POURING: Seat = Seat {
     ..SEAT
 };
 
-/// The ports of a seat.
+/// Creates the ports of a session.
 fn ports_of(alloc: Global, seat: Seat) -> Result<Feeding, Fail> {
     Ok(Feeding {
         gofs: bytes_of(alloc, "256*4803")?,
@@ -200,28 +200,28 @@ fn ports_of(alloc: Global, seat: Seat) -> Result<Feeding, Fail> {
     })
 }
 
-/// A call of a hub, and what is to come of it.
+/// A call of a hub, with its expected result.
 #[derive(Clone, Copy)]
 enum Act {
-    /// A session is added, and has this place.
+    /// A session is added, and gets this index.
     Adds(Seat, usize),
-    /// A session is refused, since the hub is full; its ports, whose clock pops at once, come back.
+    /// A session is refused because the hub is full. Its ports, whose timer expires at once, are returned.
     IsFull(Seat),
-    /// So many turns of the session at this place.
+    /// The session at this index makes this number of turns.
     Turns(usize, usize),
-    /// The session at this place is taken out, and its wires were sent these bytes.
+    /// The session at this index is taken out, and its bot and server were sent these bytes.
     Removes(usize, &'static str, &'static str),
-    /// The session at this place is over or not, and stays, since it isn't closed.
+    /// The session at this index is over or not, and stays, because it is not closed.
     Keeps(usize, bool),
-    /// The wires of the session at this place were sent these bytes.
+    /// The bot and the server of the session at this index were sent these bytes.
     Sent(usize, &'static str, &'static str),
-    /// So many rounds of turns, after which all sessions together weigh at most so much.
+    /// This number of rounds is made, after which the weight of all sessions is at most the second number.
     Rounds(usize, usize),
-    /// There are so many sessions.
+    /// The hub has this number of sessions.
     Counts(usize),
 }
 
-/// Adds a session, which has this place.
+/// Adds a session, and checks its index.
 fn add(alloc: Global, hub: &mut Hub<Feeding>, seat: Seat, want: usize) -> Result<(), Fail> {
     match hub.add(ports_of(alloc, seat)?) {
         Ok(place) => same(&place, &want, &"its place"),
@@ -229,7 +229,7 @@ fn add(alloc: Global, hub: &mut Hub<Feeding>, seat: Seat, want: usize) -> Result
     }
 }
 
-/// A full hub hands the very ports back, whose clock pops at once.
+/// Checks that a full hub returns the same ports, whose timer expires at once.
 fn add_to_full(alloc: Global, hub: &mut Hub<Feeding>, seat: Seat) -> Result<(), Fail> {
     match hub.add(ports_of(alloc, seat)?) {
         Ok(_) => Err(Fail::new("a full hub")),
@@ -240,7 +240,7 @@ fn add_to_full(alloc: Global, hub: &mut Hub<Feeding>, seat: Seat) -> Result<(), 
     }
 }
 
-/// Makes a turn of the session at a place, if there is one.
+/// Makes a turn of the session at an index, if there is one, and returns whether there is.
 fn make_turn(hub: &mut Hub<Feeding>, place: usize) -> bool {
     let is_there = place < hub.count();
     if is_there {
@@ -266,7 +266,7 @@ fn turn_all(hub: &mut Hub<Feeding>, rounds: usize) {
     }
 }
 
-/// These bytes were sent to the two sides.
+/// Checks the bytes that were sent to the two sides.
 fn assert_both_sent(
     alloc: Global,
     ports: &Feeding,
@@ -277,7 +277,7 @@ fn assert_both_sent(
     assert_sent(alloc, ports.ports.calls(), Server, to_server)
 }
 
-/// The ports of the session at a place, which is taken out if it is closed.
+/// Takes out the session at an index if it is closed, and returns its ports.
 fn remove(hub: &mut Hub<Feeding>, place: usize) -> Option<Feeding> {
     if place < hub.count() {
         hub.remove_over(place).map(|removed| removed.ports)
@@ -286,7 +286,7 @@ fn remove(hub: &mut Hub<Feeding>, place: usize) -> Option<Feeding> {
     }
 }
 
-/// Takes out the session at a place, which is closed.
+/// Takes out the session at an index. Fails if it is not closed.
 fn take_out(hub: &mut Hub<Feeding>, place: usize) -> Result<Feeding, Fail> {
     match remove(hub, place) {
         Some(ports) => Ok(ports),
@@ -294,7 +294,7 @@ fn take_out(hub: &mut Hub<Feeding>, place: usize) -> Result<Feeding, Fail> {
     }
 }
 
-/// Takes out the session at a place, whose wires were sent these bytes.
+/// Takes out the session at an index, and checks the bytes that were sent to its two sides.
 fn take_out_after(
     alloc: Global,
     hub: &mut Hub<Feeding>,
@@ -306,18 +306,18 @@ fn take_out_after(
     assert_both_sent(alloc, &ports, to_bot, to_server)
 }
 
-/// Whether there is a session at a place, which is over or not.
+/// Returns whether there is a session at an index that is over, or not over, as given.
 fn is_there(hub: &Hub<Feeding>, place: usize, is_over: bool) -> bool {
     place < hub.count() && hub.session(place).is_over() == is_over
 }
 
-/// The session at a place is over or not, and stays.
+/// Checks whether the session at an index is over, and that it is not taken out.
 fn assert_kept(hub: &mut Hub<Feeding>, place: usize, is_over: bool) -> Result<(), Fail> {
     holds(is_there(hub, place, is_over), "it is over or not")?;
     holds(remove(hub, place).is_none(), "it stays")
 }
 
-/// The wires of the session at a place were sent these bytes.
+/// Checks the bytes that the two sides of the session at an index were sent.
 fn assert_sent_at(
     alloc: Global,
     hub: &Hub<Feeding>,
@@ -332,13 +332,13 @@ fn assert_sent_at(
     }
 }
 
-/// So many rounds of turns, after which all sessions together weigh at most so much.
+/// Makes rounds of turns, and checks the weight of all sessions.
 fn make_rounds(hub: &mut Hub<Feeding>, rounds: usize, most: usize) -> Result<(), Fail> {
     turn_all(hub, rounds);
     holds(hub.weight() <= most, "weight")
 }
 
-/// One call of a hub.
+/// Makes one call of a hub, and checks its result.
 fn play(alloc: Global, hub: &mut Hub<Feeding>, act: Act) -> Result<(), Fail> {
     match act {
         Act::Adds(seat, place) => add(alloc, hub, seat, place),
@@ -356,7 +356,7 @@ fn play(alloc: Global, hub: &mut Hub<Feeding>, act: Act) -> Result<(), Fail> {
     }
 }
 
-/// Calls one after the other.
+/// Makes calls in order.
 fn play_all(alloc: Global, hub: &mut Hub<Feeding>, acts: &[Act]) -> Result<(), Fail> {
     for act in acts {
         play(alloc, hub, *act)?;
@@ -364,15 +364,15 @@ fn play_all(alloc: Global, hub: &mut Hub<Feeding>, acts: &[Act]) -> Result<(), F
     Ok(())
 }
 
-/// A hub of at most so many sessions after these calls, each of which came out as it is to.
+/// Returns a hub of at most `max` sessions after these calls, each with its expected result.
 fn hub_after(alloc: Global, max: usize, acts: &[Act]) -> Result<Hub<Feeding>, Fail> {
     let mut hub = Hub::new(alloc, WIDEST, max)?;
     play_all(alloc, &mut hub, acts)?;
     Ok(hub)
 }
 
-/// A full hub hands the very ports back; a session that is over gives its ports, and the one behind it moves
-/// down and goes on: it hands on its bot's IM.
+/// A full hub returns the same ports. A session that is over returns its ports. The session after it moves down and
+/// goes on: it forwards its bot's IM.
 const MOVES_DOWN: &[Act] = &[
     Act::Adds(FINISHING, 0),
     Act::Adds(BEGINNING, 1),
@@ -395,7 +395,7 @@ fn hub_places_move_down(rt: HostRuntime) -> Result<(), Fail> {
     Ok(())
 }
 
-/// A session that is over is kept while a byte of it waits.
+/// A session that is over is kept while a byte is queued.
 const KEEPS_WHAT_WAITS: &[Act] = &[
     Act::Adds(KEEPING, 0),
     Act::Turns(0, 1),
@@ -416,8 +416,8 @@ fn session_with_a_byte_waiting_is_kept(rt: HostRuntime) -> Result<(), Fail> {
     Ok(())
 }
 
-/// One session gets `GOF (` in single bytes, one the longest body; then both bots end. The first was sent the RM and
-/// PRN ( GOF ( ).
+/// One session gets `GOF (` in single bytes, the other the longest body; then both bots end. The first bot gets the RM
+/// and PRN ( GOF ( ).
 const SIDE_BY_SIDE: &[Act] = &[
     Act::Adds(SPELLING, 0),
     Act::Adds(POURING, 1),
@@ -435,15 +435,15 @@ const SIDE_BY_SIDE: &[Act] = &[
     ),
 ];
 
-/// While one session reads the longest body, another gets a message in single bytes, and then both bots end: the
-/// ports of each, handed back, were sent exactly its own answers.
+/// While one session reads the longest body, another gets a message in single bytes, and then both bots end. Each
+/// session's ports were sent exactly the session's own answers.
 #[test]
 fn sessions_hear_nothing_of_each_other(rt: HostRuntime) -> Result<(), Fail> {
     drop(hub_after(rt.alloc(), 2, SIDE_BY_SIDE)?);
     Ok(())
 }
 
-/// A hub of two sessions in a heap, with an operator's words or without.
+/// Creates a hub of two sessions on a heap, with an operator's words or without.
 fn hub_in<'a>(
     heap: &'a LocalHeap,
     has_words: bool,
@@ -458,7 +458,7 @@ fn hub_in<'a>(
     Hub::new(heap, config, 2)
 }
 
-/// Which were seen of these: no hub, a hub that has no memory for a session, and one that has it.
+/// Which of these occurred: no hub, a hub without memory for a session, and a hub with a session.
 #[derive(Clone, Copy)]
 pub struct Growths {
     pub no_hub: bool,
@@ -466,7 +466,7 @@ pub struct Growths {
     pub whole: bool,
 }
 
-/// None of them yet.
+/// None of them.
 pub const NO_GROWTHS: Growths = Growths {
     no_hub: false,
     no_session: false,
@@ -474,7 +474,7 @@ pub const NO_GROWTHS: Growths = Growths {
 };
 
 impl Growths {
-    /// Each was seen.
+    /// Checks that each occurred.
     pub fn assert_all(self) -> Result<(), Fail> {
         holds(
             self.no_hub && self.no_session && self.whole,
@@ -482,7 +482,7 @@ impl Growths {
         )
     }
 
-    /// A session is added to a hub, or refused for want of memory; the hub is as it was, and the very ports come back.
+    /// Adds a session to a hub. If memory is refused, checks that the hub is unchanged and the same ports are returned.
     fn add(
         &mut self,
         alloc: Global,
@@ -504,7 +504,7 @@ impl Growths {
         }
     }
 
-    /// What becomes of a hub, and of a session added to it, in a heap of so many bytes.
+    /// Creates a hub on a heap of this size, and adds a session to it.
     fn try_within(&mut self, alloc: Global, bytes: usize, has_words: bool) -> Result<(), Fail> {
         let heap = LocalHeap::new(alloc, bytes)?;
         match hub_in(&heap, has_words) {
@@ -517,7 +517,7 @@ impl Growths {
     }
 }
 
-/// Over heaps from empty to ample, 32 KB: want of memory and nothing else, and the hub as it was.
+/// Over heaps of growing size up to 32 KB: a refused allocation is the only fault, and the hub is then unchanged.
 fn assert_growths(alloc: Global, has_words: bool) -> Result<(), Fail> {
     let mut seen = NO_GROWTHS;
     for step in 0..1000 {

@@ -1,8 +1,8 @@
-//! Tests of sessions and of what turns them: the worked examples of sessions of docs/EXAMPLES.md, relays, hubs and whole
+//! Tests of sessions and of their drivers: the worked examples of sessions in docs/EXAMPLES.md, relays, hubs, and whole
 //! runs over ports in memory.
 //!
-//! There is nothing here to call. The expected bytes were worked out from the protocol. They stand apart from those of
-//! the libraries below a session, so that two processors prove both at once.
+//! There is nothing here to call. The expected bytes are worked out from the protocol. These tests are in a crate of
+//! their own, so that two processors prove them and the tests of the libraries at the same time.
 #![tactic(auto)]
 
 #[cfg(test)]

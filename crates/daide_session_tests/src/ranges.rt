@@ -1,4 +1,4 @@
-//! Whole ranges of sizes: hubs of each number of sessions, sessions of each depth and each body, and the longest bodies.
+//! Whole ranges of sizes: hubs of each size, sessions with each depth limit and each body cap, and the longest bodies.
 
 use crate::relays::{NEVER, QUIET};
 use crate::script::{WIDEST, bytes_of, script_of};
@@ -13,13 +13,13 @@ use daide_test_support::words::two_words;
 use std::alloc::Global;
 use std::test::Fail;
 
-/// The limits with the shortest body.
+/// The limits with the smallest body cap.
 const SMALL: Config = Config {
     max_body: 512,
     ..WIDEST
 };
 
-/// A hub of so many sessions is made, without words and with them.
+/// Checks that a hub of this size can be created, without words and with them.
 fn assert_hub(alloc: Global, max: usize) -> Result<(), Fail> {
     let plain = Hub::<MemoryPorts<'_>>::new(alloc, SMALL, max);
     same(&plain.err(), &None, &max)?;
@@ -35,7 +35,7 @@ fn hub_of_each_size(rt: HostRuntime) -> Result<(), Fail> {
     Ok(())
 }
 
-/// A session is added, and has this place.
+/// Adds a session, and checks its index.
 fn add(alloc: Global, hub: &mut Hub<MemoryPorts<'static>>, want: usize) -> Result<(), Fail> {
     match hub.add(MemoryPorts::new(alloc, QUIET, QUIET, NEVER)) {
         Ok(place) => same(&place, &want, &"its place"),
@@ -43,7 +43,7 @@ fn add(alloc: Global, hub: &mut Hub<MemoryPorts<'static>>, want: usize) -> Resul
     }
 }
 
-/// A full hub hands the very ports back, whose clock pops at once.
+/// Checks that a full hub returns the same ports, whose timer expires at once.
 fn assert_full(alloc: Global, hub: &mut Hub<MemoryPorts<'static>>) -> Result<(), Fail> {
     match hub.add(MemoryPorts::new(alloc, QUIET, QUIET, 0)) {
         Ok(_) => Err(Fail::new("a full hub")),
@@ -54,7 +54,7 @@ fn assert_full(alloc: Global, hub: &mut Hub<MemoryPorts<'static>>) -> Result<(),
     }
 }
 
-/// A hub of so many sessions is filled, and one more is refused.
+/// Fills a hub of this size, and checks that one more session is refused.
 fn assert_filled(alloc: Global, max: usize) -> Result<(), Fail> {
     let mut hub = Hub::new(alloc, SMALL, max)?;
     for place in 0..max {
@@ -72,7 +72,7 @@ fn hub_is_full_at_its_size(rt: HostRuntime) -> Result<(), Fail> {
     Ok(())
 }
 
-/// A session of these limits is made, without words and with them.
+/// Checks that a session with these limits can be created, without words and with them.
 fn assert_session(alloc: Global, config: Config) -> Result<(), Fail> {
     let plain = Session::new(alloc, config);
     same(&plain.err(), &None, &(config.max_body, config.max_depth))?;
@@ -103,10 +103,10 @@ fn session_of_each_body(rt: HostRuntime) -> Result<(), Fail> {
     Ok(())
 }
 
-/// A longest body, and what the bot and the server are sent for it where the bot sends it.
+/// A longest frame of the bot | the bytes that the bot then gets | the bytes that the server then gets.
 #[rattlefmt::skip]
 const LONGEST: &[(&str, &str, &str)] = &[
-    // HUH ( GOF .. GOF ) goes on
+    // HUH ( GOF .. GOF ) is relayed
     ("02 00 FF F6 4806 4000 32760*4803 4001", "", "02 00 FF F6 4806 4000 32760*4803 4001"),
     // GOF .. GOF ( gets PRN
     ("02 00 FF F6 32762*4803 4000", "02 00 FF FC 4813 4000 32762*4803 4000 4001", ""),
@@ -117,11 +117,11 @@ const LONGEST: &[(&str, &str, &str)] = &[
         "02 00 FF FE 4806 4000 4806 4000 32759*4803 4001 4902 4803 4001",
         "",
     ),
-    // one word longer is above the cap
+    // one token more is above the cap
     ("02 00 FF F8", "04 00 00 02 00 08", "03 00 00 00"),
 ];
 
-/// The frame of a side, in pieces, gets this back, and this goes on.
+/// Feeds a side's frame in pieces, and checks the bytes that both sides get.
 fn assert_longest(
     alloc: Global,
     side: Side,
@@ -138,7 +138,7 @@ fn assert_longest(
     script.assert_sent(alloc, other, on)
 }
 
-/// Each longest body of a side, whole or in pieces.
+/// Checks each longest frame, sent by a side.
 fn assert_all_longest(alloc: Global, side: Side, piece: usize) -> Result<(), Fail> {
     for row in LONGEST {
         assert_longest(alloc, side, row, piece)?;

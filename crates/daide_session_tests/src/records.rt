@@ -1,4 +1,4 @@
-//! Records of sessions over ports in memory: what is written, what is reported of it, and what a writer that fails does.
+//! Records of sessions over ports in memory: their text, their reports, and records whose writer fails.
 
 use crate::relays::{NEVER, OPENS, QUIET};
 use daide_frame::side::Side;
@@ -13,14 +13,15 @@ use std::io;
 use std::io::{ErrorKind, Write};
 use std::test::Fail;
 
-/// The limits of each session here.
+/// The limits of each session in these tests.
 const LIMITS: Config = Config {
     top_level: 60,
     max_body: 1024,
     max_depth: 16,
 };
 
-/// A session: what each side sends and its wire takes, how often the clock is quiet, the record, and its report.
+/// A session: the scripts of both sides, the number of timer queries before the timer expires, its record, and its
+/// report.
 #[derive(Clone, Copy)]
 struct Recorded {
     bot: Script<'static>,
@@ -31,8 +32,8 @@ struct Recorded {
     report: &'static str,
 }
 
-/// An IM in two pieces, an RM, and a wire to the bot that fails; a clock that pops; a bot that ends at once, and a server, where the
-/// operator added words.
+/// An IM in two pieces, an RM, and a put to the bot that fails; an expired timer; a bot that ends at once; and a server
+/// that does, with an operator's words.
 const SESSIONS: [Recorded; 4] = [
     Recorded {
         bot: Script {
@@ -77,12 +78,12 @@ const SESSIONS: [Recorded; 4] = [
     },
 ];
 
-/// The words of a session that has some, or none.
+/// Returns an operator's words, or none.
 fn words_of(is_worded: bool) -> Words {
     if is_worded { two_words() } else { Words::new() }
 }
 
-/// What was written of a session, which is whole.
+/// Returns the record of a session, which is whole.
 fn written(alloc: Global, row: &Recorded) -> Result<Vec<u8>, Fail> {
     let mut session = Session::with_words(alloc, LIMITS, words_of(row.is_worded))?;
     let ports = MemoryPorts::new(alloc, row.bot, row.server, row.quiet);
@@ -115,13 +116,13 @@ fn records_are_written_and_reported(rt: HostRuntime) -> Result<(), Fail> {
     Ok(())
 }
 
-/// Four pieces of 1,024 bytes, of which each makes a line; the fourth finds no room.
+/// Four pulls of 1,024 bytes, each of which has a line; the fourth line does not fit the page.
 const LONG: Script<'static> = Script {
     pulls: &[ScriptedRead::Bytes(&[0xAB; 5000])],
     puts: &[],
 };
 
-/// A writer that fails at its first write, and counts what it takes behind it.
+/// A writer that fails at its first write, and counts the bytes that it accepts afterwards.
 #[derive(Drop)]
 struct FailsFirst {
     failed: bool,

@@ -1,4 +1,4 @@
-//! Turns over ports in memory: what each side was sent, and what was asked of its wire.
+//! Turns over ports in memory: the bytes that each side was sent, and the calls of the ports.
 
 use crate::script::{WIDEST, assert_bytes};
 use daide_frame::side::Side::{self, Bot, Server};
@@ -9,16 +9,16 @@ use linked_list_allocator::LocalHeap;
 use std::alloc::{Allocator, Global};
 use std::test::Fail;
 
-/// No test asks the clock so often.
+/// More timer queries than any test makes.
 pub const NEVER: u64 = 1_000_000;
 
-/// Nothing comes, and everything is taken.
+/// A side that sends nothing and accepts everything.
 pub const QUIET: Script<'static> = Script {
     pulls: &[],
     puts: &[],
 };
 
-/// What a wire took, by the calls that were stored.
+/// Returns the bytes that a side accepted, from the recorded calls.
 pub fn sent<A: Allocator>(alloc: Global, calls: &[Call<A>], side: Side) -> Result<Vec<u8>, Fail> {
     let mut bytes = Vec::new(alloc);
     for call in calls {
@@ -31,7 +31,7 @@ pub fn sent<A: Allocator>(alloc: Global, calls: &[Call<A>], side: Side) -> Resul
     Ok(bytes)
 }
 
-/// A wire took these bytes, by the calls that were stored.
+/// Checks the bytes that a side accepted, from the recorded calls.
 pub fn assert_sent(
     alloc: Global,
     calls: Option<&[Call]>,
@@ -45,8 +45,8 @@ pub fn assert_sent(
     assert_bytes(alloc, bytes.as_slice(), want)
 }
 
-/// A call of ports, as it is wanted: a clock that popped or not; a side, the length of the buffer, and what came; a
-/// side, the whole front, and what became of it.
+/// An expected call of the ports: a timer query and its result; a pull with the side, the length of the buffer, and the
+/// result; a put with the side, the whole front, and the result.
 #[derive(Clone, Copy)]
 enum Asks {
     Clock(bool),
@@ -54,7 +54,7 @@ enum Asks {
     Put(Side, &'static [u8], Put),
 }
 
-/// Whether a call is the one that is wanted.
+/// Returns whether a call is the expected one.
 fn is_wanted(call: &Call, want: Asks) -> bool {
     match call {
         Call::TurnBegins => false,
@@ -69,8 +69,8 @@ fn is_wanted(call: &Call, want: Asks) -> bool {
     }
 }
 
-/// A relay: what the bot and the server send, how often the clock is quiet, how many turns there are at most, the end,
-/// and all that was asked.
+/// A relay: the scripts of the bot and the server, the number of timer queries before the timer expires, the most
+/// turns, the end, and all calls.
 #[derive(Clone, Copy)]
 struct Relay {
     bot: Script<'static>,
@@ -81,7 +81,7 @@ struct Relay {
     asks: &'static [Asks],
 }
 
-/// Whether the calls are those that are wanted.
+/// Returns whether the calls are the expected ones.
 fn are_wanted(calls: &[Call], asks: &[Asks]) -> bool {
     let mut rest = calls.iter();
     for want in asks {
@@ -93,13 +93,13 @@ fn are_wanted(calls: &[Call], asks: &[Asks]) -> bool {
     rest.next().is_none()
 }
 
-/// The end of a relay of a fresh session over these ports.
+/// Relays a new session over these ports, and returns the end of the relay.
 fn end_of(alloc: Global, ports: &mut MemoryPorts<'_>, turns: u64) -> Result<RelayEnd, Fail> {
     let mut session = Session::new(alloc, WIDEST)?;
     Ok(relay(&mut session, ports, turns))
 }
 
-/// A relay of a fresh session asks just that.
+/// Checks the end and the calls of a relay of a new session.
 fn assert_relay(alloc: Global, row: &Relay) -> Result<(), Fail> {
     let mut ports = MemoryPorts::new(alloc, row.bot, row.server, row.quiet);
     let end = end_of(alloc, &mut ports, row.turns)?;
@@ -144,7 +144,7 @@ fn bot_that_ends_at_once_is_closed_after_one_turn(rt: HostRuntime) -> Result<(),
     assert_relay(rt.alloc(), &ENDS_AT_ONCE)
 }
 
-/// The clock pops in the third turn, whose EM goes out in it, whole.
+/// The timer expires in the third turn, which sends the whole EM.
 const LATE: Relay = Relay {
     bot: QUIET,
     server: QUIET,
@@ -168,13 +168,13 @@ fn late_initial_message_is_told_to_the_bot_alone(rt: HostRuntime) -> Result<(), 
     assert_relay(rt.alloc(), &LATE)
 }
 
-/// A bot whose wire fails at its first put.
+/// A bot whose first put fails.
 const FAILS: Script<'static> = Script {
     pulls: &[ScriptedRead::Bytes(&[0, 0, 0, 4, 0, 1, 0xDA, 0x10])],
     puts: &[Acceptance::Fails],
 };
 
-/// A server that opens.
+/// A server that sends its RM.
 pub const OPENS: Script<'static> = Script {
     pulls: &[
         ScriptedRead::Idle,
@@ -186,8 +186,8 @@ pub const OPENS: Script<'static> = Script {
     puts: &[],
 };
 
-/// A relayed frame is handed over by its parts, the bot isn't read while its IM waits, and the FM after a put that
-/// failed goes out whole, in the turn that let it wait.
+/// A relayed frame is put in its parts. The bot is not read while its IM is queued. The FM after a failed put is sent
+/// whole, in the turn that queued it.
 const WHOLE_FRONTS: Relay = Relay {
     bot: FAILS,
     server: OPENS,
@@ -234,7 +234,7 @@ const SENDS_600: Script<'static> = Script {
     puts: &[],
 };
 
-/// What is there at once is pulled into 512 bytes, and the rest of the body into as many as it has.
+/// The body is pulled into the 512 bytes of the turn's buffer, and its rest into as many bytes as it has.
 const LONG_PULLS: Relay = Relay {
     bot: SENDS_600,
     server: OPENS,
@@ -276,7 +276,7 @@ fn long_body_is_pulled_512_bytes_at_once(rt: HostRuntime) -> Result<(), Fail> {
     assert_relay(rt.alloc(), &LONG_PULLS)
 }
 
-/// A bot whose wire takes none of the first put of a HUH, then three bytes a put.
+/// A bot that accepts nothing of the first put of a HUH, and then three bytes a put.
 const SLOW_BOT: Script<'static> = Script {
     pulls: &[
         ScriptedRead::Bytes(&[0, 0, 0, 4, 0, 1, 0xDA, 0x10]),
@@ -308,7 +308,7 @@ const SLOW_BOT: Script<'static> = Script {
     ],
 };
 
-/// Its server, whose message comes in two pieces, the second after that first put.
+/// Its server, whose message is received in two pieces, the second after that first put.
 const SERVER_OF_A_SLOW_BOT: Script<'static> = Script {
     pulls: &[
         ScriptedRead::Idle,
@@ -329,8 +329,9 @@ const SERVER_OF_A_SLOW_BOT: Script<'static> = Script {
     puts: &[],
 };
 
-/// Whether the bot was read on only once all sixteen bytes of the RM and its HUH were taken, and the server only once
-/// all thirty of these and its message were; and all eighteen bytes of the server came.
+/// Returns whether the bot was read again only after the sixteen bytes of the RM and its HUH were accepted. The server
+/// must be read again only after the thirty bytes of these and its message were. All eighteen bytes of the server must
+/// be received.
 fn is_read_in_time(calls: &[Call]) -> bool {
     let mut to_bot = 0_usize;
     let mut of_bot = 0_usize;
@@ -353,7 +354,8 @@ fn is_read_in_time(calls: &[Call]) -> bool {
     in_time && of_server == 18
 }
 
-/// The bot was sent the RM, the HUH and NOW, and the server the IM, and no side was read while its answer waited.
+/// Checks that the bot was sent the RM, the HUH and NOW, and the server the IM. No side may be read while its answer is
+/// queued.
 fn assert_slow_calls(alloc: Global, calls: Option<&[Call]>) -> Result<(), Fail> {
     holds(is_read_in_time(calls.unwrap_or(&[])), "read in time")?;
     assert_sent(alloc, calls, Server, "00 00 00 04 00 01 DA 10")?;
@@ -362,9 +364,9 @@ fn assert_slow_calls(alloc: Global, calls: Option<&[Call]>) -> Result<(), Fail> 
     assert_sent(alloc, calls, Bot, want)
 }
 
-/// The bot's wire takes none of the first put of a HUH, then three bytes a put, while a message of the server
-/// comes in two pieces, the second after that first put: whole frames, one after the other, and no side is read
-/// while its answer waits.
+/// The bot accepts nothing of the first put of a HUH, and then three bytes a put. Meanwhile a message of the server is
+/// received in two pieces, the second after that first put. Frames are sent whole, one after the other, and no side is
+/// read while its answer is queued.
 #[test]
 fn slow_wire_keeps_frames_whole_in_turns(rt: HostRuntime) -> Result<(), Fail> {
     let mut ports = MemoryPorts::new(rt.alloc(), SLOW_BOT, SERVER_OF_A_SLOW_BOT, NEVER);
@@ -373,7 +375,7 @@ fn slow_wire_keeps_frames_whole_in_turns(rt: HostRuntime) -> Result<(), Fail> {
     assert_slow_calls(rt.alloc(), ports.calls())
 }
 
-/// Ports that note what the wire toward the bot took, beside ports in memory whose record may be refused.
+/// Ports that collect the bytes accepted by the bot, over ports in memory whose record may be refused.
 #[derive(Drop)]
 struct Watching<'a, A: Allocator + Copy> {
     ports: MemoryPorts<'a, A>,
@@ -403,7 +405,7 @@ impl<'a, A: Allocator + Copy> Ports for Watching<'a, A> {
     }
 }
 
-/// A bot that opens, leaves a bracket open, and ends.
+/// A bot that sends its IM, leaves a bracket open, and ends.
 const OPEN_BRACKET: Script<'static> = Script {
     pulls: &[
         ScriptedRead::Bytes(&[0, 0, 0, 4, 0, 1, 0xDA, 0x10]),
@@ -422,12 +424,12 @@ const OPEN_BRACKET: Script<'static> = Script {
     puts: &[],
 };
 
-/// What is sent, whatever becomes of the record: the RM, and PRN ( GOF ( ).
+/// The bytes sent to the bot, with or without a record: the RM and PRN ( GOF ( ).
 const SENT_TO_THE_BOT: &[u8] = &[
     1, 0, 0, 0, 2, 0, 0, 0x0A, 0x48, 0x13, 0x40, 0, 0x48, 0x03, 0x40, 0, 0x40, 1,
 ];
 
-/// Relays a fresh session over these ports, to its end, and the bot is sent all of it.
+/// Relays a new session over these ports to its end, and checks that the bot is sent all bytes.
 fn relay_whole<A: Allocator + Copy>(
     alloc: Global,
     ports: &mut Watching<'_, A>,
@@ -444,7 +446,7 @@ fn relay_whole<A: Allocator + Copy>(
     )
 }
 
-/// Relays the conversation over ports whose record lies in this heap, and answers whether the record was refused.
+/// Relays the conversation over ports whose record is on this heap, and returns whether the record was refused.
 fn is_record_refused(alloc: Global, heap: &LocalHeap) -> Result<bool, Fail> {
     let mut ports = Watching {
         ports: MemoryPorts::new(heap, OPEN_BRACKET, OPENS, NEVER),
@@ -455,13 +457,13 @@ fn is_record_refused(alloc: Global, heap: &LocalHeap) -> Result<bool, Fail> {
     Ok(ports.ports.calls().is_none())
 }
 
-/// The same on a heap of so many bytes.
+/// The same on a heap of this size.
 fn is_record_refused_within(alloc: Global, bytes: usize) -> Result<bool, Fail> {
     let heap = LocalHeap::new(alloc, bytes)?;
     is_record_refused(alloc, &heap)
 }
 
-/// Over heaps from empty to ample, whatever becomes of the record, the same is sent.
+/// Over heaps of growing size, with or without a record, the same bytes are sent.
 #[test]
 fn refused_record_changes_nothing(rt: HostRuntime) -> Result<(), Fail> {
     let mut refusals = 0u32;

@@ -1,6 +1,7 @@
-//! A bot, a session and a server: what each side says, in pieces, what reaches it, and what is seen of the session.
+//! A bot, a session and a server: the bytes that each side sends, in pieces, the bytes that it gets, and the state of
+//! the session.
 //!
-//! A conversation is a table of acts, which one short loop plays; so a test is its table, and costs its check little.
+//! A conversation is a table of acts, which one short loop plays. So a test is its table, which is cheap to check.
 
 ghost use Rattle.std.specs.Prelude.{◌≤◌, length};
 
@@ -14,51 +15,53 @@ use daide_test_support::words::counted;
 use std::alloc::{Allocator, Global};
 use std::test::Fail;
 
-/// What happens to a session, or what is seen of it.
+/// An event of a session, or a check of its state.
 #[derive(Clone, Copy)]
 pub enum Act {
-    /// The side sends these bytes, written in hexadecimal digits with blanks. All that waits is taken after each piece.
+    /// The side sends these bytes, written in hexadecimal digits with blanks. All queued bytes are taken after each
+    /// piece.
     Says(Side, &'static str),
-    /// The side sends these bytes, which there is room for, and nothing of what waits is taken.
+    /// The side sends these bytes, for which there must be room. No queued bytes are taken.
     Sends(Side, &'static str),
-    /// The side sends these bytes one by one, and this is told of them; all that waits is taken.
+    /// The side sends these bytes one by one, and the session returns this note. All queued bytes are taken.
     Tells(Side, &'static str, Note),
-    /// The wire toward the side takes so many bytes, at most three at once.
+    /// This many bytes queued for the side are taken, at most three at once.
     Takes(Side, usize),
-    /// The side's stream ends; all that waits is taken.
+    /// The side's stream ends. All queued bytes are taken.
     Ends(Side),
-    /// The side's stream ends, which is told, and nothing of what waits is taken.
+    /// The side's stream ends, which ends the session. No queued bytes are taken.
     Stops(Side),
-    /// The wire toward the side fails; all that waits is taken.
+    /// A write to the side fails. All queued bytes are taken.
     Loses(Side),
-    /// The timer of the initial message pops; all that waits is taken.
+    /// The IM timer expires. All queued bytes are taken.
     ImTimerExpired,
-    /// This holds now.
+    /// The state of the session is this.
     Sees(Look),
 }
 
-/// What is seen of a session.
+/// A check of a session's state.
 #[derive(Clone, Copy)]
 pub enum Look {
     Phase(Phase),
     Level(Level),
-    /// So many bytes of the side are taken next.
+    /// The side's room is this many bytes.
     Room(Side, usize),
-    /// So many bytes are handed to the wire toward the side next.
+    /// The front for the side has this many bytes.
     Front(Side, usize),
-    /// The session weighs from so much to so much.
+    /// The weight of the session is between these numbers.
     Weight(usize, usize),
-    /// The side's message took from one step to so many, and its table was asked nothing beside, since the last look.
+    /// The side's message took between one step and this many, and its table had no other look-ups since the last
+    /// check.
     Steps(Side, u64),
     /// No message of the side was judged.
     NoSteps(Side),
-    /// The side was sent these bytes since the last look.
+    /// The side was sent these bytes since the last check.
     Sent(Side, &'static str),
-    /// This ended the session, which counted so many relayed, by PRN, by HUH, and faults; or it is not over.
+    /// The session ended in this way, or is not over; its numbers of relayed frames, PRN, HUH and faults.
     Ending(Option<Ending>, [u64; 4]),
 }
 
-/// Frames that were relayed, answers PRN, answers HUH, and faults.
+/// Returns the numbers of relayed frames, answers PRN, answers HUH, and faults.
 pub fn counts_of(summary: Summary) -> [u64; 4] {
     [summary.relayed, summary.prn, summary.huh, summary.faults]
 }
@@ -70,13 +73,13 @@ pub const WIDEST: Config = Config {
     max_depth: 62,
 };
 
-/// What a bot sends first.
+/// The first frame of a bot.
 pub const IM: &str = "00 00 00 04  00 01 DA 10";
 
-/// The server's answer for the standard map.
+/// The server's first frame, for the standard map.
 pub const RM: &str = "01 00 00 00";
 
-/// The bytes of a word of hexadecimal digits, as often as it stands.
+/// Appends the bytes of a word of hexadecimal digits, repeated by its count.
 fn add_word(alloc: Global, bytes: &mut Vec<u8>, word: &str) -> Result<(), Fail> {
     let (count, digits) = counted(word);
     let part = hex::decode(alloc, digits.as_bytes())?;
@@ -86,7 +89,7 @@ fn add_word(alloc: Global, bytes: &mut Vec<u8>, word: &str) -> Result<(), Fail> 
     Ok(())
 }
 
-/// The bytes of words of hexadecimal digits.
+/// Returns the bytes of words of hexadecimal digits.
 pub fn bytes_of(alloc: Global, text: &str) -> Result<Vec<u8>, Fail> {
     let mut bytes = Vec::new(alloc);
     for word in text.split_whitespace() {
@@ -95,13 +98,13 @@ pub fn bytes_of(alloc: Global, text: &str) -> Result<Vec<u8>, Fail> {
     Ok(bytes)
 }
 
-/// These bytes were sent.
+/// Checks the bytes that were sent.
 pub fn assert_bytes(alloc: Global, sent: &[u8], want: &str) -> Result<(), Fail> {
     let bytes = bytes_of(alloc, want)?;
     holds(sent == bytes.as_slice(), want)
 }
 
-/// Takes bytes that wait for the wire toward a side, at most so many at once, and tells how many.
+/// Takes bytes queued for a side, at most `most`, and returns their number.
 fn take_front<A: Allocator>(
     session: &mut Session<A>,
     side: Side,
@@ -115,7 +118,7 @@ fn take_front<A: Allocator>(
     Ok(count)
 }
 
-/// Takes what waits for the wire toward a side, at most so many bytes at once.
+/// Takes all bytes queued for a side, at most `most` at once.
 fn take_all<A: Allocator>(
     session: &mut Session<A>,
     side: Side,
@@ -130,7 +133,7 @@ fn take_all<A: Allocator>(
     Err(Fail::new("it still waits"))
 }
 
-/// Takes bytes that wait for the wire toward a side, at most three at once, until so many were taken.
+/// Takes `most` bytes queued for a side, at most three at once.
 fn take(session: &mut Session, side: Side, taken: &mut Vec<u8>, most: usize) -> Result<(), Fail> {
     let mut left = most;
     for _front in 0..most {
@@ -140,7 +143,7 @@ fn take(session: &mut Session, side: Side, taken: &mut Vec<u8>, most: usize) -> 
     Ok(())
 }
 
-/// Feeds as much of these bytes as there is room for, and tells of it.
+/// Feeds as many of these bytes as there is room for, at most `most`, and returns their number.
 fn feed<A: Allocator>(session: &mut Session<A>, side: Side, bytes: &[u8], most: usize) -> usize
     ensures { result ≤ length bytes.now }
 {
@@ -149,17 +152,17 @@ fn feed<A: Allocator>(session: &mut Session<A>, side: Side, bytes: &[u8], most: 
     count
 }
 
-/// What a session sent since it was last looked at.
+/// The bytes that a session sent since the last check.
 #[derive(Drop)]
 pub struct Sent {
     pub to_bot: Vec<u8>,
     pub to_server: Vec<u8>,
-    /// How many bytes a wire takes at once, at most.
+    /// The most bytes that are taken at once.
     pub most: usize,
 }
 
 impl Sent {
-    /// Nothing yet, and a wire takes all that it is handed.
+    /// No bytes yet, and no limit to the bytes taken at once.
     pub fn none(alloc: Global) -> Sent {
         Sent {
             to_bot: Vec::new(alloc),
@@ -168,7 +171,7 @@ impl Sent {
         }
     }
 
-    /// What the wire toward a side took.
+    /// Returns the bytes sent to a side.
     pub fn to(&self, side: Side) -> &[u8] {
         match side {
             Bot => self.to_bot.as_slice(),
@@ -176,14 +179,14 @@ impl Sent {
         }
     }
 
-    /// Takes what waits for both wires.
+    /// Takes the bytes queued for both sides.
     pub fn deliver<A: Allocator>(&mut self, session: &mut Session<A>) -> Result<(), Fail> {
         take_all(session, Bot, &mut self.to_bot, self.most)?;
         take_all(session, Server, &mut self.to_server, self.most)
     }
 
-    /// A side's bytes come, in pieces of at most `piece` bytes, with all that waits taken after each. What comes
-    /// after the session's end is left out.
+    /// Feeds a side's bytes, in pieces of at most `piece` bytes, and takes all queued bytes after each. Bytes after the
+    /// session's end are ignored.
     pub fn hear<A: Allocator>(
         &mut self,
         session: &mut Session<A>,
@@ -201,21 +204,21 @@ impl Sent {
     }
 }
 
-/// A session and what it sent since it was last looked at.
+/// A session, and the bytes that it sent since the last check.
 #[derive(Drop)]
 pub struct Script {
     pub session: Session,
     pub sent: Sent,
-    /// How often the table of the bot's reader was asked by the messages that were looked at.
+    /// The number of look-ups in the table of the bot's reader, for the messages that were checked.
     asked: u64,
 }
 
-/// A fresh session of these limits.
+/// Creates a new session with these limits.
 pub fn script_of(alloc: Global, config: Config) -> Result<Script, Fail> {
     Ok(script_over(alloc, Session::new(alloc, config)?))
 }
 
-/// This session, of which nothing was taken.
+/// Wraps this session, of which no bytes were taken.
 pub fn script_over(alloc: Global, session: Session) -> Script {
     Script {
         session,
@@ -225,7 +228,7 @@ pub fn script_over(alloc: Global, session: Session) -> Script {
 }
 
 impl Script {
-    /// Takes what waits for the wire toward a side.
+    /// Takes the bytes queued for a side.
     pub fn take_all(&mut self, side: Side) -> Result<(), Fail> {
         let most = self.sent.most;
         match side {
@@ -234,17 +237,17 @@ impl Script {
         }
     }
 
-    /// Takes what waits for both wires.
+    /// Takes the bytes queued for both sides.
     fn deliver(&mut self) -> Result<(), Fail> {
         self.sent.deliver(&mut self.session)
     }
 
-    /// A side's bytes, in pieces of at most `piece` bytes, with all that waits taken after each.
+    /// Feeds a side's bytes, in pieces of at most `piece` bytes, and takes all queued bytes after each.
     pub fn say(&mut self, side: Side, bytes: &[u8], piece: usize) -> Result<(), Fail> {
         self.sent.hear(&mut self.session, side, bytes, piece)
     }
 
-    /// The same, of bytes in hexadecimal digits.
+    /// The same for bytes in hexadecimal digits.
     fn say_text(
         &mut self,
         alloc: Global,
@@ -256,7 +259,7 @@ impl Script {
         self.say(side, bytes.as_slice(), piece)
     }
 
-    /// A side's bytes, all of which there is room for, while nothing of what waits is taken.
+    /// Feeds a side's bytes, for which there must be room, and takes no queued bytes.
     fn send(&mut self, alloc: Global, side: Side, text: &str) -> Result<(), Fail> {
         let bytes = bytes_of(alloc, text)?;
         let mut rest = bytes.as_slice();
@@ -267,7 +270,7 @@ impl Script {
         holds(rest.is_empty(), "no room")
     }
 
-    /// What is told of a side's byte, where there is room for it.
+    /// Feeds a side's byte, if there is room for it, and returns its note.
     fn note_of_byte(&mut self, side: Side, byte: u8) -> Note {
         if self.session.room(side) == 0 {
             return Note::Nothing;
@@ -275,7 +278,7 @@ impl Script {
         self.session.feed(side, &[byte])
     }
 
-    /// What was told of a side's bytes one by one, of which at most one thing is to be told.
+    /// Feeds a side's bytes one by one, and returns the only note, if there is one.
     fn note_of(&mut self, side: Side, bytes: &[u8]) -> Result<Note, Fail> {
         let mut told = Note::Nothing;
         for byte in bytes {
@@ -289,14 +292,14 @@ impl Script {
         Ok(told)
     }
 
-    /// This is told of a side's bytes.
+    /// Checks the note for a side's bytes.
     fn tell(&mut self, alloc: Global, side: Side, text: &str, want: Note) -> Result<(), Fail> {
         let bytes = bytes_of(alloc, text)?;
         let told = self.note_of(side, bytes.as_slice())?;
         holds(told == want, text)
     }
 
-    /// A side was sent these bytes since it was last looked at.
+    /// Checks the bytes that a side was sent since the last check.
     pub fn assert_sent(&mut self, alloc: Global, side: Side, want: &str) -> Result<(), Fail> {
         assert_bytes(alloc, self.sent.to(side), want)?;
         match side {
@@ -306,13 +309,13 @@ impl Script {
         Ok(())
     }
 
-    /// Nothing was looked at before.
+    /// Discards the bytes sent since the last check.
     pub fn forget(&mut self) {
         self.sent.to_bot.clear();
         self.sent.to_server.clear();
     }
 
-    /// The message of a side took from one step to so many, and its table was asked nothing beside.
+    /// Checks that the side's message took between one step and `most`, and that its table had no other look-ups.
     fn assert_steps(&mut self, side: Side, most: u64) -> Result<(), Fail> {
         let steps = self.session.steps(side);
         self.asked = self.asked.saturating_add(steps);
@@ -320,7 +323,7 @@ impl Script {
         holds(0 < steps && steps <= most && total == self.asked, "steps")
     }
 
-    /// Whether this is seen of the session's state.
+    /// Returns whether the session's state is this.
     fn shows(&self, look: Look) -> bool {
         let session = &self.session;
         match look {
@@ -337,7 +340,7 @@ impl Script {
         }
     }
 
-    /// This is seen.
+    /// Checks the session's state.
     fn look(&mut self, alloc: Global, look: Look) -> Result<(), Fail> {
         match look {
             Look::Sent(side, want) => self.assert_sent(alloc, side, want),
@@ -346,7 +349,7 @@ impl Script {
         }
     }
 
-    /// The wire toward a side takes so many bytes, at most three at once.
+    /// Takes this many bytes queued for a side, at most three at once.
     fn take(&mut self, side: Side, most: usize) -> Result<(), Fail> {
         match side {
             Bot => take(&mut self.session, Bot, &mut self.sent.to_bot, most),
@@ -354,7 +357,7 @@ impl Script {
         }
     }
 
-    /// An event that is no bytes; all that waits is taken.
+    /// Plays an event other than bytes, and takes all queued bytes.
     fn hear(&mut self, act: Act) -> Result<(), Fail> {
         match act {
             Act::Ends(side) => {
@@ -369,7 +372,7 @@ impl Script {
         self.deliver()
     }
 
-    /// One act.
+    /// Plays one act.
     pub fn play(&mut self, alloc: Global, act: Act, piece: usize) -> Result<(), Fail> {
         match act {
             Act::Says(side, text) => self.say_text(alloc, side, text, piece),
@@ -382,7 +385,7 @@ impl Script {
         }
     }
 
-    /// Acts one after the other.
+    /// Plays acts in order.
     pub fn play_all(&mut self, alloc: Global, acts: &[Act], piece: usize) -> Result<(), Fail> {
         for act in acts {
             self.play(alloc, *act, piece)?;
@@ -390,14 +393,14 @@ impl Script {
         Ok(())
     }
 
-    /// The IM and the RM go through, after which nothing was looked at.
+    /// Plays the IM and the RM, and discards the bytes sent.
     pub fn open(&mut self, alloc: Global, piece: usize) -> Result<(), Fail> {
         self.play_all(alloc, OPENING, piece)?;
         self.forget();
         Ok(())
     }
 
-    /// The acts send these bytes; where the scene begins open, the IM and the RM go before them.
+    /// Checks the bytes that the acts send; in an open scene the IM and the RM precede them.
     fn assert_scene(
         &mut self,
         alloc: Global,
@@ -419,20 +422,20 @@ impl Script {
 /// The IM and the RM.
 pub const OPENING: &[Act] = &[Act::Says(Bot, IM), Act::Says(Server, RM)];
 
-/// Acts, and the bytes that they send to the bot and to the server, but for those that were looked at.
+/// Acts, and the bytes that they send to the bot and to the server, except for those that were already checked.
 pub type Scene = (&'static [Act], &'static str, &'static str);
 
-/// A whole frame or more at once, and byte by byte; as much is taken at once of what is sent.
+/// The sizes of pieces: any whole frame, and one byte. At most as many sent bytes are taken at once.
 pub const PIECES: &[usize] = &[65_530, 1];
 
-/// The acts of a conversation, with what is seen among them, in a fresh session of these limits.
+/// Plays the acts of a conversation, with its checks, in a new session with these limits.
 fn play_acts(alloc: Global, config: Config, acts: &[Act], piece: usize) -> Result<(), Fail> {
     let mut script = script_of(alloc, config)?;
     script.sent.most = piece;
     script.play_all(alloc, acts, piece)
 }
 
-/// The same, whole and byte by byte.
+/// The same with each size of pieces.
 pub fn assert_acts(alloc: Global, config: Config, acts: &[Act]) -> Result<(), Fail> {
     for piece in PIECES {
         play_acts(alloc, config, acts, *piece)?;
@@ -440,7 +443,7 @@ pub fn assert_acts(alloc: Global, config: Config, acts: &[Act]) -> Result<(), Fa
     Ok(())
 }
 
-/// A scene sends its bytes in a fresh session of these limits.
+/// Plays a scene in a new session with these limits, and checks the bytes that it sends.
 fn play_scene(
     alloc: Global,
     config: Config,
@@ -453,7 +456,7 @@ fn play_scene(
     script.assert_scene(alloc, is_open, scene, piece)
 }
 
-/// Each scene sends its bytes, whole and byte by byte, in a session of these limits.
+/// Checks the bytes that each scene sends, with each size of pieces, in a session with these limits.
 pub fn assert_scenes_within(
     alloc: Global,
     config: Config,
@@ -468,7 +471,7 @@ pub fn assert_scenes_within(
     Ok(())
 }
 
-/// Each scene sends its bytes, whole and byte by byte.
+/// The same with the widest limits.
 pub fn assert_scenes(alloc: Global, is_open: bool, scenes: &[Scene]) -> Result<(), Fail> {
     assert_scenes_within(alloc, WIDEST, is_open, scenes)
 }

@@ -1,4 +1,4 @@
-//! Whole runs in memory: what the system was asked, in which order, and what each bot was served.
+//! Whole runs in memory: the calls of the system, in order, and the service that each bot gets.
 
 ghost use Rattle.std.specs.Prelude.{◌≡◌};
 ghost use Rattle.daide_session_tests.specs.Retired.{KeepsRetired};
@@ -20,7 +20,7 @@ use std::alloc::Global;
 use std::fmt::Display;
 use std::test::Fail;
 
-/// What became of a connect, in a script.
+/// The result of a connect, in a script.
 #[derive(Clone, Copy)]
 enum Fate {
     Ready,
@@ -28,7 +28,7 @@ enum Fate {
     Pending,
 }
 
-/// What the system was asked, and answered.
+/// A call of the system, with its result.
 #[derive(Clone, Copy, PartialEq, Eq)]
 enum Event {
     Begun,
@@ -43,7 +43,8 @@ enum Event {
     Waited(bool),
 }
 
-/// What happens in a run. After the last accept each one brings a bot; after the last fate each connect is there.
+/// The script of a run. After the last accept each further one returns a bot; after the last fate each connect
+/// succeeds.
 #[derive(Clone, Copy)]
 struct Scene {
     accepts: &'static [bool],
@@ -51,24 +52,24 @@ struct Scene {
     bot: Script<'static>,
 }
 
-/// A system that plays a scene; its server is quiet.
+/// A system that plays a scene. Its server is quiet.
 #[derive(Drop)]
 struct Harness {
     alloc: Global,
     scene: Scene,
     accepts: usize,
     fates: usize,
-    /// How many bots are held now, and were held at most; how many were retired.
+    /// The number of bots that are connected, and the greatest number of them so far.
     held: usize,
     most: usize,
     events: Vec<Event>,
     retired: Vec<MemoryPorts<'static>>,
-    /// How the sessions ended, in the order in which they were retired.
+    /// The ends of the sessions, in the order of their retirement.
     ends: Vec<SessionEnd>,
 }
 
 impl Harness {
-    /// Nobody came yet.
+    /// Creates a system before the first bot.
     fn new(alloc: Global, scene: Scene) -> Harness {
         Harness {
             alloc,
@@ -83,7 +84,7 @@ impl Harness {
         }
     }
 
-    /// Keeps what the system was asked, if there is memory.
+    /// Records a call of the system, if there is memory.
     fn note(&mut self, event: Event)
         ensures { self.new ≡ record self.old { events = self.new.events } }
     {
@@ -162,19 +163,19 @@ const ENDS: Script<'static> = Script {
     puts: &[],
 };
 
-/// A bot that says nothing in its first turn, and ends in its second.
+/// A bot that sends nothing in its first turn, and ends in its second.
 const ENDS_LATER: Script<'static> = Script {
     pulls: &[ScriptedRead::Idle, ScriptedRead::End],
     puts: &[],
 };
 
-/// A bot that opens, and says no more.
+/// A bot that sends its IM, and nothing more.
 const OPENS_ALONE: Script<'static> = Script {
     pulls: &[ScriptedRead::Bytes(&[0, 0, 0, 4, 0, 1, 0xDA, 0x10])],
     puts: &[],
 };
 
-/// One bot that comes and ends, and whose server is there.
+/// One bot that ends, and whose server accepts the connect.
 const ENDING: Scene = Scene {
     accepts: &[],
     fates: &[],
@@ -184,7 +185,7 @@ const ENDING: Scene = Scene {
 /// The settings `max_sessions`, `sessions` and `turns`.
 type Limits = (usize, u32, u64);
 
-/// Settings of these limits.
+/// Returns settings with these limits.
 fn settings(alloc: Global, limits: Limits) -> Result<Settings, Fail> {
     let (max_sessions, sessions, turns) = limits;
     let mut settings = read_settings(alloc, "listen = \"a\"\nserver = \"b\"\nmax_body = 512\n")?;
@@ -194,9 +195,9 @@ fn settings(alloc: Global, limits: Limits) -> Result<Settings, Fail> {
     Ok(settings)
 }
 
-/// Each run: its scene, its limits, and what the system was asked.
+/// A scene | its limits | the calls of the system.
 const RUNS: &[(Scene, Limits, &[Event])] = &[
-    // an accept that brings none, a connect that hangs, waits that return at once
+    // an accept without a bot, a pending connect, waits that return at once
     (
         Scene {
             accepts: &[false],
@@ -220,7 +221,7 @@ const RUNS: &[(Scene, Limits, &[Event])] = &[
             Event::Retired,
         ],
     ),
-    // the server can't be reached: the bot counts as served
+    // the server is unreachable: the bot counts as served
     (
         Scene {
             accepts: &[],
@@ -235,7 +236,7 @@ const RUNS: &[(Scene, Limits, &[Event])] = &[
             Event::ParsedEvent(Notice::CannotReach),
         ],
     ),
-    // one at once: the next comes when the first is gone
+    // one session at once: the next bot is accepted after the first is retired
     (
         Scene {
             accepts: &[],
@@ -260,7 +261,7 @@ const RUNS: &[(Scene, Limits, &[Event])] = &[
             Event::Retired,
         ],
     ),
-    // a connect under way takes the one place
+    // a pending connect occupies the only slot
     (
         Scene {
             accepts: &[],
@@ -285,7 +286,7 @@ const RUNS: &[(Scene, Limits, &[Event])] = &[
             Event::Retired,
         ],
     ),
-    // two at once: a round takes up one connect
+    // two sessions at once: a round handles one connect
     (
         Scene {
             accepts: &[],
@@ -311,7 +312,7 @@ const RUNS: &[(Scene, Limits, &[Event])] = &[
             Event::Retired,
         ],
     ),
-    // a silent bot: its fourth turn is one too many, and the system isn't asked to begin it
+    // a silent bot: its fourth turn exceeds the quota, and the system does not begin it
     (
         Scene {
             accepts: &[],
@@ -337,7 +338,7 @@ const RUNS: &[(Scene, Limits, &[Event])] = &[
     ),
 ];
 
-/// The stage after a whole run of a scene by these limits.
+/// Returns the system after a whole run of a scene with these limits.
 fn stage_after(alloc: Global, scene: Scene, limits: Limits) -> Result<Harness, Fail> {
     let settings = settings(alloc, limits)?;
     let mut stage = Harness::new(alloc, scene);
@@ -345,7 +346,7 @@ fn stage_after(alloc: Global, scene: Scene, limits: Limits) -> Result<Harness, F
     Ok(stage)
 }
 
-/// A run of a scene by these limits asks just that.
+/// Checks the calls of a run of a scene with these limits.
 fn assert_run(alloc: Global, scene: Scene, limits: Limits, want: &[Event]) -> Result<(), Fail> {
     let stage = stage_after(alloc, scene, limits)?;
     holds(stage.events.as_slice() == want, "the events")
@@ -359,7 +360,7 @@ fn system_is_asked_round_by_round(rt: HostRuntime) -> Result<(), Fail> {
     Ok(())
 }
 
-/// What the system is asked where one bot's turns are spent while it is open.
+/// The calls of the system if a bot's turns are spent while its session is open.
 const SPENT: &[Event] = &[
     Event::Begun,
     Event::Came,
@@ -380,13 +381,13 @@ const SPENT: &[Event] = &[
     Event::Retired,
 ];
 
-/// A bot that opens and says no more.
+/// A bot that sends its IM, and nothing more.
 const OPENING: Scene = Scene {
     bot: OPENS_ALONE,
     ..ENDING
 };
 
-/// The system was asked that, and the server got no more than the IM.
+/// Checks the calls, and that the server was sent only the IM.
 fn assert_spent(alloc: Global, stage: &Harness) -> Result<(), Fail> {
     holds(stage.events.as_slice() == SPENT, "the events")?;
     match stage.retired.first() {
@@ -395,21 +396,22 @@ fn assert_spent(alloc: Global, stage: &Harness) -> Result<(), Fail> {
     }
 }
 
-/// A bot's IM is read in two turns and written in two. When its turns are spent an FM waits for the server; the wire
-/// fails then, so the server gets no more than the IM.
+/// A bot's IM is read in two turns and written in two. When its turns are spent, an FM is queued for the server. The
+/// write then fails, so the server is sent only the IM.
 #[test]
 fn spent_turns_end_an_open_wire(rt: HostRuntime) -> Result<(), Fail> {
     let stage = stage_after(rt.alloc(), OPENING, (1, 1, 5))?;
     assert_spent(rt.alloc(), &stage)
 }
 
-/// A bot that begins with no IM and takes nothing, so that its EM waits.
+/// A bot that does not begin with an IM and accepts no byte, so its EM stays queued.
 const WRONG_AND_FULL: Script<'static> = Script {
     pulls: &[ScriptedRead::Bytes(&[2, 0, 0, 0])],
     puts: &[Acceptance::Takes(0); 9],
 };
 
-/// Runs of one bot, with why its session ended, and what it counted. Of the last an EM waits until its turns are spent.
+/// A run of one bot | its limits | why its session ended | its counts. In the last one an EM stays queued until the
+/// turns are spent.
 const ENDS_OF_RUNS: &[(Scene, Limits, Cause, [u64; 4])] = &[
     (
         ENDING,
@@ -438,7 +440,7 @@ const ENDS_OF_RUNS: &[(Scene, Limits, Cause, [u64; 4])] = &[
     ),
 ];
 
-/// The system is told that end of one session.
+/// Checks the end of the only session.
 fn assert_end(alloc: Global, row: &(Scene, Limits, Cause, [u64; 4])) -> Result<(), Fail> {
     let (scene, limits, cause, counts) = row;
     let stage = stage_after(alloc, *scene, *limits)?;
@@ -459,7 +461,7 @@ fn system_is_told_how_a_session_ended(rt: HostRuntime) -> Result<(), Fail> {
     Ok(())
 }
 
-/// Bots that say nothing, of which some don't come at once, and some find no server.
+/// Bots that send nothing. Some are not accepted at once, and some do not reach a server.
 const HUNDRED: Scene = Scene {
     accepts: &[true, false, true, false],
     fates: &[Fate::Failed, Fate::Pending, Fate::Failed],
@@ -486,7 +488,7 @@ fn each_of_many_bots_is_served(rt: HostRuntime) -> Result<(), Fail> {
     )
 }
 
-/// What becomes of a run whose memory lies in a heap of so many bytes.
+/// Runs with its memory on a heap of this size.
 fn try_within(
     alloc: Global,
     bytes: usize,
@@ -507,7 +509,7 @@ fn try_within(
     same(&fault, &ServeFault::Memory, &bytes)
 }
 
-/// Over heaps from empty to ample: want of memory by its name, and nothing else.
+/// Over heaps of growing size: a refused allocation is the only fault of a run.
 #[test]
 fn want_of_memory_ends_a_run(rt: HostRuntime) -> Result<(), Fail> {
     let settings = settings(rt.alloc(), (1, 1, 9))?;
@@ -518,7 +520,7 @@ fn want_of_memory_ends_a_run(rt: HostRuntime) -> Result<(), Fail> {
     seen.assert_all()
 }
 
-/// The fault of a run by these settings, before which nobody was asked.
+/// Checks the fault of a run with these settings, and that it makes no call of the system.
 fn assert_fault(alloc: Global, settings: &Settings, want: ServeFault) -> Result<(), Fail> {
     let mut stage = Harness::new(alloc, ENDING);
     let fault = serve(alloc, settings, &mut stage).err();
@@ -534,7 +536,7 @@ fn faults_of_a_run_before_anybody_is_asked(rt: HostRuntime) -> Result<(), Fail> 
     assert_fault(rt.alloc(), &wrong, ServeFault::Config(ConfigError::Depth))
 }
 
-/// A fault or a notice is told so.
+/// Checks the text of a fault or a notice.
 fn assert_text(alloc: Global, told: &impl Display, want: &str) -> Result<(), Fail> {
     let text = told.to_string(alloc)?;
     same(&text.as_str(), &want, &want)

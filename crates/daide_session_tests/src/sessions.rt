@@ -15,7 +15,7 @@ use daide_test_support::rows::{holds, same};
 use std::alloc::Global;
 use std::test::Fail;
 
-/// An FM, and two EMs: one that is passed on, and the start of those that are made here.
+/// An FM. An EM that is forwarded follows.
 const FM: &str = "03 00 00 00";
 
 const EM: &str = "04 00 00 02 00 FF";
@@ -40,7 +40,7 @@ fn opens_with_im_and_rm(rt: HostRuntime) -> Result<(), Fail> {
     assert_scenes(rt.alloc(), false, OPENS)
 }
 
-/// Limits that are wrong, by level, body and depth, and the fault that is told.
+/// The level limit, body cap and depth limit | the fault.
 const WRONG_LIMITS: &[(u16, u16, u16, ConfigError)] = &[
     (65, 511, 3, ConfigError::Level),
     (60, 511, 3, ConfigError::Body),
@@ -247,7 +247,7 @@ fn each_event_before_the_rm(rt: HostRuntime) -> Result<(), Fail> {
     assert_scenes(rt.alloc(), false, BEFORE_THE_RM)
 }
 
-/// An operator's level 30, and what the server says under it, one after the other, with the level after it.
+/// A top level of 30. Messages of the server under it follow, in order, with the level after each.
 const AT_30: Config = Config {
     top_level: 30,
     ..WIDEST
@@ -275,10 +275,10 @@ const HLOS: &[Act] = &[
     // YES ( HLO )
     Says(Server, "02 00 00 08  48 1C 40 00 48 04 40 01"),
     Sees(Look::Level(Level::L20)),
-    // HLO ( LVL 10 ), which is answered with HUH
+    // HLO ( LVL 10 ), which gets HUH
     Says(Server, "02 00 00 0A  48 04 40 00 49 03 00 0A 40 01"),
     Sees(Look::Level(Level::L20)),
-    // HLO ( ENG ) ( 1234 ) ( ( LVL 10 ), which is answered with PRN
+    // HLO ( ENG ) ( 1234 ) ( ( LVL 10 ), which gets PRN
     Says(
         Server,
         "02 00 00 18  48 04 40 00 41 01 40 01 40 00 04 D2 40 01 40 00 40 00 49 03 00 0A 40 01",
@@ -319,8 +319,8 @@ fn only_a_relayed_hlo_of_the_server_sets_the_level(rt: HostRuntime) -> Result<()
     assert_acts(rt.alloc(), AT_30, HLOS)
 }
 
-/// Messages of the server, the level after each under the operator's level 30, where it was 0 before, and how many
-/// of its tokens are looked at for that.
+/// A message of the server | the level after it, with a top level of 30 and from level 0 | the number of its tokens
+/// that are examined for the level.
 const CUT_HLOS: &[(&str, Level, u64)] = &[
     // HLO ( ENG ) ( 1234 ) ( ( MTL 30 ) ( LVL 25 ) )
     (
@@ -346,8 +346,8 @@ const CUT_HLOS: &[(&str, Level, u64)] = &[
     ("02 00 00 08  48 1C 40 00 48 04 40 01", Level::L0, 1),
 ];
 
-/// A message of the server that comes in two pieces sets this level, and not before its last byte. So many of its
-/// tokens are looked at.
+/// Feeds a message of the server in two pieces. Checks that it sets this level with its last byte and not before, and
+/// that this number of its tokens is examined.
 fn assert_level_of_pieces(
     alloc: Global,
     first: &[u8],
@@ -387,7 +387,7 @@ const BEYOND_LIMITS: &[Scene] = &[(
     &[
         Says(Bot, IM),
         Says(Server, RM),
-        // five open brackets, where four are allowed
+        // five open brackets, while four are allowed
         Says(
             Bot,
             "02 00 00 16  48 06 40 00 40 00 40 00 40 00 40 00 40 01 40 01 40 01 40 01 40 01",
@@ -511,7 +511,7 @@ fn notes_name_what_became_of_a_frame(rt: HostRuntime) -> Result<(), Fail> {
     Ok(())
 }
 
-/// SND ( FRA ) ( PRP ( PCE ( ENG FRA ) ) ), the HUH that it gets at level 0, and an HLO of level 10.
+/// SND ( FRA ) ( PRP ( PCE ( ENG FRA ) ) ). Its HUH at level 0 and an HLO of level 10 follow.
 const PRESS: &str =
     "02 00 00 1C  48 17 40 00 41 02 40 01 40 00 4A 13 40 00 4A 10 40 00 41 01 41 02 40 01 40 01 40 01";
 
@@ -586,7 +586,7 @@ fn ends_and_timeouts(rt: HostRuntime) -> Result<(), Fail> {
     assert_scenes(rt.alloc(), false, ENDS_AT_FIRST)
 }
 
-/// The timer of a fresh session faults once, and it is over then.
+/// Checks that the timer of a new session causes one fault, after which the session is over.
 fn assert_timer(session: &mut Session) -> Result<(), Fail> {
     holds(session.im_timeout() == Note::Fault(Code::ImTimeout), "once")?;
     holds(session.im_timeout() == Note::Nothing, "not twice")?;
@@ -600,13 +600,13 @@ fn timer_faults_once(rt: HostRuntime) -> Result<(), Fail> {
     assert_timer(&mut session)
 }
 
-/// What the server says while a HUH waits for the bot.
+/// A message of the server while a HUH is queued for the bot.
 const NOW: &str = "02 00 00 0A  48 0E 40 00 47 00 07 6D 40 01";
 
 const HUH_AND_NOW: &str =
     "02 00 00 08 48 06 40 00 49 02 40 01  02 00 00 0A 48 0E 40 00 47 00 07 6D 40 01";
 
-/// Neither side is read until its answer's last byte is taken: the twelfth, and the fourteenth after it.
+/// Neither side is read until its answer's last byte is taken: the twelfth byte, and the fourteenth after it.
 const SLOW_WIRE: &[Scene] = &[(
     &[
         Sends(Bot, "02 00 00 00"),
@@ -683,7 +683,7 @@ fn lost_wire_gets_nothing_more(rt: HostRuntime) -> Result<(), Fail> {
     assert_scenes(rt.alloc(), true, WAITING_FOR_A_LOST_WIRE)
 }
 
-/// OBS of one token takes at most eight steps, and `GOF (` of two at most twelve.
+/// OBS, of one token, takes at most eight steps, and `GOF (`, of two tokens, at most twelve.
 const STEPS: &[Act] = &[
     Says(Bot, IM),
     Says(Server, RM),
@@ -701,7 +701,7 @@ fn steps_are_counted_by_message(rt: HostRuntime) -> Result<(), Fail> {
     assert_acts(rt.alloc(), WIDEST, STEPS)
 }
 
-/// Of a message of 250 bytes, six of which came: two open brackets.
+/// Six bytes of a message of 250, with two open brackets.
 const HEAVY: &[Act] = &[
     Says(Bot, IM),
     Says(Server, RM),

@@ -1,6 +1,6 @@
--- Two faults in one document, for each pair of keys and each pair of kinds: the first key's is told, whatever the
--- later one's. The order is that of the table of settings in docs/FORMATS.md, so that two keys that stand in each
--- other's place do not check. And how an address is counted.
+-- Two faults in one document, for each pair of keys and each pair of kinds: the fault of the first key is reported,
+-- whatever the later one is. The order is that of the table of settings in docs/FORMATS.md, so two swapped keys do not
+-- check. Also: the length of an address is that of its bytes.
 use Rattle.std.proofs.Common.{◌≡◌, codes, true, false, List, ℕ, ◌+◌, ◌-◌, [], ◌∷◌, ◌++◌, map}
 use Rattle.std.proofs.Common.{replicate, Some, refl}
 use Rattle.std.proofs.Common.{Result, Ok, Err}
@@ -15,9 +15,9 @@ use Rattle.daide_settings.specs.declared.settings.SettingsError.{SettingsError}
 use Rattle.daide_settings.specs.declared.settings.SettingsError.TheVariants.{Unknown, WrongType, Range}
 use Rattle.daide_settings.specs.Settings.{Given, is_in_range, text_judged, judged_members}
 
--- ---- documents of all twelve keys
+-- ---- documents with all twelve keys
 
--- the value of each key, in the order of the table; members stand in the order of their keys' bytes
+-- the value of each key, in the order of the table; the members are in the order of their keys' bytes
 abbrev document : (ℕ → Data) → Members
 document value =
     member (codes "idle_seconds") (value 9) (member (codes "im_seconds") (value 5) (member (codes "listen") (value 0)
@@ -29,7 +29,7 @@ document value =
 abbrev at : List Data → ℕ → Data
 at values n = slice_index_or values n (boolean false)
 
--- values in range, each of its own
+-- values in range, all different
 abbrev right : List Data
 right =
     string (codes "l") ∷ string (codes "s") ∷ integer (pos 20) ∷ integer (pos 1024) ∷ integer (pos 13)
@@ -53,7 +53,7 @@ each_key_has_its_field : judged_members (document (at right)) ≡ Ok (record {
 unfolding judged_members
 each_key_has_its_field = refl
 
--- a word of a slot that there is not
+-- a word with an unknown slot
 abbrev no_slot : Data
 no_slot =
     table (member (codes "code") (integer (pos 0x4A40)) (member (codes "level") (integer (pos 20))
@@ -78,12 +78,12 @@ abbrev faulty : List Data → List Data → ℕ → ℕ → Result Given Setting
 faulty first second i j =
     judged_members (document (λ n. if n == i then at first n else if n == j then at second n else at right n))
 
--- for each key but the last, with each key behind it
+-- each key but the last, with each key after it
 abbrev pairs : List Data → List Data → List (List (Result Given SettingsError))
 pairs first second =
     map (λ i. map (faulty first second i) (range_with_len (i + 1) (11 - i))) (range_with_len 0 11)
 
--- what is told of each key with eleven, ten, .. keys behind it
+-- the fault reported for each key, with eleven, ten, .. keys after it
 abbrev told : (Key → SettingsError) → List (List (Result Given SettingsError))
 told fault =
     replicate 11 (Err (fault Listen)) ∷ replicate 10 (Err (fault Server)) ∷ replicate 9 (Err (fault TopLevel))
@@ -96,7 +96,7 @@ first_key_told : (pairs ranged ranged ≡ told Range) × (pairs typed typed ≡ 
 unfolding judged_members
 first_key_told = (refl, refl, refl, refl)
 
--- of each key alone
+-- a fault of one key alone
 abbrev alone : List Data → List (Result Given SettingsError)
 alone faults = map (λ i. faulty faults faults i i) (range_with_len 0 12)
 
@@ -109,7 +109,7 @@ each_key_told : (alone ranged ≡ map (λ key. Err (Range key)) keys) × (alone 
 unfolding judged_members
 each_key_told = (refl, refl)
 
--- a key that no settings have is told before each of them
+-- an unknown key is reported before each of them
 abbrev with_unknown : List Data → ℕ → Result Given SettingsError
 with_unknown faults i =
     judged_members (member (codes "depth") (integer (pos 5)) (document (λ n. if n == i then at faults n else at right n)))
@@ -129,7 +129,8 @@ ranges : (map (is_in_range Listen) (range_with_len 0 300) ≡ false ∷ replicat
     × (map (is_in_range Words) (range_with_len 0 300) ≡ replicate 17 true ++ replicate 283 false)
 ranges = (refl, refl, refl, refl, refl)
 
--- bytes are counted, and no letters: a letter of two bytes for 127 times and one of one byte are 255, for 128 times 256
+-- the length is in bytes, not in letters: 127 letters of two bytes and one of one byte are 255, and 128 of two bytes
+-- are 256
 abbrev letters : ℕ → List ℕ
 letters n = concat (replicate n (0xC3 ∷ 0xA4 ∷ []))
 

@@ -25,7 +25,7 @@ use Rattle.daide_settings.specs.declared.settings.SettingsError.{SettingsError}
 
 -- ---- the keys
 
--- each key once, in the order in which they are judged
+-- each key once, in the order of the checks
 all_keys : ALL ≡ Listen ∷ Server ∷ TopLevel ∷ MaxBody ∷ MaxDepth ∷ ImSeconds ∷ MaxSessions ∷ Sessions ∷ Turns
     ∷ IdleSeconds ∷ Words ∷ StallSeconds ∷ []
 all_keys = refl
@@ -149,7 +149,7 @@ stalled_for_a_day = refl
 stalled_for_more_than_a_day : is_in_range StallSeconds 86401 ≡ false
 stalled_for_more_than_a_day = refl
 
--- ---- whole documents; members stand in the order of their keys' bytes
+-- ---- whole documents; the members are in the order of their keys' bytes
 
 abbrev both : Members → Members
 both others = member (codes "listen") (string (codes "a:1")) others
@@ -175,18 +175,18 @@ defaults : judged_members two_addresses ≡ Ok (record {
 unfolding judged_members
 defaults = refl
 
--- a server that is missing is told before a depth that is out of range
+-- a missing server is reported before a depth out of range
 missing_before_a_later_range :
     judged_members (both (member (codes "max_depth") (integer (pos 255)) no_members)) ≡ Err (Missing Server)
 unfolding judged_members
 missing_before_a_later_range = refl
 
--- a key that no settings have is told before a key that is missing
+-- an unknown key is reported before a missing key
 unknown_before_missing : judged_members (member (codes "depth") (integer (pos 5)) no_members) ≡ Err Unknown
 unfolding judged_members
 unknown_before_missing = refl
 
--- an earlier key's range is told before a later key's type
+-- an earlier key's range is reported before a later key's type
 range_before_a_later_type : judged_members (both (member (codes "max_body") (integer (pos 511))
     (member (codes "max_depth") (boolean true) (member (codes "server") (string (codes "b:2")) no_members))))
     ≡ Err (Range MaxBody)
@@ -206,9 +206,9 @@ number_for_an_address = refl
 empty_address : address_of Server (Some (string (codes ""))) ≡ Err (Range Server)
 empty_address = refl
 
--- ---- words; the members of an entry stand in the order of their keys' bytes
+-- ---- words; the members of an entry are in the order of their keys' bytes
 
--- an entry of these fields
+-- an entry with these fields
 abbrev entry : ℕ → ℕ → List ℕ → List ℕ → List ℕ → Data
 entry code level name operand slot =
     table (member (codes "code") (integer (pos code)) (member (codes "level") (integer (pos level))
@@ -248,7 +248,7 @@ word_without_operand = refl
 wrong_slot : words_at (item (entry 0x4A40 20 (codes "XYZ") (codes "power") (codes "pres")) no_items) ≡ Err (Range Words)
 wrong_slot = refl
 
--- the shape of a later entry is told before the range of an earlier one
+-- the shape of a later entry is reported before the range of an earlier one
 shape_before_range :
     words_at (item (entry 0x4A40 20 (codes "XYZ") (codes "power") (codes "pres")) (item halved no_items))
     ≡ Err (WrongType Words)

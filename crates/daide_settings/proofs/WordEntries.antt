@@ -1,4 +1,4 @@
--- Entries of words, judged one after the other.
+-- Entries of words, checked one after the other.
 use Rattle.std.proofs.Common.{◌≡◌, true, false, ◌&&◌, Bool, List, [], ◌∷◌, ◌++◌, Option, Some, None, Result, Ok, Err}
 use Rattle.std.proofs.Common.{option_map, if◌then◌else◌, refl, sym, ap, ◌∙◌, append_assoc, append-nil}
 use Rattle.std.specs.Prelude.{is_ok}
@@ -12,7 +12,7 @@ use Rattle.daide_settings.specs.declared.settings.SettingsError.{SettingsError}
 use Rattle.daide_settings.specs.declared.settings.SettingsError.TheVariants.{Range}
 use Rattle.daide_settings.specs.WordSettings.{word_of, words_of_entries, one_before, accepted_words}
 
--- what is said of some words and then the words of entries
+-- the result for some words followed by the words of entries
 abbrev pub further : List Word → Items → Result (List Word) SettingsError
 further before entries = accepted_words (option_map (λ words. before ++ words) (words_of_entries entries))
 
@@ -34,7 +34,7 @@ and_false : (a b : Bool) → b ≡ false → (a && b) ≡ false
 and_false true b e = e
 and_false false b e = refl
 
--- words of which one is refused are not accepted
+-- words are not accepted if one of them is refused
 not_accepted : (taken : List Named) (before : List Word) (word : Word) (words : List Word) →
     is_ok (word_fault (taken ++ names_of before) word) ≡ false →
     are_accepted_after taken (before ++ word ∷ words) ≡ false
@@ -47,7 +47,7 @@ not_accepted taken (w ∷ before) word words e =
     (not_accepted (taken ++ (w.code, w.name) ∷ []) before word words
     (ap (λ ns. is_ok (word_fault ns word)) (append_assoc taken ((w.code, w.name) ∷ []) (names_of before)) ∙ e))
 
--- and so is a word that is refused after the words before it
+-- a word that is refused after the words before it makes the result `Range`
 pub further_refused : (before : List Word) (word : Word) (entry : Data) (others : Items) → word_of entry ≡ Some word →
     is_ok (word_fault (names_of before) word) ≡ false → further before (item entry others) ≡ Err (Range Words)
 further_refused before word entry others e refused = rw e (go (words_of_entries others))

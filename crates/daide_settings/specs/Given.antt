@@ -1,4 +1,4 @@
--- What a value of `Settings` says.
+-- The content of a value of `Settings`.
 use Rattle.daide_settings.specs.declared.settings.Settings.{Settings}
 use Rattle.daide_words.specs.Words.{words_of}
 use Rattle.daide_settings.specs.Settings.{Given}

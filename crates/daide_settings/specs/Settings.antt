@@ -1,5 +1,5 @@
--- Which settings a TOML document gives: docs/FORMATS.md, "Settings", as definitions. What a TOML document is, and which
--- members it has, is the crate toml's. (own)
+-- The settings of a TOML document: docs/FORMATS.md, "Settings", as definitions. The crate toml defines what a TOML
+-- document is, and which members it has. (own)
 use Rattle.std.specs.Prelude.{ℕ, ℤ, pos, negsuc, ◌&&◌, ◌||◌, nat_le, Bool, if◌then◌else◌}
 use Rattle.std.specs.Prelude.{List, length, codes, Option, Some, None, Result, Ok, Err}
 use Rattle.std.specs.Str.{bytes_eq}
@@ -36,7 +36,7 @@ key_text StallSeconds = codes "stall_seconds"
 abbrev pub is_within : ℕ → ℕ → ℕ → Bool
 is_within low high n = nat_le low n && nat_le n high
 
--- the range of a key's number; of an address, that of the number of its bytes, and of words, of their number
+-- the range of a key's number; for an address, the number of its bytes, and for words, the number of them
 abbrev pub is_in_range : Key → ℕ → Bool
 is_in_range Listen n = is_within 1 255 n
 is_in_range Server n = is_within 1 255 n
@@ -51,7 +51,8 @@ is_in_range IdleSeconds n = is_within 0 86400 n
 is_in_range Words n = is_within 0 16 n
 is_in_range StallSeconds n = is_within 0 86400 n
 
--- the number of a key that a document doesn't have; the two addresses have none, and must stand, and words are none
+-- the number of a key that is missing in a document; the two addresses are required and have none, and neither have
+-- words
 abbrev pub default_of : Key → Option ℕ
 default_of Listen = None
 default_of Server = None
@@ -80,12 +81,12 @@ has_only_known members = has_only is_known members
 
 -- ---- one key
 
--- a text is in range by the number of its bytes
+-- the length of a text in bytes must be in range
 abbrev pub text_judged : Key → Option (List ℕ) → Result (List ℕ) SettingsError
 text_judged key None = Err (WrongType key)
 text_judged key (Some text) = if is_in_range key (length text) then Ok text else Err (Range key)
 
--- an address must stand, be a text, and be in range, in this order
+-- an address must exist, be a text, and be in range, in this order
 abbrev pub address_of : Key → Option Data → Result (List ℕ) SettingsError
 address_of key None = Err (Missing key)
 address_of key (Some value) = text_judged key (as_str value)
@@ -99,14 +100,14 @@ abbrev pub absent_judged : Key → Option ℕ → Result ℕ SettingsError
 absent_judged key None = Err (Missing key)
 absent_judged key (Some n) = Ok n
 
--- a number may be left out where it has a default; else it must be an integer, and in range, in this order
+-- a missing number has its default; otherwise the value must be an integer, and in range, in this order
 abbrev pub read_number : Key → Option Data → Result ℕ SettingsError
 read_number key None = absent_judged key (default_of key)
 read_number key (Some value) = integer_judged key (as_integer value)
 
 -- ---- the document
 
--- what the settings of a document say
+-- the content of the settings in a document
 pub record Given : Type 0 where
   pub listen : List ℕ
   pub server : List ℕ
@@ -121,12 +122,12 @@ pub record Given : Type 0 where
   pub words : List Word
   pub stall_seconds : ℕ
 
--- the next judgement, if the one before it passed
+-- the next check, if the one before it passed
 abbrev pub then_with : {A B : Type 0} → Result A SettingsError → (A → Result B SettingsError) → Result B SettingsError
 then_with (Ok x) judged = judged x
 then_with (Err fault) judged = Err fault
 
--- each key in its order
+-- the keys in order
 abbrev pub keys_judged : Members → Result Given SettingsError
 keys_judged members =
     then_with (address_of Listen (get_member (key_text Listen) members)) (λ listen.
@@ -156,7 +157,7 @@ keys_judged members =
       stall_seconds = stall_seconds;
     })))))))))))))
 
--- a key that no settings have is told before any key is judged
+-- an unknown key is reported before any key is checked
 unfoldable pub judged_members : Members → Result Given SettingsError
 judged_members members = if has_only_known members then keys_judged members else Err Unknown
 

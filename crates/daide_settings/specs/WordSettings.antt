@@ -1,5 +1,5 @@
--- Which words a document's key `words` gives: docs/FORMATS.md, "Settings", as definitions. Which words are accepted is
--- the crate daide_words'. (own)
+-- The words of a document's key `words`: docs/FORMATS.md, "Settings", as definitions. The crate daide_words defines
+-- which words are accepted. (own)
 use Rattle.std.specs.Prelude.{ℕ, ℤ, pos, negsuc, ◌&&◌, ◌||◌, ◌==◌, nat_le, Bool, true, false, if◌then◌else◌}
 use Rattle.std.specs.Prelude.{List, [], ◌∷◌, length, codes, Option, Some, None, is_some, option_and_then}
 use Rattle.std.specs.Prelude.{Result, Ok, Err}
@@ -15,7 +15,7 @@ use Rattle.daide_settings.specs.declared.settings.key.Key.TheVariants.{Words}
 use Rattle.daide_settings.specs.declared.settings.SettingsError.{SettingsError}
 use Rattle.daide_settings.specs.declared.settings.SettingsError.TheVariants.{WrongType, Range}
 
--- whether all keys of some members pass a test
+-- whether all keys of the members pass a test
 abbrev pub has_only : (List ℕ → Bool) → Members → Bool
 has_only allowed no_members = true
 has_only allowed (member text value others) = allowed text && has_only allowed others
@@ -28,11 +28,11 @@ is_field text =
     bytes_eq text (codes "name") || bytes_eq text (codes "code") || bytes_eq text (codes "slot")
     || bytes_eq text (codes "level") || bytes_eq text (codes "operand")
 
--- the text at a key, if one stands there
+-- the text of a key, if it has one
 abbrev pub text_in : List ℕ → Members → Option (List ℕ)
 text_in field members = option_and_then as_str (get_member field members)
 
--- the number at a key, if one stands there
+-- the number of a key, if it has one
 abbrev pub number_in : List ℕ → Members → Option ℤ
 number_in field members = option_and_then as_integer (get_member field members)
 
@@ -95,18 +95,18 @@ abbrev pub words_of_entries : Items → Option (List Word)
 words_of_entries no_items = Some []
 words_of_entries (item entry others) = one_before (word_of entry) (words_of_entries others)
 
--- words are in range where they are accepted one after the other
+-- words are in range if they are accepted one after the other
 abbrev pub accepted_words : Option (List Word) → Result (List Word) SettingsError
 accepted_words None = Err (Range Words)
 accepted_words (Some words) = if are_accepted words then Ok words else Err (Range Words)
 
--- the shape of all entries is judged before the range of any
+-- the shape of all entries is checked before the range of any
 abbrev pub entries_judged : Option Items → Result (List Word) SettingsError
 entries_judged None = Err (WrongType Words)
 entries_judged (Some entries) =
     if are_entries entries then accepted_words (words_of_entries entries) else Err (WrongType Words)
 
--- the words at the key; without it there are none
+-- the words of the key; none if the document does not have it
 abbrev pub words_judged : Option Data → Result (List Word) SettingsError
 words_judged None = Ok []
 words_judged (Some value) = entries_judged (as_array value)

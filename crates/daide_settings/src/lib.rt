@@ -1,6 +1,6 @@
-//! The settings of a run: which document they are, and what each key may say.
+//! The settings of a run: their document, and the values that each key may have.
 //!
-//! Nothing here opens a file: the text is a parameter, and so is what allocates.
+//! This crate opens no file: the text and the allocator are parameters.
 #![tactic(auto)]
 
 pub mod settings;

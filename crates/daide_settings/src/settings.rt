@@ -1,7 +1,7 @@
 //! The settings of a run, read from a TOML document.
 //!
-//! The crate `toml` says what a document is and which members it has; here they are judged, by one
-//! table of keys. Nothing is opened: the text is a parameter.
+//! The crate `toml` parses the document and its members; this module judges the members, by one table of keys. It opens
+//! no file: the text is a parameter.
 
 mod address;
 mod key;
@@ -28,77 +28,78 @@ use thiserror::Error;
 use toml::{Table, Value};
 use words::words_at;
 
-/// Why a text gives no settings, in the order in which it is tested: of the whole text, of the whole
-/// document, then key by key in the order of `Key`. `Memory` comes at the growth that was refused.
+/// Why a text gives no settings, in the order of the checks: the whole text, the whole document, and then each key in
+/// the order of `Key`. `Memory` is returned at the growth that was refused.
 #[derive(Clone, Copy, Debug, PartialEq, Eq, Error)]
 pub enum SettingsError {
-    /// The text is no TOML document.
+    /// The text is not a TOML document.
     #[error("settings are not TOML")]
     NotToml,
-    /// The document has a key that no settings have.
+    /// The document has an unknown key.
     #[error("unknown key")]
     Unknown,
-    /// A key that must stand does not.
+    /// A required key is missing.
     #[error("missing {0}")]
     Missing(Key),
-    /// The value of a key is not of its type.
+    /// The value of a key does not have its type.
     #[error("wrong type for {0}")]
     WrongType(Key),
     /// The value of a key is not in its range.
     #[error("{0} out of range")]
     Range(Key),
-    /// A growth was refused.
+    /// The allocator refused a growth.
     #[error("out of memory")]
     Memory,
 }
 
-/// What a gateway is run with.
+/// The settings of a gateway.
 #[derive(Drop)]
 pub struct Settings {
-    /// The address at which bots are listened for.
+    /// The address on which the gateway listens for bots.
     pub listen: Address,
     /// The address of the server.
     pub server: Address,
     /// The limits of each session.
     pub config: Config,
-    /// How long a bot's IM is waited for, in seconds.
+    /// The timeout of a bot's IM, in seconds.
     pub im_seconds: u32,
-    /// How many sessions are held at once.
+    /// The greatest number of sessions at once.
     pub max_sessions: usize,
-    /// How many bots are served in all.
+    /// The number of bots to serve in all.
     pub sessions: u32,
-    /// How many turns a session has at most.
+    /// The greatest number of turns of a session.
     pub turns: u64,
-    /// After how long a side of which nothing comes is taken as ended, in seconds; 0 for never.
+    /// The idle timeout, in seconds: a side that sends nothing for this long counts as ended; 0 for never.
     pub idle_seconds: u32,
     /// The words of press that the operator adds.
     pub words: Words,
-    /// After how long a side that takes none of the bytes that wait for it counts as lost, in seconds; 0 for never.
+    /// The stall timeout, in seconds: a side that accepts none of its queued bytes for this long counts as lost; 0 for
+    /// never.
     pub stall_seconds: u32,
 }
 
-/// Whether a table's keys are all known.
+/// Returns true if all keys of a table are known.
 fn keys_are_known(table: &Table) -> bool
     ensures { result ≡ list_all (λ key. is_known_key (string_bytes key)) (keys table.now) }
 {
     table.keys().all(|key| is_known(key.as_str()))
 }
 
-/// Whether a document has no other keys than those of settings.
+/// Returns true if a document has only known keys.
 fn has_only_known(table: &Table) -> bool
     ensures { result ≡ knows_all (table_view table.now) }
 {
     keys_are_known(table)
 }
 
-/// The value at a key.
+/// Returns the value of a key.
 fn found<'a>(table: &'a Table, key: Key) -> Option<&'a Value>
     ensures { option_map (λ value. view value.now) result ≡ get_member (key_text key) (table_view table.now) }
 {
     table.get(key.text())
 }
 
-/// The address at a key, which must stand.
+/// Returns the address of a key. Fails with `Missing`, then with `WrongType`, then with `Range`.
 fn address_at<'a>(table: &'a Table, key: Key) -> Result<&'a str, SettingsError>
     ensures { let judged = address_of key (get_member (key_text key) (table_view table.now)) in
         MatchResult result (λ text. judged ≡ Ok text.now) (λ fault. judged ≡ Err fault) }
@@ -115,7 +116,7 @@ fn address_at<'a>(table: &'a Table, key: Key) -> Result<&'a str, SettingsError>
     Ok(text)
 }
 
-/// The number at a key, or the key's default.
+/// Returns the number of a key, or its default. Fails with `Missing`, then with `WrongType`, then with `Range`.
 fn number_at(table: &Table, key: Key) -> Result<u64, SettingsError>
     ensures judged { result ≡ judged_number key (get_member (key_text key) (table_view table.now)) }
     ensures within { IfOk result (λ n. is_in_range key n ≡ true) }
@@ -132,7 +133,7 @@ fn number_at(table: &Table, key: Key) -> Result<u64, SettingsError>
     }
 }
 
-/// The settings of a document.
+/// Reads the settings of a document.
 #[tactic(auto, unfolding(crate::specs::Settings::judged_members))]
 fn settings_of(alloc: Global, table: &Table) -> Result<Settings, SettingsError>
     ensures judged { IfOk result (λ settings. judged_members (table_view table.now) ≡ Ok (given_of settings)) }

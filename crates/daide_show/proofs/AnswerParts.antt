@@ -1,4 +1,4 @@
--- The body of an answer, of the parts that it was put together of.
+-- The body of an answer as the concatenation of its parts.
 use Rattle.std.proofs.Common.{◌≡◌, ◌≤◌, ◌%◌, ◌*◌, ℕ, false, take, drop, List, [], ◌++◌, length, arith, refl, ap, ◌∙◌}
 use Rattle.std.proofs.Common.{length-append, append_assoc}
 use Rattle.std.specs.List.{AllZip}
@@ -35,7 +35,7 @@ pub even_huh : (body : List ℕ) (place : ℕ) → length body % 2 ≡ 0 → 2 *
 even_huh body place even within =
     simp (length-append, length-drop) (omega (arith, length-take-le (2 * place) body within))
 
--- a verdict's name, and the answer behind it
+-- a verdict's name, followed by the answer
 pub answered : (words : List Word) (verdict : Verdict) (body old named answer text : List ℕ) →
     is_relay verdict ≡ false → named ≡ old ++ line (verdict_name verdict) → answer ≡ answer_body body verdict →
     text ≡ named ++ line (printed words (tokens_of answer))

@@ -1,4 +1,4 @@
--- What is shown of an FM, and of inputs that are no frame, worked out by hand from docs/FORMATS.md.
+-- What is shown of an FM, and of inputs that are not a frame, worked out from docs/FORMATS.md.
 use Rattle.std.proofs.Common.{[], ◌∷◌, ◌++◌, Ok, Err, codes, true, refl}
 use Rattle.std.specs.Fmt.{digits}
 use Rattle.hex.specs.Hex.{decode_pairs}

@@ -1,17 +1,17 @@
--- What is a blank of an input, and what a digit, of all bytes. Written from docs/FORMATS.md, so that a byte that is
--- taken for its neighbour does not check.
+-- The blanks and the digits among all bytes, written from docs/FORMATS.md, so that a byte mistaken for its neighbour
+-- fails to check.
 use Rattle.std.proofs.Common.{◌≡◌, true, false, Bool, List, [], ◌∷◌, ◌++◌, map, replicate, refl}
 use Rattle.std.specs.Prelude.{is_ok}
 use Rattle.std.specs.List.{range_with_len}
 use Rattle.hex.specs.Hex.{decode_pairs}
 use Rattle.daide_show.specs.Input.{limit, is_blank, parse_hex}
 
--- tab and line feed, carriage return and space; neither a vertical tab nor a form feed nor any other byte
+-- tab and line feed, carriage return and space; not a vertical tab, a form feed or any other byte
 blanks : map is_blank (range_with_len 0 256)
     ≡ replicate 9 false ++ true ∷ true ∷ replicate 2 false ++ true ∷ replicate 18 false ++ true ∷ replicate 223 false
 blanks = refl
 
--- two digits with a byte before, between or behind them: a blank is left out
+-- two digits with a byte before, between or after them: a blank is ignored
 abbrev blank_left_out : List Bool
 blank_left_out =
     replicate 9 false ++ true ∷ true ∷ replicate 2 false ++ true ∷ replicate 18 false ++ true ∷ replicate 223 false
@@ -22,7 +22,7 @@ blanks_left_out : (map (λ b. is_ok (parse_hex (b ∷ 48 ∷ 57 ∷ []))) (range
 unfolding decode_pairs
 blanks_left_out = (refl, refl, refl)
 
--- digits of either case, at each of a byte's two places
+-- digits of either case, in each of a byte's two positions
 abbrev digits : List Bool
 digits =
     replicate 48 false ++ replicate 10 true ++ replicate 7 false ++ replicate 6 true ++ replicate 26 false

@@ -1,4 +1,4 @@
--- Notes and odd groups of small inputs, worked out from docs/FORMATS.md by hand.
+-- Notes and odd groups of small inputs, worked out from docs/FORMATS.md.
 use Rattle.std.proofs.Common.{◌≡◌, [], ◌∷◌, codes, Some, None, refl}
 use Rattle.std.specs.Fmt.{digits}
 use Rattle.daide_show.specs.declared.notes.InputNote.TheVariants.{BadByte, OddDigits, ShortHeader, ShortBody}
@@ -6,11 +6,11 @@ use Rattle.daide_show.specs.declared.notes.InputNote.TheVariants.{AnotherFrame}
 use Rattle.daide_show.specs.Note.{byte_text, digits_note, frame_note, note_text}
 use Rattle.daide_show.specs.Groups.{odd_group_of}
 
--- the seventh byte is the letter O, and blanks count
+-- the seventh byte is the letter O; blanks are counted
 letter_for_digit : digits_note (codes "02 00 O0") ≡ BadByte 7 79
 letter_for_digit = refl
 
--- a byte that is no letter, after digits of either case
+-- a byte that is not a letter, after digits of either case
 first_of_two : digits_note (codes "aF,9;") ≡ BadByte 3 44
 first_of_two = refl
 
@@ -25,7 +25,7 @@ quoted = (refl, refl, refl)
 by_value : (byte_text 0xC3 ≡ codes "0xC3") × (byte_text 0x7F ≡ codes "0x7F") × (byte_text 0x0B ≡ codes "0x0B")
 by_value = (refl, refl, refl)
 
--- three bytes; a body of four of which two came; six bytes of a whole frame and one more
+-- three bytes; a body of four bytes of which two were given; six bytes of a complete frame and one more
 short_header : frame_note (2 ∷ 0 ∷ 0 ∷ []) ≡ ShortHeader 3
 short_header = refl
 
@@ -47,11 +47,11 @@ texts : (note_text (BadByte 7 79) ≡ codes "byte 7 is 'O'") × (note_text (BadB
 unfolding digits
 texts = (refl, refl, refl, refl, refl, refl)
 
--- the second group of three digits, counted without the empty parts between blanks
+-- the second group has three digits; empty parts between blanks are not counted
 second_group : odd_group_of (codes "  02 \r\n000 048") ≡ Some (record { place = 2; digits = 3 })
 second_group = refl
 
--- even groups, whatever their number; and a group that is not of digits alone
+-- even groups, whatever their number; and a group that does not consist of digits
 even_groups : (odd_group_of (codes "02 0000 04") ≡ None) × (odd_group_of (codes "0:0 02") ≡ None)
     × (odd_group_of [] ≡ None)
 even_groups = (refl, refl, refl)

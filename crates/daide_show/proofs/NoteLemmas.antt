@@ -1,4 +1,4 @@
--- The note of an input is of the input's fault.
+-- The note of an input belongs to its fault.
 use Rattle.std.proofs.Common.{◌≡◌, ℕ, Bool, true, false, ltb, List, length, position, Option, Some, None, Result, Ok, Err}
 use Rattle.std.proofs.Common.{if◌then◌else◌, ap, sym, refl, ◌∙◌}
 use Rattle.std.specs.Prelude.{option_map}

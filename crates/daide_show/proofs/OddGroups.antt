@@ -1,4 +1,4 @@
--- The first odd group, as the parts of an input come one after the other.
+-- The first odd group, found part by part.
 use Rattle.std.proofs.Common.{◌≡◌, ℕ, ◌+◌, ◌<◌, ◌≤◌, ◌==◌, Bool, true, false, not, if◌then◌else◌, List, ◌∷◌, length}
 use Rattle.std.proofs.Common.{drop, get_or, filter, Option, Some, None, refl, sym, ap, ◌∙◌, add-one}
 use Rattle.std.proofs.Math.ListN.{drop_of_length-le}
@@ -6,7 +6,7 @@ use Rattle.std.proofs.Math.Seq.{drop-cons}
 use Rattle.daide_show.specs.declared.groups.OddGroup.{OddGroup}
 use Rattle.daide_show.specs.Groups.{is_some_bytes, is_odd_group, odd_among}
 
--- the first odd group of the parts from the n-th on, with `place` groups before them
+-- the first odd group of the parts from index n on, with `place` groups before them
 abbrev pub odd_from : ℕ → ℕ → List (List ℕ) → Option OddGroup
 odd_from place n parts = odd_among (place + 1) (filter is_some_bytes (drop n parts))
 

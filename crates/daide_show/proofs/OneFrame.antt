@@ -1,4 +1,4 @@
--- The frame that bytes are, by the steps of a cutter.
+-- An input as one frame, by the steps of a cutter.
 use Rattle.std.proofs.Common.{◌≡◌, ◌≢◌, ℕ, zero, suc, inl, inr, ◌⊎◌, ◌+◌, ◌-◌, ◌<◌, ◌≤◌, Bool, true, false, cond, ltb}
 use Rattle.std.proofs.Common.{leb, eqb, List, [], ◌∷◌, ◌++◌, length, take, drop, Option, Some, None, Result, Ok, Err}
 use Rattle.std.proofs.Common.{refl, sym, ap, ◌∙◌, subst, arith, length-append, append_assoc, append-nil}
@@ -24,7 +24,7 @@ use Rattle.daide_show.specs.Shown.{whole, not_one, parse_frame_events, parse_fra
 use Rattle.daide_show.specs.Found.{parsed_input_of, parsed_input_by}
 use Rattle.daide_show.specs.declared.frame_view.one_frame.ParsedInput.{ParsedInput}
 
--- the items have an end: a whole frame, or a fault
+-- the items end: with a complete frame, or with a fault
 abbrev is_over : List FrameEvent → Bool
 is_over [] = false
 is_over (Begun head ∷ items) = is_over items
@@ -41,7 +41,7 @@ unfolding first_items parse_head
 items_long cap p q r s w = let enough : ltb (length (p ∷ q ∷ r ∷ s ∷ w)) 4 ≡ false = grind (arith, nat_tests) in
     rw enough refl
 
--- an alien token stays the first, whatever follows
+-- the first alien token is the same, whatever follows
 alien_stays : (x z : List ℕ) (n : ℕ) → first_alien x ≡ Some n → first_alien (x ++ z) ≡ Some n
 alien_stays [] z n e = absurd cc
 alien_stays (h ∷ []) z n e = absurd cc
@@ -54,7 +54,7 @@ alien_stays (h ∷ l ∷ x) z n e = go (is_alien h l) (first_alien x) refl (λ k
     go false (Some k) i more j = rw (more k i) j
     go true o i more j = j
 
--- a longer list begins with the front of a shorter one
+-- a prefix of a longer list begins with the prefix of a shorter one
 take_longer : (n : ℕ) (w more : List ℕ) → (z : List ℕ) × (take n (w ++ more) ≡ take n w ++ z)
 take_longer zero w more = ([], refl)
 take_longer (suc n) [] more = (take (suc n) more, refl)
@@ -103,7 +103,7 @@ head_stays : (r : Result Head Code) (w more : List ℕ) → is_over (frame_event
 head_stays (Err code) w more over = refl
 head_stays (Ok head) w more over = ap (λ (items : List FrameEvent). Begun head ∷ items) (body_stays head w more over)
 
--- what follows the end of the first frame does not change its items
+-- bytes after the end of the first frame do not change its items
 items_stay : (cap : ℕ) (b more : List ℕ) → is_over (frame_events_of (first_items cap b)) ≡ true
     → frame_events_of (first_items cap (b ++ more)) ≡ frame_events_of (first_items cap b)
 items_stay cap b more over = go b over
@@ -124,7 +124,7 @@ items_stay cap b more over = go b over
         ∙ over)
         ∙ ap frame_events_of (sym now)
 
--- what was fed is a front of what was handed in
+-- the fed bytes are a prefix of those given
 fed_front : (cap : ℕ) (bytes piece : List ℕ) → (skipped : List ℕ) × (fed cap bytes piece ++ skipped ≡ bytes ++ piece)
 fed_front cap bytes [] = ([], append-nil bytes ∙ sym (append-nil bytes))
 fed_front cap bytes (x ∷ piece) =
@@ -136,7 +136,7 @@ fed_front cap bytes (x ∷ piece) =
     go true rest = (rest.0, rest.1 ∙ append_assoc bytes (x ∷ []) piece)
     go false rest = (piece, append_assoc bytes (x ∷ []) piece)
 
--- bytes that begin with a frame's end are found by its items
+-- the result for bytes that begin with a complete frame follows from its items
 found_over : (cap : ℕ) (b more : List ℕ) (items : List FrameEvent) → frame_events_of (first_items cap b) ≡ items →
     is_over items ≡ true
     → parse_frame cap (b ++ more) ≡ parse_frame_events (length (b ++ more)) items
@@ -155,12 +155,12 @@ found_none n (Begun head ∷ items) e = found_none n items e
 found_none n (Whole head body ∷ items) e = absurd cc
 found_none n (Wrong code ∷ items) e = absurd cc
 
--- fewer bytes than a header are no frame
+-- fewer bytes than a header are not a frame
 pub found_short : (cap : ℕ) (b : List ℕ) → length b < 4 → not_one ≡ parse_frame cap b
 unfolding parse_frame
 found_short cap b few = rw (items_short cap b few) refl
 
--- a header has an item
+-- a complete header has an item
 header_items : (cap : ℕ) (h : List ℕ) → length h ≡ 4 → frame_events_of (first_items cap h) ≡ [] → ⊥
 header_items cap [] e none = absurd (omega arith)
 header_items cap (p ∷ []) e none = absurd (omega arith)
@@ -173,7 +173,7 @@ header_items cap (p ∷ q ∷ r ∷ s ∷ w) e none =
     go (Ok head) e = absurd cc
     go (Err code) e = absurd cc
 
--- a body without an end has fewer bytes than the header announces
+-- an incomplete body has fewer bytes than the header announces
 wanted_body : (head : Head) (w : List ℕ) → is_over (frame_events_of (items_of_body head w (alien_in head w))) ≡ false →
     length w < head.len
 wanted_body head w open_end = go (alien_in head w) open_end
@@ -200,7 +200,7 @@ missing_after : (cap p q r s : ℕ) →
 unfolding missing head_in
 missing_after cap p q r s = refl
 
--- so it lacks some of what the header left room for
+-- so it has fewer than the header left room for
 wanted : (cap : ℕ) (h p : List ℕ) → length h ≡ 4 → is_over (frame_events_of (first_items cap (h ++ p))) ≡ false →
     length p < missing cap h
 wanted cap [] w e open_end = absurd (omega arith)
@@ -234,7 +234,7 @@ pub room_of_header : (cap : ℕ) (bytes : List ℕ) → bytes ≡ [] → missing
 unfolding missing
 room_of_header cap bytes e = rw e refl
 
--- where a piece ends the first frame, its items are found, whatever follows
+-- if a piece ends the first frame, the result follows from its items, whatever follows
 fed_over : (cap : ℕ) (old piece more : List ℕ) (before items : List FrameEvent) → length piece ≤ missing cap old
     → frame_events_of (first_items cap old) ≡ before → fed_items cap old piece ≡ items → is_over (before ++ items) ≡ true
     → parse_frame cap ((old ++ piece) ++ more) ≡ parse_frame_events (length ((old ++ piece) ++ more)) (before ++ items)
@@ -256,7 +256,7 @@ four_past (p ∷ q ∷ r ∷ []) rest e = absurd (omega arith)
 four_past (p ∷ q ∷ r ∷ s ∷ []) rest e = refl
 four_past (p ∷ q ∷ r ∷ s ∷ x ∷ l) rest e = absurd (omega arith)
 
--- the first frame ends with its body, and all or not all bytes were taken
+-- the first frame ends with its body, by whether all bytes were fed
 whole_at : (head : Head) (body : List ℕ) (n more : ℕ) (all : Bool) → n ≡ 4 + length body + more → all ≡ eqb more 0
     → parsed_input_by (parsed_input_of Bodied (Some head) all) body ≡ cond (eqb (4 + length body) n) (whole head body) not_one
 whole_at head body n more true e is = let same : eqb (4 + length body) n ≡ true = grind (arith, nat_tests) in
@@ -264,7 +264,7 @@ whole_at head body n more true e is = let same : eqb (4 + length body) n ≡ tru
 whole_at head body n more false e is = let same : eqb (4 + length body) n ≡ false = grind (arith, nat_tests) in
     rw same refl
 
--- the header is the last that was fed
+-- the header was the last piece fed
 pub header_found : (cap : ℕ) (b h rest now : List ℕ) (step : Step) (head : Option Head) (all : Bool) (found : ParsedInput)
     → b ≡ h ++ rest → length h ≡ 4 → now ≡ fed cap [] h → fed_items cap [] h ≡ items_of_step step head (drop 4 now)
     → IsFault step ⊎ (now ≡ h) → step ≢ Headed → all ≡ eqb (length rest) 0 → found ≡ parsed_input_of step head all
@@ -299,7 +299,7 @@ header_found cap b h rest now step head all found split four fed_now tells taken
         rw empty (whole_at hd [] (length (h ++ rest)) (length rest) all (omega (arith, length-append h rest)) is_all
         ∙ sym (fed_over cap [] h rest [] (Begun hd ∷ Whole hd [] ∷ []) room (items_nothing cap) tells refl))
 
--- a good header was fed, and a body is to come
+-- a valid header was fed, and a body follows
 pub header_begun : (cap : ℕ) (h now : List ℕ) (step : Step) (head : Option Head) → length h ≡ 4 → now ≡ fed cap [] h
     → fed_items cap [] h ≡ items_of_step step head (drop 4 now) → IsFault step ⊎ (now ≡ h) → step ≡ Headed
     → (now ≡ h) × ((hd : Head) × (frame_events_of (first_items cap now) ≡ Begun hd ∷ []))
@@ -326,7 +326,7 @@ header_begun cap h now step head four fed_now tells taken is = (
         absurd (header_items cap h four (ap (λ (l : List ℕ). frame_events_of (first_items cap l)) (sym still) ∙ items ∙ t))
     go (Some hd) t = (hd, items ∙ t)
 
--- the body, as far as there is room for it, was fed after the header
+-- as much of the body as there is room for was fed after the header
 pub body_found : (cap : ℕ) (b h p after now : List ℕ) (hd : Head) (step : Step) (head : Option Head) (all : Bool)
     (found : ParsedInput)
     → b ≡ (h ++ p) ++ after → length h ≡ 4 → frame_events_of (first_items cap h) ≡ Begun hd ∷ [] → length p ≤ missing cap h
@@ -400,7 +400,7 @@ unfolding parse_frame
 found_at cap p q r s w =
     ap (λ (l : List EventAtOffset). parse_frame_events (length (p ∷ q ∷ r ∷ s ∷ w)) (frame_events_of l)) (items_long cap p q r s w)
 
--- a whole frame has a body of a length that is right for its kind, and not above the cap
+-- a complete frame has a body of a valid length for its kind, within the cap
 pub right_frame : (cap : ℕ) (b : List ℕ) (head : Head) (body : List ℕ) → whole head body ≡ parse_frame cap b
     → (has_right_length head.kind (length body) ≡ true) × (length body ≤ cap)
 right_frame cap b head body e = by_bytes b e

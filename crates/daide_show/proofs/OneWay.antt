@@ -1,4 +1,4 @@
--- An input is shown in one way.
+-- What is shown of an input is unique.
 use Rattle.std.proofs.Common.{◌≡◌, ℕ, Bool, true, false, ltb, List, [], length, Result, Ok, Err, ap, sym, subst, ◌∙◌}
 use Rattle.std.specs.Prelude.{MatchResult}
 use Rattle.std.specs.Bool.{MatchBool}
@@ -19,14 +19,14 @@ use Rattle.daide_explain.specs.Explained.{IsExplained}
 use Rattle.daide_show.specs.Shown.{ShowRequest, Shown, OneFrame, faulty, whole, not_one, parse_frame, message_shown}
 use Rattle.daide_show.specs.Shown.{AreLines, IsMessageShownAs, IsFrameShownAs, IsOneShownAs, AreShownAs, IsShownAs}
 
--- an explanation is one, of the message of each body and each verdict
+-- the explanation is unique, for each body and verdict
 abbrev pub IsOneExplanation : ShowRequest → Type 0
 IsOneExplanation asked =
     (m : List ℕ) (verdict : Verdict) (one other : List ℕ) →
     IsExplained asked.words (side2_of asked.side) asked.level greatest_depth m verdict one →
     IsExplained asked.words (side2_of asked.side) asked.level greatest_depth m verdict other → one ≡ other
 
--- what is shown of an input's bytes, where it has some
+-- what is shown of an input's bytes, if it could be decoded
 abbrev pub Decoded : ShowRequest → Result (List ℕ) FromHexError → Result Shown ShowFault → Type 0
 Decoded asked bytes outcome =
     MatchResult bytes (λ b. AreShownAs asked b outcome) (λ _. outcome ≡ Err NotHex)

@@ -44,7 +44,7 @@ module _ (words : List Word) (side : Side) (level : Level) where
   abbrev pub explaining : ShowRequest
   explaining = record { words = words; side = side; level = level; explained = true }
 
-  -- a message that is relayed has no lines
+  -- a message that is relayed has no explanation
   none_if_relayed : (m : List ℕ) (verdict : Verdict) (lines : List ℕ) →
       IsExplained words (side2_of side) level greatest_depth m verdict lines → is_relay verdict ≡ true → lines ≡ []
   none_if_relayed m Relay lines explained relayed = explained

@@ -1,17 +1,17 @@
--- What a reader gave, joined over its reads.
+-- The bytes that a reader returned, over all reads.
 use Rattle.std.proofs.Common.{◌≡◌, ℕ, zero, suc, ◌+◌, ◌<◌, ◌≤◌, take, List, [], ◌∷◌, ◌++◌, length, Option, Some, None}
 use Rattle.std.proofs.Common.{IfSome, append-nil, append_assoc, length-append, arith, refl, subst, ap, sym, ◌∙◌}
 use Rattle.std.proofs.lemmas.List.{length-take-le, take-append-le}
 use Rattle.std.specs.Io.KnownBytes.{Consumes, Keeps, IsAtEnd}
 use Rattle.daide_show.specs.Input.{limit, IsPartlyRead}
 
--- a front has no more than was asked for
+-- a prefix is at most as long as requested
 pub front_few : (n : ℕ) (l : List ℕ) → length (take n l) ≤ n
 front_few zero l = omega arith
 front_few (suc n) [] = omega arith
 front_few (suc n) (x ∷ l) = omega (arith, front_few n l)
 
--- a piece more
+-- one more piece
 pub read_more : (old now new : Option (List ℕ)) (input piece : List ℕ) → Consumes old now input → Consumes now new piece
     → Consumes old new (input ++ piece)
 read_more None now new input piece given more = tt
@@ -20,7 +20,7 @@ read_more (Some xs) (Some ys) None input piece given more = absurd more
 read_more (Some xs) (Some ys) (Some zs) input piece given more =
     given ∙ ap (λ (rest : List ℕ). input ++ rest) more ∙ sym (append_assoc input piece zs)
 
--- nothing more
+-- no more bytes
 pub none_more : (old now new : Option (List ℕ)) (input : List ℕ) → Consumes old now input → Consumes now new [] →
     Consumes old new input
 none_more old now new input given more =
@@ -40,7 +40,7 @@ none_read old (x ∷ input) e = absurd (cc)
 none_read None [] e = record { given = tt; fits = omega arith; each_turn = omega arith }
 none_read (Some xs) [] e = record { given = refl; fits = omega arith; each_turn = omega arith }
 
--- at the end the input is all that there was
+-- at the end, the input is all bytes of the reader
 pub whole_input : (old now new : Option (List ℕ)) (input : List ℕ) → Consumes old now input → Consumes now new [] →
     IsAtEnd new
     → IfSome old (λ all. input ≡ all)
@@ -51,7 +51,7 @@ whole_input (Some xs) (Some ys) (Some zs) input given last ended =
     let left : ys ≡ [] = last ∙ ended in
     sym (given ∙ ap (λ (rest : List ℕ). input ++ rest) left ∙ append-nil input)
 
--- a piece more than the limit makes the whole longer than it
+-- one more piece beyond the limit makes the whole too long
 pub longer_input : (old now new : Option (List ℕ)) (input piece : List ℕ) (limit : ℕ) → Consumes old now input →
     Consumes now new piece
     → limit < length input + length piece → IfSome old (λ all. limit < length all)
@@ -61,7 +61,7 @@ longer_input (Some xs) (Some ys) None input piece limit given more long = absurd
 longer_input (Some xs) (Some ys) (Some zs) input piece limit given more long =
     omega (arith, ap length given, ap length more, length-append input ys, length-append piece zs)
 
--- one turn more, whose piece stands in front of what the buffer held
+-- one more turn, whose piece is at the front of the buffer
 pub turn_more : (old now new : Option (List ℕ)) (input buf rest longer : List ℕ) (count turns : ℕ) →
     IsPartlyRead old now input turns → Consumes now new (take count buf) → longer ≡ input ++ take count (buf ++ rest)
     → count ≤ length buf → 0 < count → length input + count ≤ limit → IsPartlyRead old new longer (turns + 1)

@@ -1,4 +1,4 @@
--- What the cutting of some bytes found, as one frame.
+-- The result of cutting an input as one frame. (own)
 use Rattle.std.specs.Prelude.{ℕ, Bool, true, false, List, Option, Some, None}
 use Rattle.daide_frame.specs.declared.head.Head.{Head}
 use Rattle.daide_frame.specs.declared.cutter.Step.{Step}
@@ -8,7 +8,7 @@ use Rattle.daide_show.specs.declared.frame_view.one_frame.ParsedInput.{ParsedInp
 use Rattle.daide_show.specs.declared.frame_view.one_frame.ParsedInput.TheVariants.{Fault, Whole, NotOneFrame}
 use Rattle.daide_show.specs.Shown.{OneFrame, faulty, whole, not_one}
 
--- what the last step of a cutter says of bytes, of which all or not all were taken
+-- the result after a cutter's last step, by whether it got all bytes
 abbrev pub parsed_input_of : Step → Option Head → Bool → ParsedInput
 parsed_input_of More head all = NotOneFrame
 parsed_input_of Headed head all = NotOneFrame
@@ -17,7 +17,7 @@ parsed_input_of Bodied None all = NotOneFrame
 parsed_input_of Bodied (Some head) false = NotOneFrame
 parsed_input_of Bodied (Some head) true = Whole head
 
--- what was found, with the body that was cut off
+-- the result, with the body that was cut off
 abbrev pub parsed_input_by : ParsedInput → List ℕ → OneFrame
 parsed_input_by (Fault code) body = faulty code
 parsed_input_by (Whole head) body = whole head body

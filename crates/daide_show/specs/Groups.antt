@@ -15,11 +15,11 @@ is_some_bytes part = not (length part == 0)
 abbrev pub groups_of : List ℕ → List (List ℕ)
 groups_of input = filter is_some_bytes (slice_split is_blank input)
 
--- digits alone, and an odd number of them
+-- only digits, and an odd number of them
 abbrev pub is_odd_group : List ℕ → Bool
 is_odd_group group = list_all is_hex_digit group && length group % 2 == 1
 
--- the first odd group, with its place and the number of its digits
+-- the first odd group, with its number and the number of its digits
 abbrev pub odd_among : ℕ → List (List ℕ) → Option OddGroup
 odd_among place [] = None
 odd_among place (group ∷ groups) =
@@ -27,11 +27,11 @@ odd_among place (group ∷ groups) =
     then Some (record { place = place; digits = length group })
     else odd_among (place + 1) groups
 
--- the first odd group of an input; the places are counted from 1
+-- the first odd group of an input, with groups counted from 1
 abbrev pub odd_group_of : List ℕ → Option OddGroup
 odd_group_of input = odd_among 1 (groups_of input)
 
--- an odd group as it is printed
+-- the text of an odd group
 abbrev pub odd_group_text : OddGroup → List ℕ
 odd_group_text odd =
     codes "group " ++ decimal odd.place ++ codes " has an odd number of digits, " ++ decimal odd.digits

@@ -4,7 +4,7 @@ use Rattle.std.specs.Io.KnownBytes.{Consumes}
 use Rattle.hex.specs.Hex.{decode_of}
 use Rattle.hex.specs.declared.error.FromHexError.{FromHexError}
 
--- the most bytes that an input may have (own)
+-- the most bytes of an input (own)
 abbrev pub limit : ℕ
 limit = 200000
 
@@ -12,7 +12,7 @@ limit = 200000
 abbrev pub is_blank : ℕ → Bool
 is_blank b = b == 32 || b == 9 || b == 13 || b == 10
 
--- what is left of an input without its blanks
+-- an input without its blanks
 abbrev pub digits_of : List ℕ → List ℕ
 digits_of input = filter (λ b. not (is_blank b)) input
 
@@ -20,7 +20,7 @@ digits_of input = filter (λ b. not (is_blank b)) input
 abbrev pub parse_hex : List ℕ → Result (List ℕ) FromHexError
 parse_hex input = decode_of (digits_of input)
 
--- part of an input was read: it is what the reader gave, it is not too long, and each turn gave a byte
+-- a part of an input was read: it is what the reader returned, it is not too long, and each turn returned a byte
 pub record IsPartlyRead (old now : Option (List ℕ)) (input : List ℕ) (turns : ℕ) : Type 0 where
   pub given : Consumes old now input
   pub fits : length input ≤ limit

@@ -20,7 +20,7 @@ use Rattle.daide_show.specs.declared.notes.InputNote.TheVariants.{AnotherFrame}
 abbrev pub is_bad : ℕ → Bool
 is_bad b = not (is_hex_digit b || is_blank b)
 
--- the first bad byte, its place being counted from 1; if there is none, how many digits there are
+-- the first bad byte, with its place counted from 1; if there is none, the number of digits
 abbrev pub digits_note_at : List ℕ → Option ℕ → InputNote
 digits_note_at input (Some i) = BadByte (i + 1) (slice_index input i)
 digits_note_at input None = OddDigits (count_by (λ b. not (is_blank b)) input)
@@ -29,11 +29,11 @@ digits_note_at input None = OddDigits (count_by (λ b. not (is_blank b)) input)
 abbrev pub digits_note : List ℕ → InputNote
 digits_note input = digits_note_at input (position is_bad input)
 
--- the length of the body that a header announces: its last two bytes, the high one first
+-- the length field of a header: its last two bytes, the high byte first
 abbrev pub announced_length : List ℕ → ℕ
 announced_length bytes = from_be_bytes w16 (slice_index bytes 2 ∷ slice_index bytes 3 ∷ [])
 
--- why some bytes are not one frame: the header is not whole, or the body is not, or a whole frame is followed by more
+-- why some bytes are not one frame: the header is incomplete, or the body is, or more bytes follow a complete frame
 abbrev pub frame_note : List ℕ → InputNote
 frame_note bytes =
     if nat_lt (length bytes) 4 then ShortHeader (length bytes)
@@ -55,7 +55,7 @@ note_of_bytes input (Err error) = Some (digits_note input)
 abbrev pub input_note_of : List ℕ → Option InputNote
 input_note_of input = if nat_lt limit (length input) then None else note_of_bytes input (parse_hex input)
 
--- the fault that a note is of
+-- the fault to which a note belongs
 abbrev pub fault_of_note : InputNote → ShowFault
 fault_of_note (BadByte place b) = NotHex
 fault_of_note (OddDigits count) = NotHex
@@ -63,7 +63,7 @@ fault_of_note (ShortHeader count) = NotOneFrame
 fault_of_note (ShortBody announced count) = NotOneFrame
 fault_of_note (AnotherFrame place) = NotOneFrame
 
--- the fault of an input, if it is one that has a note
+-- the fault of an input, if it has a note
 abbrev pub noted_fault : Result Shown ShowFault → Option ShowFault
 noted_fault (Err NotHex) = Some NotHex
 noted_fault (Err NotOneFrame) = Some NotOneFrame
@@ -73,13 +73,13 @@ noted_fault (Err Memory) = None
 noted_fault (Err Write) = None
 noted_fault (Ok shown) = None
 
--- a byte as it is printed: quoted if it is a printable ASCII byte and no space, else by its value
+-- the text of a byte: in quotes if it is printable ASCII other than a space, else in hexadecimal digits
 abbrev pub byte_text : ℕ → List ℕ
 byte_text b =
     if nat_le 0x21 b && nat_le b 0x7E then 39 ∷ b ∷ 39 ∷ []
     else codes "0x" ++ slice_index upper_digits (b / 16) ∷ slice_index upper_digits (b % 16) ∷ []
 
--- a note as it is printed
+-- the text of a note
 abbrev pub note_text : InputNote → List ℕ
 note_text (BadByte place b) = codes "byte " ++ decimal place ++ codes " is " ++ byte_text b
 note_text (OddDigits count) = codes "the number of digits is odd: " ++ decimal count

@@ -1,4 +1,4 @@
--- What `show` says of an input: the text of docs/FORMATS.md (own), and whether its frame would be relayed.
+-- The output of `show` for an input: the text of docs/FORMATS.md (own), and whether its frame would be relayed.
 use Rattle.std.specs.Prelude.{◌≡◌, ⊤, ℕ, ◌+◌, ◌==◌, nat_lt, Bool, true, false, if◌then◌else◌}
 use Rattle.std.specs.Prelude.{List, [], ◌∷◌, ◌++◌, length, codes, Option, Result, Ok, Err, MatchResult}
 use Rattle.std.specs.Bool.{MatchBool}
@@ -33,15 +33,15 @@ use Rattle.daide_show.specs.declared.frame_view.ShowFault.{ShowFault}
 use Rattle.daide_show.specs.declared.frame_view.ShowFault.TheVariants.{Read, TooLong, NotHex, NotOneFrame}
 use Rattle.daide_show.specs.declared.frame_view.ShowFault.TheVariants.{Memory, Write}
 
--- how a frame is judged and shown: the operator's words, whose frame it is, at which level, and whether a message that
--- is not relayed is explained
+-- a request: the operator's words, the side that sent the frame, the level, and whether a message that is not relayed
+-- is explained
 pub record ShowRequest : Type 0 where
   pub words : List Word
   pub side : Side
   pub level : Level
   pub explained : Bool
 
--- what a request asks
+-- the request of the code
 abbrev pub request_of : Request → ShowRequest
 request_of request = record {
   words = words_of request.words.now;
@@ -50,7 +50,7 @@ request_of request = record {
   explained = request.is_explained;
 }
 
--- a frame of a side at a level, without words and without an explanation
+-- a side's frame at a level, without words and without an explanation
 abbrev pub plain_request : Side → Level → ShowRequest
 plain_request side level = record { words = []; side = side; level = level; explained = false }
 
@@ -63,7 +63,7 @@ pub record Shown : Type 0 where
 abbrev pub line : List ℕ → List ℕ
 line text = text ++ 10 ∷ []
 
--- tokens as they are printed, the operator's words by their own names
+-- the printed text of tokens, with the operator's words by their own names
 abbrev pub printed : List Word → List ℕ → List ℕ
 printed words m = text_with (names_of words) m
 
@@ -73,17 +73,17 @@ verdict_name Relay = codes "relay"
 verdict_name Prn = codes "PRN"
 verdict_name (Huh place) = codes "HUH at " ++ decimal place
 
--- the text of the answer that a session sends back to a body by its verdict
+-- the text of the answer to a body, by its verdict
 abbrev pub answer_text : List Word → List ℕ → Verdict → List ℕ
 answer_text words body verdict = printed words (tokens_of (answer_body body verdict))
 
--- the lines of a verdict: its name, and the answer that the sender gets
+-- the lines of a verdict: its name, and the answer to the sender
 abbrev pub verdict_lines : List Word → Verdict → List ℕ → List ℕ
 verdict_lines words Relay body = line (verdict_name Relay)
 verdict_lines words Prn body = line (verdict_name Prn) ++ line (answer_text words body Prn)
 verdict_lines words (Huh place) body = line (verdict_name (Huh place)) ++ line (answer_text words body (Huh place))
 
--- whether a verdict passes its message on
+-- whether a message with this verdict is relayed
 abbrev pub is_relay : Verdict → Bool
 is_relay Relay = true
 is_relay Prn = false
@@ -97,11 +97,11 @@ kind_line kind len = line (name_of_kind kind ++ 32 ∷ decimal len)
 abbrev pub fault_shown : Code → Shown
 fault_shown code = record { text = line (codes "fault " ++ code_digits code); relayed = false }
 
--- a frame that holds no message and is good
+-- a valid frame that is not a message
 abbrev pub relayed_shown : Kind → ℕ → Shown
 relayed_shown kind len = record { text = kind_line kind len ++ line (codes "relay"); relayed = true }
 
--- an IM, by its check
+-- an IM, by the check of its body
 abbrev pub im_shown : ℕ → Result (Unit {0}) Code → Shown
 im_shown len (Ok good) = relayed_shown Im len
 im_shown len (Err code) = fault_shown code
@@ -113,14 +113,14 @@ message_shown words len body verdict lines = record {
   relayed = is_relay verdict;
 }
 
--- the lines that explain a verdict, if it is to be explained; else there are none
+-- the lines that explain a verdict, if the request includes an explanation; else none
 abbrev pub AreLines : ShowRequest → List ℕ → Verdict → List ℕ → Type 0
 AreLines asked m verdict lines =
     MatchBool asked.explained
     (IsExplained asked.words (side2_of asked.side) asked.level greatest_depth m verdict lines)
     (lines ≡ [])
 
--- a message of a body is shown by the verdict that its side's grammar, with these words, has for it
+-- a message is shown with the verdict of its side's grammar, extended by these words
 abbrev pub IsMessageShownAs : ShowRequest → ℕ → List ℕ → Shown → Type 0
 IsMessageShownAs asked len body shown =
     (verdict : Verdict) × (lines : List ℕ)
@@ -128,11 +128,11 @@ IsMessageShownAs asked len body shown =
     (tokens_of body) verdict
     × AreLines asked (tokens_of body) verdict lines × (shown ≡ message_shown asked.words len body verdict lines)
 
--- what was shown is added after what was there
+-- the text was appended
 abbrev pub WritesShown : List ℕ → List ℕ → Bool → Shown → Type 0
 WritesShown old new relayed shown = (new ≡ old ++ shown.text) × (relayed ≡ shown.relayed)
 
--- what is shown of a whole frame
+-- the text of a complete frame
 abbrev pub IsFrameShownAs : ShowRequest → Kind → ℕ → List ℕ → Shown → Type 0
 IsFrameShownAs asked Im len body shown = shown ≡ im_shown len (im_of body)
 IsFrameShownAs asked Rm len body shown = shown ≡ relayed_shown Rm len
@@ -140,24 +140,24 @@ IsFrameShownAs asked Dm len body shown = IsMessageShownAs asked len body shown
 IsFrameShownAs asked Fm len body shown = shown ≡ relayed_shown Fm len
 IsFrameShownAs asked Em len body shown = shown ≡ relayed_shown Em len
 
--- what some bytes are as one frame
+-- an input as one frame
 pub data OneFrame : Type 0 where
   faulty : Code → OneFrame
   whole : Head → List ℕ → OneFrame
   not_one : OneFrame
 
--- by how many there are, and by the items of the frame that they begin with
+-- the result, by the number of the bytes, and by the items of the frame at their start
 abbrev pub parse_frame_events : ℕ → List FrameEvent → OneFrame
 parse_frame_events count [] = not_one
 parse_frame_events count (Begun head ∷ items) = parse_frame_events count items
 parse_frame_events count (Wrong code ∷ items) = faulty code
 parse_frame_events count (Whole head body ∷ items) = if 4 + length body == count then whole head body else not_one
 
--- what some bytes are under a cap
+-- the result for some bytes, under a cap
 unfoldable pub parse_frame : ℕ → List ℕ → OneFrame
 parse_frame cap bytes = parse_frame_events (length bytes) (frame_events_of (first_items cap bytes))
 
--- what is shown of a frame, or that there is not one
+-- what is shown of a frame, or the fault if there is not exactly one
 abbrev pub IsOneShownAs : ShowRequest → OneFrame → Result Shown ShowFault → Type 0
 IsOneShownAs asked (faulty code) outcome = outcome ≡ Ok (fault_shown code)
 IsOneShownAs asked (whole head body) outcome =
@@ -168,19 +168,19 @@ IsOneShownAs asked not_one outcome = outcome ≡ Err NotOneFrame
 abbrev pub AreShownAs : ShowRequest → List ℕ → Result Shown ShowFault → Type 0
 AreShownAs asked bytes outcome = IsOneShownAs asked (parse_frame longest_body bytes) outcome
 
--- what is shown of an input, or the input's fault
+-- what is shown of an input, or the fault of the input
 abbrev pub IsShownAs : ShowRequest → List ℕ → Result Shown ShowFault → Type 0
 IsShownAs asked input outcome =
     MatchBool (nat_lt limit (length input)) (outcome ≡ Err TooLong)
     (MatchResult (parse_hex input) (λ bytes. AreShownAs asked bytes outcome) (λ _. outcome ≡ Err NotHex))
 
--- what is shown of the input was written, and the answer is whether its frame would be relayed
+-- the text for the input was written, and the result is whether its frame would be relayed
 abbrev pub Shows : ShowRequest → List ℕ → Bool → Option (List ℕ) → Option (List ℕ) → Type 0
 Shows asked input relayed old new =
     (shown : Shown) × IsShownAs asked input (Ok shown) × (relayed ≡ shown.relayed) × Appends old new shown.text
 
--- what an input has to do with a fault: those of the input are its own, a failed write comes only if there is
--- something to show, and the reader's and memory's say nothing of it
+-- A fault of the input is the one that the input has. A write can fail only if there is something to show. `Read` and
+-- `Memory` state nothing about the input.
 abbrev pub IsFaultAt : ShowRequest → List ℕ → ShowFault → Type 0
 IsFaultAt asked input Read = ⊤
 IsFaultAt asked input TooLong = IsShownAs asked input (Err TooLong)
@@ -189,8 +189,8 @@ IsFaultAt asked input NotOneFrame = IsShownAs asked input (Err NotOneFrame)
 IsFaultAt asked input Memory = ⊤
 IsFaultAt asked input Write = (shown : Shown) × IsShownAs asked input (Ok shown)
 
--- of an input that is shown, an explanation only adds lines after the text, and none if the frame is relayed; of
--- another one it changes nothing
+-- An explanation only adds lines after the text, and none if the frame is relayed. For an input with a fault it changes
+-- nothing.
 abbrev pub OnlyAdds : Result Shown ShowFault → Result Shown ShowFault → Type 0
 OnlyAdds (Ok plain) (Ok explained) =
     (lines : List ℕ) × (explained.text ≡ plain.text ++ lines) × (explained.relayed ≡ plain.relayed)

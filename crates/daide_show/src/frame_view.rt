@@ -1,7 +1,7 @@
 //! One frame, shown in plain words.
 //!
-//! The input is read up to its limit before anything is decided, and the text is whole before any of it is written: so
-//! a fault of the input, or want of memory, leaves nothing written.
+//! The input is read up to its limit before anything is judged, and the text is complete before any of it is written.
+//! So after a fault of the input, or a refused allocation, nothing is written.
 
 pub(crate) mod input;
 pub(crate) mod one_frame;
@@ -25,44 +25,44 @@ use std::io::{Read, Write};
 use text::{write_fault, write_frame};
 use thiserror::Error;
 
-/// Why nothing is shown, in the order in which it is tested; `Memory` comes at the growth that was refused, before
+/// Why nothing is shown, in the order of the tests. `Memory` is returned by the allocation that was refused, before
 /// anything is written.
 #[derive(Clone, Copy, Debug, PartialEq, Eq, Error)]
 pub enum ShowFault {
-    /// The reader failed.
+    /// A read failed.
     #[error("input could not be read")]
     Read,
     /// The input has more than 200,000 bytes.
     #[error("input is too long")]
     TooLong,
-    /// Blanks apart, the input is not pairs of hexadecimal digits.
+    /// Apart from blanks, the input is not pairs of hexadecimal digits.
     #[error("input is not hexadecimal")]
     NotHex,
-    /// There are fewer bytes than the frame announces, or more.
+    /// The input has fewer bytes than the header announces, or more.
     #[error("input is not one frame")]
     NotOneFrame,
-    /// A growth was refused.
+    /// An allocation was refused.
     #[error("out of memory")]
     Memory,
-    /// The writer failed.
+    /// A write failed.
     #[error("output could not be written")]
     Write,
 }
 
-/// How a frame is judged, and how much is shown of it.
+/// How a frame is judged and shown.
 #[derive(Clone, Copy)]
 pub struct Request<'a> {
-    /// Whose frame it is.
+    /// The side that sent the frame.
     pub side: Side,
     /// The level of press at which a message is judged.
     pub level: Level,
-    /// The operator's words: messages are judged with them, and they are printed by their own names.
+    /// The operator's words. Messages are judged with them and printed with their names.
     pub words: &'a Words,
     /// Whether a message that is not relayed is explained.
     pub is_explained: bool,
 }
 
-/// Returns what is written for some bytes, and whether they would be relayed.
+/// Returns the text for some bytes, and whether they would be relayed.
 fn show_bytes<A: Allocator + Copy>(
     alloc: A,
     request: &Request<'_>,
@@ -88,7 +88,7 @@ fn show_bytes<A: Allocator + Copy>(
     }
 }
 
-/// Returns what is written for an input, and whether its frame would be relayed.
+/// Returns the text for an input, and whether its frame would be relayed.
 fn text_of_input<A: Allocator + Copy>(
     alloc: A,
     request: &Request<'_>,
@@ -119,14 +119,14 @@ pub fn show_input<A: Allocator + Copy, W: Write>(
     input: &[u8],
     writer: &mut W,
 ) -> Result<bool, ShowFault>
-    // What is written is what is shown for the input, and the answer is true exactly at a relay.
+    // Writes the text for the input. Returns true exactly if the frame would be relayed.
     ensures shown { IfOk result (λ relayed.
         Shows (request_of request.now) input.now relayed (W.contents writer.old) (W.contents writer.new)) }
 
-    // A fault of the input is its own, and a write fails only if there is something to show.
+    // The input has the fault that is returned. A write can fail only if there is something to show.
     ensures refused { IfErr result (λ fault. IsFaultAt (request_of request.now) input.now fault) }
 
-    // Only a failed write can leave something written.
+    // Only a failed write can leave a part of the text written.
     ensures nothing_written { IfErr result (λ fault. fault ≢ ShowFault.Write
         → Keeps (W.contents writer.old) (W.contents writer.new)) }
 
@@ -164,19 +164,19 @@ pub fn show<A: Allocator + Copy, R: Read, W: Write>(
     reader: &mut R,
     writer: &mut W,
 ) -> Result<bool, ShowFault>
-    // What is written is what is shown for the input, and the answer is true exactly at a relay.
+    // Writes the text for the input. Returns true exactly if the frame would be relayed.
     ensures shown { IfOk result (λ relayed. IfSome (R.remaining reader.old) (λ input.
         Shows (plain_request side level) input relayed (W.contents writer.old) (W.contents writer.new))) }
 
-    // A fault of the input is its own, and a write fails only if there is something to show.
+    // The input has the fault that is returned. A write can fail only if there is something to show.
     ensures refused { IfErr result (λ fault. IfSome (R.remaining reader.old) (λ input.
         IsFaultAt (plain_request side level) input fault)) }
 
-    // Only a failed write can leave something written.
+    // Only a failed write can leave a part of the text written.
     ensures nothing_written { IfErr result (λ fault. fault ≢ ShowFault.Write
         → Keeps (W.contents writer.old) (W.contents writer.new)) }
 
-    // No more is read than shows that an input is too long.
+    // Reads at most one byte beyond the limit.
     ensures read { (bytes : List ℕ) × Consumes (R.remaining reader.old) (R.remaining reader.new) bytes
         × (length bytes ≤ limit + 1) }
 {
@@ -198,19 +198,19 @@ pub fn show_with<A: Allocator + Copy, R: Read, W: Write>(
     reader: &mut R,
     writer: &mut W,
 ) -> Result<bool, ShowFault>
-    // What is written is what is shown for the input, and the answer is true exactly at a relay.
+    // Writes the text for the input. Returns true exactly if the frame would be relayed.
     ensures shown { IfOk result (λ relayed. IfSome (R.remaining reader.old) (λ input.
         Shows (request_of request.now) input relayed (W.contents writer.old) (W.contents writer.new))) }
 
-    // A fault of the input is its own, and a write fails only if there is something to show.
+    // The input has the fault that is returned. A write can fail only if there is something to show.
     ensures refused { IfErr result (λ fault. IfSome (R.remaining reader.old) (λ input.
         IsFaultAt (request_of request.now) input fault)) }
 
-    // Only a failed write can leave something written.
+    // Only a failed write can leave a part of the text written.
     ensures nothing_written { IfErr result (λ fault. fault ≢ ShowFault.Write
         → Keeps (W.contents writer.old) (W.contents writer.new)) }
 
-    // No more is read than shows that an input is too long.
+    // Reads at most one byte beyond the limit.
     ensures read { (bytes : List ℕ) × Consumes (R.remaining reader.old) (R.remaining reader.new) bytes
         × (length bytes ≤ limit + 1) }
 {

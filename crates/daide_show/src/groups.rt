@@ -1,4 +1,4 @@
-//! The first group of an input that can't be whole bytes, as the offsets of a dump.
+//! The first group of an input that can't be whole bytes, such as the offsets of a hex dump.
 
 ghost use Rattle.std.specs.Prelude.{◌≡◌, Some};
 ghost use Rattle.std.specs.List.{list_all};
@@ -9,12 +9,12 @@ use crate::frame_view::input::is_blank;
 use crate::notes::is_hex_digit;
 use std::fmt;
 
-/// A group of digits between blanks that has an odd number of them.
+/// A group of digits between blanks, with an odd number of digits.
 #[derive(Clone, Copy, Debug, PartialEq, Eq)]
 pub struct OddGroup {
-    /// Which group of the input it is, counted from 1.
+    /// The number of the group, counted from 1.
     pub place: usize,
-    /// How many digits it has.
+    /// The number of its digits.
     pub digits: usize,
 }
 
@@ -28,22 +28,22 @@ impl fmt::Display for OddGroup {
     }
 }
 
-/// Returns whether a group has digits alone.
+/// Returns whether a group consists of digits.
 fn has_digits_alone(group: &[u8]) -> bool
     ensures { result ≡ list_all is_hex_digit group.now }
 {
     group.iter().all(|byte| is_hex_digit(*byte))
 }
 
-/// Returns whether a group has digits alone, and an odd number of them.
+/// Returns whether a group consists of an odd number of digits.
 fn is_odd_group(group: &[u8]) -> bool
     ensures { result ≡ is_odd_group group.now }
 {
     has_digits_alone(group) && group.len() % 2 == 1
 }
 
-/// Returns the first group of digits that has an odd number of them, as a dump's offset may. The verdict on the input
-/// does not depend on its groups.
+/// Returns the first group with an odd number of digits, such as the offset of a hex dump. The fault of the input does
+/// not depend on its groups.
 pub fn odd_group(input: &[u8]) -> Option<OddGroup>
     ensures { result ≡ odd_group_of input.now }
 {

@@ -1,5 +1,5 @@
-//! Each law of `laws`, used once at inputs that were worked out by hand, so that a weaker law does not check. Nothing here
-//! is called.
+//! One application of each law of `laws`, to inputs with known results, so that a weakened law fails to check. Nothing
+//! here is called.
 
 ghost use Rattle.std.specs.Prelude.{◌≡◌, ◌++◌, [], ◌∷◌, ℕ, List, Result, Ok, Err, Some, None, codes, false, true};
 ghost use Rattle.daide_frame.specs.declared.side.Side.TheVariants.{Bot};
@@ -12,7 +12,7 @@ ghost use Rattle.daide_show.specs.Shown.{IsShownAs, Shown, plain_request, verdic
 
 use crate::laws;
 
-/// An FM is shown by its kind, its length and `relay`, and in no other way; and a letter is no digit.
+/// An FM is shown as its kind, its length and `relay`, and in no other way. The letter G is not a digit.
 fn one_way_at_two_inputs()
     ensures shown { (outcome : Result Shown ShowFault) →
         IsShownAs (plain_request Bot L0) (codes "03 00 00 00") outcome →
@@ -23,7 +23,7 @@ fn one_way_at_two_inputs()
     laws::input_is_shown_in_one_way();
 }
 
-/// What is shown of an FM gets no line more with explanations.
+/// The explanation of an FM adds no line.
 fn explanation_at_a_relayed_frame()
     ensures { (explained : Shown) →
         IsShownAs (record { words = []; side = Bot; level = L0; explained = true }) (codes "03 00 00 00") (Ok explained) →
@@ -32,7 +32,7 @@ fn explanation_at_a_relayed_frame()
     laws::explanation_only_adds();
 }
 
-/// An input of one digit has the fault of its note, and one that is shown has none.
+/// An input of one digit has the fault of its note, and an input that is shown has no note.
 fn note_at_two_inputs()
     ensures odd { (outcome : Result Shown ShowFault) → IsShownAs (plain_request Bot L0) (codes "0") outcome →
         noted_fault outcome ≡ Some NotHex }
@@ -42,7 +42,7 @@ fn note_at_two_inputs()
     laws::note_is_of_the_fault();
 }
 
-/// Of `OBS GOF`, refused at 1, the answer that is shown is `HUH ( OBS ERR GOF )`.
+/// For `OBS GOF`, refused at index 1, the shown answer is `HUH ( OBS ERR GOF )`.
 fn answer_at_a_message()
     ensures { verdict_lines [] (Huh 1) (0x48 ∷ 0x0F ∷ 0x48 ∷ 0x03 ∷ [])
         ≡ codes "HUH at 1" ++ 10 ∷ codes "HUH ( OBS ERR GOF )" ++ 10 ∷ [] }

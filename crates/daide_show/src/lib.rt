@@ -1,7 +1,7 @@
-//! One frame, shown in plain words: what it is, what would become of it, and why.
+//! One frame, shown in plain words: its contents, its verdict, and the reason.
 //!
-//! Nothing here opens a file: reader, writer and allocator are parameters, so that what is written can be stated as a
-//! function of what was read, and each refusal can be tried.
+//! Nothing here opens a file. Reader, writer and allocator are parameters, so contracts can state the output as a
+//! function of the input, and tests can make each call fail.
 #![tactic(auto)]
 
 pub mod frame_view;

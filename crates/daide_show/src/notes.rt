@@ -19,15 +19,15 @@ use std::fmt;
 /// Why an input is not hexadecimal (the first two), or not one frame.
 #[derive(Clone, Copy, Debug, PartialEq, Eq)]
 pub enum InputNote {
-    /// The byte at this place, counted from 1, is neither a hexadecimal digit nor a blank.
+    /// This byte, at this place counted from 1, is neither a hexadecimal digit nor a blank.
     BadByte(usize, u8),
-    /// There are only digits and blanks, and this many digits, an odd number.
+    /// There are only digits and blanks, and this odd number of digits.
     OddDigits(usize),
     /// There are only this many bytes, fewer than a header has.
     ShortHeader(usize),
-    /// The header announces the first number of bytes; the second number follows, which is smaller.
+    /// The header announces the first number of bytes, but only the second number follows.
     ShortBody(u16, usize),
-    /// A whole frame ends at this byte, counted from 1, and more bytes follow.
+    /// A complete frame ends at this byte, counted from 1, and more bytes follow.
     AnotherFrame(usize),
 }
 
@@ -40,7 +40,7 @@ fn upper_digit(value: u8) -> char
     char::from(b"0123456789ABCDEF"[usize::from(value)])
 }
 
-/// Writes a byte: quoted if it is a printable ASCII byte and no space, else by its value.
+/// Writes a byte: in quotes if it is printable ASCII other than a space, else in hexadecimal digits.
 fn write_byte<W: fmt::Write>(f: &mut fmt::Formatter<W>, byte: u8) -> fmt::Result
     ensures { WritesOnOk W.write_str_gives f.old result (byte_text byte) f.new }
 {
@@ -77,7 +77,7 @@ impl fmt::Display for InputNote {
     }
 }
 
-/// Returns whether a byte is a hexadecimal digit, of either case.
+/// Returns whether a byte is a hexadecimal digit of either case.
 pub(crate) fn is_hex_digit(byte: u8) -> bool
     ensures { result ≡ is_hex_digit byte }
 {
@@ -91,7 +91,7 @@ fn is_bad(byte: u8) -> bool
     !(is_hex_digit(byte) || is_blank(byte))
 }
 
-/// Returns where the first bad byte of an input is.
+/// Returns the index of the first bad byte of an input.
 fn first_bad(input: &[u8]) -> Option<usize>
     ensures first { result ≡ position is_bad input.now }
     ensures within { IfSome result (λ i. i < length input.now) }
@@ -99,7 +99,7 @@ fn first_bad(input: &[u8]) -> Option<usize>
     input.iter().position(|byte| is_bad(*byte))
 }
 
-/// Returns how many bytes of an input are no blanks.
+/// Returns the number of bytes of an input that are not blanks.
 fn digit_count(input: &[u8]) -> usize
     ensures { result ≡ count_by (λ b. not (is_blank b)) input.now }
 {

@@ -1,4 +1,4 @@
--- The law of `laws`, used once at two calls. The fact takes the law alone, so that a weaker one does not check.
+-- The law of `laws`, used once at two calls. The fact takes only the law, so that a weaker law does not check.
 use Rattle.std.proofs.Common.{◌≡◌, ℕ, ◌+◌, ◌≤◌, List, [], ◌∷◌, Option, ap, arith}
 use Rattle.daide_protocol.specs.System.{Connects, TransitsBy}
 use Rattle.daide_protocol.specs.declared.system.Connect.TheVariants.{Ready}
@@ -6,7 +6,7 @@ use Rattle.daide_buffered_io.specs.Calls.{StreamCall}
 use Rattle.daide_sockets.specs.Pairing.{Paired, RunSockets, Transits}
 use Rattle.daide_sockets.specs.PairedOnce.{SessionsComeOnce, is_same}
 
--- no two connects give ports of session 5
+-- no two connects deliver ports of session 5
 never_twice : {P S : Type 0} (to_give taken : S → Option (List ℕ)) (calls : S → Option (List StreamCall)) →
     SessionsComeOnce P to_give taken calls → (pair : P → Paired S) (old new : RunSockets S) (a b : P) → old.came ≡ 0 →
     old.arrivals ≡ [] →

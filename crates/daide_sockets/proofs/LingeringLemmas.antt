@@ -21,7 +21,7 @@ module _ {A : Type 0} where
   value_or d None = d
   value_or d (Some x) = x
 
-  -- what is read behind a front is the first of the rest
+  -- the element after a prefix is the first of the rest
   there : (xs rest : List A) (one : A) → slice_get (xs ++ rest) (length xs) ≡ Some one →
       (back : List A) × (rest ≡ one ∷ back)
   there [] [] one e = absurd (cc)
@@ -80,7 +80,7 @@ module _ {S : Type 0} (to_give taken : S → Option (List ℕ)) (calls : S → O
     stay [] = (refl, refl)
     stay (x ∷ xs) = (0, xs, stay xs, inl (refl, refl))
 
-    -- one list behind another
+    -- one list after another
     both : (n m : ℕ) (xs ys us vs : Streams) → Looked n xs ys → Looked m us vs → Looked (n + m) (xs ++ us) (ys ++ vs)
     both n m [] ys us vs h k =
         let none : m ≡ n + m = let e = h.0 in omega (arith, e) in
@@ -286,7 +286,7 @@ module _ {S : Type 0} (to_give taken : S → Option (List ℕ)) (calls : S → O
 
     -- ---- a round
 
-    -- all that are looked at stand in a row
+    -- the checked streams are consecutive
     pub looked_once : (from to at looks : ℕ) (old new : Streams) → Along from to old at new → from + looks ≡ to →
         Looked looks old new
     looked_once from to at looks old new h e =

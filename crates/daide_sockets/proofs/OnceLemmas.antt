@@ -1,4 +1,4 @@
--- Each session's number is given once.
+-- Each session number is given once.
 use Rattle.std.proofs.Common.{◌≡◌, ◌≤◌, ℕ, ◌+◌, Bool, true, false, List, [], ◌∷◌, ◌++◌, Option, ap, ◌∙◌, arith}
 use Rattle.std.specs.Prelude.{nat_lt, if◌then◌else◌}
 use Rattle.daide_protocol.specs.System.{SystemCall, Begins, BeginsTurn, Accepts, Connects, Retires, Notifies, Waits, TransitsBy}
@@ -7,7 +7,7 @@ use Rattle.daide_buffered_io.specs.Calls.{StreamCall}
 use Rattle.daide_sockets.specs.Pairing.{Arriving, Paired, RunSockets, AllStayPending, ChecksArrivals, TakesOut, Transits}
 use Rattle.daide_sockets.specs.PairedOnce.{is_same, handed}
 
--- 1 where the number is still to be given
+-- 1 if the number is not given yet
 abbrev to_come : ℕ → ℕ → ℕ
 to_come n came = if nat_lt came n then 1 else 0
 
@@ -22,7 +22,7 @@ at_most_one n came = by (nat_lt came n)
     by false = omega (arith)
 
 module _ {S : Type 0} (n : ℕ) where
-  -- how often the number stands among arrivals
+  -- how often the number occurs among arrivals
   abbrev numbered : List (Arriving S) → ℕ
   numbered [] = 0
   numbered (x ∷ xs) = is_same x.number n + numbered xs

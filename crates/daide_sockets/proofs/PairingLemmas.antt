@@ -1,4 +1,4 @@
--- Arrivals are looked at one by one.
+-- The arrivals are checked one by one.
 use Rattle.std.proofs.Common.{◌≡◌, ℕ, suc, ◌+◌, ◌<◌, List, [], ◌∷◌, ◌++◌, length, refl, sym, ap, ◌∙◌, arith}
 use Rattle.std.proofs.Common.{append_assoc, append-nil}
 use Rattle.daide_sockets.specs.Pairing.{Arriving, StaysPending, AllStayPending, ChecksArrivals, TakesOut}
@@ -61,12 +61,12 @@ module _ {S : Type 0} where
             h.len,
           )
 
-  -- the first of what is left stands at the front
+  -- the first of the arrivals left is the first of the list
   pub next_out : (n : ℕ) (old now new : List (Arriving S)) (first : Arriving S) → ChecksArrivals n old now → n < length old →
       now ≡ first ∷ new → TakesOut old first new
   next_out n old now new first h lt e = (next_split n old now new first h lt e).0
 
-  -- one more was looked at
+  -- one more arrival was checked
   pub one_more : (n : ℕ) (old now rest new : List (Arriving S)) (first moved : Arriving S) → ChecksArrivals n old now →
       n < length old → now ≡ first ∷ rest → new ≡ rest ++ moved ∷ [] → StaysPending first moved → ChecksArrivals (n + 1) old new
   one_more n old now rest new first moved h lt e f k =

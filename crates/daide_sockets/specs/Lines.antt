@@ -1,4 +1,4 @@
--- What a run reports of a session's end, and of which side's time was over. (own)
+-- The report of a session's end, and of the timeout that caused it. (own)
 use Rattle.std.specs.Prelude.{ℕ, if◌then◌else◌}
 use Rattle.daide_frame.specs.declared.side.Side.{Side}
 use Rattle.daide_frame.specs.declared.side.Side.TheVariants.{Bot, Server}
@@ -9,24 +9,24 @@ use Rattle.daide_sockets.specs.declared.session_notice.Why.{Why}
 use Rattle.daide_sockets.specs.declared.session_notice.Why.TheVariants as Whys
 use Rattle.daide_sockets.specs.declared.timed.Timed.{Timed}
 
--- what the times of one side's socket came to, of those of the bot's and the server's
+-- a side's expired timeouts, out of those of the bot and the server
 abbrev pub timed_at : Timed × Timed → Side → Timed
 timed_at timed Bot = timed.0
 timed_at timed Server = timed.1
 
--- a side that ended is reported as silent or stalled, if it was taken as ended for that
+-- a side that ended is reported as silent or stalled if it counts as ended for that
 abbrev pub why_ended : Side → Timed → ℕ → Why
 why_ended side timed seconds =
     if timed.is_silent then Whys.Silent side
     else if timed.ends_stalled then Whys.Stalled side seconds
     else Whys.Ended (Causes.Session (Ended side))
 
--- a side that was lost is reported as stalled, if its writes count as failed for that
+-- a lost side is reported as stalled if its writes fail for that
 abbrev pub why_lost : Side → Timed → ℕ → Why
 why_lost side timed seconds =
     if timed.is_stalled then Whys.Stalled side seconds else Whys.Ended (Causes.Session (Lost side))
 
--- any other cause is reported as it is; `seconds` is how long a side may be stalled
+-- any other cause is reported as it is; `seconds` is the stall timeout
 abbrev pub why_by : Cause → Timed × Timed → ℕ → Why
 why_by Causes.TurnsSpent timed seconds = Whys.Ended Causes.TurnsSpent
 why_by (Causes.Session (Ended side)) timed seconds = why_ended side (timed_at timed side) seconds

@@ -1,4 +1,4 @@
--- That each bot's session comes once. (own)
+-- Each session gets its ports once. (own)
 use Rattle.std.specs.Prelude.{◌≡◌, ◌≤◌, ℕ, ◌+◌, nat_eq, List, [], ◌∷◌, Option, if◌then◌else◌}
 use Rattle.daide_protocol.specs.System.{SystemCall, Begins, BeginsTurn, Accepts, Connects, Retires, Notifies, Waits}
 use Rattle.daide_protocol.specs.System.{TransitsBy}
@@ -6,11 +6,11 @@ use Rattle.daide_protocol.specs.declared.system.Connect.TheVariants.{Ready, Fail
 use Rattle.daide_buffered_io.specs.Calls.{StreamCall}
 use Rattle.daide_sockets.specs.Pairing.{Paired, RunSockets, Transits}
 
--- 1 where two numbers are the same, else 0
+-- 1 if two numbers are the same, else 0
 abbrev pub is_same : ℕ → ℕ → ℕ
 is_same one other = if nat_eq one other then 1 else 0
 
--- how often ports of the session of this number came
+-- how often ports of the session with this number were delivered
 abbrev pub handed : {P S : Type 0} → (P → Paired S) → ℕ → List (SystemCall P) → ℕ
 handed pair n [] = 0
 handed pair n (Connects (Ready ports) ∷ answers) = is_same (pair ports).number n + handed pair n answers
@@ -23,7 +23,7 @@ handed pair n (Retires ports end ∷ answers) = handed pair n answers
 handed pair n (Notifies notice ∷ answers) = handed pair n answers
 handed pair n (Waits more ∷ answers) = handed pair n answers
 
--- Of sockets to which no bot came yet: by whatever answers they go on, of no session ports come twice.
+-- Sockets of a run with no bot yet: by any trace of system calls, no session gets its ports twice.
 abbrev pub SessionsComeOnce : (P : Type 0) → {S : Type 0} → (S → Option (List ℕ)) → (S → Option (List ℕ)) →
     (S → Option (List StreamCall)) → Type 0
 SessionsComeOnce P {S} to_give taken calls = (pair : P → Paired S) (old new : RunSockets S) (answers : List (SystemCall P))

@@ -1,7 +1,7 @@
-//! Bots that come, and their connects to the server.
+//! Accepted bots, and their connects to the server.
 //!
-//! Neither an accept nor a connect is waited for. The server's name was resolved at the start; where it has several
-//! addresses they are tried in turn, within one time for all.
+//! Neither an accept nor a connect blocks. The server's name is resolved at the start. If it has several addresses,
+//! they are tried one after the other, within one deadline for all.
 
 ghost use Rattle.std.specs.Prelude.{◌≡◌, ◌≢◌, ◌+◌, Some, None, Err, true, false, IfOk, IfErr, IfSome, IfNone, IsSome};
 ghost use Rattle.daide_sockets.specs.Accepting.{is_accept_made, Pauses};
@@ -20,31 +20,31 @@ use std::net::{Net, SocketAddr};
 use std::rt::Clock;
 use std::time::{Duration, Instant};
 
-/// How many milliseconds no bot is taken after an accept that failed, as for want of descriptors.
+/// The pause after a failed accept, for example for lack of descriptors, in milliseconds.
 const ACCEPT_PAUSE: u64 = 100;
 
 /// Why no bot was accepted.
 #[derive(Clone, Copy, Debug, PartialEq, Eq)]
 pub(crate) enum Declined {
-    /// No accept was made: the pause after one that failed isn't over, or none may give a connection.
+    /// No accept was made: the pause after a failed one is not over, or the listener is not ready.
     NotMade,
-    /// One was made, and gave none for this reason.
+    /// An accept was made, and failed for this reason.
     Failed(ErrorKind),
 }
 
-/// Where bots come.
+/// A listening socket with a pause after a failed accept.
 #[derive(Drop)]
 pub struct Acceptor<'w> {
     listener: TcpListener,
     registration: Registration<'w>,
-    /// When the pause after an accept that failed is over; none if there is no pause.
+    /// The end of the pause after a failed accept; `None` if there is no pause.
     resumes_at: Option<Instant>,
-    /// How many bots came.
+    /// The number of bots accepted.
     came: u32,
 }
 
 impl<'w> Acceptor<'w> {
-    /// Follows a listener to which no bot came yet; none where the table has no row for it, or the system refuses.
+    /// Registers a listener. Returns `None` if the table has no free row, or the system refuses the registration.
     pub fn new<R: Clock>(poller: &'w Poller<R>, listener: TcpListener) -> Option<Acceptor<'w>>
         ensures { IfSome result (λ acceptor. (acceptor.came ≡ 0) × (acceptor.resumes_at ≡ None)) }
     {
@@ -58,7 +58,7 @@ impl<'w> Acceptor<'w> {
         })
     }
 
-    /// Ends the pause after an accept that failed, where it is over.
+    /// Ends the pause after a failed accept, if its time is over.
     pub(crate) fn reopen<R: Clock>(&mut self, poller: &Poller<R>)
         ensures { self.new.came ≡ self.old.came }
     {
@@ -69,7 +69,7 @@ impl<'w> Acceptor<'w> {
         }
     }
 
-    /// Ends the pause, if there is one: no bot is waited for any more.
+    /// Ends the pause, if there is one, so that no wait is for a bot any more.
     pub(crate) fn stop(&mut self)
         ensures { self.new.came ≡ self.old.came }
     {
@@ -77,8 +77,8 @@ impl<'w> Acceptor<'w> {
         self.registration.flags.due.set(None);
     }
 
-    /// The connection of a bot that came, and its address, if the system has one; it isn't asked during the pause after an
-    /// accept that failed.
+    /// Accepts a connection, and returns it with its address. Returns `None` if there is none. Makes no system call
+    /// during the pause after a failed accept.
     pub fn accept<R: Clock>(&mut self, poller: &Poller<R>) -> Option<(TcpStream, SocketAddr)>
         ensures { self.new.came ≡ self.old.came }
     {
@@ -135,13 +135,13 @@ impl<'w> Acceptor<'w> {
         }
     }
 
-    /// Accepts, where a descriptor is left for the bot's connect to the server too.
+    /// Accepts a connection, if a further descriptor is left for the bot's connect to the server.
     fn take<R: Clock>(&self, poller: &Poller<R>) -> io::Result<(TcpStream, SocketAddr)> {
         let _spare = poller.spare()?;
         self.listener.accept()
     }
 
-    /// Begins the pause after an accept that gave none for this reason, where it failed.
+    /// Starts the pause after an accept that failed for this reason; `WouldBlock` is not a failure.
     pub fn pause(&mut self, now: Option<Instant>, why: ErrorKind)
         ensures pauses { Pauses now why self.new.resumes_at }
         ensures came { self.new.came ≡ self.old.came }
@@ -176,29 +176,29 @@ impl<'w> Acceptor<'w> {
     }
 }
 
-/// What became of the connect to one address.
+/// The state of the connect to one address.
 #[derive(Clone, Copy)]
 enum Progress {
-    /// The server is there.
+    /// The server is connected.
     Connected,
-    /// It failed, or there is none.
+    /// The connect failed, or there is none.
     Failed,
-    /// The system hasn't told yet.
+    /// The system has not reported a result yet.
     Pending,
 }
 
 /// A bot whose connect to the server is under way.
 #[derive(Drop)]
 pub(crate) struct PendingConnection<'w, S: Drop = Connection> {
-    /// Its session's number.
+    /// The number of its session.
     number: u32,
     bot: Socket<'w, S>,
     server: Option<Socket<'w, S>>,
-    /// How many addresses were tried.
+    /// The number of addresses tried.
     tried: usize,
-    /// When the server is given up.
+    /// The deadline of the connect.
     gives_up: Option<Instant>,
-    /// When the time for the initial message is over.
+    /// The deadline of the initial message.
     im_timer_expired: Option<Instant>,
 }
 
@@ -214,19 +214,19 @@ impl<'w, S: Drop> Model for PendingConnection<'w, S> {
       server = option_map (λ socket. socket.stream) a.server;
     } };
 
-    // its connect is its own
+    // the connect was made for this bot
     ghost invariant = { λ a. IfSome a.server (λ socket. socket.made_for ≡ a.number) };
 }
 
-/// A bot no address of whose server was reached in its time: its session's number, and its own socket.
+/// A bot with no server reached before the deadline: the number of its session, and its socket.
 #[derive(Drop)]
 pub(crate) struct Unreached<'w, S: Drop = Connection> {
     pub number: u32,
     pub bot: Socket<'w, S>,
 }
 
-/// The socket of a connect that begins for the session of this number, to the first address not tried yet to which that
-/// can be done. It is given up at this moment.
+/// Starts a connect for the session with this number, to the next address that permits one. Returns its socket, with
+/// the deadline `gives_up`; `None` if no address is left.
 fn begun<'w, R: Clock, N: Net>(
     poller: &'w Poller<R>,
     net: &N,
@@ -251,7 +251,7 @@ fn begun<'w, R: Clock, N: Net>(
 }
 
 impl<'w> PendingConnection<'w> {
-    /// A bot that came now, whose connect begins.
+    /// Starts the connect of a newly accepted bot.
     pub(crate) fn new<R: Clock, N: Net>(
         poller: &'w Poller<R>,
         net: &N,
@@ -279,7 +279,7 @@ impl<'w> PendingConnection<'w> {
         }
     }
 
-    /// What is known of the connect to the present address.
+    /// Returns the state of the connect to the present address.
     fn progress(&self) -> Progress {
         let Some(server) = &self.server else {
             return Progress::Failed;
@@ -300,8 +300,8 @@ impl<'w> PendingConnection<'w> {
         Progress::Pending
     }
 
-    /// Goes on with the connect, as far as that is without waiting, and answers whether it is still under way. Once it
-    /// isn't, the server is there, or else no address is left, or its time is over.
+    /// Advances the connect without blocking. Returns true if it is still under way; otherwise the server is connected,
+    /// or no address is left, or the deadline is over.
     pub(crate) fn advances<R: Clock, N: Net>(
         &mut self,
         poller: &'w Poller<R>,
@@ -314,7 +314,7 @@ impl<'w> PendingConnection<'w> {
         match self.progress() {
             Progress::Connected => return false,
             Progress::Failed => {
-                // The row of the last one is free for the next.
+                // This frees the row of the failed connect for the next one.
                 drop(self.server.take());
                 self.server = begun(
                     poller,
@@ -335,8 +335,10 @@ impl<'w> PendingConnection<'w> {
 }
 
 impl<'w, S: Drop> PendingConnection<'w, S> {
-    /// The ports of a bot whose server is there. Either may be silent for the first of these times, and take nothing for
-    /// the second; none is for ever.
+    /// Returns the ports of a bot whose server is connected. The first time is the idle timeout of both sides, the
+    /// second their stall timeout; `None` for no timeout.
+    ///
+    /// Fails with the bot if the server was not reached.
     pub(crate) fn join<R: Clock>(
         self,
         poller: &'w Poller<R>,

@@ -1,4 +1,4 @@
-//! What a run stands on: where bots come, where the server is, and the table of the run's sockets.
+//! The resources of a run: its listener, the addresses of the server, and the table of its sockets.
 
 ghost use Rattle.std.specs.Prelude.{◌≡◌, ◌+◌, ◌*◌, ◌^◌, ◌<◌, IfOk, IfSome, false, [], vec_len};
 ghost use Rattle.daide_sockets.specs.Times.{IsSeconds, IsIdleTime};
@@ -15,21 +15,21 @@ use std::rt::Clock;
 use std::time::Duration;
 use thiserror::Error;
 
-/// How many seconds a server is tried for a bot.
+/// The deadline of a connect to the server, in seconds.
 const CONNECT_SECONDS: u64 = 5;
 
-/// Why there is no ground to run on.
+/// Why the resources of a run could not be created.
 #[derive(Clone, Copy, Debug, PartialEq, Eq, Error)]
 pub enum BindError {
-    /// The address can't be listened on, or the system has no descriptor for the table of sockets.
+    /// The address cannot be bound, or the system has no descriptor for the table of sockets.
     #[error("cannot listen")]
     Listen,
-    /// The memory of the server's addresses or of the table was refused.
+    /// The allocator refused the server's addresses or the table.
     #[error("out of memory")]
     Memory,
 }
 
-/// A listener at the first of an address's meanings that can be listened on, if there is one.
+/// Binds the first bindable address of a name; `None` if there is none.
 fn listener_at<R: Net>(net: &R, address: &str) -> Option<TcpListener> {
     let Ok(addresses) = address.to_socket_addrs(net) else {
         return None;
@@ -42,8 +42,8 @@ fn listener_at<R: Net>(net: &R, address: &str) -> Option<TcpListener> {
     None
 }
 
-/// The meanings of the server's address; none of a name that nobody knows, so that no bot's connect succeeds. Want of
-/// memory alone ends it.
+/// Resolves the server's address. Returns no address for an unknown name, so that no bot's connect succeeds. Fails only
+/// if the allocator refuses the list.
 fn servers_at<R: Net>(
     alloc: Global,
     net: &R,
@@ -58,19 +58,22 @@ fn servers_at<R: Net>(
     Ok(servers)
 }
 
-/// What a run stands on: where bots come, where the server is, and the table of the run's sockets.
+/// The resources of a run: its listener, the addresses of the server, and the table of its sockets.
 #[derive(Drop)]
 pub struct BoundSockets<'r, R: Clock> {
-    /// Where bots come.
+    /// The listener for bots.
     pub listener: TcpListener,
-    /// Where the server is.
+    /// The addresses of the server.
     pub servers: Vec<SocketAddr>,
     /// The table of the sockets.
     pub poller: Poller<&'r R>,
 }
 
-/// Listens at the address of settings, and looks up the server's. The table has a row for each socket of the run; which
-/// listener it is and what the server's name means are the system's to say.
+/// Binds the listen address of the settings, and resolves the server's. The table has a row for each socket of the run.
+/// The system decides which listener it is, and the addresses of the server's name.
+///
+/// Fails with `Listen` if no address can be bound. Fails with `Memory` if the list of the server's addresses is
+/// refused. Then fails with either while the table is created.
 pub fn bind_sockets<'r, R: AllocGlobal + Clock + Net>(
     rt: &'r R,
     settings: &Settings,
@@ -95,8 +98,9 @@ pub fn bind_sockets<'r, R: AllocGlobal + Clock + Net>(
     }
 }
 
-/// The sockets of a run of these settings on its ground, which tell their lines there; none where memory is refused or
-/// the listener can't be followed. No bot came yet, and nothing is told of sessions.
+/// Creates the sockets of a run, with these settings and resources. Their log lines are written to `errors`. Returns
+/// `None` if memory is refused or the listener cannot be registered. No bot is accepted yet, and sessions are not
+/// logged.
 pub fn sockets_on<'w, R: AllocGlobal + Clock + Net, E: Write + Drop>(
     rt: &'w R,
     settings: &Settings,

@@ -1,4 +1,4 @@
-//! A connection of the system's, as a stream whose two directions are apart.
+//! A connection of the operating system, as a full-duplex byte stream.
 
 use daide_buffered_io::duplex::Duplex;
 use mio::net::TcpStream;
@@ -6,7 +6,7 @@ use std::io;
 use std::io::{Read, Write};
 use std::net::Shutdown;
 
-/// A connection of the system's. Of its bytes and its calls nothing is known.
+/// A connection of the operating system. It records neither its bytes nor its calls.
 #[derive(Drop)]
 pub struct Connection(pub TcpStream);
 
@@ -28,7 +28,7 @@ impl Duplex for Connection {
     }
 
     fn end_writing(&mut self) {
-        // One that is gone already has nothing to end.
+        // A connection that is gone already has no writing direction to shut down.
         let _ = self.0.shutdown(Shutdown::Write);
     }
 }

@@ -1,12 +1,13 @@
-//! The system over sockets: what the loop of a run asks of it.
+//! The environment of the event loop, over sockets.
 //!
-//! No call waits but the loop's own wait. `poller` is what is known of each socket, `connection` is a connection as a
-//! stream both ways, `ports` are a session's, `admission` takes bots and connects them, `lingering_close` closes in
-//! stages, `session_notice` has the lines of a session, `timed` what its times came to, `system` puts them together for
-//! the loop, and `bound_sockets` is what a run stands on at the addresses of settings.
+//! Only the loop's own wait blocks. `poller` is the table of registrations with their readiness, `connection` a
+//! connection as a full-duplex stream, `ports` the ports of a session. `admission` accepts bots and connects them,
+//! `lingering_close` closes in stages, `session_notice` has the log lines of a session, and `timed` the timeouts that
+//! it reports. `system` combines them for the loop, and `bound_sockets` creates the resources of a run.
 //!
-//! What the system answers, and what a shared cell holds, no contract can name. So a call that hangs on either is
-//! proved safe and to end, and its doc says what it does; tests show it, over loopback and in `daide_run_tests`.
+//! No contract can name the results of the system, or the contents of a shared cell. So a call that depends on either
+//! is only proved safe and terminating, and its doc says what it does. Tests check that, over loopback and in
+//! `daide_run_tests`.
 #![tactic(auto)]
 
 pub mod admission;
@@ -20,6 +21,6 @@ pub mod session_notice;
 pub mod system;
 pub mod timed;
 
-// No other crate knows `mio`, so what a caller names of it has its name here.
+// Only this crate depends on `mio`, so it exports the names that its callers need.
 pub use mio::Interest;
 pub use mio::net::{TcpListener, TcpStream};

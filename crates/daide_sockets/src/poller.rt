@@ -1,8 +1,7 @@
-//! What is known of each socket without asking the system: whether a call may do something, and when something is
-//! to be done though nothing comes.
+//! The cached readiness of each socket, and the deadlines of the run.
 //!
-//! The table is shared by `&`, so that the ports in a hub see what the loop's wait was told. An idle session reads
-//! two flags of it, and makes no call to the system. Beside the table stands the room for what the sockets hold.
+//! The table is shared by `&`, so that the ports in a hub see the events that the loop's wait received. An idle session
+//! reads two flags of it, and makes no system call. The pool of the sockets' buffers is kept with the table.
 
 ghost use Rattle.std.specs.Duration.{as_nanos};
 ghost use Rattle.std.specs.Prelude.{◌≡◌, IsNone, IfOk, false, vec_len};
@@ -19,63 +18,63 @@ use std::net::Net;
 use std::rt::Clock;
 use std::time::{Duration, Instant};
 
-/// How many events one wait takes over; what is more comes with the next.
+/// The most events that one poll receives; further ones are received by the next.
 const EVENTS: usize = 256;
 
-/// After how many turns the system is asked again, though something moves: so many share the price of the call, and none
-/// waits longer for news than as many turns, or than a round where that is longer.
+/// After this many turns the system is polled again even if progress is made. So this many turns share the cost of a
+/// poll. An event is received at most this many turns late, or one round if that is longer.
 const MOST_TURNS: u64 = 32;
 
-/// What is known of one socket.
+/// The cached state of one socket.
 #[derive(Drop)]
 pub struct Flags {
     is_taken: Cell<bool>,
-    /// Whether a read, or a listener's accept, may give something, and whether a write may take something.
+    /// Whether a read, or a listener's accept, may succeed, and whether a write may accept bytes.
     pub readiness: Cell<Readiness>,
-    /// The moment at which something is to be done.
+    /// The deadline of the socket.
     pub due: Cell<Option<Instant>>,
-    /// The moment from which the peer counts as silent, if nothing comes of it before; none where it never does.
+    /// The moment at which the idle timeout of the peer expires, unless it sends something before; `None` for never.
     pub(crate) silent_from: Cell<Option<Instant>>,
-    /// The moment at which the peer counts as stalled, if it takes no byte before; none if no byte waits for it, or if it
-    /// never counts so.
+    /// The moment at which the stall timeout of the peer expires, unless it accepts a byte before. `None` if no byte is
+    /// queued for it, or for never.
     pub(crate) stalls_at: Cell<Option<Instant>>,
 }
 
-/// The table of a run, and the moment at which the system was asked last.
+/// The table of a run, with the time of the last poll.
 #[derive(Drop)]
 pub struct Poller<R: Clock> {
     clock: R,
     registry: Registry,
     waiter: RefCell<Waiter>,
-    /// None where the clock can't be read: then no time passes.
+    /// `None` if the clock cannot be read: then no timeout expires.
     now: Cell<Option<Instant>>,
-    /// How many turns were begun since the system was asked.
+    /// The number of turns begun since the last poll.
     turns: Cell<u64>,
-    /// How many rows, from the first on, were ever taken.
+    /// The number of rows, from the first on, that were ever taken.
     used: Cell<usize>,
-    /// Whether something was told since the last wait, so that what was asked before may have missed it.
+    /// Whether a poll received events since the last wait, which port calls before the poll may have missed.
     has_news: Cell<bool>,
     pool: Pool,
     flags: Vec<Flags>,
 }
 
-/// The system's side of the table.
+/// The operating system's side of the table.
 #[derive(Drop)]
 struct Waiter {
     poll: Poll,
     events: Events,
 }
 
-/// Why there is no table.
+/// Why no table was created.
 #[derive(Clone, Copy, Debug)]
 pub enum PollerError {
     /// The system has no descriptor for it.
     System,
-    /// Memory was refused.
+    /// The allocator refused it.
     Memory,
 }
 
-/// Returns whether a moment is over by what the clock read last; one that isn't given never is.
+/// Returns true if a moment is past at the last reading of the clock; false without a moment.
 pub(crate) fn is_past(now: Option<Instant>, moment: Option<Instant>) -> bool
     ensures never { IsNone moment → result ≡ false }
     ensures past { result ≡ is_past now moment }
@@ -86,14 +85,15 @@ pub(crate) fn is_past(now: Option<Instant>, moment: Option<Instant>) -> bool
     }
 }
 
-/// Returns whether a time that ends at this moment is over by what the clock read last: one without a moment is.
+/// Returns true if a time that ends at this moment is over at the last reading of the clock; true without a moment.
 pub(crate) fn is_time_over(now: Option<Instant>, moment: Option<Instant>) -> bool
     ensures { result ≡ is_time_over now moment }
 {
     moment.is_none() || is_past(now, moment)
 }
 
-/// Returns the moment this long after a reading of the clock; none if it can't be read, or no such moment is known.
+/// Returns the moment this long after a reading of the clock; `None` without a reading, or if the moment is out of
+/// range.
 pub(crate) fn after(now: Option<Instant>, duration: Duration) -> Option<Instant>
     ensures { IsAfter now (as_nanos duration) result }
 {
@@ -103,7 +103,7 @@ pub(crate) fn after(now: Option<Instant>, duration: Duration) -> Option<Instant>
     }
 }
 
-/// Returns the earlier of two moments, of which either may be missing.
+/// Returns the earlier of two moments; one or both may be missing.
 fn earlier(one: Option<Instant>, other: Option<Instant>) -> Option<Instant> {
     match (one, other) {
         (Some(one), Some(other)) => Some(one.min(other)),
@@ -112,9 +112,9 @@ fn earlier(one: Option<Instant>, other: Option<Instant>) -> Option<Instant> {
     }
 }
 
-/// A socket's row of the table, which is free again where this is dropped.
+/// The row of a socket in the table. Dropping it frees the row.
 pub struct Registration<'w> {
-    /// What is known of the socket.
+    /// The cached state of the socket.
     pub flags: &'w Flags,
 }
 
@@ -126,7 +126,7 @@ impl Drop for Registration<'_> {
 }
 
 impl Flags {
-    /// A row that no socket has.
+    /// Creates a free row.
     fn new() -> Flags {
         Flags {
             is_taken: Cell::new(false),
@@ -137,7 +137,7 @@ impl Flags {
         }
     }
 
-    /// So many rows that no socket has.
+    /// Creates `count` free rows.
     fn free_rows(alloc: Global, count: usize) -> Result<Vec<Flags>, AllocError>
         ensures { IfOk result (λ rows. vec_len rows ≡ count) }
     {
@@ -148,7 +148,7 @@ impl Flags {
         Ok(rows)
     }
 
-    /// Takes the row for a socket of which nothing is known.
+    /// Takes the row for a socket whose readiness is unknown.
     fn take(&self) {
         self.is_taken.set(true);
         self.readiness.set(Readiness::UNKNOWN);
@@ -157,8 +157,8 @@ impl Flags {
         self.stalls_at.set(None);
     }
 
-    /// Notes a write: whether it took a byte, whether bytes still wait, and when the peer counts as stalled, if it takes none
-    /// from now on. The time runs from the last byte that was taken, or from when the first began to wait.
+    /// Records a write: whether it accepted a byte, whether bytes are still queued, and when the stall timeout expires
+    /// if none is accepted from now on. The timeout starts at the last accepted byte, or when the first one is queued.
     pub(crate) fn note_written(&self, took: bool, waits: bool, stalls_at: Option<Instant>) {
         if !waits {
             self.stalls_at.set(None);
@@ -167,7 +167,7 @@ impl Flags {
         }
     }
 
-    /// Notes that a read may give something, or a write take something. What was noted before stays so.
+    /// Sets the flag of a read or a write that may succeed. Clears neither flag.
     pub fn note(&self, is_readable: bool, is_writable: bool) {
         let mut readiness = self.readiness.get();
         readiness.may_read = readiness.may_read || is_readable;
@@ -175,22 +175,22 @@ impl Flags {
         self.readiness.set(readiness);
     }
 
-    /// Notes that a call would find nothing.
+    /// Records that a read would find nothing.
     pub(crate) fn found_nothing(&self) {
         let mut readiness = self.readiness.get();
         readiness.may_read = false;
         self.readiness.set(readiness);
     }
 
-    /// Notes that a connect isn't done yet.
+    /// Records that a connect is still pending.
     pub(crate) fn took_nothing(&self) {
         let mut readiness = self.readiness.get();
         readiness.may_write = false;
         self.readiness.set(readiness);
     }
 
-    /// Notes what the system told of the socket. An end or a failure is told by the next call, and an urgent byte stops a
-    /// read before it: neither is told once more, so from then on no read is the last that gives less than it might.
+    /// Records an event of the socket. The next call returns an end or a failure, and a read stops before an urgent
+    /// byte. The system reports neither again, so from then on a short read does not clear `may_read`.
     fn note_event(&self, event: &Event) {
         self.note(
             event.is_readable() || event.is_read_closed() || event.is_error(),
@@ -203,8 +203,8 @@ impl Flags {
         }
     }
 
-    /// Returns the moment that is waited for, of a socket that is there. A silence that began already is waited for no more:
-    /// the next pull reports it, and if none is made, since a session has no room, there is nothing to be done.
+    /// Returns the next deadline of a taken row. An idle timeout that already expired is no deadline, since the next
+    /// pull reports it. Without room in the session there is no pull, and nothing to do.
     fn awaited(&self, now: Instant) -> Option<Instant> {
         if !self.is_taken.get() {
             return None;
@@ -215,7 +215,9 @@ impl Flags {
 }
 
 impl<R: Clock + Drop> Poller<R> {
-    /// A table of so many sockets, of which none is followed. Its descriptors and its memory are taken at once.
+    /// Creates a table of `sockets` free rows. Allocates its descriptors and its memory at once.
+    ///
+    /// Fails with `System`, then with `Memory`.
     pub fn new<N: Net>(
         alloc: Global,
         clock: R,
@@ -252,29 +254,30 @@ impl<R: Clock + Drop> Poller<R> {
 }
 
 impl<R: Clock> Poller<R> {
-    /// The room for what the sockets hold.
+    /// Returns the pool of the sockets' buffers.
     pub fn pool(&self) -> &Pool {
         &self.pool
     }
 
-    /// The moment at which the clock was read last; none if it can't be read.
+    /// Returns the last reading of the clock; `None` if it cannot be read.
     pub(crate) fn now(&self) -> &Cell<Option<Instant>> {
         &self.now
     }
 
-    /// So long after the moment at which the system was asked last; none where the clock can't be read, or no such moment is known.
+    /// Returns the moment this long after the last poll; `None` if the clock cannot be read, or if the moment is out of
+    /// range.
     pub fn after(&self, duration: Duration) -> Option<Instant> {
         after(self.now.get(), duration)
     }
 
-    /// Whether a moment is over; one that isn't given never is.
+    /// Returns true if a moment is past; false without a moment.
     pub fn is_over(&self, moment: Option<Instant>) -> bool
         ensures { IsNone moment → result ≡ false }
     {
         is_past(self.now.get(), moment)
     }
 
-    /// Follows a socket, where the table has a row for it and the system agrees.
+    /// Registers a socket. Returns `None` if the table has no free row, or the system refuses the registration.
     pub fn follow<S: Source>(
         &self,
         source: &mut S,
@@ -292,12 +295,12 @@ impl<R: Clock> Poller<R> {
         None
     }
 
-    /// A descriptor that is free, for as long as this is held.
+    /// Returns a spare descriptor, which stays reserved until it is dropped.
     pub(crate) fn spare(&self) -> io::Result<Registry> {
         self.registry.try_clone()
     }
 
-    /// How long nothing is to be done, if nothing comes; none where no moment is waited for.
+    /// Returns the time until the next deadline; `None` if there is none.
     fn idle(&self) -> Option<Duration> {
         let now = self.now.get()?;
         let used = self.flags.iter().take(self.used.get());
@@ -305,12 +308,12 @@ impl<R: Clock> Poller<R> {
         Some(nearest.saturating_duration_since(now))
     }
 
-    /// Takes over what the system tells within a time, and reads the clock.
+    /// Polls the system for events, at most for `timeout`, and reads the clock.
     fn ask(&self, timeout: Option<Duration>) {
         self.turns.set(0);
         if let Ok(mut waiter) = self.waiter.try_borrow_mut() {
             let Waiter { poll, events } = &mut *waiter;
-            // Of a wait that fails there are no events.
+            // A failed poll has no events.
             let _ = poll.poll(events, timeout);
             for event in events.iter() {
                 let Token(token) = event.token();
@@ -325,25 +328,25 @@ impl<R: Clock> Poller<R> {
         }
     }
 
-    /// Notes that a turn began.
+    /// Counts the beginning of a turn.
     pub(crate) fn note_turn(&self) {
         self.turns.set(self.turns.get().saturating_add(1));
     }
 
-    /// Takes over what the system tells now, where it wasn't asked for `MOST_TURNS` turns.
+    /// Polls for the present events if `MOST_TURNS` turns began since the last poll.
     pub fn look_by_turns(&self) {
         if self.turns.get() >= MOST_TURNS {
             self.look();
         }
     }
 
-    /// Takes over what the system tells now.
+    /// Polls for the present events.
     pub(crate) fn look(&self) {
         self.ask(Some(Duration::ZERO));
     }
 
-    /// Returns as soon as a socket is ready, or at the nearest moment that one waits for; at once where a look since the
-    /// last wait was told of something, which comes but once.
+    /// Blocks until a socket is ready, or until the next deadline. Does not block if a poll since the last wait
+    /// received events, since the system reports each of them only once.
     pub fn wait(&self) {
         let timeout = if self.has_news.get() {
             Some(Duration::ZERO)

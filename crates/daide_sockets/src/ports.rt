@@ -1,9 +1,9 @@
-//! A session's ports over two sockets.
+//! The ports of a session over two sockets.
 //!
-//! A socket reads ahead, and gathers what it is handed in small parts; so what the process holds of a peer is what its
-//! session weighs, and at most `MOST_HELD` bytes each way of each socket. They are ports over any two streams, and say by
-//! their answers what these gave and took. Of the system's own connections nothing is known, so there it is what the
-//! system's read and write answered.
+//! A socket has a read buffer, and a write buffer for small puts. So the process holds of a peer the weight of its
+//! session, and at most `MOST_HELD` bytes each way of each socket. The ports work over any two streams, and their
+//! contracts state the bytes that these returned and accepted. A connection of the operating system records nothing, so
+//! for it the contracts state only the results of its reads and writes.
 
 ghost use Rattle.std.specs.Prelude.{◌≡◌, ◌≢◌, ◌<◌, IsNone, IfSome, [], min, length, take, true, false};
 ghost use Rattle.daide_protocol.specs.Ports.{TurnBegins, Clock as Popped, IsPullWithin, IsPutWithin, pulled_len};
@@ -27,42 +27,42 @@ use std::cell::Cell;
 use std::rt::Clock;
 use std::time::{Duration, Instant};
 
-/// For how many turns bytes are held at most that may be written, though more come all the time.
+/// The most turns for which writable bytes stay buffered, even if each turn adds more.
 const MOST_TURNS_HELD: usize = 32;
 
-/// A connection whose calls never wait, what is held of it, and its row of the table.
+/// A non-blocking connection with its buffers, and its row of the table.
 #[derive(Drop)]
 pub struct Socket<'w, S: Drop = Connection> {
-    /// The connection, and what is held of it.
+    /// The connection with its buffers.
     pub stream: Buffered<S>,
-    /// Its row, by which its flags are seen.
+    /// Its row, with its cached readiness.
     pub registration: Registration<'w>,
-    /// Room for what is held.
+    /// The pool of its buffers.
     pub(crate) pool: &'w Pool,
-    /// The moment at which the clock was read last.
+    /// The last reading of the clock.
     clock: &'w Cell<Option<Instant>>,
-    /// How long its peer may take none of the bytes that wait for it; none for ever.
+    /// The stall timeout of its peer; `None` if there is none.
     stall_time: Option<Duration>,
-    /// What its times came to.
+    /// Its expired timeouts.
     timed: Timed,
-    /// Whether it took bytes since its turn began, so that more may follow.
+    /// Whether it accepted bytes since its turn began, so that more may follow.
     is_gathering: bool,
-    /// Whether its last pull gave bytes, so that an answer to them may be put to it in parts.
+    /// Whether its last pull returned bytes, so that an answer to them may be put to it in parts.
     gave: bool,
-    /// The number of the session whose connect made it; 0 of one that no connect of a run made.
+    /// The number of the session whose connect created it; 0 if no connect of a run did.
     made_for: u32,
 }
 
 impl<'w> Socket<'w> {
-    /// Follows a connection; none where the table has no row for it, or the system refuses. Small writes go out at
-    /// once.
+    /// Registers a connection, and turns off the delay of small writes. Returns `None` if the table has no free row, or
+    /// the system refuses the registration.
     pub fn new<R: Clock>(poller: &'w Poller<R>, stream: TcpStream) -> Option<Socket<'w>>
         ensures { IfSome result (λ socket. IsFresh socket.stream) }
     {
         let mut stream = stream;
-        // A connection that keeps small writes back is slower, and right.
+        // A connection that delays small writes is slower, but correct.
         let _ = stream.set_nodelay(true);
-        // A read stops before an urgent byte, and that is told as a priority.
+        // A read stops before an urgent byte, which is reported as a priority event.
         let interest = Interest::READABLE | Interest::WRITABLE | Interest::PRIORITY;
         let registration = poller.follow(&mut stream, interest)?;
         Some(Socket::over(poller, Connection(stream), registration))
@@ -70,7 +70,7 @@ impl<'w> Socket<'w> {
 }
 
 impl<'w, S: Drop> Socket<'w, S> {
-    /// Any stream, of which nothing is held yet, and its row of the table.
+    /// Creates a socket from any stream, with empty buffers, and its row of the table.
     pub fn over<R: Clock>(
         poller: &'w Poller<R>,
         stream: S,
@@ -93,7 +93,7 @@ impl<'w, S: Drop> Socket<'w, S> {
         }
     }
 
-    /// The same, made by the connect of the session of this number.
+    /// Records that the connect of the session with this number created the socket.
     pub(crate) fn of_connect(self, number: u32) -> Socket<'w, S>
         ensures stream { result.stream ≡ self.entry.stream }
         ensures made_for { result.made_for ≡ number }
@@ -122,14 +122,14 @@ impl<'w, S: Drop> Socket<'w, S> {
         }
     }
 
-    /// Sets how long its peer may take none of the bytes that wait for it; none for ever.
+    /// Sets the stall timeout of its peer; `None` if there is none.
     pub fn set_stall_time(&mut self, time: Option<Duration>)
         ensures { self.new ≡ record self.old { stall_time = time } }
     {
         self.stall_time = time;
     }
 
-    /// The connection itself.
+    /// Returns the stream itself.
     pub fn connection(&self) -> &S
         ensures { result.now ≡ self.now.stream.stream }
     {
@@ -138,12 +138,14 @@ impl<'w, S: Drop> Socket<'w, S> {
 }
 
 impl<S: Duplex + Drop> Socket<'_, S> {
-    /// Returns when its peer counts as stalled, if it takes none of the bytes that wait from now on; none for ever.
+    /// Returns the moment at which the stall timeout expires, if the peer accepts no byte from now on; `None` for
+    /// never.
     fn stalls_at(&self) -> Option<Instant> {
         self.clock.get()?.checked_add(self.stall_time?)
     }
 
-    /// Notes what a call wrote, of so many bytes that were held before it or handed over: it took a byte if fewer are held now.
+    /// Records a write. `before` counts the bytes buffered before it and those put by it; a byte was accepted if fewer
+    /// are buffered now.
     fn note_written(&self, before: usize, waits: bool) {
         let took = self.stream.behind_len() < before;
         self.registration
@@ -182,8 +184,8 @@ impl<S: Duplex + Drop> Socket<'_, S> {
         self.timed.is_stalled = true;
     }
 
-    /// Hands out what was read ahead, or reads what is there: what is told as `Got` is, in order, what the connection
-    /// gave.
+    /// Returns buffered bytes, or reads from the connection. The bytes of `Got` are, in order, those that the
+    /// connection returned.
     #[tactic(auto, using(daide_buffered_io::proofs::BufferLemmas::same_passes))]
     pub fn pull(&mut self, buffer: &mut [u8]) -> Pull
         ensures within { IsPullWithin result (length buffer.old) }
@@ -211,8 +213,8 @@ impl<S: Duplex + Drop> Socket<'_, S> {
         pull
     }
 
-    /// Holds what has room, or writes what the connection takes: what is told as `Took` stands, in order, in the
-    /// connection or behind what it took. A failure that a flush met is told here.
+    /// Buffers the bytes, or writes what the connection accepts. The bytes of `Took` are, in order, in the connection
+    /// or in the write buffer. Returns `Failed` also for a failure of an earlier flush.
     pub fn put(&mut self, bytes: &[u8]) -> Put
         ensures within { IsPutWithin result (length bytes.now) }
         ensures passes { Passes S.to_give S.taken self.old.stream [] (bytes_taken result bytes.now) self.new.stream }
@@ -241,7 +243,7 @@ impl<S: Duplex + Drop> Socket<'_, S> {
         put
     }
 
-    /// Writes what is held, as much as the connection takes.
+    /// Writes buffered bytes, as many as the connection accepts.
     #[tactic(auto, using(daide_buffered_io::proofs::BufferLemmas::same_passes))]
     pub fn flush(&mut self)
         ensures passes { Passes S.to_give S.taken self.old.stream [] [] self.new.stream }
@@ -260,8 +262,8 @@ impl<S: Duplex + Drop> Socket<'_, S> {
         self.note_written(held, self.stream.is_behind());
     }
 
-    /// Writes what is held, unless its session may have more to put: an answer to what it gave, of which parts were put
-    /// since the turn began. A turn in which something was put is followed by another without a wait.
+    /// Writes buffered bytes, unless the session may still put more: an answer to bytes that it pulled, some parts of
+    /// which were put in this turn. A turn that puts something is followed by another without a wait.
     #[tactic(auto, using(daide_buffered_io::proofs::BufferLemmas::same_passes))]
     fn flush_gathered(&mut self)
         ensures passes { Passes S.to_give S.taken self.old.stream [] [] self.new.stream }
@@ -276,20 +278,20 @@ impl<S: Duplex + Drop> Socket<'_, S> {
     }
 }
 
-/// For how many turns something was held for a socket, since the last that was written to it.
+/// The number of turns since the last write to a socket with buffered bytes.
 #[derive(Clone, Copy)]
 struct TurnsHeld {
     turns: usize,
-    /// How many bytes were held when the last of them began.
+    /// How many bytes were buffered when the last of them began.
     len: usize,
 }
 
 impl TurnsHeld {
-    /// Nothing was held yet.
+    /// The state with an empty write buffer.
     const NONE: TurnsHeld = TurnsHeld { turns: 0, len: 0 };
 
-    /// The same, once a turn more began with so many bytes held: where they are fewer than in the turn before, some were
-    /// written in it.
+    /// Returns the state after one more turn began with `len` bytes buffered. If these are fewer than in the turn
+    /// before, some were written in it.
     fn with_turn(self, len: usize) -> TurnsHeld {
         let turns = if len == 0 || len < self.len {
             0
@@ -299,14 +301,14 @@ impl TurnsHeld {
         TurnsHeld { turns, len }
     }
 
-    /// Whether what is held is to be written, though more comes.
+    /// Returns true if the buffered bytes must be written now.
     fn is_over(self) -> bool {
         self.turns >= MOST_TURNS_HELD
     }
 }
 
 impl<S: Duplex + Drop> Socket<'_, S> {
-    /// Writes what was held for long enough.
+    /// Writes buffered bytes whose turns are over.
     #[tactic(auto, using(daide_buffered_io::proofs::BufferLemmas::same_passes))]
     fn flush_late(&mut self, held: TurnsHeld)
         ensures passes { Passes S.to_give S.taken self.old.stream [] [] self.new.stream }
@@ -319,7 +321,8 @@ impl<S: Duplex + Drop> Socket<'_, S> {
         }
     }
 
-    /// Begins a turn: gives up writing to a stalled peer, and writes what was held for long enough. Nothing was put in it yet.
+    /// Begins a turn, in which nothing is put yet: gives up a stalled peer, and writes buffered bytes whose turns are
+    /// over.
     #[tactic(auto, using(daide_buffered_io::proofs::BufferLemmas::flush_then, daide_buffered_io::proofs::BufferLemmas::unread_then))]
     fn begin_turn(&mut self, held: TurnsHeld)
         ensures passes { Passes S.to_give S.taken self.old.stream [] [] self.new.stream }
@@ -334,7 +337,7 @@ impl<S: Duplex + Drop> Socket<'_, S> {
     }
 }
 
-/// How long the peers of a session may be silent; none for ever.
+/// The idle timeout of the peers of a session; `None` if there is none.
 #[derive(Drop)]
 struct IdleTimeout<'w, R: Clock> {
     poller: &'w Poller<R>,
@@ -342,7 +345,7 @@ struct IdleTimeout<'w, R: Clock> {
 }
 
 impl<R: Clock> IdleTimeout<'_, R> {
-    /// From now on nothing comes of a socket, as far as is known.
+    /// Starts the idle timeout of a socket anew.
     fn begin(&self, flags: &Flags) {
         let Some(time) = self.time else {
             return;
@@ -350,8 +353,8 @@ impl<R: Clock> IdleTimeout<'_, R> {
         flags.silent_from.set(self.poller.after(time));
     }
 
-    /// Whether nothing came of a socket for too long: never, where its peer may be silent for ever. What the time is, the
-    /// system's clock says.
+    /// Returns true if the idle timeout of a socket is over; never true without one. The time is read from the system's
+    /// clock.
     fn is_over(&self, flags: &Flags) -> bool
         ensures { IsNone self.now.time → result ≡ false }
     {
@@ -382,14 +385,14 @@ fn pull_or_flush_peer<R: Clock, S: Duplex + Drop>(
         result ≡ Pull.Got (min (length own.old.stream.read_buffer) (length buffer.old)) }
     ensures other { Passes S.to_give S.taken other.old.stream [] [] other.new.stream }
     ensures unread { ReadsNothing S.to_give other.old.stream other.new.stream }
-    // a side that isn't taken as ended by a time is reported as its stream is read
+    // a side that does not count as ended by a timeout is reported as its stream is read
     ensures asked { own.new.timed.is_silent ≡ false → own.new.timed.ends_stalled ≡ false → (known still : Readiness)
         × IsBufferedPull S.calls (length buffer.old) known own.old.stream result still own.new.stream }
-    // a side is taken as silent or stalled by an end alone, and of what may be silent for ever none is silent
+    // a side is marked as silent or stalled only with an end, and without an idle timeout never as silent
     ensures silent { result ≢ Pull.Ended → own.new.timed ≡ own.old.timed }
     ensures patient { IsNone idle.now.time → own.new.timed.is_silent ≡ own.old.timed.is_silent }
     ensures stays { own.old.timed.is_silent ≡ true → own.new.timed.is_silent ≡ true }
-    // none is taken as stalled whose writes don't count as failed for that
+    // a side counts as ended for a stall only if its writes fail for that
     ensures stalled { own.new.timed.is_stalled ≡ own.old.timed.is_stalled }
     ensures ends { own.old.timed.is_stalled ≡ false → own.new.timed.ends_stalled ≡ own.old.timed.ends_stalled }
     ensures other_timed { other.new.timed ≡ other.old.timed }
@@ -454,19 +457,19 @@ fn put_or_flush_peer<S: Duplex + Drop>(
 /// at last. These depend on cells that are shared with the loop, which no contract can name; tests show them.
 #[derive(Drop)]
 pub struct SocketPorts<'w, R: Clock, S: Drop = Connection> {
-    /// Its number, from 1, in the order in which the bots of a run came; 0 of ports that no run has.
+    /// The number of the session, from 1, in the order in which the run accepted its bots; 0 outside a run.
     number: u32,
     idle: IdleTimeout<'w, R>,
     held_for_bot: TurnsHeld,
     held_for_server: TurnsHeld,
-    /// Whether the time for the initial message was over when the turn began, and had not been before.
+    /// Whether the deadline of the initial message passed at the beginning of the turn, for the first time.
     im_timer_expired: bool,
     bot: Socket<'w, S>,
     server: Socket<'w, S>,
 }
 
 impl<'w, R: Clock, S: Drop> SocketPorts<'w, R, S> {
-    /// The ports of a bot and of the server that it is joined to.
+    /// Creates the ports of a bot and its server.
     pub fn new(
         poller: &'w Poller<R>,
         bot: Socket<'w, S>,
@@ -490,8 +493,8 @@ impl<'w, R: Clock, S: Drop> SocketPorts<'w, R, S> {
         }
     }
 
-    /// The same, as those of a run's session of this number, which begins now: a side of which nothing comes for the first
-    /// of these times is taken as ended, and one that takes nothing for the second counts as lost; none is for ever.
+    /// Returns these ports as those of a session of a run, with this number, which begins now. The first time is the
+    /// idle timeout of both sides, the second their stall timeout; `None` if there is none.
     pub(crate) fn of_session(
         self,
         number: u32,
@@ -533,21 +536,21 @@ impl<'w, R: Clock, S: Drop> SocketPorts<'w, R, S> {
         }
     }
 
-    /// The number of their session.
+    /// Returns the number of the session.
     pub fn number(&self) -> u32
         ensures { result ≡ self.now.number }
     {
         self.number
     }
 
-    /// Returns what the times of the bot's socket and of the server's came to.
+    /// Returns the expired timeouts of the bot's socket and of the server's.
     pub fn timed(&self) -> (Timed, Timed)
         ensures { result ≡ (self.now.bot.timed, self.now.server.timed) }
     {
         (self.bot.timed, self.server.timed)
     }
 
-    /// The sockets of the bot and of the server.
+    /// Returns the sockets of the bot and of the server.
     pub fn into_sockets(self) -> (Socket<'w, S>, Socket<'w, S>)
         ensures bot { result.0.stream ≡ self.entry.bot.stream }
         ensures server { result.1.stream ≡ self.entry.server.stream }
@@ -564,7 +567,7 @@ impl<'w, R: Clock, S: Drop> SocketPorts<'w, R, S> {
         (bot, server)
     }
 
-    /// Counts a turn that begins; it asks the system nothing.
+    /// Counts the beginning of a turn. Makes no system call.
     fn count_turn(&mut self)
         ensures bot { self.new.bot ≡ self.old.bot }
         ensures server { self.new.server ≡ self.old.server }
@@ -598,7 +601,7 @@ impl<R: Clock, S: Duplex + Drop> SocketPorts<'_, R, S> {
         self.server.begin_turn(self.held_for_server);
     }
 
-    /// Reads the deadline of the initial message. It is over once: in the turn that begins at it or next after it.
+    /// Reads the deadline of the initial message. It expires once: in the first turn that begins at or after it.
     fn read_deadline(&mut self)
         ensures bot { self.new.bot ≡ self.old.bot }
         ensures server { self.new.server ≡ self.old.server }
@@ -613,8 +616,8 @@ impl<R: Clock, S: Duplex + Drop> SocketPorts<'_, R, S> {
         self.im_timer_expired = is_over;
     }
 
-    /// Begins a turn of the session: counts it, gives up writing to a stalled peer, writes what was held for long enough,
-    /// and reads the deadline of the initial message. Nothing is read, and nothing was put in it yet.
+    /// Begins a turn of the session: counts it, gives up stalled peers, writes buffered bytes whose turns are over, and
+    /// reads the deadline of the initial message. Nothing is read, and nothing is put yet.
     pub fn begin_turn(&mut self)
         ensures begins { Transfers S.to_give S.taken (self.old.bot.stream, self.old.server.stream) TurnBegins
             (self.new.bot.stream, self.new.server.stream) }

@@ -1,4 +1,4 @@
-//! The lines that a run writes about each of its sessions, if it is asked to.
+//! The log lines about the sessions of a run, which `--verbose` requests.
 
 ghost use Rattle.std.specs.Prelude.{◌≡◌};
 ghost use Rattle.daide_protocol.specs.Summary.{nothing_counted};
@@ -14,16 +14,16 @@ use std::fmt;
 use std::net::SocketAddr;
 use thiserror::Error;
 
-/// A line of a session, by its number. The run goes on.
+/// A log line about a session, with its number. The run goes on.
 #[derive(Clone, Copy, Debug, Error)]
 pub enum SessionNotice {
-    /// Its bot came, from this address.
+    /// Its bot connected from this address.
     #[error("session {number} began: bot at {bot}")]
     Began {
         number: u32,
         bot: SocketAddr,
     },
-    /// It is over, for this cause, and has these counts.
+    /// It is over, for this reason and with these counts.
     #[error("session {number} ended: {why}; {counts}")]
     Ended {
         number: u32,
@@ -33,8 +33,8 @@ pub enum SessionNotice {
 }
 
 impl SessionNotice {
-    /// Returns the line of a session that is over, by what the times of its two sockets came to, and by how many seconds
-    /// a side may be stalled.
+    /// Returns the line of a session that is over, from its end, the expired timeouts of its two sockets, and the stall
+    /// timeout in seconds.
     pub fn of_end(
         number: u32,
         end: SessionEnd,
@@ -51,7 +51,7 @@ impl SessionNotice {
         }
     }
 
-    /// The line of a session whose server couldn't be reached.
+    /// Returns the line of a session whose server was unreachable.
     pub fn of_no_server(number: u32) -> SessionNotice
         ensures { result ≡ SessionNotice.Ended number Why.NoServer (record { 0 = nothing_counted }) }
     {
@@ -66,17 +66,17 @@ impl SessionNotice {
 /// Why a session is over.
 #[derive(Clone, Copy, Debug, PartialEq, Eq)]
 pub enum Why {
-    /// By this event, or since its turns are spent.
+    /// This event ended it, or its turns are spent.
     Ended(Cause),
-    /// Nothing came of this side for too long.
+    /// This side sent nothing for the idle timeout.
     Silent(Side),
-    /// This side took no byte for so many seconds, though bytes waited for it.
+    /// This side accepted no byte for this many seconds, while some were queued for it.
     Stalled(Side, u32),
-    /// Its server couldn't be reached.
+    /// Its server was unreachable.
     NoServer,
 }
 
-/// Returns why a session is over that a side's end ended.
+/// Returns the reason for a session that the end of this side ended.
 fn why_ended(side: Side, timed: Timed, stall_seconds: u32) -> Why
     ensures { result ≡ why_ended side timed stall_seconds }
 {
@@ -89,8 +89,8 @@ fn why_ended(side: Side, timed: Timed, stall_seconds: u32) -> Why
     Why::Ended(Cause::Session(Ending::Ended(side)))
 }
 
-/// Returns why a session is over, by its cause, by what the times of its two sockets came to, and by how many seconds a
-/// side may be stalled.
+/// Returns why a session is over, from its cause, the expired timeouts of its two sockets, and the stall timeout in
+/// seconds.
 pub fn why_of(cause: Cause, timed: (Timed, Timed), stall_seconds: u32) -> Why
     ensures { result ≡ why_by cause timed stall_seconds }
 {
@@ -105,7 +105,7 @@ pub fn why_of(cause: Cause, timed: (Timed, Timed), stall_seconds: u32) -> Why
     }
 }
 
-/// A side, as a line names it.
+/// Returns a side's name in a line.
 fn name_of(side: Side) -> &'static str {
     match side {
         Side::Bot => "bot",
@@ -113,7 +113,7 @@ fn name_of(side: Side) -> &'static str {
     }
 }
 
-/// The event that ended a session.
+/// Writes the event that ended a session.
 fn write_ending<W: fmt::Write>(f: &mut fmt::Formatter<W>, ending: Ending) -> fmt::Result {
     match ending {
         Ending::Ended(side) => write!(f, "{} ended", name_of(side)),
@@ -139,7 +139,7 @@ impl fmt::Display for Why {
     }
 }
 
-/// What a session counted, as the last line of a log's report has it.
+/// The counts of a session, in the form of the last line of a log's report.
 #[derive(Clone, Copy, Debug, PartialEq, Eq)]
 pub struct Counts(pub Summary);
 

@@ -1,4 +1,4 @@
-//! What a run asks of the system, over sockets.
+//! The environment of the event loop, `System`, over sockets.
 
 ghost use Rattle.std.specs.Prelude.{◌≡◌, ◌⊎◌, ℕ, ◌+◌, ◌*◌, ◌^◌, ◌<◌, IfSome, None, false, [], length};
 ghost use Rattle.daide_sockets.specs.Times.{IsSeconds, IsIdleTime};
@@ -24,7 +24,7 @@ use std::net::{Net, SocketAddr};
 use std::rt::Clock;
 use std::time::Duration;
 
-/// How many sockets a run with so many sessions has at most: the listener, two a session, and those that close.
+/// Returns the most sockets of a run: the listener, two a session, and those that are closing.
 pub fn most_sockets(max_sessions: usize) -> usize
     ensures { max_sessions < 2 ^ 62 → result ≡ 2 * max_sessions + MOST_CLOSING + 1 }
 {
@@ -34,7 +34,7 @@ pub fn most_sockets(max_sessions: usize) -> usize
         .saturating_add(1)
 }
 
-/// How long a side may be silent, or take nothing, by so many seconds of the settings; none where they say for ever.
+/// Converts a timeout from seconds; 0 is `None`, for never.
 fn idle_time_of(seconds: u32) -> Option<Duration>
     ensures { IsIdleTime seconds result }
 {
@@ -65,24 +65,24 @@ pub struct Sockets<'w, R: Clock + Net, E: Write + Drop> {
     acceptor: Acceptor<'w>,
     servers: &'w [SocketAddr],
     im_time: Duration,
-    /// How long a side may be silent; none for ever.
+    /// The idle timeout of each peer; `None` if there is none.
     idle_time: Option<Duration>,
-    /// How long a side may take none of the bytes that wait for it; none for ever.
+    /// The stall timeout of each peer; `None` if there is none.
     stall_time: Option<Duration>,
-    /// The same in seconds, as the settings have it.
+    /// The same in seconds, as in the settings.
     stall_seconds: u32,
     connect_time: Duration,
     arrivals: Vec<PendingConnection<'w>>,
     closings: Closings<'w>,
-    /// Where lines for the operator go.
+    /// The output for log lines.
     pub errors: E,
-    /// Whether a line is told where a session begins, and one where it ends.
+    /// Whether the beginning and the end of each session are logged.
     is_verbose: bool,
 }
 
 impl<'w, R: Clock + Net, E: Write + Drop> Sockets<'w, R, E> {
-    /// The sockets of a run that no bot came to yet, at a listener and towards a server that is tried for so long;
-    /// none where memory is refused or the listener can't be followed. Nothing is told of its sessions.
+    /// Creates the sockets of a run with no bot yet, with a listener, the addresses of the server, and a deadline for
+    /// connects. Returns `None` if memory is refused or the listener cannot be registered. Sessions are not logged.
     pub fn new(
         alloc: Global,
         runtime: &'w R,
@@ -125,24 +125,24 @@ impl<'w, R: Clock + Net, E: Write + Drop> Sockets<'w, R, E> {
         })
     }
 
-    /// Says whether a line is told where a session begins, and one where it ends.
+    /// Sets whether the beginning and the end of each session are logged.
     pub fn set_verbose(&mut self, is_verbose: bool)
         ensures { self.new ≡ record self.old { is_verbose = is_verbose } }
     {
         self.is_verbose = is_verbose;
     }
 
-    /// Tells a line of a session, where that is asked for.
+    /// Logs a line of a session, if sessions are logged.
     fn tell_of_session(&mut self, notice: SessionNotice)
         ensures { self.new ≡ record self.old { errors = self.new.errors } }
     {
         if self.is_verbose {
-            // Where nobody reads it the run goes on.
+            // The run goes on if the line cannot be written.
             let _ = writeln!(self.errors, "daide-gate: {notice}");
         }
     }
 
-    /// A bot whose server wasn't reached: its session is over, and its socket closes.
+    /// Ends the session of a bot whose server was unreachable, and starts the close of its socket.
     fn let_go(&mut self, left: Unreached<'w>)
         ensures closes { Closes ⟦<Connection as Duplex>⟧.to_give ⟦<Connection as Duplex>⟧.taken self.old.closings
             left.entry.bot.stream self.new.closings }
@@ -153,8 +153,8 @@ impl<'w, R: Clock + Net, E: Write + Drop> Sockets<'w, R, E> {
         self.closings.begin(self.poller, left.bot);
     }
 
-    /// What became of the bot that is looked at first: its connect came about, or it is over, and its socket closes; or
-    /// it is still under way, and looked at last.
+    /// Checks the first arrival. Returns its ports if its connect completed, and `Failed` if its session is over and
+    /// its socket closes. Otherwise the connect is still under way, and the arrival moves to the end.
     fn look_at_first(&mut self) -> Connect<SocketPorts<'w, &'w R>>
         requires { 0 < length self.old.arrivals.items }
         ensures { FirstArrivalEvolves ⟦<Connection as Duplex>⟧.to_give ⟦<Connection as Duplex>⟧.taken
@@ -166,7 +166,7 @@ impl<'w, R: Clock + Net, E: Write + Drop> Sockets<'w, R, E> {
         if arrival.advances(self.poller, self.runtime, self.servers) {
             return match self.arrivals.push(arrival) {
                 Ok(()) => Connect::Pending,
-                // There was room for it before.
+                // The list had room for it before.
                 Err(refused) => {
                     self.let_go(refused.value.give_up());
                     Connect::Failed
@@ -182,7 +182,7 @@ impl<'w, R: Clock + Net, E: Write + Drop> Sockets<'w, R, E> {
         }
     }
 
-    /// Goes on with the sockets that close, and reopens the acceptor where its pause is over.
+    /// Advances the closing sockets, and reopens the acceptor if its pause is over.
     fn tidy(&mut self)
         ensures came { self.new.acceptor.came ≡ self.old.acceptor.came }
         ensures arrivals { self.new.arrivals.items ≡ self.old.arrivals.items }
@@ -193,8 +193,8 @@ impl<'w, R: Clock + Net, E: Write + Drop> Sockets<'w, R, E> {
         self.closings.advance(self.poller);
     }
 
-    /// Waits until the last sockets are closed, which takes a second at most once their peers took what they hold, or are
-    /// stalled. What closes goes on by rounds; nothing else is done to it.
+    /// Waits until the last sockets are closed. That takes at most a second after their peers accepted the buffered
+    /// bytes, or are stalled. The closing sockets are advanced by rounds, and by nothing else.
     pub fn finish(&mut self)
         ensures closing { (rounds : ℕ) × GoOnFor ⟦<Connection as Duplex>⟧.to_give ⟦<Connection as Duplex>⟧.taken
             ⟦<Connection as Duplex>⟧.calls rounds self.old.closings self.new.closings
@@ -206,7 +206,7 @@ impl<'w, R: Clock + Net, E: Write + Drop> Sockets<'w, R, E> {
         self.closings.finish(self.poller);
     }
 
-    /// Waits, but where a socket that closes may have more to drop.
+    /// Waits, unless a closing socket may have more to discard.
     fn rest(&mut self)
         ensures { self.new ≡ self.old }
     {
@@ -262,7 +262,7 @@ impl<'w, R: Clock + Net, E: Write + Drop> System<SocketPorts<'w, &'w R>> for Soc
     }
 
     fn connected(&mut self) -> Connect<SocketPorts<'w, &'w R>> {
-        // One that is pending goes to the end, so after a look at each the order is as before.
+        // A pending arrival moves to the end, so after a check of each the order is as before.
         for _look in 0..self.arrivals.len() {
             if self.arrivals.is_empty() {
                 break;
@@ -283,7 +283,7 @@ impl<'w, R: Clock + Net, E: Write + Drop> System<SocketPorts<'w, &'w R>> for Soc
     }
 
     fn tell(&mut self, notice: Notice) {
-        // Where nobody reads it the run goes on.
+        // The run goes on if the line cannot be written.
         let _ = writeln!(self.errors, "daide-gate: {notice}");
     }
 

@@ -1,23 +1,24 @@
-//! What the times of a socket came to, which `--verbose` names.
+//! The timeouts of a socket that expired, which `--verbose` reports.
 
 ghost use Rattle.std.specs.Prelude.{◌≡◌};
 ghost use Rattle.daide_sockets.specs.Lines.{timed_at};
 
 use daide_frame::side::Side;
 
-/// What the times of a socket came to.
+/// The timeouts of a socket that expired.
 #[derive(Clone, Copy)]
 pub struct Timed {
-    /// Whether no byte came from the peer for too long, so that it was taken as ended.
+    /// Whether the idle timeout expired: the peer sent no byte for too long, and counts as ended.
     pub is_silent: bool,
-    /// Whether the peer took no byte for too long though bytes waited for it, so that its writes count as failed.
+    /// Whether the stall timeout expired: the peer accepted no byte for too long while some were queued, so its writes
+    /// fail.
     pub is_stalled: bool,
-    /// Whether the peer was taken as ended because it is stalled.
+    /// Whether the peer counts as ended because it is stalled.
     pub ends_stalled: bool,
 }
 
 impl Timed {
-    /// No time is over.
+    /// No timeout expired.
     pub const NONE: Timed = Timed {
         is_silent: false,
         is_stalled: false,
@@ -25,7 +26,7 @@ impl Timed {
     };
 }
 
-/// Returns what the times of one side's socket came to, of those of the bot's and the server's.
+/// Returns a side's expired timeouts, out of those of the bot and the server.
 pub(crate) fn timed_at(timed: (Timed, Timed), side: Side) -> Timed
     ensures { result ≡ timed_at timed side }
 {

@@ -1,9 +1,9 @@
-//! Prints what the code answers by matching, from which `print` writes the text of the grammar's constant table.
+//! Prints the entries that the plain table returns. `print` makes the text of the grammar's constant table from them.
 //!
-//! With the word `answers`: a line for each symbol and class where the plain table doesn't stop, with their numbers,
-//! `skip` or `take`, and the numbers of the symbols that follow. With the word `classes`: a line for each token, with its
-//! code and the number of its class. Nothing here is trusted: the check of `daide_grammar` shows of each cell of the
-//! constant table that it says what the definitions say.
+//! With the argument `answers`, it prints one line for each symbol and class unless the entry is a Stop: their numbers,
+//! `skip` or `take`, and the numbers of the symbols that follow. With the argument `classes`, it prints one line for
+//! each token: its code and the number of its class. Nothing here is trusted: the check of `daide_grammar` compares
+//! each cell of the constant table with the definitions.
 #![tactic(auto)]
 
 use daide_grammar::column::Column;
@@ -15,7 +15,7 @@ use daide_token::token::Token;
 use std::alloc::{AllocError, Global};
 use std::{env, io};
 
-/// A line more, where the symbol may meet the class.
+/// Writes the line of an entry, unless it is a Stop.
 fn write_answer(text: &mut String, symbol: Symbol, class: Column) -> Result<(), AllocError> {
     let (number, column) = (symbol.number(), class.number());
     match meaning_of(symbol.sym(), class.class()) {
@@ -32,7 +32,7 @@ fn write_answer(text: &mut String, symbol: Symbol, class: Column) -> Result<(), 
     }
 }
 
-/// The answers of the plain table at the classes that are no operator's words.
+/// Returns the entries of the plain table, at all classes except an operator's words.
 fn answers(alloc: Global) -> Result<String, AllocError> {
     let mut text = String::new(alloc);
     for symbol in 0..SYMBOL_COUNT {
@@ -43,7 +43,7 @@ fn answers(alloc: Global) -> Result<String, AllocError> {
     Ok(text)
 }
 
-/// The class of each token.
+/// Returns the class of each token.
 fn classes(alloc: Global) -> Result<String, AllocError> {
     let mut text = String::new(alloc);
     for code in 0..=u16::MAX {

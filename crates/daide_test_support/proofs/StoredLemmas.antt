@@ -1,4 +1,4 @@
--- What ports in memory tell with one more call.
+-- The record of ports in memory after one more call.
 use Rattle.std.proofs.Common.{◌≡◌, ℕ, List, [], ◌∷◌, ◌++◌, map, sym, ap, ◌∙◌, subst}
 use Rattle.std.specs.Prelude.{Option, Some, None, Result, Ok, Err, IfOk, IfSome, MatchResult, IsOkAnd, Vec}
 use Rattle.std.proofs.lemmas.List.{map-append}
@@ -6,7 +6,7 @@ use Rattle.daide_test_support.specs.declared.memory_ports.Call.{Call}
 use Rattle.daide_test_support.specs.MemoryPorts.{answer_stored, answers_stored}
 use Rattle.daide_protocol.specs.Ports.{PortCall, AppendsTo}
 
--- a call was stored behind the others, or there is no record any more
+-- a call was appended to the record, or there is no record any more
 pub tells : {A E : Type 0} (old calls after : Option (Vec (Call A) A)) (call : Result (Call A) E)
     (answer : PortCall) →
     calls ≡ old →
@@ -23,7 +23,7 @@ tells {A} {E} old calls (Some v) call answer same h stored = (
       (subst (λ (r : Result (Call A) E). IfOk r (λ one. answer_stored one ≡ answer)) h.2.1 stored)),
 )
 
--- a call that is made of a copy of these bytes
+-- a call that is made from a copy of these bytes
 pub copied : {A E : Type 0} (came : Result (Vec ℕ A) E) (call : Result (Call A) E) (post : Vec ℕ A → Call A → Type 0)
     (bytes : List ℕ) (answer : PortCall) → MatchResult came (λ x. IsOkAnd call (post x)) (λ e. call ≡ Err e) →
     IfOk came (λ v. v.items ≡ bytes) →

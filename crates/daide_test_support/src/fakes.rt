@@ -3,7 +3,7 @@
 use std::io;
 use std::io::{ErrorKind, Read, Write};
 
-/// A reader that gives three bytes at a read, and fails with an error of this kind at a read.
+/// A reader that returns at most three bytes a read, and fails with an error of this kind after `reads` reads.
 #[derive(Drop)]
 pub struct FailsAtRead<'a> {
     pub bytes: &'a [u8],
@@ -22,7 +22,7 @@ impl Read for FailsAtRead<'_> {
     }
 }
 
-/// A writer that takes four bytes at a write, and fails at a write.
+/// A writer that accepts at most four bytes a write, and fails after `writes` writes.
 #[derive(Drop)]
 pub struct FailsAtWrite {
     pub taken: Vec<u8>,

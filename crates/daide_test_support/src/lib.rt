@@ -1,7 +1,7 @@
-//! What all tests hold their rows against, streams that fail, and ports in memory.
+//! Support for all tests: comparisons, streams that fail, and ports in memory.
 //!
-//! There is no test here, and nothing to call but for tests: those of the libraries are in `daide_codec_tests` and
-//! `daide_session_tests`, those of the program in `daide_run_tests`.
+//! This crate has no tests of its own, and only tests call it. The tests of the libraries are in `daide_codec_tests`
+//! and `daide_session_tests`, those of the program in `daide_run_tests`.
 #![tactic(auto)]
 
 pub mod fakes;

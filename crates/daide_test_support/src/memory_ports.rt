@@ -1,7 +1,7 @@
-//! Ports in memory, for tests: they give what a script says, and store a record of all calls.
+//! Ports in memory, for tests: they follow a script, and record all calls.
 //!
-//! The record is what tests look at. Where memory for it is refused the ports go on by their script, and tell
-//! nothing from then on.
+//! Tests read the record. If memory for it is refused, the ports still follow their script, and record nothing from
+//! then on.
 
 ghost use Rattle.std.specs.Prelude.{◌≡◌, [], ◌∷◌, ◌++◌, ◌≤◌, length, Some, Ok, IfSome, Option, Vec, map, option_map};
 ghost use Rattle.daide_protocol.specs.Ports.{AppendsTo, TurnBegins, IsPullWithin, IsPutWithin, pulled_len};
@@ -12,55 +12,55 @@ use daide_frame::side::Side;
 use daide_protocol::ports::{Ports, Pull, Put};
 use std::alloc::{AllocError, Allocator, Global};
 
-/// What one pull from a side gives.
+/// The result of one pull from a side.
 #[derive(Clone, Copy, Debug)]
 pub enum ScriptedRead<'a> {
-    /// These bytes; what the buffer doesn't hold comes with the next pull.
+    /// These bytes; the next pull returns those that do not fit the buffer.
     Bytes(&'a [u8]),
     /// Nothing yet.
     Idle,
-    /// The end of the stream, for good.
+    /// The end of the stream, at this and every later pull.
     End,
 }
 
-/// What a wire takes of one put.
+/// The result of one put to a side.
 #[derive(Clone, Copy, Debug)]
 pub enum Acceptance {
-    /// At most so many bytes.
+    /// At most this many bytes are accepted.
     Takes(usize),
-    /// Nothing: the wire fails.
+    /// The put fails.
     Fails,
 }
 
-/// What one side sends, and what the wire toward it takes. After the last arrival nothing comes; after the last
-/// acceptance each put is taken whole.
+/// One side's reads and acceptances. After the last read nothing more is received. After the last acceptance each put
+/// is accepted whole.
 #[derive(Clone, Copy, Debug)]
 pub struct Script<'a> {
     pub pulls: &'a [ScriptedRead<'a>],
     pub puts: &'a [Acceptance],
 }
 
-/// A call, and what it answered.
+/// A call with its result.
 #[derive(Drop)]
 pub enum Call<A: Allocator = Global> {
     /// A turn began.
     TurnBegins,
-    /// The clock was asked, and had popped or not.
+    /// The IM timer was queried, and had expired or not.
     Clock(bool),
-    /// A side was read into a buffer of this length, and these bytes came.
+    /// A side was read into a buffer of this length, and these bytes were returned.
     Pulled(Side, usize, Pull, Vec<u8, A>),
-    /// A wire was handed these bytes.
+    /// These bytes were put to a side.
     Offered(Side, Vec<u8, A>, Put),
 }
 
-/// How far one side's script was played.
+/// The position in one side's script.
 #[derive(Clone, Copy, Debug)]
 struct Player<'a> {
     script: Script<'a>,
-    /// How many arrivals and how many acceptances are behind.
+    /// The number of reads and of acceptances that were used.
     pulls: usize,
     puts: usize,
-    /// How many bytes of the present arrival came.
+    /// The number of bytes of the current read that were returned.
     offset: usize,
 }
 
@@ -71,11 +71,11 @@ pub struct MemoryPorts<'a, A: Allocator = Global> {
     calls: Option<Vec<Call<A>, A>>,
     bot: Player<'a>,
     server: Player<'a>,
-    /// How often the clock is asked before it pops.
+    /// The number of queries before the IM timer expires.
     quiet: u64,
 }
 
-/// The record with one more call, or none where memory is refused.
+/// Returns the record with one more call, or `None` if memory was refused.
 fn with_call<A: Allocator>(
     calls: Option<Vec<Call<A>, A>>,
     call: Result<Call<A>, AllocError>,
@@ -93,7 +93,7 @@ fn with_call<A: Allocator>(
     }
 }
 
-/// How many bytes a pull gave.
+/// Returns the number of bytes that a pull returned.
 fn count_of(pull: Pull) -> usize
     ensures { result ≡ pulled_len pull }
 {
@@ -104,7 +104,7 @@ fn count_of(pull: Pull) -> usize
 }
 
 impl<'a> Player<'a> {
-    /// Before the first call.
+    /// Creates a player at the beginning of a script.
     fn new(script: Script<'a>) -> Player<'a> {
         Player {
             script,
@@ -114,7 +114,7 @@ impl<'a> Player<'a> {
         }
     }
 
-    /// What comes next of these bytes, as much of it as the buffer holds.
+    /// Copies the next of these bytes to the buffer, as many as fit, and returns their number.
     fn fill(&mut self, bytes: &[u8], buffer: &mut [u8]) -> usize
         ensures within { result ≤ length buffer.old }
         ensures len { length buffer.new ≡ length buffer.old }
@@ -131,7 +131,7 @@ impl<'a> Player<'a> {
         count
     }
 
-    /// What the next pull gives.
+    /// Returns the result of the next pull.
     fn pull(&mut self, buffer: &mut [u8]) -> Pull
         ensures within { IsPullWithin result (length buffer.old) }
         ensures len { length buffer.new ≡ length buffer.old }
@@ -147,7 +147,7 @@ impl<'a> Player<'a> {
         }
     }
 
-    /// What the next put takes of so many bytes.
+    /// Returns the result of the next put of `len` bytes.
     fn put(&mut self, len: usize) -> Put
         ensures { IsPutWithin result len }
     {
@@ -162,7 +162,8 @@ impl<'a> Player<'a> {
 }
 
 impl<'a, A: Allocator + Copy> MemoryPorts<'a, A> {
-    /// Ports that no call was made of yet. The clock pops at the ask after so many; see `NEVER`.
+    /// Creates ports with an empty record. The IM timer has expired at every query after the first `quiet` ones; see
+    /// `NEVER` of `daide_session_tests`.
     pub fn new(alloc: A, bot: Script<'a>, server: Script<'a>, quiet: u64) -> MemoryPorts<'a, A>
         ensures { answers_stored result.calls ≡ Some [] }
     {
@@ -175,7 +176,7 @@ impl<'a, A: Allocator + Copy> MemoryPorts<'a, A> {
         }
     }
 
-    /// Stores that a turn begins.
+    /// Records that a turn begins.
     pub fn begin_turn(&mut self)
         ensures { AppendsTo (answers_stored self.old.calls) (TurnBegins ∷ []) (answers_stored self.new.calls) }
     {
@@ -183,7 +184,7 @@ impl<'a, A: Allocator + Copy> MemoryPorts<'a, A> {
         self.calls = with_call(calls, Ok(Call::TurnBegins));
     }
 
-    /// The calls so far, or none where memory for them was refused.
+    /// Returns the calls so far, or `None` if memory for them was refused.
     pub fn calls(&self) -> Option<&[Call<A>]>
         ensures { option_map (λ calls. map answer_stored calls.now) result ≡ answers_stored self.now.calls }
     {

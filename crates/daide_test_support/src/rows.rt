@@ -1,14 +1,14 @@
-//! What a row of a table is held against.
+//! The comparisons of a test's rows.
 //!
-//! A test is proved, too. It says `holds` or `same` where it could say `assert!` or `assert_eq!`, since a call is
-//! proved in a fraction of the time that the lines take which the macros write.
+//! Tests are proved too. They call `holds` and `same` instead of `assert!` and `assert_eq!`: a call is proved in a
+//! fraction of the time that the expanded macros take.
 
 ghost use Rattle.std.specs.Prelude.{◌≡◌, true, false, IfOk, IfErr};
 
 use std::fmt::Debug;
 use std::test::Fail;
 
-/// A failure with this text, exactly where something doesn't hold.
+/// Fails with this text exactly if the condition is false.
 pub fn holds(is_so: bool, text: &str) -> Result<(), Fail>
     ensures passed { IfOk result (λ _. is_so ≡ true) }
     ensures failed { IfErr result (λ _. is_so ≡ false) }
@@ -16,7 +16,7 @@ pub fn holds(is_so: bool, text: &str) -> Result<(), Fail>
     if is_so { Ok(()) } else { Err(Fail::new(text)) }
 }
 
-/// A failure that tells the row and both values, exactly where they differ.
+/// Fails exactly if the values differ, with the row and both values.
 pub fn same<T: PartialEq + Debug, W: Debug>(found: &T, wanted: &T, row: &W) -> Result<(), Fail>
     ensures passed { IfOk result (λ _. T.eq found.now wanted.now ≡ true) }
     ensures failed { IfErr result (λ _. T.eq found.now wanted.now ≡ false) }

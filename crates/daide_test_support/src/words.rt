@@ -1,10 +1,11 @@
-//! Words of a row: how often one stands, and the words that an operator adds.
+//! Words of a row: repetition counts, and an operator's words.
 
 use daide_grammar::level::Level;
 use daide_token::token::Token;
 use daide_words::{Operand, Slot, Word, Words};
 
-/// Two words: XYZ is a press of a power from level 20 on, QQQ an arrangement of an arrangement from level 30 on.
+/// Returns two words: XYZ is a press of a power from level 20 on, QQQ an arrangement of an arrangement from level 30
+/// on.
 pub fn two_words() -> Words {
     let mut words = Words::new();
     let _ = words.add(Word {
@@ -24,7 +25,7 @@ pub fn two_words() -> Words {
     words
 }
 
-/// How often a word stands, and the word: `62*4000` is 4000 for 62 times.
+/// Splits a word from its repetition count: `62*4000` is 62 times 4000. Without a count it is 1.
 pub fn counted(word: &str) -> (usize, &str) {
     match word.split_once('*') {
         Some((count, word)) => (count.parse().unwrap_or(0), word),

@@ -1,4 +1,4 @@
--- The names of accepted words are read as their codes.
+-- The names of accepted words are parsed as their codes.
 use Rattle.std.proofs.Common.{◌≡◌, ◌==◌, ◌&&◌, ◌||◌, not, nat_lt, ℕ, suc, ◌<◌, Bool, true, false, List, [], ◌∷◌}
 use Rattle.std.proofs.Common.{◌++◌, length, bytes_eq, Option, Some, None, option_map, is_none, is_ok, Result, Err}
 use Rattle.std.proofs.Common.{if◌then◌else◌, refl, sym, ◌∙◌, ap, arith}

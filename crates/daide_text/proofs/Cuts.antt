@@ -1,4 +1,4 @@
--- Each line is cut into pieces, and in one way.
+-- Each line has exactly one cut into pieces.
 use Rattle.std.proofs.Common.{if◌then◌else◌, ◌≡◌, ◌==◌, ◌&&◌, not, ℕ, zero, suc, ◌≤◌, Bool, true, false}
 use Rattle.std.proofs.Common.{List, [], ◌∷◌, ◌++◌, length, length-append, append_assoc, append-nil, refl, sym, ◌∙◌, ap, arith, subst}
 use Rattle.std.specs.List.{list_all}
@@ -14,9 +14,9 @@ both false b e = absurd (cc)
 pub together : (a b : Bool) → a ≡ true → b ≡ true → (a && b) ≡ true
 together a b e f = rw (e, f) refl
 
--- ---- there is a cut
+-- ---- existence
 
--- a front without quotes, then a quote; or no quote at all
+-- a text without quotes before a quote; or no quote at all
 data QuoteSplit (line : List ℕ) : Type 0 where
   closed : (front after : List ℕ) → line ≡ front ++ 39 ∷ after → list_all is_in_quote front ≡ true → QuoteSplit line
   unclosed : list_all is_in_quote line ≡ true → QuoteSplit line
@@ -31,7 +31,7 @@ split_quote (c ∷ line) = go (c == 39) refl (split_quote line)
         closed (c ∷ front) after (ap (λ (l : List ℕ). c ∷ l) same) (rw e all)
     go false e (unclosed all) = unclosed (rw e all)
 
--- a front of a word's bytes, as long as can be
+-- the longest prefix of a word's bytes
 data WordSplit (line : List ℕ) : Type 0 where
   split : (front after : List ℕ) → line ≡ front ++ after → list_all is_in_word front ≡ true →
       begins_in_word after ≡ false → WordSplit line
@@ -46,7 +46,7 @@ split_word (c ∷ line) = go (is_in_word c) refl (split_word line)
         ended
     go false e s = split [] (c ∷ line) refl refl e
 
--- what a byte begins
+-- the piece that a byte begins
 data Kind (c : ℕ) : Type 0 where
   space : is_space c ≡ true → Kind c
   sign : is_sign c ≡ true → Kind c
@@ -68,7 +68,7 @@ HasCut line = (pieces : List Piece) × IsCut line pieces
 shorter : (front after line : List ℕ) (n : ℕ) → line ≡ front ++ after → length line ≤ n → length after ≤ n
 shorter front after line n same h = omega (arith, ap length same, length-append front after)
 
--- the cut of a line, with the cuts of all that is shorter
+-- the cut of a line, from the cuts of all shorter lines
 cut_more : (n : ℕ) (c : ℕ) (line : List ℕ) → length line ≤ n → ((shorter : List ℕ) → length shorter ≤ n → HasCut shorter)
     → Kind c → QuoteSplit line → WordSplit line → HasCut (c ∷ line)
 cut_more n c line few cut (space e) q w =
@@ -115,9 +115,9 @@ cut_within (suc n) (c ∷ line) h =
 pub each_line_has_a_cut : (line : List ℕ) → HasCut line
 each_line_has_a_cut line = cut_within (length line) line (omega arith)
 
--- ---- there is no other
+-- ---- uniqueness
 
--- which piece a byte begins
+-- the kind of piece that a byte begins
 abbrev first_kind : ℕ → ℕ
 first_kind c = if is_space c then 0 else if is_sign c then 1 else if c == 39 then 2 else 3
 

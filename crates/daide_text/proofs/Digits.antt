@@ -1,11 +1,11 @@
--- Decimal digits that are no number of a token.
+-- Decimal digits that are not the number of a token.
 use Rattle.std.proofs.Common.{◌≡◌, ◌&&◌, ◌+◌, ◌-◌, ◌*◌, ℕ, ◌<◌, ◌≤◌, nat_le, nat_lt, Bool, true, false, List, [], ◌∷◌}
 use Rattle.std.proofs.Common.{length, None, Some, Option, if◌then◌else◌, refl, arith}
 use Rattle.std.specs.List.{list_all}
 use Rattle.std.proofs.lemmas.Bool.Decides.{nat_tests}
 use Rattle.daide_text.specs.Word.{greatest_magnitude, is_digit, magnitude, value_after}
 
--- a digit more makes no number smaller
+-- one more digit does not make a number smaller
 value_grows : (n : ℕ) (digits : List ℕ) → n ≤ value_after n digits
 value_grows n [] = omega arith
 value_grows n (c ∷ digits) = omega (arith, value_grows (n * 10 + (c - 48)) digits)

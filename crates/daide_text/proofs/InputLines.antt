@@ -1,4 +1,4 @@
--- The lines of an input, by the line that it begins with.
+-- The lines of an input, by its first line.
 use Rattle.std.proofs.Common.{◌≡◌, ◌==◌, not, ℕ, zero, suc, ◌<◌, ◌≤◌, Bool, true, false, List, [], ◌∷◌}
 use Rattle.std.proofs.Common.{◌++◌, length, take, get_or, append-nil, append_assoc, Option, Some, None, refl, sym, ◌∙◌, ap}
 use Rattle.std.proofs.Common.{arith}
@@ -31,7 +31,7 @@ last c (d ∷ line) h =
     let p = both (is_no_end c) (list_all is_no_end (d ∷ line)) h in
     one_more c (d ∷ line) ((d ∷ line) ∷ []) p.0 (last d line p.1)
 
--- lines whose first has so many bytes at least
+-- lines whose first has at least this many bytes
 abbrev BeginLong : ℕ → List ℕ → Type 0
 BeginLong n input =
     (line : List ℕ) × (lines : List (List ℕ)) × (text_lines input ≡ line ∷ lines) × (n ≤ length line)
@@ -49,7 +49,7 @@ long c (d ∷ line) rest h =
     let r = long d line rest p.1 in
     (c ∷ r.0, r.1, one_more c ((d ∷ line) ++ rest) (r.0 ∷ r.1) p.0 r.2, omega (arith, r.3))
 
--- what the reader gave, and one byte more
+-- the bytes read, and one more
 after_end : (line input now rest : List ℕ) → input ≡ line ++ now → now ≡ 10 ∷ rest →
     list_all is_no_end line ≡ true → text_lines input ≡ line ∷ text_lines rest
 after_end line input now rest given more all =
@@ -106,7 +106,7 @@ line_too_long None now line given all h = (line, [], h, tt)
 line_too_long (Some input) None line given all h = absurd given
 line_too_long (Some input) (Some now) line given all h = too_long input line now given all h
 
--- the front grows by a byte
+-- one more byte was read
 pub given_more : (old now new : Option (List ℕ)) (line : List ℕ) (c : ℕ) → Consumes old now line →
     Consumes now new (c ∷ []) → Consumes old new (line ++ c ∷ [])
 given_more None now new line c given more = tt
@@ -115,7 +115,7 @@ given_more (Some input) (Some now) None line c given more = absurd more
 given_more (Some input) (Some now) (Some rest) line c given more =
     given ∙ ap (λ (l : List ℕ). line ++ l) more ∙ sym (append_assoc line (c ∷ []) rest)
 
--- a read into one byte that gave one
+-- a read of one byte into a buffer of one
 pub byte_read : (count : ℕ) (buf : List ℕ) (c : ℕ) → 0 < count → length buf ≡ 1 → get_or buf 0 0 ≡ c →
     take count buf ≡ c ∷ []
 byte_read zero buf c some one e = absurd (omega arith)

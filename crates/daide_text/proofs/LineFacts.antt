@@ -1,5 +1,4 @@
--- What lines of text are as tokens, the columns of their faults, and the frames of messages, worked out by hand from
--- docs/FORMATS.md.
+-- Lines of text as tokens, the columns of their faults, and the frames of messages, worked out from docs/FORMATS.md.
 use Rattle.std.proofs.Common.{◌≡◌, ◌<◌, ◌&&◌, not, nat_lt, ℕ, Bool, true, false, List, [], ◌∷◌, ◌++◌, length, codes, refl, ap}
 use Rattle.std.proofs.Common.{Ok, Err, Result, arith}
 use Rattle.std.specs.List.{list_all}
@@ -10,7 +9,7 @@ use Rattle.daide_text.specs.Line.{is_in_word, is_in_quote, begins_in_word, Piece
 use Rattle.daide_text.specs.Frames.{text_lines, trimmed, frame_line}
 use Rattle.daide_text.proofs.Cuts.{both}
 
--- the line of some pieces
+-- the text of some pieces
 abbrev pub joined : List Piece → List ℕ
 joined [] = []
 joined (piece ∷ pieces) = bytes_of_piece piece ++ joined pieces
@@ -19,7 +18,7 @@ abbrev is_empty : List ℕ → Bool
 is_empty [] = true
 is_empty (c ∷ bytes) = false
 
--- whether a piece can be before the rest of its line
+-- whether a piece may precede the rest of its line
 abbrev may_be : Piece → List ℕ → Bool
 may_be (Blank c) rest = is_space c
 may_be (Sign c) rest = is_sign c
@@ -57,7 +56,7 @@ cut (piece ∷ pieces) e =
     let parts = both (may_be piece (joined pieces)) (may_all_be pieces) e in
     (joined pieces, refl, before piece (joined pieces) parts.0, cut pieces parts.1)
 
--- the line of these pieces is read as they are
+-- the line of these pieces is parsed as they are
 pub read : (added : List Named) (pieces : List Piece) → may_all_be pieces ≡ true →
     IsReadAs added (joined pieces) (read_pieces added 1 pieces)
 read added pieces e = (pieces, cut pieces e, refl)
@@ -69,7 +68,7 @@ brackets : IsReadAs [] (codes "GOF(\t)") (Ok (0x4803 ∷ 0x4000 ∷ 0x4001 ∷ [
 unfolding token_named names
 brackets = read [] (Word (codes "GOF") ∷ Sign 40 ∷ Blank 9 ∷ Sign 41 ∷ []) refl
 
--- blanks at both ends and a number; a line of blanks, and one of nothing, are the empty message
+-- blanks at both ends, and a number; a line of blanks and an empty line are the empty message
 blanks : IsReadAs [] (codes "  TME ( -1 )\t ") (Ok (0x481B ∷ 0x4000 ∷ 0x3FFF ∷ 0x4001 ∷ []))
     × IsReadAs [] (codes " \t ") (Ok []) × IsReadAs [] [] (Ok [])
 unfolding token_named names
@@ -79,7 +78,7 @@ blanks = (
   read [] [] refl,
 )
 
--- quotes: both ends of what may be in them, none of it, two side by side, and a word beside each
+-- quotes: the first and last allowed characters, an empty text, two texts side by side, and a word on each side
 quotes : IsReadAs [] (codes "NME('~ a')") (Ok (0x480C ∷ 0x4000 ∷ 0x4B7E ∷ 0x4B20 ∷ 0x4B61 ∷ 0x4001 ∷ []))
     × IsReadAs [] (codes "''") (Ok []) × IsReadAs [] (codes "YES'a''b'GOF") (Ok (0x481C ∷ 0x4B61 ∷ 0x4B62 ∷ 0x4803 ∷ []))
 unfolding token_named names
@@ -89,18 +88,18 @@ quotes = (
   read [] (Word (codes "YES") ∷ Quote (codes "a") ∷ Quote (codes "b") ∷ Word (codes "GOF") ∷ []) refl,
 )
 
--- any token by its digits, a quote's among them
+-- any token by its digits, including that of a quote
 any_token : IsReadAs [] (codes "#4b27 #C0dE") (Ok (0x4B27 ∷ 0xC0DE ∷ []))
 any_token = read [] (Word (codes "#4b27") ∷ Blank 32 ∷ Word (codes "#C0dE") ∷ []) refl
 
--- a word of an operator's
+-- a word that an operator added
 added_word : IsReadAs ((0x48F0, codes "ZZZ") ∷ []) (codes "ZZZ(FRA)") (Ok (0x48F0 ∷ 0x4000 ∷ 0x4102 ∷ 0x4001 ∷ []))
 unfolding token_named names
 added_word = read ((0x48F0, codes "ZZZ") ∷ []) (Word (codes "ZZZ") ∷ Sign 40 ∷ Word (codes "FRA") ∷ Sign 41 ∷ []) refl
 
 -- ---- faults, at a column counted from 1
 
--- the first of a line; the first byte of a word, whose later bytes are at fault; the first of two
+-- the first word of a line; the first byte of a word whose later byte is wrong; the first of two faults
 columns : IsReadAs [] (codes "gof") (Err 1) × IsReadAs [] (codes "GOF  ( GOFX )") (Err 8)
     × IsReadAs [] (codes "GOF +1 gof") (Err 5) × IsReadAs [] (codes "\tZZZ") (Err 2)
 unfolding token_named names
@@ -111,7 +110,7 @@ columns = (
   read [] (Blank 9 ∷ Word (codes "ZZZ") ∷ []) refl,
 )
 
--- a quote: its opening sign, whether it is never closed or has a byte beside the printable ones
+-- a quoted text: its opening quote, if it is never closed or has a byte that is not printable
 quote_columns : IsReadAs [] (codes "NME ( 'ab )") (Err 7) × IsReadAs [] (codes "NME('ab' '") (Err 10)
     × IsReadAs [] (codes "GOF'a\tb'") (Err 4) × IsReadAs [] (39 ∷ 127 ∷ 39 ∷ []) (Err 1)
     × IsReadAs [] (39 ∷ 31 ∷ 39 ∷ []) (Err 1)
@@ -131,19 +130,19 @@ carriage_return = read [] (Word (codes "GOF\r") ∷ Blank 32 ∷ Word (codes "OB
 
 -- ---- lines
 
--- nothing after the last LF is no line; an empty line is one; the last may lack its LF
+-- an empty rest after the last LF is not a line; an empty line is one; the last line may lack its LF
 lines : (text_lines [] ≡ []) × (text_lines (10 ∷ []) ≡ [] ∷ []) × (text_lines (codes "a\n\nbc\n") ≡ codes "a" ∷ [] ∷ codes "bc" ∷ [])
     × (text_lines (codes "a\nb") ≡ codes "a" ∷ codes "b" ∷ [])
 lines = (refl, refl, refl, refl)
 
--- one CR at the end is dropped, and no other
+-- one CR at the end is removed, and no other
 ends : (trimmed (codes "GOF\r") ≡ codes "GOF") × (trimmed (codes "GOF\r\r") ≡ codes "GOF\r")
     × (trimmed (codes "\rGOF") ≡ codes "\rGOF") × (trimmed (codes "\r") ≡ []) × (trimmed [] ≡ [])
 ends = (refl, refl, refl, refl, refl)
 
 -- ---- frames
 
--- the empty message, GOF and a bracket, and the greatest token of all
+-- the empty message, GOF with a bracket, and a token with a high code
 frames : (frame_line [] ≡ codes "02 00 00 00\n") × (frame_line (0x4803 ∷ 0x4000 ∷ []) ≡ codes "02 00 00 04 48 03 40 00\n")
     × (frame_line (0xFFFE ∷ []) ≡ codes "02 00 00 02 FF FE\n")
 frames = (refl, refl, refl)

@@ -1,4 +1,4 @@
--- What is printed for some tokens is read as these tokens.
+-- The text that is printed for tokens is parsed as these tokens.
 use Rattle.std.proofs.Common.{◌≡◌, ◌==◌, ◌&&◌, ◌||◌, nat_le, nat_lt, ℕ, zero, suc, ◌+◌, ◌-◌, ◌*◌, ◌/◌, ◌%◌, ◌<◌, ◌≤◌}
 use Rattle.std.proofs.Common.{◌^◌, Bool, true, false, if◌then◌else◌, List, [], ◌∷◌, ◌++◌, length, map, append-nil}
 use Rattle.std.proofs.Common.{Option, Some, None, option_map, Ok, refl, sym, ◌∙◌, ap, arith, subst, ℤ, pos, negsuc, neg_ℤ}
@@ -162,7 +162,7 @@ hex_back (suc (suc (suc (suc (suc (suc (suc (suc (suc (suc (suc (suc (suc (suc (
     absurd (omega arith)
 
 module _ (added : List Named) where
-  -- a word that is read as a token
+  -- a word that is parsed as a token
   abbrev IsWordOf : ℕ → List ℕ → Type 0
   IsWordOf t w = (0 < length w) × (list_all is_in_word w ≡ true) × (token_of_word added w ≡ Some t)
 
@@ -220,7 +220,7 @@ module _ (added : List Named) where
       let d = hex_back (t % 16) (omega arith) in
       (omega arith, rw (a.1, b.1, c.1, d.1) refl, rw (a.0, b.0, c.0, d.0) (ap Some (omega arith)))
 
-  -- a name that was added is read as its token
+  -- an added name is parsed as its token
   abbrev AreReadBack : Type 0
   AreReadBack = (t : ℕ) (name : List ℕ) → added_name_of added t ≡ Some name →
       (is_good_name name ≡ true) × (token_named name ≡ None) × (added_token added name ≡ Some t)
@@ -228,7 +228,7 @@ module _ (added : List Named) where
   abbrev NamesComeBack : Type 0
   NamesComeBack = (t : ℕ) (name : List ℕ) → name_of t ≡ Some name → token_named name ≡ Some t
 
-  -- a piece that is printed for some tokens
+  -- a piece that is printed for tokens
   abbrev IsPieceOf : List ℕ → List ℕ → Piece → Type 0
   IsPieceOf text ts piece =
       (bytes_of_piece piece ≡ text)

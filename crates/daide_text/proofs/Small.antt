@@ -1,4 +1,4 @@
--- What is read is a token: a number below 2^16.
+-- A parsed token is a number below 2^16.
 use Rattle.std.proofs.Common.{◌≡◌, ◌==◌, ◌&&◌, ◌||◌, not, nat_le, nat_lt, ℕ, zero, suc, ◌+◌, ◌-◌, ◌<◌, Bool, true, false}
 use Rattle.std.proofs.Common.{List, [], ◌∷◌, ◌++◌, length, map, bytes_eq, Option, Some, None, option_map, is_ok, Result, Ok, Err}
 use Rattle.std.proofs.Common.{if◌then◌else◌, refl, sym, subst, arith, ℤ, pos, negsuc, neg_ℤ}
@@ -19,7 +19,7 @@ use Rattle.daide_text.specs.Line as line
 use Rattle.daide_text.proofs.Cuts.{both}
 use Rattle.daide_text.proofs.ReadBack.{AreTokens}
 
--- a token that there is, is small
+-- a token, if there is one, is small
 abbrev IsSmallIfSome : Option ℕ → Type 0
 IsSmallIfSome None = Unit {0}
 IsSmallIfSome (Some t) = t < 65536
@@ -88,7 +88,7 @@ small_rows : list_all (λ (row : Named). nat_lt row.0 65536) names ≡ true
 unfolding names
 small_rows = refl
 
--- what is found among rows of small tokens is small
+-- a token found in a table of small tokens is small
 found_small : (rows : List Named) (p : Named → Bool) → list_all (λ (row : Named). nat_lt row.0 65536) rows ≡ true →
     IsSmallIfSome (option_map (λ (row : Named). row.0) (find p rows))
 found_small [] p all = tt

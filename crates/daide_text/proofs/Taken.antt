@@ -1,4 +1,4 @@
--- Pieces that are taken one by one, and what is then read of the line.
+-- Pieces parsed one by one, and the result for the line.
 use Rattle.std.proofs.Common.{◌≡◌, ℕ, zero, suc, ◌+◌, ◌-◌, ◌<◌, ◌⊎◌, inl, inr, true, false, List, [], ◌∷◌, ◌++◌, map}
 use Rattle.std.proofs.Common.{length, length-append, append_assoc, append-nil, take, drop, get_or, Option, Some, None}
 use Rattle.std.proofs.Common.{Result, Ok, Err, refl, sym, ◌∙◌, ap, arith, subst}
@@ -19,7 +19,7 @@ first_and_rest c [] h e = absurd (omega arith)
 first_and_rest c (b ∷ bs) h e =
     ap (λ (d : ℕ). d ∷ bs) e ∙ ap (λ (l : List ℕ). c ∷ l) (sym (take_rest (b ∷ bs) 1))
 
--- a word with bytes
+-- a word is not empty
 some_word : (n : ℕ) (bs : List ℕ) → begins_in_word bs ≡ true → begins_in_word (drop n bs) ≡ false →
     0 < length (take n bs)
 some_word n [] h e = absurd (cc)
@@ -27,7 +27,7 @@ some_word zero (b ∷ bs) h e = absurd (let g : false ≡ true = sym e ∙ h in 
 some_word (suc n) (b ∷ bs) h e = omega arith
 
 module _ (added : List Named) where
-  -- what follows the first byte
+  -- the bytes after the first one
   abbrev after_first : List ℕ → List ℕ
   after_first rest = take (length rest - 1) (drop 1 rest)
 
@@ -79,7 +79,7 @@ module _ (added : List Named) where
   unclosed_refused rest all =
       (Unclosed rest, [], ap (λ (l : List ℕ). 39 ∷ l) (sym (append-nil rest)), (all, refl), refl)
 
-  -- what is read of a line whose front was read
+  -- the result for a line whose front was parsed
 
   read_after_none : (outcome : Result (List ℕ) ℕ) → read_on 0 (Some []) outcome ≡ outcome
   read_after_none (Ok ts) = refl
@@ -97,7 +97,7 @@ module _ (added : List Named) where
   read_both ts us column (Ok vs) = ap Ok (sym (append_assoc ts us vs))
   read_both ts us column (Err later) = refl
 
-  -- one piece more
+  -- one more piece
   more : (line rest after ts us : List ℕ) (piece : Piece) (front : List ℕ) → rest ≡ bytes_of_piece piece ++ after →
       IsPieceBefore piece after → tokens_of_piece added piece ≡ Some us → (outcome : Result (List ℕ) ℕ) →
       IsReadFrom added (length (front ++ bytes_of_piece piece) + 1) after outcome →

@@ -1,10 +1,9 @@
--- What words of text are as tokens, worked out by hand from the table of items in docs/FORMATS.md and the tokens of
--- docs/PROTOCOL.md.
+-- Words of text as tokens, worked out from the table of items in docs/FORMATS.md and the tokens of docs/PROTOCOL.md.
 use Rattle.std.proofs.Common.{◌≡◌, [], ◌∷◌, codes, Some, None, refl}
 use Rattle.daide_token.specs.Names.{token_named, names}
 use Rattle.daide_text.specs.Word.{token_of_word}
 
--- numbers: both ends of their range, one beyond each, zeros before, minus zero, and what is no number
+-- numbers: both ends of their range, one beyond each, leading zeros, minus zero, and words that are not a number
 numbers_up : (token_of_word [] (codes "0") ≡ Some 0) × (token_of_word [] (codes "8191") ≡ Some 0x1FFF)
     × (token_of_word [] (codes "8192") ≡ None) × (token_of_word [] (codes "007") ≡ Some 7)
     × (token_of_word [] (codes "00000000000008191") ≡ Some 0x1FFF)
@@ -20,7 +19,7 @@ no_numbers : (token_of_word [] (codes "-") ≡ None) × (token_of_word [] (codes
     × (token_of_word [] (codes "1-") ≡ None) × (token_of_word [] (codes "1.5") ≡ None)
 no_numbers = (refl, refl, refl, refl, refl, refl)
 
--- no number of five digits is read, whatever it is by 65,536
+-- no number of five digits is parsed, even if it is in range modulo 65,536
 great_numbers : (token_of_word [] (codes "9999") ≡ None) × (token_of_word [] (codes "10000") ≡ None)
     × (token_of_word [] (codes "65536") ≡ None) × (token_of_word [] (codes "18446744073709551616") ≡ None)
 great_numbers = (refl, refl, refl, refl)
@@ -36,7 +35,7 @@ no_digits : (token_of_word [] (codes "#") ≡ None) × (token_of_word [] (codes 
     × (token_of_word [] (codes "#480`") ≡ None)
 no_digits = (refl, refl, refl, refl, refl, refl, refl)
 
--- names, as the protocol has them; brackets too, and none in small letters
+-- names of the protocol, including the brackets, but not in small letters
 listed_names : (token_of_word [] (codes "GOF") ≡ Some 0x4803) × (token_of_word [] (codes "AUS") ≡ Some 0x4100)
     × (token_of_word [] (codes "BRA") ≡ Some 0x4000) × (token_of_word [] (codes "KET") ≡ Some 0x4001)
     × (token_of_word [] (codes "HLO") ≡ Some 0x4804)
@@ -49,7 +48,7 @@ unlisted_names : (token_of_word [] (codes "gof") ≡ None) × (token_of_word [] 
 unfolding token_named names
 unlisted_names = (refl, refl, refl, refl, refl, refl, refl)
 
--- an operator's words: the protocol's name wins, and of two entries of a name the first
+-- an operator's words: a name of the protocol takes precedence, and so does the first of two entries with one name
 added_words : (token_of_word ((0x4B7F, codes "ZZZ") ∷ []) (codes "ZZZ") ≡ Some 0x4B7F)
     × (token_of_word ((0x4AF0, codes "GOF") ∷ []) (codes "GOF") ≡ Some 0x4803)
     × (token_of_word ((0x4AF0, codes "ZZY") ∷ (0x4AF1, codes "ZZZ") ∷ (0x4AF2, codes "ZZZ") ∷ []) (codes "ZZZ")

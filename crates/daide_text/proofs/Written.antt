@@ -1,4 +1,4 @@
--- The lines that were written so far, and what ends them.
+-- The lines written so far, and the fault after them.
 use Rattle.std.proofs.Common.{◌≡◌, ℕ, ◌+◌, inl, List, [], ◌∷◌, ◌++◌, length, length-append, append_assoc}
 use Rattle.std.proofs.Common.{append-nil, Option, Some, None, Result, Ok, Err, IfErr, refl, sym, ◌∙◌, ap, arith, subst}
 use Rattle.std.specs.Result.{IsErrAnd}
@@ -10,7 +10,7 @@ use Rattle.daide_text.specs.Lines.{AreWritten, IsInputFault, IsLineFrom, IsNoLin
 use Rattle.daide_text.specs.declared.frames.TextFault.{TextFault}
 use Rattle.daide_text.specs.declared.frames.TextFault.TheVariants as fault
 
--- a fault that is handed on
+-- a fault that is passed on
 pub at_error : {A : Type 0} (r : Result A TextFault) (handed : TextFault) (Holds : TextFault → Type 0) →
     IsErrAnd r (λ other. other ≡ handed) → Holds handed → IfErr r Holds
 at_error (Ok x) handed Holds same h = tt

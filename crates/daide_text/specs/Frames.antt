@@ -20,14 +20,14 @@ longest_text_line = 400000
 abbrev pub most_text_lines : ℕ
 most_text_lines = 1000000
 
--- Lines
+-- ---- lines
 
--- a byte before some lines: the first one takes it in
+-- a byte put before some lines, at the start of the first one
 abbrev pub before_lines : ℕ → List (List ℕ) → List (List ℕ)
 before_lines c [] = (c ∷ []) ∷ []
 before_lines c (line ∷ lines) = (c ∷ line) ∷ lines
 
--- the lines of an input, without their line feeds; nothing after the last line feed is no line
+-- the lines of an input, without their line feeds; an empty rest after the last line feed is not a line
 abbrev pub text_lines : List ℕ → List (List ℕ)
 text_lines [] = []
 text_lines (c ∷ input) = if c == 10 then [] ∷ text_lines input else before_lines c (text_lines input)
@@ -36,7 +36,7 @@ text_lines (c ∷ input) = if c == 10 then [] ∷ text_lines input else before_l
 abbrev pub trimmed : List ℕ → List ℕ
 trimmed line = if bytes_eq (drop (length line - 1) line) (13 ∷ []) then take (length line - 1) line else line
 
--- Frames
+-- ---- frames
 
 -- a DM with these tokens as its body: its kind, 0, the length of the body, then the body
 abbrev pub message_frame : List ℕ → List ℕ
@@ -50,12 +50,12 @@ upper_digit_of n = slice_index (codes "0123456789ABCDEF") n
 abbrev pub pair_of : ℕ → List ℕ
 pair_of b = upper_digit_of (b / 16) ∷ upper_digit_of (b % 16) ∷ []
 
--- bytes after another one: each after a space
+-- bytes after another one, each with a space before it
 abbrev pub more_pairs : List ℕ → List ℕ
 more_pairs [] = []
 more_pairs (b ∷ bytes) = 32 ∷ (pair_of b ++ more_pairs bytes)
 
--- bytes as pairs of digits, with single spaces between them
+-- bytes as pairs of digits, separated by single spaces
 abbrev pub pairs_of : List ℕ → List ℕ
 pairs_of [] = []
 pairs_of (b ∷ bytes) = pair_of b ++ more_pairs bytes
@@ -64,7 +64,7 @@ pairs_of (b ∷ bytes) = pair_of b ++ more_pairs bytes
 abbrev pub frame_line : List ℕ → List ℕ
 frame_line ts = pairs_of (message_frame ts) ++ 10 ∷ []
 
--- What becomes of lines
+-- ---- the result for lines
 
 -- a line is a message, and this is the line of its frame
 abbrev pub IsFrameLine : List Named → List ℕ → List ℕ → Type 0
@@ -89,9 +89,9 @@ abbrev pub OfNext : (List ℕ → Type 0) → List (List ℕ) → Type 0
 OfNext P [] = ⊥
 OfNext P (line ∷ lines) = P line
 
--- what a fault says of the next lines, after `count` lines that are messages: the number of the line at fault, counted
--- from 1, and the column of what is no item. A refused read or growth says nothing of the lines; a write fails only
--- with a frame to write.
+-- A fault of the next lines, after `count` lines that are messages: the number of the line at fault, counted from 1,
+-- and the column of the text that is not an item. A refused read or allocation states nothing about the lines. A write
+-- fails only if there is a frame to write.
 abbrev pub IsFaultOfNext : List Named → ℕ → List (List ℕ) → TextFault → Type 0
 IsFaultOfNext added count next Read = ⊤
 IsFaultOfNext added count next (NotMessage number column) =
@@ -102,7 +102,7 @@ IsFaultOfNext added count next TooManyLines = (count ≡ most_text_lines) × (ne
 IsFaultOfNext added count next Memory = ⊤
 IsFaultOfNext added count next Write = OfNext (λ line. (text : List ℕ) × IsFrameLine added line text) next
 
--- these are the lines of an input that is known
+-- these are the lines of an input, if the input is known
 abbrev pub AreLinesOf : Option (List ℕ) → List (List ℕ) → Type 0
 AreLinesOf known lines = IfSome known (λ input. text_lines input ≡ lines)
 
@@ -112,8 +112,8 @@ Writes added input old new =
     (lines : List (List ℕ)) × AreLinesOf input lines
     × (text : List ℕ) × AreFrameLines added lines text × Appends old new text
 
--- some lines are messages, and after these came the fault: the lines of their frames were written, and nothing else
--- unless the fault is a failed write
+-- some lines are messages, and the fault followed them: the lines of their frames were written, and nothing else unless
+-- the fault is a failed write
 abbrev pub WritesUpTo : List Named → Option (List ℕ) → Option (List ℕ) → Option (List ℕ) → TextFault → Type 0
 WritesUpTo added input old new fault =
     (before next : List (List ℕ)) × AreLinesOf input (before ++ next)

@@ -1,4 +1,4 @@
--- What the reading of one line does to the bytes that a reader has left. (own)
+-- What reading a line leaves in a reader. (own)
 use Rattle.std.specs.Prelude.{◌≡◌, ⊤, ℕ, ◌≤◌, ◌<◌, ◌==◌, Bool, not, List, [], ◌∷◌, ◌++◌, length, Option, Some, None, IfSome}
 use Rattle.std.specs.Io.KnownBytes.{Appends}
 use Rattle.daide_token.specs.Names.{Named}
@@ -12,7 +12,7 @@ LeavesLines None new line = ⊤
 LeavesLines (Some input) None line = ⊥
 LeavesLines (Some input) (Some rest) line = text_lines input ≡ line ∷ text_lines rest
 
--- and it is not too long
+-- the same, and the line is not too long
 abbrev pub IsLineFrom : Option (List ℕ) → Option (List ℕ) → List ℕ → Type 0
 IsLineFrom old new line = (length line ≤ longest_text_line) × LeavesLines old new line
 
@@ -26,7 +26,7 @@ IsLongLine known =
     (line : List ℕ) × (lines : List (List ℕ)) × (longest_text_line < length line)
     × IfSome known (λ input. text_lines input ≡ line ∷ lines)
 
--- what a fault says of the input at a line of this number
+-- a fault of the input, at a line of this number
 abbrev pub IsInputFault : Option (List ℕ) → ℕ → TextFault → Type 0
 IsInputFault known number Read = ⊤
 IsInputFault known number (NotMessage line column) = ⊥
@@ -35,7 +35,7 @@ IsInputFault known number TooManyLines = ⊥
 IsInputFault known number Memory = ⊤
 IsInputFault known number Write = ⊥
 
--- a byte that ends no line
+-- a byte that does not end a line
 abbrev pub is_no_end : ℕ → Bool
 is_no_end c = not (c == 10)
 

@@ -1,4 +1,4 @@
--- What the reading of one piece does, and the faults of a line. (own)
+-- Parsing one piece, and the faults of a line. (own)
 use Rattle.std.specs.Prelude.{◌≡◌, ⊤, ℕ, ◌+◌, ◌<◌, true, List, ◌∷◌, ◌++◌, length, take, drop, Some, None, Result, Err}
 use Rattle.std.specs.List.{list_all}
 use Rattle.daide_token.specs.Names.{Named}
@@ -6,31 +6,32 @@ use Rattle.daide_text.specs.Line.{IsPieceBefore, IsReadAs, IsReadFrom, Piece, by
 use Rattle.daide_text.specs.declared.line.LineFault.{LineFault}
 use Rattle.daide_text.specs.declared.line.LineFault.TheVariants.{NotItem, Memory}
 
--- the first piece of the rest of a line is taken: its tokens follow those that there were
+-- the first piece of the rest of a line was parsed, and its tokens were appended
 abbrev pub IsTakenPiece : List Named → List ℕ → List ℕ → List ℕ → List ℕ → Type 0
 IsTakenPiece added rest after old new =
     (piece : Piece) × (rest ≡ bytes_of_piece piece ++ after) × IsPieceBefore piece after
     × (ts : List ℕ) × (tokens_of_piece added piece ≡ Some ts) × (new ≡ old ++ ts)
 
--- the first piece is no item
+-- the first piece is not an item
 abbrev pub IsRefusedPiece : List Named → List ℕ → Type 0
 IsRefusedPiece added rest =
     (piece : Piece) × (after : List ℕ) × (rest ≡ bytes_of_piece piece ++ after) × IsPieceBefore piece after
     × (tokens_of_piece added piece ≡ None)
 
--- what a fault of a line says of it
+-- a fault of a line
 abbrev pub IsLineFault : List Named → List ℕ → LineFault → Type 0
 IsLineFault added line (NotItem column) = IsReadAs added line (Err column)
 IsLineFault added line Memory = ⊤
 
--- part of a line was read, as these tokens: whatever is read of the rest, the line is read as these and that
+-- the front of a line was parsed as these tokens; the result for the whole line is these, followed by the result for
+-- the rest
 pub record IsReadUpTo (added : List Named) (line rest ts : List ℕ) : Type 0 where
   pub front : List ℕ
   pub whole : line ≡ front ++ rest
   pub goes_on : (outcome : Result (List ℕ) ℕ) → IsReadFrom added (length front + 1) rest outcome →
       IsReadAs added line (read_on 0 (Some ts) outcome)
 
--- the first quote is after this many bytes
+-- the first quote follows this many bytes
 abbrev pub EndsQuote : ℕ → List ℕ → Type 0
 EndsQuote end bytes =
     (end < length bytes) × (list_all is_in_quote (take end bytes) ≡ true)

@@ -10,28 +10,28 @@ use Rattle.daide_words.specs.Accepted.{is_capital}
 abbrev pub is_digit : ℕ → Bool
 is_digit c = nat_le 48 c && nat_le c 57
 
--- the number that decimal digits write after those of n
+-- the number n, continued by decimal digits
 abbrev pub value_after : ℕ → List ℕ → ℕ
 value_after n [] = n
 value_after n (c ∷ digits) = value_after (n * 10 + (c - 48)) digits
 
--- the most that is read as digits: no token is so great a number
+-- the greatest number that is parsed; no token has a greater one
 abbrev pub greatest_magnitude : ℕ
 greatest_magnitude = 9999
 
--- the number that decimal digits write, one digit or more; leading zeros count nothing
+-- the number of one or more decimal digits; leading zeros are ignored
 abbrev pub magnitude : List ℕ → Option ℕ
 magnitude digits =
     if nat_lt 0 (length digits) && (list_all is_digit digits && nat_le (value_after 0 digits) greatest_magnitude)
     then Some (value_after 0 digits)
     else None
 
--- the token of a number, if there is one
+-- the token of a number, if it has one
 abbrev pub token_of_some : Option ℤ → Option ℕ
 token_of_some None = None
 token_of_some (Some n) = token_of_number n
 
--- the token of decimal digits, which may have a minus sign before them
+-- the token of decimal digits, with an optional minus sign
 abbrev pub token_of_decimal : List ℕ → Option ℕ
 token_of_decimal [] = None
 token_of_decimal (c ∷ digits) =
@@ -61,17 +61,17 @@ token_of_hex digits = None
 abbrev pub added_token : List Named → List ℕ → Option ℕ
 added_token added name = option_map (λ entry. entry.0) (find (λ entry. bytes_eq entry.1 name) added)
 
--- the first of two that there is
+-- the first of two options that has a value
 abbrev pub first_found : Option ℕ → Option ℕ → Option ℕ
 first_found (Some t) other = Some t
 first_found None other = other
 
--- the token of a name in capital letters: the protocol's names win
+-- the token of a name in capital letters; names of the protocol take precedence
 abbrev pub token_of_name : List Named → List ℕ → Option ℕ
 token_of_name added name =
     if list_all is_capital name then first_found (token_named name) (added_token added name) else None
 
--- the token of a word: after # digits, after a digit or a minus sign a number, else a name
+-- the token of a word: four digits after `#`, a number after a digit or a minus sign, else a name
 abbrev pub token_of_word : List Named → List ℕ → Option ℕ
 token_of_word added [] = None
 token_of_word added (c ∷ word) =

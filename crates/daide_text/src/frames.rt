@@ -24,16 +24,16 @@ const MOST_LINES: u32 = 1_000_000;
 /// The type of a frame that has a message.
 const DM: u8 = 2;
 
-/// The digits, with upper-case letters.
+/// The hexadecimal digits, in upper case.
 const DIGITS: &[u8; 16] = b"0123456789ABCDEF";
 
-/// Why lines have no further frames. Lines are numbered from 1.
+/// Why no further frames are written. Lines are counted from 1.
 #[derive(Clone, Copy, Debug, PartialEq, Eq, Error)]
 pub enum TextFault {
-    /// The reader failed.
+    /// A read failed.
     #[error("input could not be read")]
     Read,
-    /// What begins at this column of this line, counted from 1 in bytes, is no item.
+    /// The text at this column of this line, counted from 1 in bytes, is not an item.
     #[error("line {0}: not a message: {1}")]
     NotMessage(u32, usize),
     /// This line has more than 400,000 bytes, or more than 32,763 tokens.
@@ -42,16 +42,16 @@ pub enum TextFault {
     /// There are more than 1,000,000 lines.
     #[error("too many lines")]
     TooManyLines,
-    /// A growth was refused.
+    /// An allocation was refused.
     #[error("out of memory")]
     Memory,
-    /// The writer failed.
+    /// A write failed.
     #[error("output could not be written")]
     Write,
 }
 
-/// Reads each line of text, and writes the frame of its message as a line of hexadecimal digits, before the next line
-/// is read.
+/// Reads each line of text, and writes the frame of its message as a line of hexadecimal digits before it reads the
+/// next line.
 ///
 /// `written`: each line of the input is a message, and the line of its frame was written, in order.
 ///
@@ -92,7 +92,7 @@ pub fn write_frames<A: Allocator + Copy, R: Read, W: Write>(
     }
 }
 
-/// Returns the line that is written for a line of this number.
+/// Returns the output line for the line of this number.
 fn frame_text<A: Allocator + Copy>(
     alloc: A,
     words: &Words,
@@ -129,7 +129,7 @@ fn trimmed(line: &[u8]) -> &[u8]
     }
 }
 
-/// Returns the frame of a message in digits, as a line.
+/// Returns the frame of a message as a line of digits.
 fn frame_line<A: Allocator>(alloc: A, tokens: &[Token]) -> Result<Vec<u8, A>, AllocError>
     requires { length tokens.now ≤ most_frame_tokens }
     ensures { IfOk result (λ text. text.items ≡ frame_line tokens.now) }
@@ -145,7 +145,7 @@ fn frame_line<A: Allocator>(alloc: A, tokens: &[Token]) -> Result<Vec<u8, A>, Al
     Ok(text)
 }
 
-/// Appends the bytes of tokens, each after a space.
+/// Appends the bytes of tokens, with a space before each byte.
 fn push_tokens<A: Allocator>(tokens: &[Token], text: &mut Vec<u8, A>) -> Result<(), AllocError>
     ensures { OnOk result (text.new.items ≡ text.old.items ++ more_pairs (bytes_of_tokens tokens.now)) }
 {
@@ -159,7 +159,7 @@ fn push_tokens<A: Allocator>(tokens: &[Token], text: &mut Vec<u8, A>) -> Result<
     Ok(())
 }
 
-/// Appends the two digits of a byte.
+/// Appends the two digits of a byte, without a space.
 fn push_first<A: Allocator>(byte: u8, text: &mut Vec<u8, A>) -> Result<(), AllocError>
     ensures { OnOk result (text.new.items ≡ text.old.items ++ pair_of byte) }
 {
@@ -173,7 +173,7 @@ fn push_byte<A: Allocator>(byte: u8, text: &mut Vec<u8, A>) -> Result<(), AllocE
     text.extend_from_slice(&[b' ', digit(byte / 16), digit(byte % 16)])
 }
 
-/// Returns one digit.
+/// Returns a hexadecimal digit, in upper case.
 fn digit(value: u8) -> u8
     requires { value < 16 }
     ensures { result ≡ upper_digit_of value }

@@ -1,4 +1,4 @@
-//! The lines of an input, one by one.
+//! The lines of an input, one at a time.
 
 ghost use Rattle.std.specs.Prelude.{◌≡◌, ◌+◌, ◌≤◌, length, IfErr, MatchOption, IfOk};
 ghost use Rattle.daide_text.specs.Frames.{longest_text_line};
@@ -11,7 +11,7 @@ use std::io::Read;
 /// The most bytes of a line before its line feed.
 const LONGEST_LINE: usize = 400_000;
 
-/// Reads the next line, whose number this is, without its line feed. A failed read is a fault whatever its kind.
+/// Reads the line of this number, without its line feed. Every failed read is a fault, even an interrupted one.
 pub(crate) fn read_line<A: Allocator, R: Read>(
     alloc: A,
     number: u32,

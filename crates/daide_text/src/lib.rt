@@ -1,5 +1,4 @@
-//! The printed text of messages, read back: each line of text is a message, and its frame is written in hexadecimal
-//! digits.
+//! The inverse of printing: each line of text is parsed as a message, and its frame is written in hexadecimal digits.
 #![tactic(auto)]
 
 pub mod frames;

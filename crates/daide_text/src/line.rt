@@ -1,4 +1,4 @@
-//! One line of text, read as the tokens of a message.
+//! One line of text, parsed as the tokens of a message.
 
 ghost use Rattle.std.specs.Prelude.{◌≡◌, ℕ, IfOk, IfErr};
 ghost use Rattle.daide_words.specs.Word.{names_of};
@@ -14,18 +14,18 @@ use std::alloc::Allocator;
 /// Why a line has no tokens.
 #[derive(Clone, Copy, Debug, PartialEq, Eq)]
 pub enum LineFault {
-    /// What begins at this column, counted from 1 in bytes, is no item.
+    /// The text at this column, counted from 1 in bytes, is not an item.
     NotItem(usize),
-    /// A growth was refused.
+    /// An allocation was refused.
     Memory,
 }
 
-/// Reads a line, without its end, as the tokens of a message: the inverse of `write_text_with` of `daide_token`.
+/// Parses a line, without its end, as the tokens of a message: the inverse of `write_text_with` of `daide_token`.
 ///
 /// # Errors
 ///
-/// `NotItem` with the first byte of the first item that is none, of a quote that is not closed the quote itself;
-/// `Memory` at the growth that was refused.
+/// Fails with `NotItem` at the first byte of the first text that is not an item; for an unclosed quote this is the
+/// quote itself. Fails with `Memory` at an allocation that is refused.
 pub fn read_tokens<A: Allocator>(
     alloc: A,
     words: &Words,

@@ -1,4 +1,4 @@
-//! The pieces of a line, one by one.
+//! The pieces of a line, one at a time.
 
 ghost use Rattle.std.specs.Prelude.{◌≡◌, ◌<◌, ◌≤◌, [], ◌∷◌, ◌++◌, true, false, List, length, take, drop, map};
 ghost use Rattle.std.specs.Prelude.{IfOk, OnOk, Err, MatchOption};
@@ -17,16 +17,16 @@ use std::alloc::Allocator;
 /// The token of the character 0.
 const CHARACTERS: u16 = 0x4B00;
 
-/// Why a piece is not taken.
+/// Why a piece is refused.
 #[derive(Clone, Copy)]
 pub(crate) enum PieceFault {
-    /// It is no item.
+    /// It is not an item.
     NotItem,
-    /// A growth was refused.
+    /// An allocation was refused.
     Memory,
 }
 
-/// Takes the first piece of the rest of a line: appends its tokens, and returns what follows it.
+/// Parses the first piece of the rest of a line, appends its tokens, and returns the text after it.
 pub(crate) fn take_piece<'a, A: Allocator>(
     words: &Words,
     rest: &'a [u8],
@@ -55,7 +55,7 @@ pub(crate) fn take_piece<'a, A: Allocator>(
     }
 }
 
-/// Takes the word that the rest of a line begins with.
+/// Parses the word at the start of the rest of a line.
 fn take_word<'a, A: Allocator>(
     words: &Words,
     rest: &'a [u8],
@@ -74,7 +74,7 @@ fn take_word<'a, A: Allocator>(
     Ok(&rest[end..])
 }
 
-/// Takes what follows a quote, up to the next one.
+/// Parses the text after a quote, up to the next quote.
 fn take_quote<'a, A: Allocator>(
     rest: &'a [u8],
     tokens: &mut Vec<Token, A>,
@@ -104,7 +104,7 @@ fn append<A: Allocator>(token: Token, tokens: &mut Vec<Token, A>) -> Result<(), 
     }
 }
 
-/// Appends the tokens of some characters.
+/// Appends the tokens of characters.
 fn append_characters<A: Allocator>(
     characters: &[u8],
     tokens: &mut Vec<Token, A>,
@@ -120,7 +120,7 @@ fn append_characters<A: Allocator>(
     Ok(())
 }
 
-/// Whether all characters are from space to tilde.
+/// Returns whether all characters are from space to tilde.
 fn are_printable(characters: &[u8]) -> bool
     ensures { result ≡ list_all is_printable characters.now }
 {
@@ -129,7 +129,7 @@ fn are_printable(characters: &[u8]) -> bool
         .all(|character| matches!(*character, b' '..=b'~'))
 }
 
-/// Returns how many bytes of a word the bytes begin with.
+/// Returns the length of the word at the start of the bytes.
 fn word_end(bytes: &[u8]) -> usize
     ensures within { result ≤ length bytes.now }
     ensures word { list_all is_in_word (take result bytes.now) ≡ true }
@@ -142,14 +142,14 @@ fn word_end(bytes: &[u8]) -> usize
     end
 }
 
-/// Whether a byte is neither a blank nor a bracket's sign nor a quote.
+/// Returns whether a byte is neither a blank nor a bracket nor a quote.
 fn is_in_word(byte: u8) -> bool
     ensures { result ≡ is_in_word byte }
 {
     !matches!(byte, b' ' | b'\t' | b'(' | b')' | b'\'')
 }
 
-/// Returns how many bytes there are before the first quote, if there is one.
+/// Returns the number of bytes before the first quote, if there is one.
 fn quote_end(bytes: &[u8]) -> Option<usize>
     ensures { MatchOption result (list_all is_in_quote bytes.now ≡ true) (λ end. EndsQuote end bytes.now) }
 {

@@ -13,10 +13,10 @@ use daide_token::Token;
 use daide_words::Words;
 use std::str;
 
-/// The most that further digits may follow: ten times more has no token.
+/// The greatest value that another digit may follow: a token has no number of 10,000 or more.
 const MOST_BEFORE_A_DIGIT: u16 = 999;
 
-/// Reads a word as a token: after `#` four digits, after a digit or a minus sign a number, else a name.
+/// Parses a word as a token: four digits after `#`, a number after a digit or a minus sign, else a name.
 pub(crate) fn token_of_word(words: &Words, word: &[u8]) -> Option<Token>
     ensures { result ≡ token_of_word (names_of (words_of words.now)) word.now }
 {
@@ -28,7 +28,7 @@ pub(crate) fn token_of_word(words: &Words, word: &[u8]) -> Option<Token>
     }
 }
 
-/// Reads four hexadecimal digits.
+/// Parses four hexadecimal digits.
 fn token_of_hex(digits: &[u8]) -> Option<Token>
     ensures { result ≡ token_of_hex digits.now }
 {
@@ -42,7 +42,7 @@ fn token_of_hex(digits: &[u8]) -> Option<Token>
     Some(Token::from_code(a * 4096 + b * 256 + c * 16 + d))
 }
 
-/// Reads one hexadecimal digit.
+/// Parses one hexadecimal digit.
 fn hex_value(digit: u8) -> Option<u16>
     ensures value { result ≡ hex_value digit }
     ensures bound { IfSome result (λ value. value < 16) }
@@ -55,7 +55,7 @@ fn hex_value(digit: u8) -> Option<u16>
     }
 }
 
-/// Reads decimal digits, which may have a minus sign before them.
+/// Parses decimal digits, with an optional minus sign.
 fn token_of_decimal(word: &[u8]) -> Option<Token>
     ensures { result ≡ token_of_decimal word.now }
 {
@@ -67,7 +67,7 @@ fn token_of_decimal(word: &[u8]) -> Option<Token>
     Token::of_number(value as i16)
 }
 
-/// Reads decimal digits.
+/// Parses decimal digits as a number of at most 9,999.
 fn magnitude(digits: &[u8]) -> Option<u16>
     ensures value { result ≡ magnitude digits.now }
     ensures bound { IfSome result (λ value. value ≤ greatest_magnitude) }
@@ -90,7 +90,7 @@ fn magnitude(digits: &[u8]) -> Option<u16>
     Some(value)
 }
 
-/// Reads a name in capital letters: the protocol's, else an added one.
+/// Parses a name in capital letters: one of the protocol's, else an added one.
 fn token_of_name(words: &Words, name: &[u8]) -> Option<Token>
     ensures { result ≡ token_of_name (names_of (words_of words.now)) name.now }
 {
@@ -103,14 +103,14 @@ fn token_of_name(words: &Words, name: &[u8]) -> Option<Token>
     }
 }
 
-/// Whether all letters are from A to Z.
+/// Returns whether all letters are from A to Z.
 fn are_capitals(name: &[u8]) -> bool
     ensures { result ≡ list_all is_capital name.now }
 {
     name.iter().all(|letter| letter.is_ascii_uppercase())
 }
 
-/// Reads a name of the protocol.
+/// Parses a name of the protocol.
 fn protocol_token(name: &[u8]) -> Option<Token>
     requires { list_all is_capital name.now ≡ true }
     ensures { result ≡ token_named name.now }

@@ -1,4 +1,4 @@
--- A bracket is the only token of its class, and so is each other token that has a class to itself.
+-- A bracket is the only token of its class, and so is every other token with a class of its own.
 use Rattle.std.proofs.Common.{◌≡◌, ℕ, ◌+◌, ◌*◌, ◌/◌, ◌%◌, ◌==◌, nat_lt, nat_le, ◌&&◌, Bool, true, false, not}
 use Rattle.std.proofs.Common.{if◌then◌else◌, List, [], ◌∷◌, refl, ap, sym, ◌∙◌, subst, arith}
 use Rattle.std.proofs.lemmas.Bool.{eqb-true}
@@ -10,16 +10,16 @@ use Rattle.daide_token.specs.Token.{bra, ket, prn}
 use Rattle.daide_token.specs.Class.{brackets, class_in, class_of, commands, has_one_token, is_standard}
 use Rattle.daide_token.specs.Class.{listed, orders, parameters, press_classes, token_of, units}
 
--- a token's class: one that tokens have, and where it has one token alone, this one
+-- the class of a token is standard, and if the class has one token, it is this one
 abbrev IsRight : ℕ → ℕ → Class → Type 0
 IsRight category code class =
     (is_standard class ≡ true) × (has_one_token class ≡ true → category * 256 + code ≡ token_of class)
 
--- whether each row of a table has its class's only token
+-- whether each row of a table has the only token of its class
 abbrev has_only_tokens : ℕ → List (ℕ × Class) → Bool
 has_only_tokens category rows = list_all (λ row. category * 256 + row.0 == token_of row.1 && is_standard row.1) rows
 
--- whether tokens have a class, and more than one token has it
+-- whether a class is standard and more than one token has it
 abbrev is_shared : Class → Bool
 is_shared class = is_standard class && not (has_one_token class)
 
@@ -64,7 +64,7 @@ right_in_table category code (row ∷ rows) unlisted e u =
     (λ _. right_in_table category code rows unlisted
     (right_true (category * 256 + row.0 == token_of row.1 && is_standard row.1) _ e) u)
 
--- the same where the category is known by a test
+-- the same, if a test determines the category
 right_where : (known category code : ℕ) (rows : List (ℕ × Class)) (unlisted : Class)
     → has_only_tokens known rows ≡ true → is_shared unlisted ≡ true → (category == known) ≡ true
     → IsRight category code (listed rows unlisted code)
@@ -91,19 +91,19 @@ right_in_category category code =
     by_test P (nat_le 0x50 category && nat_le category 0x57) _ _ (λ _. shared category code Province refl)
     (λ _. shared category code Alien refl))))))))))))))
 
--- no token has an operator's word for its class
+-- no token has the class of an operator's word
 pub standard_class : (t : ℕ) → is_standard (class_of t) ≡ true
 unfolding class_of
 standard_class t = (right_in_category (t / 256) (t % 256)).0
 
--- a class that has one token alone has no other
+-- if a class has one token, a token of that class is this one
 pub only_token : (t : ℕ) → has_one_token (class_of t) ≡ true → t ≡ token_of (class_of t)
 unfolding class_of
 only_token t e =
     let split : t ≡ t / 256 * 256 + t % 256 = omega arith in
     split ∙ (right_in_category (t / 256) (t % 256)).1 e
 
--- the same, at a class that is known
+-- the same, for a known class
 pub only_token_of : (class : Class) (t : ℕ) → has_one_token class ≡ true → class_of t ≡ class → t ≡ token_of class
 only_token_of class t one e = only_token t (ap has_one_token e ∙ one) ∙ ap token_of e
 
@@ -125,7 +125,7 @@ pub class_of-prn : class_of prn ≡ Prn
 unfolding class_of
 class_of-prn = refl
 
--- each class but an operator's word has a token
+-- each class other than an operator's word has a token
 pub class_of-token_of : (class : Class) → is_standard class ≡ true → class_of (token_of class) ≡ class
 unfolding class_of
 class_of-token_of (Word place) e = absurd (cc)

@@ -1,4 +1,4 @@
--- The digits of a number, one behind the other.
+-- The decimal digits of a number, one after the other.
 use Rattle.std.proofs.Common.{ℤ, pos, negsuc, Bool, true, false}
 use Rattle.std.proofs.lemmas.Int.{ints, to_z-of_z}
 use Rattle.std.specs.Int.RustNames.{unsigned_abs}
@@ -10,12 +10,12 @@ use Rattle.std.proofs.Common.{◌≡◌, ℕ, ◌+◌, ◌/◌, ◌%◌, ◌^◌
 use Rattle.std.specs.Fmt.{decimal}
 use Rattle.std.proofs.lemmas.Fmt.{decimal_digit, decimal_step, length-decimal-le}
 
--- the digits before the last one
+-- the digits before the last one are one fewer
 pub front_shorter : (n : ℕ) → 10 ≤ n → n < 2 ^ 64 → length (decimal (n / 10)) + 1 ≡ length (decimal n)
 front_shorter n two fits =
     sym (ap length (decimal_step n two fits) ∙ length-append (decimal (n / 10)) ((48 + n % 10) ∷ []))
 
--- the last digit behind those before it
+-- the last digit after those before it
 pub digit_behind : (before front : List ℕ) (n : ℕ) → 10 ≤ n → n < 2 ^ 64 → front ≡ before ++ decimal (n / 10) →
     front ++ (48 + n % 10) ∷ [] ≡ before ++ decimal n
 digit_behind before front n two fits e =
@@ -29,7 +29,7 @@ only_digit before n one = ap (λ (l : List ℕ). before ++ l) (sym (decimal_digi
 pub only_length : (n : ℕ) → n < 10 → length (decimal n) ≡ 1
 only_length n one = ap length (decimal_digit n one)
 
--- four digits at most
+-- a number below 10000 has at most four digits
 pub four_digits : (n : ℕ) → n < 10000 → length (decimal n) ≤ 4
 four_digits n few = length-decimal-le 4 n (omega arith) (omega arith) (omega arith)
 

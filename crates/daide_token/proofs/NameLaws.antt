@@ -1,4 +1,4 @@
--- Names and tokens give each other back: each row of the table is found from both sides.
+-- Names and tokens are inverse to each other: a row of the table is found by its token and by its name.
 use Rattle.std.proofs.Common.{◌≡◌, ◌==◌, ℕ, Bool, true, false, List, Option, Some, None, bytes_eq, nat_eq, length, refl, sym, ap, ◌∙◌}
 use Rattle.std.proofs.lemmas.Bool.{eqb-true}
 use Rattle.std.proofs.lemmas.Slice.Eq.{bytes_eq-Decides}
@@ -6,7 +6,7 @@ use Rattle.std.specs.List.{list_all}
 use Rattle.daide_token.proofs.TableLemmas.{found_passes}
 use Rattle.daide_token.specs.Names.{Named, name_of, names, token_named}
 
--- whether an answer is this token, or this name
+-- whether a look-up found this token, or this name
 abbrev is_token : Option ℕ → ℕ → Bool
 is_token None t = false
 is_token (Some u) t = u == t
@@ -23,7 +23,7 @@ pub is_name-same : (o : Option (List ℕ)) (name : List ℕ) → is_name o name 
 is_name-same None name e = absurd (cc)
 is_name-same (Some other) name e = ap Some ((bytes_eq-Decides other name).0 e)
 
--- whether a row's name has its token, and its token its name
+-- whether the name of a row has its token, and the token its name
 abbrev has_token : Named → Bool
 has_token row = is_token (token_named row.1) row.0
 

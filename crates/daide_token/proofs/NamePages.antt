@@ -1,4 +1,4 @@
--- The pages of names have the definition's name at each code.
+-- The pages of names contain the definition's name at each code.
 use Rattle.std.proofs.Common.{◌≡◌, ℕ, zero, suc, ◌+◌, ◌*◌, ◌-◌, ◌<◌, ◌≤◌, ◌⊎◌, ◌==◌, ◌&&◌, nat_le, nat_lt, Bool}
 use Rattle.std.proofs.Common.{if◌then◌else◌, List, [], ◌∷◌, length, map, get_or, Option, None, Some, option_map, cond}
 use Rattle.std.proofs.Common.{true, false, inl, inr, refl, sym, ap, ◌∙◌, arith}
@@ -11,7 +11,7 @@ use Rattle.daide_token.specs.NamePages.{Page, are_short, are_spaced, is_spaced, 
 use Rattle.daide_token.specs.NamePages.{rows_before, rows_on}
 use Rattle.daide_token.specs.Names.{Named, name_of, names}
 
--- the name of a token by some rows
+-- the name of a token, by some rows
 abbrev name_by : ℕ → List Named → Option (List ℕ)
 name_by t rows = option_map (λ row. row.1) (find (λ row. row.0 == t) rows)
 
@@ -25,13 +25,13 @@ same_token s t e = grind (arith, nat_tests)
 other_token : (s t : ℕ) → (s < t) ⊎ (t < s) → (s == t) ≡ false
 other_token s t out = grind (arith, nat_tests)
 
--- a cell of another token is passed over
+-- the cell of another token is skipped
 passed : (s t : ℕ) (cell : List ℕ) (rows : List Named) → (s == t) ≡ false →
     name_by t (row_before s cell rows) ≡ name_by t rows
 passed s t [] rows e = refl
 passed s t (space ∷ letters) rows e = ap (by_first t (s, letters) rows) e
 
--- and so are all cells that come later, or that came before
+-- and so are all later and all earlier cells
 all_later : (t first : ℕ) (cells : List (List ℕ)) (rows : List Named) → t < first →
     name_by t (rows_before first cells rows) ≡ name_by t rows
 all_later t first [] rows less = refl
@@ -46,7 +46,7 @@ all_before t first (cell ∷ cells) rows most =
     passed first t cell (rows_before (first + 1) cells rows) (other_token first t (inl (omega arith)))
     ∙ all_before t (first + 1) cells rows (omega arith)
 
--- a token's name is in its own cell, where the rows behind have none
+-- the name of a token is in its own cell, if the following rows have none
 own_cell : (t first i : ℕ) (cells : List (List ℕ)) (rows : List Named) → first + i ≡ t → name_by t rows ≡ None →
     name_by t (rows_before first cells rows) ≡ name_of_cell (get_or cells i [])
 own_cell t first i [] rows at none = none
@@ -57,7 +57,7 @@ own_cell t first (suc i) (cell ∷ cells) rows at none =
     passed first t cell (rows_before (first + 1) cells rows) (other_token first t (inl (omega arith)))
     ∙ own_cell t (first + 1) i cells rows (omega arith) none
 
--- the pages of later categories have none
+-- the pages of later categories have no name for a token
 none_later : (t category : ℕ) (pages : List Page) → t < category * 256 → name_by t (rows_on category pages) ≡ None
 none_later t category [] less = refl
 none_later t category (page ∷ pages) less =
@@ -93,7 +93,7 @@ cell_told {P} seen pages category d rows short count less code low =
     low (omega arith))
     ∙ ap (name_by t) rows
 
--- what holds of all holds of each, where it holds of what stands past the last
+-- a test that all items pass, each item passes; past the end the default must pass it
 pub each_of : {X : Type 0} (p : X → Bool) (xs : List X) (k : ℕ) (d : X) → list_all p xs ≡ true → p d ≡ true →
     p (get_or xs k d) ≡ true
 each_of p [] k d all last = last

@@ -1,4 +1,4 @@
--- A name is found among the tokens whose names begin with its letter.
+-- A name is found among the tokens whose names begin with its first letter.
 use Rattle.std.proofs.Common.{◌≡◌, ◌⊎◌, ℕ, ◌+◌, ◌<◌, ◌==◌, ◌&&◌, nat_le, Bool, true, false, bytes_eq, cond, List, [], ◌∷◌, get_or, map, Some, option_map, unwrap_or, refl, sym, ap, ◌∙◌, arith}
 use Rattle.std.proofs.Math.ListN.{get_or-map}
 use Rattle.std.proofs.lemmas.Bool.{and_parts}
@@ -11,7 +11,7 @@ use Rattle.daide_token.proofs.TableLemmas.{find_in_map}
 use Rattle.daide_token.specs.Names.{Named, name_of, names, token_named}
 use Rattle.daide_token.specs.NamesByLetter.{codes_with, first_letter, is_named, named_with}
 
--- one item more, by whether it is kept and whether it is found
+-- one more item, by whether it is kept and whether it is found
 kept : {X : Type 0} (p q : X → Bool) (x : X) (xs : List X) (b c : Bool) → p x ≡ b → q x ≡ c
     → (p x ≡ true → q x ≡ true) → find p (filter q xs) ≡ find p xs
     → find p (cond c (x ∷ filter q xs) (filter q xs)) ≡ cond b (Some x) (find p xs)
@@ -20,7 +20,7 @@ kept p q x xs false true at by implied e = ap (λ b. cond b (Some x) (find p (fi
 kept p q x xs true false at by implied e = let also = implied at in absurd (cc)
 kept p q x xs false false at by implied e = e
 
--- what is found passes its test, so it may be looked for among those that pass a weaker one
+-- a search gives the same result among the items that pass a weaker test
 find-filter : {X : Type 0} (p q : X → Bool) (xs : List X) → ((x : X) → p x ≡ true → q x ≡ true)
     → find p (filter q xs) ≡ find p xs
 find-filter p q [] implied = refl
@@ -41,7 +41,7 @@ all_begin_well : list_all begins_well names ≡ true
 unfolding names
 all_begin_well = refl
 
--- what no item passes keeps none
+-- a list in which no item passes keeps none
 none_kept : {X : Type 0} (q r : X → Bool) (xs : List X) → list_all r xs ≡ true
     → ((x : X) → r x ≡ true → q x ≡ false) → filter q xs ≡ []
 none_kept q r [] all never = refl
@@ -49,7 +49,7 @@ none_kept q r (x ∷ xs) all never =
     let parts = and_parts (r x) (list_all r xs) all in
     ap (λ b. cond b (x ∷ filter q xs) (filter q xs)) (never x parts.0) ∙ none_kept q r xs parts.1 never
 
--- a row is found by any test that each row passes alike
+-- two tests that agree on each row find the same row
 alike_first : {X : Type 0} (p r : X → Bool) (x : X) (xs : List X) (b : Bool) → p x ≡ r x → find p xs ≡ find r xs →
     find p (cond b (x ∷ xs) xs) ≡ find r (cond b (x ∷ xs) xs)
 alike_first p r x xs true here below =
@@ -63,7 +63,7 @@ alike p r s q (x ∷ xs) all same =
     let parts = and_parts (s x) (list_all s xs) all in
     alike_first p r x (filter q xs) (q x) (same x parts.0) (alike p r s q xs parts.1 same)
 
--- the tokens at each place of a list by letters
+-- the tokens at each index of a list by letters
 pub at_letter : {R : Type 0} (seen : R → List ℕ) (rows : List R) (k letter : ℕ) (d : R) →
     map seen rows ≡ map codes_with (range_with_len 0x41 26) → k < 26 → 0x41 + k ≡ letter →
     seen (get_or rows k d) ≡ codes_with letter
@@ -78,12 +78,12 @@ no_other_letter letter out =
     (none_kept (λ row. first_letter row.1 == letter) begins_well names all_begin_well
     (λ row well. grind (arith, nat_tests)))
 
--- a row's token has the row's name and no other
+-- the token of a row has the row's name and no other
 own_name : (name : List ℕ) (row : Named) → has_name row ≡ true → is_named name row.0 ≡ bytes_eq row.1 name
 own_name name row back =
     ap (λ o. unwrap_or (option_map (λ own. bytes_eq own name) o) false) (is_name-same (name_of row.0) row.1 back)
 
--- so the token of a name is the one of those that begin as it does which has it
+-- so the token of a name is the one that has it among those with the same first letter
 pub told_by_letter : (name : List ℕ) → find (is_named name) (codes_with (first_letter name)) ≡ token_named name
 unfolding token_named
 told_by_letter name =

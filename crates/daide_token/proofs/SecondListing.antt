@@ -1,5 +1,5 @@
--- The names and classes of tokens listed a second time, by category and second byte, and held against the tables: a row
--- of theirs that is shifted, swapped or missing does not check. Written from the protocol's table of categories.
+-- The names and classes of tokens, listed a second time by category and second byte, and compared with the tables. A
+-- table with a shifted, swapped or missing row does not check. Written from the protocol's table of categories.
 use Prim.Native.String.{String}
 use Rattle.std.proofs.Common.{◌≡◌, ℕ, ◌+◌, ◌*◌, ◌-◌, nat_le, true, false, codes, refl}
 use Rattle.std.proofs.Common.{List, [], ◌∷◌, ◌++◌, map, replicate, Some, option_map}
@@ -19,11 +19,11 @@ use Rattle.daide_token.specs.Names.{Named, names, token_named}
 
 -- ---- names
 
--- a hexadecimal digit by its sign
+-- the value of a hexadecimal digit
 abbrev digit : ℕ → ℕ
 digit c = elim (nat_le c 57) [ true ↦ c - 48 | false ↦ c - 55 ]
 
--- the tokens of a category: the second byte in two digits and the name, a space between them
+-- the tokens of a category: two digits of the second byte and the name, with a space between them
 abbrev named_in : ℕ → List ℕ → List Named
 named_in category (high ∷ low ∷ s ∷ a ∷ b ∷ c ∷ t ∷ rest) =
     (category * 256 + digit high * 16 + digit low, a ∷ b ∷ c ∷ []) ∷ named_in category rest
@@ -34,8 +34,8 @@ named_in category _ = []
 abbrev in_category : ℕ → String → List Named
 in_category category text = named_in category (codes text)
 
--- brackets, powers, units, orders, notes, results, coasts, seasons, commands, parameters, press; provinces inland, with
--- a centre, at sea, coastal, with a centre, with a centre and two coasts
+-- brackets, powers, units, orders, notes, results, coasts, seasons, commands, parameters, press; provinces: inland,
+-- inland centre, sea, coastal, coastal centre, bicoastal centre
 abbrev listing : List Named
 listing =
     in_category 0x40 "00 BRA 01 KET"
@@ -64,15 +64,14 @@ listing =
     ++ in_category 0x55 "3C MAR 3D NAP 3E NWY 3F POR 40 ROM 41 RUM 42 SEV 43 SMY 44 SWE 45 TRI 46 TUN 47 VEN"
     ++ in_category 0x57 "48 BUL 49 SPA 4A STP"
 
--- the table is the listing: each of its names at its token, and no other
+-- the table is the listing: it has each of these names at its token, and no other
 names-listed : names ≡ listing
 unfolding names
 names-listed = refl
 
 -- ---- classes
 
--- the tokens that have a class to themselves, by their names: those of the brackets, units, orders, commands and press,
--- and three parameters
+-- the tokens with a class of their own, by name: the brackets, units, orders, commands and press, and three parameters
 abbrev own_classes : List (String × Class)
 own_classes =
     ("BRA", Bra) ∷ ("KET", Ket) ∷ ("AMY", Amy) ∷ ("FLT", Flt) ∷ ("CTO", Cto) ∷ ("CVY", Cvy) ∷
@@ -101,12 +100,12 @@ tokens_in category = range_with_len (category * 256) 256
 abbrev whole : ℕ → List Class
 whole category = map class_of (tokens_in category)
 
--- some tokens without a rule
+-- n codes with the class `Other`
 abbrev others : ℕ → List Class
 others n = replicate n Other
 
--- where tokens have a class to themselves, each stands at its code, and the others have no rule; but each other
--- parameter is one
+-- each token with a class of its own has it at its code; the other codes of its category are `Other`, those of category
+-- 49 `Param`
 at-codes : (whole 0x40 ≡ Bra ∷ Ket ∷ others 254)
     × (whole 0x42 ≡ Amy ∷ Flt ∷ others 254)
     × (whole 0x43 ≡ others 32 ++ Cto ∷ Cvy ∷ Hld ∷ Mto ∷ Sup ∷ Via ∷ others 26 ++ Dsb ∷ Rto ∷ others 62
@@ -133,13 +132,13 @@ provinces : (whole 0x50 ≡ replicate 256 Province) × (whole 0x51 ≡ replicate
 unfolding class_of
 provinces = (refl, refl, refl, refl, refl, refl, refl, refl)
 
--- the first and the last token of each of some categories, from one on
+-- the classes of the first and the last token of each category, for a range of categories
 abbrev ends_of : ℕ → ℕ → List Class
 ends_of first n =
     let categories = range_with_len first n in
     map class_of (map (λ c. c * 256) categories ++ map (λ c. c * 256 + 255) categories)
 
--- the numbers end at 3FFF, and what is in no known category is alien
+-- the numbers end at 3FFF, and a token of no known category is alien
 numbers : ends_of 0x00 64 ≡ replicate 128 Num
 unfolding class_of
 numbers = refl

@@ -1,5 +1,4 @@
--- Worked examples, computed from the definitions: a wrong table does not check. (Each listed token stands in
--- SecondListing.)
+-- Worked examples, computed from the definitions: a wrong table does not check. (SecondListing has every listed token.)
 use Rattle.std.proofs.Common.{◌≡◌, codes, None, Some, [], ◌∷◌, false, length, negsuc, pos, refl, true}
 use Rattle.std.specs.Fmt.{digits}
 use Rattle.daide_token.specs.declared.class.Class.TheVariants as class
@@ -8,7 +7,7 @@ use Rattle.daide_token.specs.Names.{name_of, names, token_named}
 use Rattle.daide_token.specs.Text.{text_of, text_with}
 use Rattle.daide_token.specs.Token.{bra, err, hlo, huh, ket, lvl, number_of, prn, token_of_number, tokens_of}
 
--- a token that no table lists has a class by its category, and no name
+-- an unlisted token has a class by its category, and no name
 unlisted-4002 : (class_of 0x4002 ≡ class.Other) × (name_of 0x4002 ≡ None)
 unfolding class_of name_of names
 unlisted-4002 = (refl, refl)
@@ -61,7 +60,7 @@ unlisted-10000 : (class_of 0x10000 ≡ class.Alien) × (name_of 0x10000 ≡ None
 unfolding class_of name_of names
 unlisted-10000 = (refl, refl)
 
--- the categories that are known end at 4B and at 57
+-- the known categories end at 4B and at 57
 categories : (has_known_category 0x4BFF ≡ true) × (has_known_category 0x4C00 ≡ false)
     × (has_known_category 0x4FFF ≡ false) × (has_known_category 0x5000 ≡ true)
     × (has_known_category 0x57FF ≡ true) × (has_known_category 0x5800 ≡ false)
@@ -81,7 +80,7 @@ no-names : (token_named [] ≡ None) × (token_named (codes "gof") ≡ None) × 
 unfolding token_named names
 no-names = (refl, refl, refl, refl, refl)
 
--- numbers turn negative at 2000
+-- numbers are negative from 2000 on
 numbers : (number_of 0x1FFF ≡ Some (pos 8191)) × (number_of 0x2000 ≡ Some (negsuc 8191))
     × (number_of 0x3FFF ≡ Some (negsuc 0)) × (number_of 0x4000 ≡ None)
     × (token_of_number (pos 8191) ≡ Some 0x1FFF) × (token_of_number (pos 8192) ≡ None)
@@ -110,8 +109,8 @@ text-words : text_of (tokens_of (0x48 ∷ 0x03 ∷ 0x40 ∷ 0x00 ∷ 0x4A ∷ 0x
 unfolding text_of name_of names
 text-words = refl
 
--- with names that an operator added: the first entry of a token counts, a name of the protocol stays, and so does a
--- character
+-- with names that an operator added: the first entry of a token counts; a name of the protocol and a character keep
+-- their text
 text-added : text_with ((0x4A40, codes "XYZ") ∷ (0x4A40, codes "QQQ") ∷ (0x4803, codes "FOG") ∷ (0x4B61, codes "AAA") ∷ [])
     (0x4A40 ∷ 0x4803 ∷ 0x4B61 ∷ 0x4A41 ∷ []) ≡ codes "XYZ GOF 'a' #4a41"
 unfolding text_with name_of names

@@ -1,21 +1,21 @@
--- What is found in a table.
+-- Searches in a table.
 use Rattle.std.proofs.Common.{◌≡◌, ◌&&◌, Bool, true, false, List, [], ◌∷◌, map, Option, option_map, refl, Some, cond}
 use Rattle.std.specs.List.{find, list_all}
 
--- one row more, by whether it passes the test
+-- one more row, by whether it passes the test
 found : {X Y : Type 0} (v : X → Y) (p : Y → Bool) (x : X) (xs : List X) (b : Bool)
     → find p (map v xs) ≡ option_map v (find (λ x. p (v x)) xs)
     → cond b (Some (v x)) (find p (map v xs)) ≡ option_map v (cond b (Some x) (find (λ x. p (v x)) xs))
 found v p x xs true e = refl
 found v p x xs false e = e
 
--- a row of a table seen through v is that row, seen through v
+-- a search in a mapped table finds the mapped row
 pub find_in_map : {X Y : Type 0} (v : X → Y) (p : Y → Bool) (xs : List X)
     → find p (map v xs) ≡ option_map v (find (λ x. p (v x)) xs)
 find_in_map v p [] = refl
 find_in_map v p (x ∷ xs) = found v p x xs (p (v x)) (find_in_map v p xs)
 
--- one row more, by whether it passes each test
+-- one more row, by whether it passes each test
 passes : {X Y Z : Type 0} (f : X → Y) (p q : X → Bool) (x : X) (rest : Option X) (y : Y) (others b c : Bool)
     → (p x ≡ b) → (q x ≡ c) → (c && others) ≡ true → option_map f (cond b (Some x) rest) ≡ Some y
     → ((x : X) → p x ≡ true → q x ≡ true → f x ≡ y → Z) → (others ≡ true → option_map f rest ≡ Some y → Z) → Z
@@ -23,7 +23,7 @@ passes f p q x rest y others true true e g a s here below = here x e g (cc)
 passes f p q x rest y others false true e g a s here below = below a s
 passes f p q x rest y others b false e g a s here below = absurd (cc)
 
--- what is found passes the test, and what all rows pass
+-- the row that is found passes its test, and any test that all rows pass
 pub found_passes : {X Y Z : Type 0} (f : X → Y) (p q : X → Bool) (xs : List X) (y : Y)
     → list_all q xs ≡ true → option_map f (find p xs) ≡ Some y
     → ((x : X) → p x ≡ true → q x ≡ true → f x ≡ y → Z) → Z

@@ -1,4 +1,4 @@
--- The text of tokens gives them back: two lists with the same text are one list.
+-- The text of tokens is injective: two lists with the same text are the same list.
 use Rattle.std.proofs.Common.{◌≡◌, ℕ, zero, suc, ℤ, pos, negsuc, ◌+◌, ◌-◌, ◌/◌, ◌%◌, ◌^◌, ◌<◌, ◌==◌, ◌&&◌}
 use Rattle.std.proofs.Common.{nat_le, not, Bool, true, false, if◌then◌else◌, List, [], ◌∷◌, ◌++◌, Option}
 use Rattle.std.proofs.Common.{Some, None, refl, sym, ◌∙◌, ap, arith}
@@ -26,11 +26,11 @@ use Rattle.daide_token.proofs.WholeText.{rest_of_text-start}
 abbrev is_plain : ℕ → Bool
 is_plain c = not (c == 32) && not (c == 39)
 
--- what a word is, by its first character: a bracket, a number, a name, or digits
+-- the sort of a word, by its first character: a bracket, a number, a name, or digits
 abbrev sort : ℕ → ℕ
 sort c = if c == 40 then 0 else if c == 41 then 1 else if c == 35 then 4 else if nat_le 65 c then 3 else 2
 
--- a word of a sort, of plain characters
+-- a word of a given sort, made of plain characters
 abbrev fits : ℕ → List ℕ → Bool
 fits k [] = false
 fits k (c ∷ w) = (sort c == k) && (is_plain c && list_all is_plain w)
@@ -139,7 +139,7 @@ fits-plain : (k : ℕ) (w : List ℕ) → fits k w ≡ true → list_all is_plai
 fits-plain k [] e = refl
 fits-plain k (c ∷ w) e = (both (sort c == k) (is_plain c && list_all is_plain w) e).1
 
--- a number of a token: it is small
+-- a number of a token: from -8192 to 8191
 abbrev IsSmall : ℤ → Type 0
 IsSmall (pos n) = n < 8192
 IsSmall (negsuc n) = n < 8192
@@ -220,7 +220,7 @@ kind-fits t h (is_number n e w) = ap (fits 2) w ∙ number-fits n (number_small 
 kind-fits t h (is_named name e w) = ap (fits 3) w ∙ name-fits t name e
 kind-fits t h (is_digits w) = ap (fits 4) w ∙ hex-fits t h
 
--- one word is of one sort
+-- a word has one sort
 one_sort : (j k : ℕ) (w : List ℕ) → fits j w ≡ true → fits k w ≡ true → j ≡ k
 one_sort j k [] e f = absurd (cc)
 one_sort j k (c ∷ w) e f =
@@ -265,7 +265,7 @@ word-some k w e f = let g : false ≡ true = sym (ap (fits k) f) ∙ e in cc
 
 -- ---- a word and what follows it
 
--- nothing, or a space and more
+-- an empty text, or a space and more
 abbrev IsTail : List ℕ → Type 0
 IsTail [] = Unit {0}
 IsTail (c ∷ x) = c ≡ 32
@@ -292,7 +292,7 @@ separated (c ∷ w) (d ∷ v) x y p q h k e =
     h k rest in
     (ap (λ (a : ℕ). a ∷ w) first ∙ ap (λ (a : List ℕ). d ∷ a) r.0, r.1)
 
--- ---- the text from a place on
+-- ---- the rest of the text, after what was printed last
 
 abbrev text : PrinterState → List ℕ → List ℕ
 text p ts = rest_of_text [] p ts
@@ -307,7 +307,7 @@ word_tail (t ∷ ts) = go (is_quotable t)
     go true = refl
     go false = refl
 
--- a character of the quotable ones is no quote, and its token is known by its low byte
+-- a quotable character is no quote, and its low byte determines its token
 quotable-apart : (t : ℕ) → is_quotable t ≡ true → t % 256 ≡ 39 → ⊥
 quotable-apart t q e = grind (arith, nat_tests)
 
@@ -325,7 +325,7 @@ no_quote (c ∷ w) x y some p e =
 word_some : (t : ℕ) → t < 65536 → word t ≡ [] → ⊥
 word_some t h = word-some (sort_of t (kind_of t)) (word t) (kind-fits t h (kind_of t))
 
--- the first token is one, and the rest is one from the place after it
+-- the first tokens are equal, and the rest has the same text
 abbrev Follows : ℕ → ℕ → List ℕ → List ℕ → Type 0
 Follows t u ts us = (t ≡ u) × (text (place_after u) ts ≡ text (place_after u) us)
 
@@ -345,7 +345,7 @@ module _ (t u : ℕ) (ts us : List ℕ) (h : t < 65536) (l : u < 65536) where
       let rest : text place.Quote ts ≡ text place.Quote us = cc in
       (same_character t u a b first, rw b rest)
 
-  -- from the start, behind a word and within quotes
+  -- from the start, after a word and inside quotes
   from_start : text place.Start (t ∷ ts) ≡ text place.Start (u ∷ us) → Follows t u ts us
   from_start = go (is_quotable t) refl (is_quotable u) refl
     where
@@ -418,7 +418,7 @@ first_follows place.Start t u ts us h l e = from_start t u ts us h l e
 first_follows place.Word t u ts us h l e = from_word t u ts us h l e
 first_follows place.Quote t u ts us h l e = from_quote t u ts us h l e
 
--- the end is no other token
+-- the end of the text is different from any further token
 not_end : (p : PrinterState) (t : ℕ) (ts : List ℕ) → t < 65536 → text p [] ≡ text p (t ∷ ts) → ⊥
 not_end p t ts h = go p (is_quotable t) refl
   where

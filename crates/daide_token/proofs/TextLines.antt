@@ -1,4 +1,4 @@
--- The text of tokens stands on one line: no byte of it is a line feed, where no added name has one.
+-- The text of tokens is on one line: no byte of it is a line feed, if no added name contains one.
 use Rattle.std.proofs.Common.{◌≡◌, ◌==◌, ◌&&◌, not, ℕ, zero, suc, ℤ, pos, negsuc, ◌+◌, ◌/◌, ◌%◌, ◌^◌, ◌<◌, Bool, true, false}
 use Rattle.std.proofs.Common.{if◌then◌else◌, List, [], ◌∷◌, ◌++◌, codes, Option, Some, None, option_map, unwrap_or, refl, sym}
 use Rattle.std.proofs.Common.{ap, ◌∙◌, arith}

@@ -1,4 +1,4 @@
--- A text in parts: some tokens, and the rest behind them.
+-- A text in parts: the first tokens, and the rest.
 use Rattle.std.proofs.Common.{◌≡◌, ℕ, ◌+◌, ◌-◌, ◌*◌, ◌%◌, ◌<◌, ◌≤◌, List, [], ◌∷◌, ◌++◌, length, take, drop}
 use Rattle.std.proofs.Common.{get_or, Option, Some, None, refl, sym, ap, ◌∙◌, subst, arith, append_assoc, append-nil}
 use Rattle.std.proofs.Common.{◌==◌, true, zero, suc}
@@ -19,7 +19,7 @@ first_text added place.Start t ts = refl
 first_text added place.Word t ts = refl
 first_text added place.Quote t ts = refl
 
--- ---- some tokens, and more
+-- ---- the first tokens, and more
 
 pub rest_behind : (added : List Named) (p : PrinterState) (ts us : List ℕ) →
     rest_of_text added p (ts ++ us) ≡ some_text added p ts ++ rest_of_text added (place_past p ts) us
@@ -30,13 +30,13 @@ rest_behind added p (t ∷ ts) us =
     ∙ sym (append_assoc (token_text added p t) (some_text added (place_after t) ts)
     (rest_of_text added (place_past (place_after t) ts) us))
 
--- the last
+-- the end of the text
 pub rest_at_end : (added : List Named) (p : PrinterState) → rest_of_text added p [] ≡ end_text p
 rest_at_end added place.Start = refl
 rest_at_end added place.Word = refl
 rest_at_end added place.Quote = refl
 
--- tokens of an even number of bytes, and of those behind them
+-- an even number of bytes is whole tokens, and the tokens of what follows are separate
 pub tokens_behind : (some more : List ℕ) → length some % 2 ≡ 0 → tokens_of (some ++ more) ≡ tokens_of some ++ tokens_of more
 tokens_behind [] more even = refl
 tokens_behind (x ∷ []) more even = absurd (omega arith)
@@ -60,7 +60,7 @@ appends_on (Some a) None c xs ys h k = absurd h
 appends_on (Some a) (Some b) None xs ys h k = absurd k
 appends_on (Some a) (Some b) (Some c) xs ys h k = k ∙ ap (λ (t : List ℕ). t ++ ys) h ∙ append_assoc a xs ys
 
--- some tokens are written, and what completes the text behind them completes it before
+-- once the first tokens are written, what completes the rest completes the whole text
 pub part_on : (added : List Named) (a b final : Option (List ℕ)) (p next : PrinterState) (rest some more text : List ℕ) →
     some ++ more ≡ rest → length some % 2 ≡ 0 → next ≡ place_past p (tokens_of some) →
     text ≡ some_text added p (tokens_of some) → Appends a b text →
@@ -100,7 +100,7 @@ first_token (high ∷ low ∷ rest) h =
     let all : take (length (high ∷ low ∷ rest) - 2) rest ≡ rest = ap (λ (k : ℕ). take k rest) size ∙ whole rest in
     ap (λ (r : List ℕ). (high * 256 + low) ∷ tokens_of r) (sym all)
 
--- what is put and what is left are the same text as before, once a token is put
+-- appending one token leaves the same text: what was appended, and the text of the rest
 pub token_on : (added : List Named) (p next : PrinterState) (before after all rest : List ℕ) (t : ℕ) → 2 ≤ length rest →
     t ≡ get_or rest 0 0 * 256 + get_or rest 1 0 → next ≡ place_after t → after ≡ before ++ token_text added p t →
     before ++ some_text added p (tokens_of rest) ≡ all →
@@ -121,7 +121,7 @@ place_on p next last rest t two same place e =
     let front : tokens_of rest ≡ t ∷ ts = first_token rest two ∙ ap (λ (u : ℕ). u ∷ ts) (sym same) in
     ap (λ (q : PrinterState). place_past q ts) place ∙ ap (place_past p) (sym front) ∙ e
 
--- what is left at the end is no token
+-- fewer than two bytes are no token
 pub none_left : (rest : List ℕ) → length rest < 2 → tokens_of rest ≡ []
 none_left [] less = refl
 none_left (x ∷ []) less = refl
@@ -135,7 +135,7 @@ text_put added p before all rest less e =
 pub place_put : (p last : PrinterState) (rest : List ℕ) → length rest < 2 → place_past p (tokens_of rest) ≡ last → p ≡ last
 place_put p last rest less e = ap (place_past p) (sym (none_left rest less)) ∙ e
 
--- ---- the whole
+-- ---- the whole text
 
 pub some_by_parts : (added : List Named) (p : PrinterState) (rest some more : List ℕ) → some ++ more ≡ rest →
     length some % 2 ≡ 0 →
@@ -164,7 +164,7 @@ past_by_parts p rest some more e even =
     past_behind p [] us = refl
     past_behind p (t ∷ ts) us = past_behind (place_after t) ts us
 
--- a text is what its tokens add, and its end
+-- a text is what its tokens add, and then its end
 pub text_by_parts : (added : List Named) (ts : List ℕ) →
     text_with added ts ≡ some_text added place.Start ts ++ end_text (place_past place.Start ts)
 text_by_parts added ts =

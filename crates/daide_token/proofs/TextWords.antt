@@ -1,4 +1,4 @@
--- The text of one token, by what it is.
+-- The text of one token, by its kind.
 use Rattle.std.proofs.Common.{◌≡◌, ◌==◌, ◌&&◌, Bool, nat_le, not, ℕ, ℤ, pos, negsuc, ◌+◌, ◌/◌, ◌<◌, true, false, List, [], ◌∷◌, ◌++◌}
 use Rattle.std.proofs.Common.{◌*◌, ◌%◌, length, get_or, unwrap_or, Option, Some, None, refl, sym, ap, ◌∙◌, arith}
 use Rattle.std.proofs.lemmas.Bool.{eqb-true}
@@ -39,7 +39,7 @@ number_few t (negsuc n) e = grind (arith, nat_tests, ints)
 
 -- ---- names
 
--- a token with a name is no number, and no character
+-- a token with a name is neither a number nor a character
 abbrev is_word : Named → Bool
 is_word row = nat_le 0x4000 row.0 && not (is_quotable row.0)
 
@@ -69,7 +69,7 @@ pub named_word : (added : List Named) (t : ℕ) (name : List ℕ) → name_of t 
     (t == ket) ≡ false → text_of_token added t ≡ name
 named_word added t name e a b = rw a (rw b (rw (named_number t name e) (rw e refl)))
 
--- a cell of four bytes is the name behind a word
+-- a cell of four bytes is the name after a word
 pub four : (cell : List ℕ) → length cell ≡ 4 →
     get_or cell 0 0 ∷ get_or cell 1 0 ∷ get_or cell 2 0 ∷ get_or cell 3 0 ∷ [] ≡ cell
 four [] e = absurd (omega arith)
@@ -91,7 +91,7 @@ pub cell_place : (t : ℕ) (cell : List ℕ) → name_of_cell cell ≡ name_of t
 cell_place t [] e long = absurd (omega arith)
 cell_place t (space ∷ letters) e long = rw (named_character t letters (sym e)) refl
 
--- its letters are the name by itself
+-- the letters of a cell are the name by itself
 pub cell_word : (added : List Named) (t : ℕ) (cell : List ℕ) → name_of_cell cell ≡ name_of t → length cell ≡ 4 →
     (t == bra) ≡ false → (t == ket) ≡ false →
     get_or cell 1 0 ∷ get_or cell 2 0 ∷ get_or cell 3 0 ∷ [] ≡ text_of_token added t
@@ -102,7 +102,7 @@ cell_word added t (s ∷ x ∷ y ∷ []) e long a b = absurd (omega arith)
 cell_word added t (s ∷ x ∷ y ∷ z ∷ []) e long a b = sym (named_word added t (x ∷ y ∷ z ∷ []) (sym e) a b)
 cell_word added t (s ∷ x ∷ y ∷ z ∷ w ∷ rest) e long a b = absurd (omega arith)
 
--- a cell of another length is empty, and then the token has no name
+-- a cell of another length is empty, and its token has no name
 no_name : (t : ℕ) (cell : List ℕ) → name_of_cell cell ≡ name_of t → (length cell ≡ 4 → ⊥) → name_of t ≡ None
 no_name t [] e other = sym e
 no_name t (space ∷ letters) e other =

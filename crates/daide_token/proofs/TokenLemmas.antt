@@ -1,4 +1,4 @@
--- Tokens come back from their bytes.
+-- Tokens are recovered from their bytes.
 use Rattle.std.proofs.Common.{◌≡◌, ◌+◌, ◌*◌, ◌/◌, ◌%◌, ℕ, List, [], ◌∷◌, refl, arith}
 use Rattle.daide_token.specs.Token.{bytes_of_tokens, tokens_of}
 

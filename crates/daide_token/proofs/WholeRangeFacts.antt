@@ -1,5 +1,5 @@
 -- Printed text, categories and numbers over whole ranges of codes. Written from the protocol's token table and the
--- rules of printed text, so that a code that is right where its neighbour is wrong does not check.
+-- rules of printed text. Code that is right for one value and wrong for the next does not check.
 use Rattle.std.proofs.Common.{◌≡◌, ℕ, zero, suc, ◌+◌, ◌*◌, true, false, codes, List, [], ◌∷◌, ◌++◌, map, refl}
 use Rattle.std.proofs.Common.{replicate, Some, None, pos, negsuc}
 use Rattle.std.specs.Prelude.{slice_index}
@@ -11,37 +11,37 @@ use Rattle.daide_token.specs.Token.{number_of}
 
 -- ---- characters
 
--- a digit from 0 to 15, in lower case
+-- the hexadecimal digit of a value from 0 to 15, in lower case
 abbrev digit : ℕ → ℕ
 digit n = slice_index (codes "0123456789abcdef") n
 
--- # and four digits, of the text tokens of a second byte's high digit, from one low digit on
+-- # and four digits, for the text tokens with one high digit of the second byte, from a low digit on
 abbrev unquoted : ℕ → ℕ → ℕ → List (List ℕ)
 unquoted high low n = map (λ k. codes "#4b" ++ digit high ∷ digit k ∷ []) (range_with_len low n)
 
--- the same of all low digits, for so many high digits from one on
+-- the same for all low digits, for a range of high digits
 abbrev all_unquoted : ℕ → ℕ → List (List ℕ)
 all_unquoted high zero = []
 all_unquoted high (suc n) = unquoted high 0 16 ++ all_unquoted (suc high) n
 
--- characters from one on, each in quotes
+-- a range of characters, each in quotes
 abbrev quoted : ℕ → ℕ → List (List ℕ)
 quoted first n = map (λ c. 39 ∷ c ∷ 39 ∷ []) (range_with_len first n)
 
--- of the 256 characters those from space to tilde stand in quotes, but for the quote itself; the double quote does too
+-- of the 256 characters, those from space to tilde are quoted, except the quote itself; the double quote is among them
 quotable : map (λ c. text_of ((0x4B00 + c) ∷ [])) (range_with_len 0 256)
     ≡ all_unquoted 0 2 ++ quoted 0x20 7 ++ codes "#4b27" ∷ quoted 0x28 87 ++ codes "#4b7f" ∷ all_unquoted 8 8
 unfolding text_of name_of names
 quotable = refl
 
--- with names that an operator added, no character has another text
+-- names that an operator added change the text of no character
 quotable_with_names : map (λ c. text_with ((0x4B22, codes "AAA") ∷ (0x4B7F, codes "BBB") ∷ []) ((0x4B00 + c) ∷ []))
     (range_with_len 0x20 95)
     ≡ quoted 0x20 7 ++ codes "#4b27" ∷ quoted 0x28 87
 unfolding text_with name_of names
 quotable_with_names = refl
 
--- behind another character each of them joins its run, and no other does
+-- after another character each of them joins its run, and no other character does
 abbrev joined : ℕ → ℕ → List (List ℕ)
 joined first n = map (λ c. 39 ∷ 97 ∷ c ∷ 39 ∷ []) (range_with_len first n)
 
@@ -56,7 +56,7 @@ runs = refl
 
 -- ---- categories
 
--- the numbers and 40 to 4B are known, and 50 to 57: of each first byte its first and its last token
+-- the numbers and the categories 40 to 4B and 50 to 57 are known: the first and the last token of each first byte
 categories : (map (λ c. has_known_category (c * 256)) (range_with_len 0 256)
     ≡ replicate 0x4C true ++ replicate 4 false ++ replicate 8 true ++ replicate 168 false)
     × (map (λ c. has_known_category (c * 256 + 255)) (range_with_len 0 256)
@@ -65,7 +65,8 @@ categories = (refl, refl)
 
 -- ---- numbers
 
--- below 2000 a code is its number, from there on the code less 16,384, to -1 at 3FFF; no code above is a number
+-- below 2000 a code is its number; from there on the number is the code less 16,384, to -1 at 3FFF; no higher code is a
+-- number
 numbers : (map number_of (range_with_len 0x0000 256) ≡ map (λ n. Some (pos n)) (range_with_len 0 256))
     × (map number_of (range_with_len 0x1F00 256) ≡ map (λ n. Some (pos n)) (range_with_len 7936 256))
     × (map number_of (0x2000 ∷ 0x2001 ∷ 0x20FF ∷ 0x2100 ∷ 0x3000 ∷ 0x3FFE ∷ 0x3FFF ∷ [])

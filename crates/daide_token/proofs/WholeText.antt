@@ -15,7 +15,7 @@ module _ (added : List Named) where
   after_word [] = []
   after_word (i ∷ is) = 32 ∷ (item_text added i ++ after_word is)
 
-  -- items, of which a run at the front is open already
+  -- items, the first of which continues an open run
   abbrev after_quote : List TextItem → List ℕ
   after_quote [] = 39 ∷ []
   after_quote (Quote cs ∷ is) = cs ++ (39 ∷ after_word is)
@@ -25,7 +25,7 @@ module _ (added : List Named) where
   from_start [] = []
   from_start (i ∷ is) = item_text added i ++ after_word is
 
-  -- the items as they are to be written at each place
+  -- the items as they are written after what was printed last
   abbrev items_from : PrinterState → List TextItem → List ℕ
   items_from place.Start is = from_start is
   items_from place.Word is = after_word is
@@ -36,7 +36,7 @@ module _ (added : List Named) where
   join_with_byte-item_text (i ∷ []) = sym (append-nil (item_text added i))
   join_with_byte-item_text (i ∷ j ∷ is) = ap (λ text. item_text added i ++ (32 ∷ text)) (join_with_byte-item_text (j ∷ is))
 
-  -- a character goes before the items, whatever stands first there
+  -- a character joins the items at their front, whatever item is first
   character_first : (p : PrinterState) (c : ℕ) (is : List TextItem) →
       before_character p ++ (c ∷ []) ++ after_quote is ≡ items_from p (before_items c is)
   character_first place.Start c [] = refl
@@ -57,7 +57,7 @@ module _ (added : List Named) where
   word_first place.Word t is = refl
   word_first place.Quote t is = refl
 
-  -- one token, by the test of whether it is a character
+  -- one token, by whether it is a character
   token_first : (b : Bool) (p : PrinterState) (t : ℕ) (ts : List ℕ)
       → ((q : PrinterState) → rest_of_text added q ts ≡ items_from q (text_items_of ts))
       → (if b then before_character p ++ (t % 256) ∷ [] else before_item p ++ text_of_token added t)

@@ -1,5 +1,5 @@
--- The classes of tokens: by category, the first byte, and there by code, the second byte. The protocol fixes
--- the categories and codes; that each token of a category is of its kind, listed or not, is (own).
+-- The class of a token, by its category (first byte) and its code (second byte). The protocol fixes categories and
+-- codes. That every token of some categories is of its kind, listed or not, is (own).
 use Rattle.std.specs.Prelude.{ℕ, ◌/◌, ◌%◌, ◌==◌, nat_lt, nat_le, ◌&&◌, ◌||◌, Bool}
 use Rattle.std.specs.Prelude.{true, false, if◌then◌else◌, List, [], ◌∷◌}
 use Rattle.daide_token.specs.declared.class.Class.{Class}
@@ -12,7 +12,7 @@ use Rattle.daide_token.specs.declared.class.Class.TheVariants.{Yes, Adm, Smr, Al
 use Rattle.daide_token.specs.declared.class.Class.TheVariants.{Orr, Pce, Prp, Qry, Scd, Sry, Sug, Thk, Try, Vss, Xdo}
 use Rattle.daide_token.specs.declared.class.Class.TheVariants.{Lvl, Mrt, Uno, Param, Other, Alien, Word}
 
--- the class beside a code in a table, or the class of all other codes
+-- the class beside a code in a table; a code that is not listed has the class `unlisted`
 abbrev pub listed : List (ℕ × Class) → Class → ℕ → Class
 listed [] unlisted code = unlisted
 listed (row ∷ rows) unlisted code = if row.0 == code then row.1 else listed rows unlisted code
@@ -54,7 +54,7 @@ press_classes =
     (0x0E, Occ) ∷ (0x0F, Orr) ∷ (0x10, Pce) ∷ (0x13, Prp) ∷ (0x14, Qry) ∷ (0x15, Scd) ∷ (0x16, Sry) ∷
     (0x17, Sug) ∷ (0x18, Thk) ∷ (0x1A, Try) ∷ (0x1C, Vss) ∷ (0x1F, Xdo) ∷ []
 
--- the class by category and code
+-- the class of a token, by category and code
 abbrev pub class_in : ℕ → ℕ → Class
 class_in category code =
     if nat_lt category 0x40 then Num else
@@ -77,7 +77,7 @@ class_in category code =
 unfoldable pub class_of : ℕ → Class
 class_of t = class_in (t / 256) (t % 256)
 
--- whether a first byte is one of a number, or a known category: 40 to 4B and 50 to 57
+-- whether a first byte is that of a number, or a known category: 40 to 4B and 50 to 57
 abbrev pub is_known_category : ℕ → Bool
 is_known_category category = nat_lt category 0x4C || (nat_le 0x50 category && nat_le category 0x57)
 
@@ -85,8 +85,8 @@ is_known_category category = nat_lt category 0x4C || (nat_le 0x50 category && na
 abbrev pub has_known_category : ℕ → Bool
 has_known_category t = is_known_category (t / 256)
 
--- a token of each class, its only one where the class has but one (own); an operator's word has none, and is past
--- them all
+-- one token of each class, its only one if the class has just one (own). A word of an operator has none here; its value
+-- is past all tokens.
 abbrev pub token_of : Class → ℕ
 token_of Num = 0x0000
 token_of Bra = 0x4000
@@ -169,12 +169,12 @@ token_of Other = 0x4002
 token_of Alien = 0x5800
 token_of (Word place) = 0x10000
 
--- whether a class is one that tokens have by themselves, and no operator's word
+-- whether the class is that of some token without an operator's words
 abbrev pub is_standard : Class → Bool
 is_standard (Word place) = false
 is_standard _ = true
 
--- whether a class has one token alone
+-- whether a class has exactly one token
 abbrev pub has_one_token : Class → Bool
 has_one_token Num = false
 has_one_token Power = false

@@ -10,11 +10,11 @@ use Rattle.daide_token.specs.declared.class.Class.TheVariants.{Yes, Adm, Smr, Al
 use Rattle.daide_token.specs.declared.class.Class.TheVariants.{Orr, Pce, Prp, Qry, Scd, Sry, Sug, Thk, Try, Vss, Xdo}
 use Rattle.daide_token.specs.declared.class.Class.TheVariants.{Lvl, Mrt, Uno, Param, Other, Alien, Word}
 
--- how many classes there are beside the operator's words, whose numbers follow theirs
+-- the number of classes without the operator's words, whose numbers follow
 abbrev pub own_classes : ℕ
 own_classes = 79
 
--- the class's place in the list of classes: the brackets first, the operator's words last
+-- the index of a class: the brackets first, the operator's words last
 abbrev pub class_number : Class → ℕ
 class_number Bra = 0
 class_number Ket = 1
@@ -100,7 +100,7 @@ class_number (Word k) = own_classes + k
 abbrev pub same_class : Class → Class → Bool
 same_class c d = nat_eq (class_number c) (class_number d)
 
--- the classes in the order of their numbers, but for the operator's words
+-- the classes in the order of their numbers, without the operator's words
 abbrev pub classes_in_order : List Class
 classes_in_order =
     Bra ∷ Ket ∷ Num ∷ Power ∷ Note ∷ Outcome ∷ Coast ∷ Season ∷ Text ∷ Province ∷ Amy ∷ Flt ∷ Cto ∷ Cvy ∷

@@ -1,4 +1,4 @@
--- The names of tokens, as the protocol's table has them: one table, read from both sides.
+-- The names of tokens, as the protocol's table has them. One table serves both directions.
 use Rattle.std.specs.Prelude.{ℕ, ◌+◌, ◌==◌, List, [], ◌∷◌, ◌++◌, codes, bytes_eq, Option, option_map}
 use Rattle.std.specs.List.{find}
 
@@ -6,7 +6,7 @@ use Rattle.std.specs.List.{find}
 abbrev pub Named : Type 0
 Named = ℕ × List ℕ
 
--- names of three letters with a space between them, of tokens that count upwards by one
+-- names of three letters, separated by spaces, for tokens that count up by one
 abbrev pub names_counting_from : ℕ → List ℕ → List Named
 names_counting_from t (a ∷ b ∷ c ∷ space ∷ letters) = (t, a ∷ b ∷ c ∷ []) ∷ names_counting_from (t + 1) letters
 names_counting_from t letters = (t, letters) ∷ []
@@ -66,10 +66,10 @@ names =
     names_counting_from 0x5540 (codes "ROM RUM SEV SMY SWE TRI TUN VEN") ++
     names_counting_from 0x5748 (codes "BUL SPA STP")
 
--- the name of a token, its brackets too; a number, a character or an unlisted token has none
+-- the name of a token, brackets included; a number, a character or an unlisted token has none
 unfoldable pub name_of : ℕ → Option (List ℕ)
 name_of t = option_map (λ row. row.1) (find (λ row. row.0 == t) names)
 
--- the token of a name, letter for letter; none where no token has it
+-- the token with a name, letter for letter; none if no token has it
 unfoldable pub token_named : List ℕ → Option ℕ
 token_named name = option_map (λ row. row.0) (find (λ row. bytes_eq row.1 name) names)

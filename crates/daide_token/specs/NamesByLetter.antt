@@ -12,7 +12,7 @@ first_letter (letter ∷ letters) = letter
 abbrev pub named_with : ℕ → List Named
 named_with letter = filter (λ row. first_letter row.1 == letter) names
 
--- and their tokens
+-- the tokens of these rows
 abbrev pub codes_with : ℕ → List ℕ
 codes_with letter = map (λ row. row.0) (named_with letter)
 

@@ -1,4 +1,4 @@
--- Tokens as whole numbers, 0 to FFFF hexadecimal, as the protocol's token table has them.
+-- Tokens as whole numbers, 0 to FFFF hexadecimal, as in the protocol's token table.
 use Rattle.std.specs.Prelude.{ℕ, ℤ, pos, negsuc, ◌-ℤ◌, ◌-◌, nat_lt, if◌then◌else◌, Option, Some, None}
 use Rattle.std.specs.Prelude.{◌+◌, ◌*◌, ◌/◌, ◌%◌, List, [], ◌∷◌, ◌++◌, slice_index}
 
@@ -10,19 +10,19 @@ bra = 0x4000
 abbrev pub ket : ℕ
 ket = 0x4001
 
--- HLO, by which the server tells a game's variant
+-- HLO, with which the server announces a game's variant
 abbrev pub hlo : ℕ
 hlo = 0x4804
 
--- HUH, which hands a message back with its first fault marked
+-- HUH, which returns a message with its first error marked
 abbrev pub huh : ℕ
 huh = 0x4806
 
--- PRN, which hands back a message whose brackets do not match
+-- PRN, which returns a message whose brackets do not match
 abbrev pub prn : ℕ
 prn = 0x4813
 
--- ERR, which marks the fault in a HUH
+-- ERR, which marks the error in a HUH
 abbrev pub err : ℕ
 err = 0x4902
 
@@ -30,7 +30,7 @@ err = 0x4902
 abbrev pub lvl : ℕ
 lvl = 0x4903
 
--- the number that a token stands for: two's complement in fourteen bits
+-- the number of a token: two's complement in fourteen bits
 abbrev pub number_of : ℕ → Option ℤ
 number_of t =
     if nat_lt t 0x2000 then Some (pos t) else
@@ -50,7 +50,7 @@ token_bytes t = t / 256 ∷ t % 256 ∷ []
 abbrev pub token_of_bytes : List ℕ → ℕ
 token_of_bytes bytes = slice_index bytes 0 * 256 + slice_index bytes 1
 
--- the tokens of some bytes, two bytes each, high byte first; an odd byte at the end is none
+-- the tokens of some bytes, two bytes each, high byte first; an odd last byte is no token
 abbrev pub tokens_of : List ℕ → List ℕ
 tokens_of (high ∷ low ∷ rest) = (high * 256 + low) ∷ tokens_of rest
 tokens_of (byte ∷ []) = []

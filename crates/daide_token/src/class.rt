@@ -1,10 +1,10 @@
-//! The classes of tokens, by which the grammar predicts.
+//! The classes of tokens. The grammar predicts by class.
 
 ghost use Rattle.std.specs.Prelude.{◌≡◌};
 ghost use Rattle.daide_token.specs.Class.{brackets, class_in, commands, listed, orders, parameters, press_classes, units};
 ghost use Rattle.daide_token.specs.declared.class.Class.TheVariants.{Other, Param};
 
-/// What the grammar tells tokens apart by: one class for a whole category, or one for a token that has a
+/// The class of a token, which is all that the grammar distinguishes. A class is a whole category, or one token with a
 /// meaning of its own.
 #[derive(Clone, Copy, Debug, PartialEq, Eq)]
 pub enum Class {
@@ -87,11 +87,11 @@ pub enum Class {
     Param,
     Other,
     Alien,
-    /// A word that the operator added, by its place.
+    /// A word that the operator added, by its index.
     Word(u8),
 }
 
-/// The class of a token by its category, the first byte, and its code, the second.
+/// Returns the class of a token, by its category (the first byte) and its code (the second).
 pub(crate) fn class_in(category: u8, code: u8) -> Class
     ensures { result ≡ class_in category code }
 {
@@ -114,7 +114,7 @@ pub(crate) fn class_in(category: u8, code: u8) -> Class
     }
 }
 
-/// A token of category 40.
+/// Returns the class of a token of category 40.
 fn bracket(code: u8) -> Class
     ensures { result ≡ listed brackets Other code }
 {
@@ -125,7 +125,7 @@ fn bracket(code: u8) -> Class
     }
 }
 
-/// A token of category 42.
+/// Returns the class of a token of category 42.
 fn unit(code: u8) -> Class
     ensures { result ≡ listed units Other code }
 {
@@ -136,7 +136,7 @@ fn unit(code: u8) -> Class
     }
 }
 
-/// A token of category 43.
+/// Returns the class of a token of category 43.
 fn order(code: u8) -> Class
     ensures { result ≡ listed orders Other code }
 {
@@ -156,7 +156,7 @@ fn order(code: u8) -> Class
     }
 }
 
-/// A token of category 48.
+/// Returns the class of a token of category 48.
 fn command(code: u8) -> Class
     ensures { result ≡ listed commands Other code }
 {
@@ -196,7 +196,7 @@ fn command(code: u8) -> Class
     }
 }
 
-/// A token of category 49.
+/// Returns the class of a token of category 49.
 fn parameter(code: u8) -> Class
     ensures { result ≡ listed parameters Param code }
 {
@@ -208,7 +208,7 @@ fn parameter(code: u8) -> Class
     }
 }
 
-/// A token of category 4A.
+/// Returns the class of a token of category 4A.
 fn press(code: u8) -> Class
     ensures { result ≡ listed press_classes Other code }
 {

@@ -1,5 +1,4 @@
-//! Each law of `laws`, used once at values that were worked out by hand, so that a weaker law does not check. Nothing
-//! here is called.
+//! Uses each law of `laws` once, at concrete values, so that a weaker law does not check. Nothing here is called.
 
 ghost use Rattle.std.specs.Prelude.{[], true, ℕ, ℤ, List, ◌^◌, ◌<◌, ◌∷◌, ◌≡◌, Some, negsuc, codes};
 ghost use Rattle.std.specs.List.{All};
@@ -13,7 +12,7 @@ ghost use Rattle.daide_token.specs.Token.{token_bytes, bytes_of_tokens, number_o
 
 use crate::laws;
 
-/// Two bytes are one token's alone, also with the greatest low byte, and four are those of two tokens.
+/// Two bytes determine one token, also with the greatest low byte. Four bytes determine two tokens.
 fn bytes_at_values()
     ensures token { (t : ℕ) → token_bytes t ≡ 0x48 ∷ 0x06 ∷ [] → t ≡ 0x4806 }
     ensures bytes { (high : ℕ) → token_bytes (token_of_bytes (high ∷ 0xFF ∷ [])) ≡ high ∷ 0xFF ∷ [] }
@@ -23,7 +22,7 @@ fn bytes_at_values()
     laws::bytes_come_back();
 }
 
-/// The least number is that of one token, and the last token of a number stands for -1.
+/// Only one token has the least number. The token of -1 is 3FFF.
 fn numbers_at_values()
     ensures token { (t : ℕ) → number_of t ≡ Some (negsuc 8191) → t ≡ 0x2000 }
     ensures number { (n : ℤ) → token_of_number n ≡ Some 0x3FFF → n ≡ negsuc 0 }
@@ -31,7 +30,7 @@ fn numbers_at_values()
     laws::numbers_come_back();
 }
 
-/// HUH has one token, and its token one name.
+/// HUH has one token, and that token has one name.
 fn names_at_values()
     ensures token { (t : ℕ) → name_of t ≡ Some (codes "HUH") → t ≡ 0x4806 }
     ensures name { (name : List ℕ) → token_named name ≡ Some 0x4806 → name ≡ codes "HUH" }
@@ -39,8 +38,8 @@ fn names_at_values()
     laws::names_come_back();
 }
 
-/// HLO is the only token of its class, no token has the class of an operator's first word, and a class with the token
-/// 4804 is that of HLO.
+/// HLO is the only token of its class. No token has the class of an operator's first word. A standard class whose token
+/// is 4804 is that of HLO.
 fn classes_at_values()
     ensures alone { (t : ℕ) → class_of t ≡ classes.Hlo → t ≡ 0x4804 }
     ensures standard { (t : ℕ) → class_of t ≡ classes.Word 0 → ⊥ }
@@ -52,7 +51,7 @@ fn classes_at_values()
     laws::numbers_tell_classes_apart();
 }
 
-/// The text `GOF (` is that of two tokens and of no others.
+/// The text `GOF (` belongs to one list of two tokens.
 fn text_at_values()
     ensures { (ts : List ℕ) → All (λ t. t < 2 ^ 16) ts → text_of ts ≡ codes "GOF (" → ts ≡ 0x4803 ∷ 0x4000 ∷ [] }
 {

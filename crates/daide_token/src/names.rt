@@ -1,5 +1,5 @@
-//! The names of tokens, by category and code, and the tokens by the first letters of their names. A name is kept as it is
-//! printed behind another word, with a space before it, so that a text takes it as it is.
+//! The names of tokens by category and code, and the tokens by the first letters of their names. A name is stored with
+//! the space that precedes it after another word, so that the printer copies it unchanged.
 
 ghost use Rattle.std.specs.Prelude.{◌≡◌, ◌<◌, ◌+◌, ◌*◌, ℕ, [], true, length, map, option_map, slice_index_or};
 ghost use Rattle.std.specs.List.{find, list_all, range_with_len};
@@ -150,7 +150,7 @@ const BICOASTAL_CENTRES: [&str; 75] = [
 /// A category without names.
 const NONE: [&str; 0] = [];
 
-/// The names of each category, as they are printed behind another word.
+/// The names of each category, each name with a space before it.
 #[rattlefmt::skip]
 static PAGES: [&[&str]; 256] = [
     // 00
@@ -189,7 +189,7 @@ static PAGES: [&[&str]; 256] = [
     &NONE, &NONE, &NONE, &NONE, &NONE, &NONE, &NONE, &NONE, &NONE, &NONE, &NONE, &NONE, &NONE, &NONE, &NONE, &NONE,
 ];
 
-/// The tokens whose names begin with each letter from A to Z, in the order of the tokens.
+/// For each letter from A to Z, the tokens whose names begin with it, in ascending order.
 #[rattlefmt::skip]
 static LETTERS: [&[u16]; 26] = [
     // A
@@ -260,7 +260,7 @@ static LETTERS: [&[u16]; 26] = [
     &[],
 ];
 
-/// The pages of all categories: their rows are those of the table.
+/// Returns the pages of all categories. Their rows are those of the table.
 fn pages() -> &'static [&'static [&'static str]]
     ensures rows { rows_on 0 (map (λ page. map (λ cell. cell.now) page.now) result.now) ≡ names }
     ensures short { are_short (map (λ page. map (λ cell. cell.now) page.now) result.now) ≡ true }
@@ -270,7 +270,7 @@ fn pages() -> &'static [&'static [&'static str]]
     &PAGES
 }
 
-/// The page of a category.
+/// Returns the page of a category.
 #[inline(always)]
 fn page_of(category: u8) -> &'static [&'static str]
     ensures names { (code : ℕ) → code < 256 →
@@ -280,7 +280,7 @@ fn page_of(category: u8) -> &'static [&'static str]
     pages()[category as usize]
 }
 
-/// The cell of a code on a page, empty past the last one.
+/// Returns the cell of a code on a page. A code past the last cell has an empty one.
 #[inline(always)]
 fn cell_on(cells: &[&'static str], code: u8) -> &'static str
     ensures { result.now ≡ slice_index_or (map (λ cell. cell.now) cells.now) code [] }
@@ -291,8 +291,8 @@ fn cell_on(cells: &[&'static str], code: u8) -> &'static str
     }
 }
 
-/// The name of a token, by its two bytes, as it is printed behind another word: a space and its letters. Empty where it
-/// has none.
+/// Returns the name of a token, by its two bytes: a space and the three letters, or an empty text if the token has no
+/// name.
 #[inline(always)]
 pub(crate) fn spaced_name(category: u8, code: u8) -> &'static str
     ensures name { name_of_cell result.now ≡ name_of (category * 256 + code) }
@@ -301,7 +301,7 @@ pub(crate) fn spaced_name(category: u8, code: u8) -> &'static str
     cell_on(page_of(category), code)
 }
 
-/// The same by its whole number.
+/// Returns what `spaced_name` returns, for a token as a whole number.
 fn spaced_name_of(code: u16) -> &'static str
     ensures name { name_of_cell result.now ≡ name_of code }
     ensures spaced { is_spaced result.now ≡ true }
@@ -310,21 +310,21 @@ fn spaced_name_of(code: u16) -> &'static str
     spaced_name(category, code)
 }
 
-/// The name of a token.
+/// Returns the name of a token, if it has one.
 pub(crate) fn name_of(code: u16) -> Option<&'static str>
     ensures { option_map (λ name. name.now) result ≡ name_of code }
 {
     spaced_name_of(code).strip_prefix(' ')
 }
 
-/// The tokens by the first letters of their names, from A to Z.
+/// Returns the tokens by the first letters of their names, from A to Z.
 fn letters() -> &'static [&'static [u16]]
     ensures { map (λ codes. codes.now) result.now ≡ map codes_with (range_with_len 0x41 26) }
 {
     &LETTERS
 }
 
-/// The tokens whose names begin with a letter.
+/// Returns the tokens whose names begin with a letter.
 fn codes_with(letter: u8) -> &'static [u16]
     ensures { result.now ≡ codes_with letter }
 {
@@ -334,7 +334,7 @@ fn codes_with(letter: u8) -> &'static [u16]
     letters()[(letter - b'A') as usize]
 }
 
-/// The first letter of a name, or 0.
+/// Returns the first letter of a name, or 0 if it is empty.
 fn first_letter(name: &str) -> u8
     ensures { result ≡ first_letter name.now }
 {
@@ -344,7 +344,7 @@ fn first_letter(name: &str) -> u8
     }
 }
 
-/// Whether a token has this name.
+/// Returns whether a token has this name.
 fn is_named(code: u16, name: &str) -> bool
     ensures { result ≡ is_named name.now code }
 {
@@ -354,14 +354,14 @@ fn is_named(code: u16, name: &str) -> bool
     }
 }
 
-/// The first of some tokens that has this name.
+/// Returns the first of the tokens that has this name.
 fn code_in(codes: &[u16], name: &str) -> Option<u16>
     ensures { result ≡ find (is_named name.now) codes.now }
 {
     codes.iter().copied().find(|code| is_named(*code, name))
 }
 
-/// The token of a name.
+/// Returns the token with a name, if there is one.
 pub(crate) fn token_named(name: &str) -> Option<u16>
     ensures { result ≡ token_named name.now }
 {

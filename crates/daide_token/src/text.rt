@@ -1,4 +1,4 @@
-//! The text form of tokens, in which a person reads them.
+//! The text form of tokens, for human readers.
 
 ghost use Rattle.std.specs.Prelude.{List, OnOk, IfSome, IfNone, None, drop, [], ◌++◌, length, take, ◌∷◌, ◌%◌, ◌*◌, ◌+◌, ◌<◌, ◌≤◌, ◌≡◌};
 ghost use Rattle.std.specs.Io.KnownBytes.{Appends};
@@ -17,10 +17,10 @@ use crate::token::Token;
 use std::io;
 use std::io::Write;
 
-/// How many bytes of tokens `write_text_with` prints together.
+/// How many bytes of tokens `write_text_with` prints at a time.
 const TOGETHER: usize = 60;
 
-/// Room for their text: eight bytes at most a token.
+/// The size of the line buffer, in bytes. It holds the text of `TOGETHER` bytes: at most eight bytes a token.
 const ROOM: usize = 256;
 
 /// The category of brackets.
@@ -33,25 +33,25 @@ pub enum PrinterState {
     Start,
     /// A token by itself.
     Word,
-    /// A character, and its run is open.
+    /// A character; its run is still open.
     Quote,
 }
 
-/// How far a text has come in the bytes that it is put into.
+/// The state of a text under construction in a line buffer.
 #[derive(Clone, Copy)]
 pub struct Printed {
     /// What was printed last.
     pub place: PrinterState,
-    /// How many bytes there are.
+    /// The number of bytes of text in the buffer.
     pub len: usize,
 }
 
-/// A run of words that was put.
+/// The result of printing a run of words.
 #[derive(Clone, Copy)]
 struct Run {
-    /// How many bytes of text there are.
+    /// The number of bytes of text in the buffer.
     len: usize,
-    /// How many bytes of tokens were put.
+    /// The number of bytes of tokens that were printed.
     count: usize,
 }
 
@@ -95,7 +95,7 @@ pub fn write_text_with<W: Write>(
     writer.write_all(end_of(place))
 }
 
-/// Puts the text of some tokens of a message behind a line's first bytes. The room is eight bytes a token.
+/// Appends the text of some tokens of a message to the first bytes of a line. A token needs at most eight bytes.
 pub fn put_tokens(
     added: &[(Token, [u8; 3])],
     tokens: &[u8],
@@ -124,7 +124,7 @@ pub fn put_tokens(
     printed
 }
 
-/// Returns what a text ends with, once its last token is put.
+/// Returns what ends a text after its last token.
 pub fn end_of(place: PrinterState) -> &'static [u8]
     ensures text { result.now ≡ end_text place }
     ensures few { length result.now ≤ 1 }
@@ -135,7 +135,7 @@ pub fn end_of(place: PrinterState) -> &'static [u8]
     }
 }
 
-/// Puts the words that come first of some tokens, if they follow a word, as nearly all tokens do.
+/// Appends the words at the front of the tokens if they follow a word, which is the common case.
 #[inline(always)]
 fn put_words_behind(tokens: &[u8], line: &mut [u8], from: Printed) -> Run
     requires { from.len + 4 * length tokens.now ≤ length line.old }
@@ -156,7 +156,7 @@ fn put_words_behind(tokens: &[u8], line: &mut [u8], from: Printed) -> Run
     }
 }
 
-/// Puts the words that come first of some tokens that follow a word: brackets and names, each with its space.
+/// Appends the words at the front of tokens that follow a word: brackets and names, each with a space before it.
 fn put_words(tokens: &[u8], line: &mut [u8], from: usize) -> Run
     requires { from + 4 * length tokens.now ≤ length line.old }
     ensures text { (added : List Named) →
@@ -181,7 +181,7 @@ fn put_words(tokens: &[u8], line: &mut [u8], from: usize) -> Run
     Run { len, count }
 }
 
-/// Puts the text of a token that follows a word, by its two bytes, if it is a bracket or has a name.
+/// Appends the text of a token that follows a word, by its two bytes, if it is a bracket or has a name.
 #[inline(always)]
 fn put_if_word(category: u8, code: u8, line: &mut [u8], len: usize) -> Option<usize>
     requires { len + 8 ≤ length line.old }
@@ -200,7 +200,7 @@ fn put_if_word(category: u8, code: u8, line: &mut [u8], len: usize) -> Option<us
     }
 }
 
-/// Puts the text of a token of the category of brackets that follows a word, by its code, if it is a bracket.
+/// Appends the text of a bracket that follows a word, by its code in category 40. Returns `None` for any other code.
 #[inline(always)]
 fn put_if_bracket(code: u8, line: &mut [u8], len: usize) -> Option<usize>
     requires { len + 8 ≤ length line.old }
@@ -217,7 +217,7 @@ fn put_if_bracket(code: u8, line: &mut [u8], len: usize) -> Option<usize>
     }
 }
 
-/// Puts bytes behind the first ones.
+/// Appends bytes to the first `len` bytes of the line.
 #[inline(always)]
 fn put<const N: usize>(bytes: [u8; N], line: &mut [u8], len: usize) -> usize
     requires { len + N ≤ length line.old }
@@ -228,7 +228,7 @@ fn put<const N: usize>(bytes: [u8; N], line: &mut [u8], len: usize) -> usize
     len + N
 }
 
-/// Puts the text of one token, whatever it is and follows.
+/// Appends the text of any token, after whatever was printed last.
 #[inline(never)]
 fn put_any(added: &[(Token, [u8; 3])], token: Token, line: &mut [u8], from: Printed) -> Printed
     requires { from.len + 8 ≤ length line.old }
@@ -246,7 +246,7 @@ fn put_any(added: &[(Token, [u8; 3])], token: Token, line: &mut [u8], from: Prin
     }
 }
 
-/// Puts a character, and opens its run unless one is open.
+/// Appends a character, and opens its run unless one is open.
 fn put_character(token: Token, line: &mut [u8], from: Printed) -> Printed
     requires { from.len + 8 ≤ length line.old }
     ensures text { take result.len line.new
@@ -262,7 +262,7 @@ fn put_character(token: Token, line: &mut [u8], from: Printed) -> Printed
     }
 }
 
-/// Opens a run, and puts the space before it, unless one is open.
+/// Opens a run, with the space before it, unless one is open.
 fn put_before_character(line: &mut [u8], from: Printed) -> usize
     requires { from.len + 8 ≤ length line.old }
     ensures text { take result line.new ≡ take from.len line.old ++ before_character from.place }
@@ -275,14 +275,14 @@ fn put_before_character(line: &mut [u8], from: Printed) -> usize
     }
 }
 
-/// Whether a token is a character that can stand in quotes.
+/// Returns whether a token is a character that can be inside quotes.
 fn quotable(token: Token) -> bool
     ensures { result ≡ is_quotable token }
 {
     matches!(token.to_be(), [0x4B, 0x20..=0x26 | 0x28..=0x7E])
 }
 
-/// Ends the run that is open, and puts the space before the next item.
+/// Closes the open run, if any, and appends the space before the next item.
 fn put_before_item(line: &mut [u8], from: Printed) -> usize
     requires { from.len + 8 ≤ length line.old }
     ensures text { take result line.new ≡ take from.len line.old ++ before_item from.place }
@@ -295,7 +295,7 @@ fn put_before_item(line: &mut [u8], from: Printed) -> usize
     }
 }
 
-/// Puts a token by itself.
+/// Appends a token by itself.
 fn put_by_itself(added: &[(Token, [u8; 3])], token: Token, line: &mut [u8], len: usize) -> usize
     requires { len + 6 ≤ length line.old }
     ensures text { take result line.new ≡ take len line.old ++ text_of_token added.now token }
@@ -307,7 +307,7 @@ fn put_by_itself(added: &[(Token, [u8; 3])], token: Token, line: &mut [u8], len:
     }
 }
 
-/// Puts a token by itself that is no number.
+/// Appends a token by itself that is not a number.
 fn put_no_number(added: &[(Token, [u8; 3])], token: Token, line: &mut [u8], len: usize) -> usize
     requires room { len + 6 ≤ length line.old }
     requires word { number_of token ≡ None }
@@ -324,7 +324,7 @@ fn put_no_number(added: &[(Token, [u8; 3])], token: Token, line: &mut [u8], len:
     }
 }
 
-/// Puts a name of three letters.
+/// Appends a name of three letters.
 fn put_name(name: &str, line: &mut [u8], len: usize) -> usize
     requires room { len + 6 ≤ length line.old }
     requires three { length name.now ≡ 3 }
@@ -337,7 +337,7 @@ fn put_name(name: &str, line: &mut [u8], len: usize) -> usize
     put([*a, *b, *c], line, len)
 }
 
-/// Puts a token that the protocol doesn't name: by its first entry among the added names, else as its digits.
+/// Appends a token that the protocol doesn't name: by its first entry among the added names, or else as its digits.
 fn put_unnamed(added: &[(Token, [u8; 3])], token: Token, line: &mut [u8], len: usize) -> usize
     requires { len + 6 ≤ length line.old }
     ensures text { take result line.new
@@ -350,7 +350,7 @@ fn put_unnamed(added: &[(Token, [u8; 3])], token: Token, line: &mut [u8], len: u
     }
 }
 
-/// The name of a token by its first entry among added names.
+/// Returns the name of a token by its first entry among the added names, if it has one.
 fn added_name_of(added: &[(Token, [u8; 3])], token: Token) -> Option<[u8; 3]>
     ensures { result ≡ added_name_of added.now token }
 {
@@ -360,7 +360,7 @@ fn added_name_of(added: &[(Token, [u8; 3])], token: Token) -> Option<[u8; 3]>
     Some(name)
 }
 
-/// Puts a token as its four digits.
+/// Appends `#` and the four digits of a token.
 fn put_hex(token: Token, line: &mut [u8], len: usize) -> usize
     requires { len + 6 ≤ length line.old }
     ensures text { take result line.new ≡ take len line.old ++ hex_text token }
@@ -377,7 +377,6 @@ fn put_hex(token: Token, line: &mut [u8], len: usize) -> usize
     put(digits, line, len)
 }
 
-/// One digit.
 fn hex_digit(value: u16) -> u8
     requires { value < 16 }
     ensures { result ≡ hex_digit_of value }
@@ -385,7 +384,7 @@ fn hex_digit(value: u16) -> u8
     b"0123456789abcdef"[value as usize]
 }
 
-/// Puts a number of four digits at most, and its sign if it is negative.
+/// Appends a number of at most four digits, after a sign if it is negative.
 fn put_number(number: i16, line: &mut [u8], len: usize) -> usize
     requires room { len + 6 ≤ length line.old }
     requires small { unsigned_abs number < 10000 }
@@ -400,7 +399,7 @@ fn put_number(number: i16, line: &mut [u8], len: usize) -> usize
     put_digits(value, line, len)
 }
 
-/// Puts the digits of a number.
+/// Appends the decimal digits of a number.
 fn put_digits(value: u16, line: &mut [u8], len: usize) -> usize
     requires { len + length (decimal value) ≤ length line.old }
     ensures text { take result line.new ≡ take len line.old ++ decimal value }

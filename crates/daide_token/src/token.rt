@@ -1,4 +1,4 @@
-//! A token: two bytes, a category and a code in it, or a number of fourteen bits.
+//! A token: two bytes, which are a category and a code in it, or a number of fourteen bits.
 
 ghost use Rattle.std.specs.Prelude.{◌≡◌, ℕ, option_map};
 ghost use Rattle.daide_token.specs.Token.{token_bytes, number_of, token_of_bytes, token_of_number};
@@ -9,7 +9,7 @@ use crate::class::{Class, class_in};
 use crate::names;
 use std::marker::Model;
 
-/// A token. A contract sees it as a whole number, 0 to FFFF hexadecimal.
+/// A token. Its abstract value is a whole number, 0 to FFFF hexadecimal.
 #[derive(Clone, Copy, Debug, PartialEq, Eq, PartialOrd, Ord, Hash)]
 pub struct Token {
     bits: u16,
@@ -24,14 +24,14 @@ impl Model for Token {
 }
 
 impl Token {
-    /// The token that is this whole number.
+    /// Returns the token with this whole number.
     pub const fn from_code(code: u16) -> Token
         ensures { result ≡ code }
     {
         Token { bits: code }
     }
 
-    /// The token as a whole number.
+    /// Returns the token as a whole number.
     pub const fn code(self) -> u16
         ensures { result ≡ self }
     {
@@ -83,7 +83,7 @@ impl Token {
     pub fn class(self) -> Class
         ensures { result ≡ class_of self }
     {
-        // the brackets stand first: every other token or so is one, and a reader tests for them anyway
+        // The brackets come first: about every second token is one, and a reader tests for them anyway.
         match self.code() {
             0x4000 => Class::Bra,
             0x4001 => Class::Ket,

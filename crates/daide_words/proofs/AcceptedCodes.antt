@@ -1,4 +1,4 @@
--- The codes of accepted words are free, and tokens are told from them.
+-- The codes of accepted words are free, and they determine the class of a token.
 use Rattle.std.proofs.Common.{◌≡◌, ℕ, zero, suc, ◌+◌, ◌<◌, ◌≤◌, Bool, true, false, not, ◌&&◌, ◌||◌, ◌==◌, nat_eq}
 use Rattle.std.proofs.Common.{nat_le, List}
 use Rattle.std.proofs.Common.{[], ◌∷◌, ◌++◌, length, Option, Some, None, if◌then◌else◌, refl, sym, ap, ◌∙◌, subst}
@@ -25,11 +25,11 @@ use Rattle.daide_words.specs.Table.Places.{place_from}
 use Rattle.daide_words.specs.Table.OverWords.{are_free}
 use Rattle.daide_words.specs.Table.Proved.WordDialect.{keeps, other-class}
 
--- whether a code means nothing in the protocol, and isn't the token that stands for such
+-- whether a code has no meaning in the protocol, and isn't the token that represents such codes
 means_nothing : ℕ → Bool
 means_nothing t = same_class (class_of t) Other && not (t == token_of Other)
 
--- whether a code without a name means nothing
+-- whether a code without a name has no meaning
 told : ℕ → Bool
 told t = not (is_none (name_of t)) || means_nothing t
 
@@ -37,7 +37,7 @@ every : (ℕ → Bool) → ℕ → ℕ → Bool
 every p start zero = true
 every p start (suc n) = p start && every p (suc start) n
 
--- of all codes of press
+-- this holds for all codes of press
 every_told : every told 0x4A00 256 ≡ true
 unfolding every told means_nothing class_of name_of names
 every_told = refl
@@ -77,7 +77,7 @@ code_free taken word h =
     (has_press word.level)
     (may_hold word.slot word.operand) h
 
--- which means nothing in the protocol
+-- which has no meaning in the protocol
 or_passed : (a b : Bool) → a ≡ true → (not a || b) ≡ true → b ≡ true
 or_passed true b e h = h
 or_passed false b e h = cc
@@ -113,7 +113,7 @@ accepted_free words h = free_after [] words h
 
 -- ---- classes
 
--- a place as a class, else another
+-- the class of the word at an index, or another class
 abbrev pub class_or : Option ℕ → Class → Class
 class_or (Some place) class = Word place
 class_or None class = class
@@ -132,7 +132,7 @@ class_from j (word ∷ words) t = by_test (t == word.code) (class_from (suc j) w
     by_test true h = refl
     by_test false h = h
 
--- the class of a token that may have a word's code, told by the place of its code
+-- the class of a token that may have a word's code, by the index of its code
 pub class_told : (words : List code.Word) (t : ℕ) (o : Option ℕ) → o ≡ place_from 0 (names_of words) t →
     (dialect_of (grammar_words words)).class_of t ≡ class_or o (class_of t)
 class_told words t o e = class_from 0 words t ∙ ap (λ p. class_or p (class_of t)) (sym e)

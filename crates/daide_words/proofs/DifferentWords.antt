@@ -1,5 +1,4 @@
--- Words that are accepted one after the other have names that differ, and codes that differ, so each has a class of its
--- own.
+-- Accepted words have different names and different codes, so each has a class of its own.
 use Rattle.std.proofs.Common.{◌≡◌, ℕ, zero, suc, ◌+◌, ◌<◌, Bool, true, false, not, ◌&&◌, ◌||◌, ◌==◌, nat_le, List, []}
 use Rattle.std.proofs.Common.{◌∷◌, ◌++◌, length, Some, if◌then◌else◌, refl, sym, ap, ◌∙◌, subst, arith}
 use Rattle.std.proofs.Common.{leb-false}
@@ -27,7 +26,7 @@ use Rattle.daide_words.specs.Table.Proved.WordDialect.{class-Other}
 use Rattle.daide_words.proofs.Apart.{not_both}
 use Rattle.daide_words.proofs.AcceptedCodes.{accepted_free, choice, class_told, code_free}
 
--- the code and the name of a word, as they are taken
+-- the code and the name that a word takes
 abbrev taken_by : code.Word → Named
 taken_by word = (word.code, word.name)
 
@@ -35,12 +34,12 @@ not_true : (b : Bool) → not b ≡ true → b ≡ false
 not_true true h = cc
 not_true false h = refl
 
--- a test that fails of a list fails of its front, and of what is put behind it
+-- a test that fails for a list fails for its front and for the rest
 neither : (a b : Bool) → (a || b) ≡ false → (a ≡ false) × (b ≡ false)
 neither true b h = cc
 neither false b h = (refl, h)
 
--- ---- what an accepted word has
+-- ---- properties of an accepted word
 
 name_passed : (full name code level operand : Bool) → is_ok (choice full name code level operand) ≡ true → name ≡ true
 name_passed true name code level operand h = cc
@@ -52,7 +51,7 @@ room_passed true name code level operand h = cc
 room_passed false name code level operand h = refl
 
 module _ (taken : List Named) (word : code.Word) (ok : is_ok (word_fault taken word) ≡ true) where
-  -- a name that no word before has
+  -- its name is not that of an earlier word
   new_name : list_any (λ (entry : Named). bytes_eq entry.1 word.name) taken ≡ false
   new_name =
       let free = name_passed (nat_le most_words (length taken)) (is_free_name taken word.name)
@@ -63,7 +62,7 @@ module _ (taken : List Named) (word : code.Word) (ok : is_ok (word_fault taken w
       not_true (list_any (λ (entry : Named). bytes_eq entry.1 word.name) taken)
       (both-pass (is_none (token_named word.name)) other letters.1).1
 
-  -- a code that no word before has
+  -- its code is not that of an earlier word
   new_code : list_any (λ (entry : Named). entry.0 == word.code) taken ≡ false
   new_code =
       let other = not (list_any (λ (entry : Named). entry.0 == word.code) taken) in
@@ -74,20 +73,20 @@ module _ (taken : List Named) (word : code.Word) (ok : is_ok (word_fault taken w
       not_true (list_any (λ (entry : Named). entry.0 == word.code) taken)
       (both-pass (not (is_barred word.code)) other unnamed.1).1
 
-  -- and there are fewer than sixteen before it
+  -- and fewer than sixteen words are before it
   few_before : length taken < most_words
   few_before =
       leb-false most_words (length taken)
       (room_passed (nat_le most_words (length taken)) (is_free_name taken word.name) (is_free_code taken word.code)
       (has_press word.level) (may_hold word.slot word.operand) ok)
 
--- ---- no two are alike
+-- ---- no two words are alike
 
--- what no two words have alike: a test of a word by one before it, which each accepted word fails
+-- a property that a word does not share with an earlier one: each accepted word fails this test
 module _ (alike : Named → code.Word → Bool)
     (new : (taken : List Named) (word : code.Word) → is_ok (word_fault taken word) ≡ true →
     list_any (λ entry. alike entry word) taken ≡ false) where
-  -- so each word fails it by all that were taken before
+  -- so each word fails it with all earlier words
   apart_from : (taken : List Named) (words : List code.Word) (j : ℕ) (w : code.Word) →
       are_accepted_after taken words ≡ true → word_at j words ≡ Some w → list_any (λ entry. alike entry w) taken ≡ false
   apart_from taken [] j w h at = cc
@@ -100,7 +99,7 @@ module _ (alike : Named → code.Word → Bool)
       let later = apart_from (taken ++ taken_by word ∷ []) words j w p.1 at in
       (neither _ _ (sym (list_any-append (λ entry. alike entry w) taken (taken_by word ∷ [])) ∙ later)).0
 
-  -- and by the word that was taken last
+  -- and with the last earlier word
   apart_from_last : (taken : List Named) (word : code.Word) (words : List code.Word) (j : ℕ) (w : code.Word) →
       are_accepted_after (taken ++ taken_by word ∷ []) words ≡ true → word_at j words ≡ Some w →
       alike (taken_by word) w ≡ false
@@ -109,7 +108,7 @@ module _ (alike : Named → code.Word → Bool)
       let last = (neither _ _ (sym (list_any-append (λ entry. alike entry w) taken (taken_by word ∷ [])) ∙ all)).1 in
       (neither (alike (taken_by word) w) false last).0
 
-  -- of two places of one list, alike words have one place
+  -- alike words of one list have the same index
   one_place : (taken : List Named) (words : List code.Word) (i j : ℕ) (one other : code.Word) →
       are_accepted_after taken words ≡ true → word_at i words ≡ Some one → word_at j words ≡ Some other →
       alike (taken_by one) other ≡ true → alike (taken_by other) one ≡ true → i ≡ j
@@ -145,7 +144,7 @@ codes_differ words i j one other h at there same =
 
 -- ---- the class of a word's code
 
--- there are sixteen words at most
+-- there are at most sixteen words
 few_places : (taken : List Named) (words : List code.Word) (k : ℕ) (w : code.Word) →
     are_accepted_after taken words ≡ true → word_at k words ≡ Some w → k + length taken < most_words
 few_places taken [] k w h at = cc
@@ -162,7 +161,7 @@ pub place_small : (words : List code.Word) (k : ℕ) (w : code.Word) → are_acc
     word_at k words ≡ Some w → k < most_words
 place_small words k w h at = omega (arith, few_places [] words k w h at)
 
--- the first entry of its code is its own
+-- the first entry with a word's code is that of the word
 own_place : (taken : List Named) (words : List code.Word) (j k : ℕ) (w : code.Word) →
     are_accepted_after taken words ≡ true → word_at k words ≡ Some w → place_from j (names_of words) w.code ≡ Some (j + k)
 own_place taken [] j k w h at = cc

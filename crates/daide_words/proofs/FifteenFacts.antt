@@ -1,5 +1,5 @@
--- Which word is refused after fifteen others, and why. Written from the protocol's table of names and codes by hand, so
--- that a name or a code that is compared with one of the others alone does not check.
+-- The words that are refused after fifteen others, and why. Written from the protocol's table of names and codes. Code
+-- that compares a name or a code with only one of the others does not check.
 use Rattle.std.proofs.Common.{◌≡◌, ℕ, ◌+◌, List, [], ◌∷◌, ◌++◌, map, codes, true, refl}
 use Rattle.std.specs.Prelude.{Result, Ok, Err}
 use Rattle.daide_token.specs.Names.{Named, names, name_of, token_named}
@@ -18,7 +18,7 @@ use Rattle.daide_words.specs.Word.{names_of}
 abbrev made : List ℕ → ℕ → Slot → Level → kinds.Operand → code.Word
 made name token slot level operand = record { name = name; code = token; slot = slot; level = level; operand = operand }
 
--- the words QAA to QOA, of the codes 4A40 to 4A4E
+-- the words QAA to QOA, with the codes 4A40 to 4A4E
 abbrev lettered : ℕ → code.Word
 lettered k = made (81 ∷ (65 + k) ∷ 65 ∷ []) (0x4A40 + k) slots.Press L10 operands.Power
 
@@ -28,12 +28,12 @@ fifteen = map lettered (0 ∷ 1 ∷ 2 ∷ 3 ∷ 4 ∷ 5 ∷ 6 ∷ 7 ∷ 8 ∷ 9 
 abbrev before : List Named
 before = names_of fifteen
 
--- they are accepted, one after the other
+-- they are accepted in order
 fifteen_accepted : are_accepted fifteen ≡ true
 unfolding name_of token_named names
 fifteen_accepted = refl
 
--- after them one word of another name and another code is, and then no other
+-- after them one word with a new name and a new code is accepted, and then no other
 sixteenth : (word_fault before (made (codes "QPA") 0x4A4F slots.Press L10 operands.Press) ≡ Ok tt)
     × (word_fault (before ++ (0x4A4F, codes "QPA") ∷ []) (made (codes "QQA") 0x4A50 slots.Press L10 operands.Press)
     ≡ Err faults.Full)
@@ -42,7 +42,7 @@ sixteenth : (word_fault before (made (codes "QPA") 0x4A4F slots.Press L10 operan
 unfolding name_of token_named names
 sixteenth = (refl, refl, refl)
 
--- not one of the name of any of the fifteen: of the first, the middle and the last, and of each
+-- a word with the name of one of the fifteen is refused: of the first, the middle and the last, and of each
 abbrev of_name : List ℕ → Result (Unit {0}) WordError
 of_name name = word_fault before (made name 0x4A4F slots.Press L10 operands.Power)
 
@@ -58,12 +58,12 @@ each_name_taken : map (λ (word : code.Word). of_name word.name) fifteen
 unfolding name_of token_named names
 each_name_taken = refl
 
--- a name that differs from the first, the middle or the last in one letter is another name
+-- a name that differs from the first, the middle or the last in one letter is accepted
 names_beside : (of_name (codes "QAB") ≡ Ok tt) × (of_name (codes "PHA") ≡ Ok tt) × (of_name (codes "QPA") ≡ Ok tt)
 unfolding name_of token_named names
 names_beside = (refl, refl, refl)
 
--- nor one of the code of any of them
+-- a word with the code of one of the fifteen is refused
 abbrev of_code : ℕ → Result (Unit {0}) WordError
 of_code token = word_fault before (made (codes "QPA") token slots.Press L10 operands.Power)
 
@@ -83,8 +83,8 @@ codes_beside : (of_code 0x4A3F ≡ Ok tt) × (of_code 0x4A4F ≡ Ok tt) × (of_c
 unfolding name_of token_named names
 codes_beside = (refl, refl, refl)
 
--- each refusal in its order: with all that is wrong, the name of the middle one; then without it the code of the last;
--- then the level, and then the operand
+-- the errors in their order: of all errors, the name of the middle word; without that, the code of the last; then the
+-- level, and then the operand
 in_order : (word_fault before (made (codes "QHA") 0x4A4E slots.Arrangement L0 operands.Press) ≡ Err faults.Name)
     × (word_fault before (made (codes "QPA") 0x4A4E slots.Arrangement L0 operands.Press) ≡ Err faults.Code)
     × (word_fault before (made (codes "QPA") 0x4A4F slots.Arrangement L0 operands.Press) ≡ Err faults.Level)

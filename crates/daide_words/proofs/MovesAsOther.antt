@@ -1,4 +1,4 @@
--- An added word's class moves as that of a token without a meaning, but where the word may stand.
+-- An added word's class has the entries of a token without a meaning, except in the slots that allow the word.
 use Rattle.std.proofs.Common.{◌≡◌, ℕ, true, false, List, [], ◌∷◌, Option, Some, None, refl, ap, ◌∙◌}
 use Rattle.std.proofs.Common.{option_map}
 use Rattle.daide_token.specs.declared.class.Class.TheVariants.{Other, Word}
@@ -17,7 +17,7 @@ use Rattle.daide_words.specs.Table.OverWords.{answer_over, if_stands, operand_sy
 use Rattle.daide_words.proofs.DifferentWords.{place_small}
 use Rattle.daide_words.proofs.WhereStopped.{word_found}
 
--- where a word may not stand, the answer is another
+-- if a word is not allowed, the entry is another
 not_there : (o : Option (Slot × Level)) (word : AddedWord) (other : TableEntry) → stands_for word o ≡ false →
     word_answer o (Some word) other ≡ other
 not_there None word other h = refl

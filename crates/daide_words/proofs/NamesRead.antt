@@ -1,4 +1,4 @@
--- The names of slots and operands, each of which is read and no other.
+-- The names of slots and operands: each is read, and no other.
 use Rattle.std.proofs.Common.{◌≡◌, ℕ, Bool, true, false, List, codes, Option, Some, None, if◌then◌else◌, ◌⊎◌, inl, inr}
 use Rattle.std.proofs.Common.{◌↔◌, refl, ap, ◌∙◌, bytes_eq}
 use Rattle.std.proofs.lemmas.Slice.Eq.{bytes_eq-Decides}
@@ -8,7 +8,7 @@ use Rattle.daide_words.specs.declared.operand.Operand.{Operand}
 use Rattle.daide_words.specs.declared.operand.Operand.TheVariants as operands
 use Rattle.daide_words.specs.WordNames.{operand_name, operand_named, slot_name, slot_named}
 
--- a name is the first of a list of names, or else one of the others
+-- a name is the first of a list of names, or one of the others
 module _ {V : Type 0} (name word : List ℕ) (here value : V) (others : Option V) where
   this_or_others : (if bytes_eq name word then Some here else others) ≡ Some value →
       ((name ≡ word) × (here ≡ value)) ⊎ (others ≡ Some value)

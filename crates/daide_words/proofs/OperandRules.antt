@@ -63,7 +63,7 @@ press_rule L40 = refl
 press_rule L50 = refl
 press_rule L60 = refl
 
--- the slot of what AND and ORR join is that of its level
+-- the slot of an operand of AND and ORR is that of its level
 pub operand_slot : (l : Level) → Some (grammar_place (operand_place l), l) ≡ slot_of (Operand l)
 unfolding slot_of
 operand_slot L0 = refl

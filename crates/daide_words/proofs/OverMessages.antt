@@ -1,4 +1,4 @@
--- An opening symbol stands for its side's messages, with an operator's words as without.
+-- A start symbol derives the messages of its side, with an operator's words as without.
 use Rattle.std.proofs.Common.{◌≡◌, ℕ, true, false, ◌==◌, List, [], ◌∷◌, inl, inr, ◌↔◌, refl, sym, ◌∙◌, ap, subst}
 use Rattle.std.proofs.Common.{arith}
 use Rattle.std.proofs.lemmas.Bool.{eqb-true}
@@ -22,7 +22,7 @@ use Rattle.daide_words.specs.Table.Proved.WordDialect.{free-codes, keeps}
 use Rattle.daide_words.specs.Table.Proved.WordLaws.{laws_over}
 use Rattle.daide_grammar.proofs.Languages.{start_symbol-form, begins-false, report-begins}
 
--- PRN begins none of the forms: it is the reader's own case
+-- no form begins with PRN: the reader handles PRN itself
 start_symbol-stops : (words : Words) (side : Side2) (l : Level) → answer_over words (start_symbol_of side l) Prn ≡ Stop
 unfolding answer_over table_answer entries may_end_of
 start_symbol-stops words Client L60 = refl
@@ -36,7 +36,7 @@ module _ (words : Words) (free : are_free words ≡ true) where
       ap (dialect_of words).class_of (eqb-true t prn e) ∙ keeps 0 words prn (free-codes words Prn free (omega arith))
       ∙ class_of-prn
 
-  -- so no list of an opening symbol begins with PRN
+  -- so no list of a start symbol begins with PRN
   pub form-not-prn : (side : Side2) (l : Level) (m : List ℕ) → SymbolMatchesIn (dialect_of words) (start_symbol_of side l) m →
       begins_with_prn m ≡ false
   form-not-prn side l [] h = refl
@@ -44,7 +44,7 @@ module _ (words : Words) (free : are_free words ≡ true) where
       begins-false (t == prn) (λ e. (laws_over words free).stops_none (start_symbol_of side l) t
       (ap (answer_over words (start_symbol_of side l)) (class-prn t e) ∙ start_symbol-stops words side l) m h)
 
-  -- an opening symbol stands for the messages that don't begin with PRN
+  -- a start symbol derives the messages that don't begin with PRN
   pub start_symbol-language : (side : Side2) (l : Level) (m : List ℕ) →
       SymbolMatchesIn (dialect_of words) (start_symbol_of side l) m
       ↔ (IsMessageOver words side l m × (begins_with_prn m ≡ false))

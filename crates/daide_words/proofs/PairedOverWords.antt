@@ -1,4 +1,4 @@
--- With an operator's words messages are paired, and answers are messages.
+-- With an operator's words messages are paired, and the gateway's replies are messages.
 use Rattle.std.proofs.Common.{◌≡◌, ℕ, suc, Bool, true, false, ◌&&◌, nat_le, List, [], ◌∷◌, ◌++◌, inl, inr}
 use Rattle.std.proofs.Common.{refl, sym, ◌∙◌, ap, subst, arith, append-nil, take, drop}
 use Rattle.std.proofs.lemmas.Bool.Decides.{nat_tests}
@@ -31,7 +31,7 @@ use Rattle.daide_words.specs.Table.Proved.WordLaws.{laws_over}
 use Rattle.daide_words.proofs.OverMessages.{start_symbol-language, form-not-prn}
 use Rattle.daide_grammar.proofs.Languages.{class-huh, start_symbol-form}
 
--- ---- brackets of added words stand in pairs
+-- ---- added words have paired brackets
 
 any-word : (place : ℕ) → is_of_kind any_but_brackets (Word place) ≡ true
 any-word place = grind (arith, nat_tests)
@@ -83,7 +83,7 @@ words-paired place (word ∷ words) s l =
     both-true (paired (word_form place word s l)) (paired ((dialect_from (suc place) words).added s l))
     (word-paired place word s l) (words-paired (suc place) words s l)
 
--- ---- messages and answers over words of free codes
+-- ---- messages and replies, with words of free codes
 
 module _ (words : Words) (free : are_free words ≡ true) where
   keeps-brackets : KeepsBrackets (dialect_of words)
@@ -98,7 +98,7 @@ module _ (words : Words) (free : are_free words ≡ true) where
         message-balanced (dialect_of words) keeps-brackets (words-paired 0 words) side l m f,
       )
 
-  -- HUH may come at every level from either side
+  -- either side may send HUH at every level
   huh-taken : (side : Side2) (l : Level) → answer_over words (start_symbol_of side l) Huh ≡ Take (AnyGroup ∷ [])
   unfolding answer_over table_answer entries may_end_of
   huh-taken Client L60 = refl
@@ -108,7 +108,7 @@ module _ (words : Words) (free : are_free words ≡ true) where
   class-kept : (dialect_of words).class_of huh ≡ Huh
   class-kept = keeps 0 words huh (free-codes words Huh free (omega arith)) ∙ class-huh
 
-  -- a balanced list in brackets is one of the symbol for `any` in brackets
+  -- a balanced list in brackets is a list of the symbol for `any` in brackets
   any-grouped : (a : List ℕ) → IsBalanced a → SymbolMatchesIn (dialect_of words) AnyGroup (bra ∷ (a ++ ket ∷ []))
   unfolding form_of
   any-grouped a h =

@@ -1,5 +1,4 @@
--- What the protocol's table says of a token by the class that it has without words is what it says of it as an
--- operator's word.
+-- The protocol's table has the same entry for a token by its class without words as by its class as an operator's word.
 use Rattle.std.proofs.Common.{◌≡◌, ℕ, suc, ◌+◌, ◌<◌, ◌≤◌, Bool, true, false, ◌==◌, nat_eq, List, [], ◌∷◌, length}
 use Rattle.std.proofs.Common.{Option, Some, None, if◌then◌else◌, refl, sym, ap, ◌∙◌, arith}
 use Rattle.std.proofs.lemmas.Bool.{eqb-true}
@@ -23,7 +22,7 @@ use Rattle.daide_words.specs.Table.Proved.WordDialect.{class-Other}
 use Rattle.daide_words.proofs.AcceptedCodes.{class_told, class_kept}
 use Rattle.daide_words.proofs.WhereStopped.{not_stopped}
 
--- a place lies within the names
+-- the index is within the names
 pub place_inside : (j : ℕ) (names : List Named) (t k : ℕ) → place_from j names t ≡ Some k → k < j + length names
 place_inside j [] t k e = cc
 place_inside j (named ∷ names) t k e = by_test (t == named.0) e (place_inside (suc j) names t k)
@@ -34,7 +33,7 @@ place_inside j (named ∷ names) t k e = by_test (t == named.0) e (place_inside 
     by_test false e later = let less = later e in omega (arith, less)
 
 module _ (words : List code.Word) (s : Sym) (t : ℕ) where
-  -- the table says the same of a token by its class with and without words
+  -- the table has the same entry for a token by its class with and without words
   pub told_before : are_accepted_after [] words ≡ true → length (names_of words) ≤ most_words
       → table_answer s ((dialect_of (grammar_words words)).class_of t) ≡ table_answer s (class_of t)
   told_before accepted few = by_number (nat_eq (class_number (class_of t)) (class_number Other)) refl
@@ -55,7 +54,7 @@ module _ (words : List code.Word) (s : Sym) (t : ℕ) where
           (class-Other (class_of t) (eqb-true (class_number (class_of t)) (class_number Other) e))
       by_number false e = ap (table_answer s) (class_kept words t accepted (λ is. grind (arith, nat_tests)))
 
-  -- so where it doesn't stop, that is the answer
+  -- so if it doesn't stop, that is the entry
   pub answered_before : are_accepted_after [] words ≡ true → length (names_of words) ≤ most_words
       → is_stop (table_answer s (class_of t)) ≡ false
       → answer_over (grammar_words words) s ((dialect_of (grammar_words words)).class_of t)

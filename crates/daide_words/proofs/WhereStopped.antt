@@ -1,4 +1,4 @@
--- An operator's word changes no answer but a Stop.
+-- An operator's word changes only entries that are Stops.
 use Rattle.std.proofs.Common.{◌≡◌, ℕ, zero, suc, ◌+◌, Bool, true, false, not, ◌&&◌, nat_eq, List, [], ◌∷◌, Option, Some}
 use Rattle.std.proofs.Common.{None}
 use Rattle.std.proofs.Common.{option_map, refl, sym, ap, ◌∙◌, subst, arith}
@@ -32,13 +32,13 @@ pub the_word : (c : Class) (k : ℕ) → word_number c ≡ Some k → c ≡ Word
 the_word (Word i) k e = cc
 the_word _ k e = cc
 
--- a class without one means what it means in the protocol's table
+-- a class without a word's number has its entry of the protocol's table
 pub no_word : (words : Words) (s : Sym) (c : Class) → word_number c ≡ None → answer_over words s c ≡ table_answer s c
 unfolding answer_over
 no_word words s (Word i) e = cc
 no_word words s _ e = refl
 
--- where words may stand nothing else is empty,
+-- at a slot for words no symbol is nullable,
 abbrev stays : Option (Slot × Level) → Bool → Bool
 stays None ends = true
 stays (Some p) ends = not ends
@@ -86,20 +86,20 @@ module _ (words : Words) (s : Sym) (k : ℕ) where
       both_not true t f = cc
       both_not false t f = cc
 
--- an answer that is no Stop stays
+-- an entry other than a Stop is unchanged
 pub not_stopped : (words : Words) (s : Sym) (c : Class) → is_stop (table_answer s c) ≡ false →
     answer_over words s c ≡ table_answer s c
 unfolding answer_over
 not_stopped words s (Word k) h = slotted words s k (slot_of s) refl h
 not_stopped words s _ h = refl
 
--- the answers that are Stops
+-- the entries that are Stops
 pub the_stop : (a : TableEntry) → is_stop a ≡ true → a ≡ Stop
 the_stop Stop h = refl
 the_stop Skip h = cc
 the_stop (Take rest) h = cc
 
--- a word by its place is the word of that place
+-- a word by its index is the word at that index
 found_from : (n j k : ℕ) (words : List code.Word) → n ≡ j + k →
     word_from n j (grammar_words words) ≡ option_map grammar_word (word_at k words)
 found_from n j k [] e = refl
@@ -111,7 +111,7 @@ found_from n j (suc k) (word ∷ words) e =
     ap (λ b. this_word b (grammar_word word) (word_from n (suc j) (grammar_words words))) other
     ∙ found_from n (suc j) k words (omega (arith, e))
 
--- the answer for a word's class, by the word of its place
+-- the entry for a word's class, by the word at its index
 pub word_found : (words : List code.Word) (s : Sym) (k : ℕ) →
     answer_over (grammar_words words) s (Word k)
     ≡ word_answer (slot_of s) (option_map grammar_word (word_at k words)) (table_answer s (Word k))
@@ -120,19 +120,19 @@ word_found words s k =
     ap (λ (o : Option AddedWord). word_answer (slot_of s) o (table_answer s (Word k)))
     (found_from k 0 k words (omega arith))
 
--- a word's answer where the table stops it
+-- a word's entry if the table stops it
 pub word_told : (words : List code.Word) (s : Sym) (k : ℕ) → table_answer s (Word k) ≡ Stop →
     answer_over (grammar_words words) s (Word k)
     ≡ word_answer (slot_of s) (option_map grammar_word (word_at k words)) Stop
 word_told words s k e =
     word_found words s k ∙ ap (word_answer (slot_of s) (option_map grammar_word (word_at k words))) e
 
--- without a word or without a slot it stays
+-- without a word or without a slot the entry is unchanged
 pub no_word_there : (o : Option (Slot × Level)) (a : TableEntry) → word_answer o None a ≡ a
 no_word_there None a = refl
 no_word_there (Some p) a = refl
 
--- the answer for a class of a word's number
+-- the entry for a class with a word's number
 pub stopped_word : (words : List code.Word) (s : Sym) (c : Class) (k : ℕ) (o : Option code.Word) →
     word_number c ≡ Some k →
     table_answer s c ≡ Stop → word_at k words ≡ o →
@@ -143,7 +143,7 @@ stopped_word words s c k o e stop there =
     ∙ word_told words s k (ap (table_answer s) (sym is_word) ∙ stop)
     ∙ ap (λ (w : Option code.Word). word_answer (slot_of s) (option_map grammar_word w) Stop) there
 
--- where a word doesn't stand it is stopped
+-- if a word is not allowed, it is stopped
 pub not_standing : (b : Bool) (g : Sym) → b ≡ false → Stop ≡ if_stands b g Stop
 not_standing true g e = cc
 not_standing false g e = refl

@@ -1,6 +1,6 @@
--- What an operator's words mean over the whole range of their slots, operands and levels, and which words are refused
--- over the whole range of codes, letters and counts. Written from the protocol's press and its table of codes, so that
--- a rule that is right in one row and wrong in its neighbour does not check.
+-- The entries of an operator's words over the whole range of slots, operands and levels, and the words that are refused
+-- over the whole range of codes, letters and counts. Written from the protocol's press and its table of codes. A rule
+-- that is right for one value and wrong for the next does not check.
 use Rattle.std.proofs.Common.{◌≡◌, ℕ, ◌*◌, ◌+◌, List, [], ◌∷◌, ◌++◌, map, replicate, codes, refl}
 use Rattle.std.proofs.Common.{drop, not, if◌then◌else◌, ap, ◌∙◌}
 use Rattle.std.specs.Prelude.{Result, Ok, Err}
@@ -29,7 +29,7 @@ use Rattle.daide_words.specs.Table.OverWords.{answer_over}
 abbrev made : List ℕ → ℕ → Slot → Level → kinds.Operand → code.Word
 made name token slot level operand = record { name = name; code = token; slot = slot; level = level; operand = operand }
 
--- ---- where a word stands, and what follows it
+-- ---- the positions of a word, and the operand after it
 
 -- the levels that have press
 abbrev levels : List Level
@@ -39,31 +39,31 @@ levels = L10 ∷ L20 ∷ L30 ∷ L40 ∷ L50 ∷ L60 ∷ []
 abbrev joining : List Level
 joining = L30 ∷ L40 ∷ L50 ∷ L60 ∷ []
 
--- what one word, from a level on, means to a symbol of a level
+-- the entry of one word, from a level on, for a symbol of a level
 abbrev meaning : Slot → kinds.Operand → Level → Sym → TableEntry
 meaning slot operand first symbol =
     answer_over (grammar_words (made (codes "XYZ") 0x4A40 slot first operand ∷ [])) symbol (Word 0)
 
--- from each level on, a row of what it means to the symbol of each of some levels
+-- for each lowest level of a word, a row with its entry for the symbol at each of some levels
 abbrev rows_at : List Level → Slot → kinds.Operand → (Level → Sym) → List (List TableEntry)
 rows_at some slot operand symbol = map (λ first. map (λ l. meaning slot operand first (symbol l)) some) levels
 
--- a word of level 10 means these at the six levels, one of level 20 nothing at level 10 and these from there on, and so
+-- a word of level 10 has these entries at the six levels, one of level 20 none at level 10 and these from 20 on, and so
 -- on
 abbrev from_each : List Sym → List (List TableEntry)
 from_each symbols =
     map (λ n. replicate n Stop ++ map (λ s. Take (s ∷ [])) (drop n symbols)) (0 ∷ 1 ∷ 2 ∷ 3 ∷ 4 ∷ 5 ∷ [])
 
--- the same of the four levels from 30 on, which the words of levels 10, 20 and 30 have all
+-- the same for the four levels from 30 on, at all of which the words of levels 10, 20 and 30 are allowed
 abbrev from_each_joining : List Sym → List (List TableEntry)
 from_each_joining symbols =
     map (λ n. replicate n Stop ++ map (λ s. Take (s ∷ [])) (drop n symbols)) (0 ∷ 0 ∷ 0 ∷ 1 ∷ 2 ∷ 3 ∷ [])
 
--- nothing, whatever the levels
+-- no entry, at any level
 abbrev nowhere : ℕ → List (List TableEntry)
 nowhere n = replicate 6 (replicate n Stop)
 
--- a press may be made of each operand, whose arrangement or press has the level of the whole
+-- a press may have each operand; its arrangement or press has the level of the whole
 presses : (rows_at levels slots.Press operands.Power Press ≡ from_each (replicate 6 PowerGroup))
     × (rows_at levels slots.Press operands.Powers Press ≡ from_each (replicate 6 PowersGroup))
     × (rows_at levels slots.Press operands.Provinces Press ≡ from_each (replicate 6 ProvincesGroup))
@@ -76,7 +76,7 @@ presses : (rows_at levels slots.Press operands.Power Press ≡ from_each (replic
 unfolding answer_over table_answer entries may_end_of slot_of
 presses = (refl, refl, refl, refl, refl, refl)
 
--- an arrangement of each operand but a press
+-- an arrangement may have each operand except a press
 arrangements : (rows_at levels slots.Arrangement operands.Power Arrangement ≡ from_each (replicate 6 PowerGroup))
     × (rows_at levels slots.Arrangement operands.Powers Arrangement ≡ from_each (replicate 6 PowersGroup))
     × (rows_at levels slots.Arrangement operands.Provinces Arrangement ≡ from_each (replicate 6 ProvincesGroup))
@@ -87,7 +87,7 @@ arrangements : (rows_at levels slots.Arrangement operands.Power Arrangement ≡ 
 unfolding answer_over table_answer entries may_end_of slot_of
 arrangements = (refl, refl, refl, refl, refl)
 
--- an arrangement is a fact too, and what follows it there is an arrangement and no fact
+-- an arrangement is also a fact; its operand there is an arrangement and no fact
 facts : (rows_at levels slots.Arrangement operands.Power Fact ≡ from_each (replicate 6 PowerGroup))
     × (rows_at levels slots.Arrangement operands.Powers Fact ≡ from_each (replicate 6 PowersGroup))
     × (rows_at levels slots.Arrangement operands.Provinces Fact ≡ from_each (replicate 6 ProvincesGroup))
@@ -98,7 +98,7 @@ facts : (rows_at levels slots.Arrangement operands.Power Fact ≡ from_each (rep
 unfolding answer_over table_answer entries may_end_of slot_of
 facts = (refl, refl, refl, refl, refl)
 
--- in AND and ORR, what follows is flat at levels 30 and 40, and any arrangement from level 50 on
+-- in AND and ORR the operand is flat at levels 30 and 40, and any arrangement from level 50 on
 operands_joined : (rows_at joining slots.Arrangement operands.Power Operand ≡ from_each_joining (replicate 4 PowerGroup))
     × (rows_at joining slots.Arrangement operands.Powers Operand ≡ from_each_joining (replicate 4 PowersGroup))
     × (rows_at joining slots.Arrangement operands.Provinces Operand ≡ from_each_joining (replicate 4 ProvincesGroup))
@@ -113,7 +113,7 @@ abbrev each : List kinds.Operand
 each =
     operands.Power ∷ operands.Powers ∷ operands.Provinces ∷ operands.Order ∷ operands.Arrangement ∷ operands.Press ∷ []
 
--- a press is no arrangement, fact or operand of AND, and an arrangement is no press, whatever follows
+-- a press word is no arrangement, fact or operand of AND, and an arrangement word is no press, whatever its operand
 kinds_apart : (map (λ o. rows_at levels slots.Press o Arrangement) each ≡ replicate 6 (nowhere 6))
     × (map (λ o. rows_at levels slots.Press o Fact) each ≡ replicate 6 (nowhere 6))
     × (map (λ o. rows_at joining slots.Press o Operand) each ≡ replicate 6 (nowhere 4))
@@ -121,12 +121,12 @@ kinds_apart : (map (λ o. rows_at levels slots.Press o Arrangement) each ≡ rep
 unfolding answer_over table_answer entries may_end_of slot_of
 kinds_apart = (refl, refl, refl, refl)
 
--- ---- which words are refused
+-- ---- the words that are refused
 
 abbrev Refusal : Type 0
 Refusal = Result (Unit {0}) WordError
 
--- what is wrong of XYZ with a code, of a name, and of a level and what follows it
+-- the error of XYZ with a code, of a name, and of a level with an operand
 abbrev of_code : ℕ → Refusal
 of_code token = word_fault [] (made (codes "XYZ") token slots.Press L20 operands.Power)
 
@@ -136,7 +136,7 @@ of_name name = word_fault [] (made name 0x4A40 slots.Press L20 operands.Power)
 abbrev of_meaning : Slot → kinds.Operand → Level → Refusal
 of_meaning slot operand level = word_fault [] (made (codes "XYZ") 0x4A40 slot level operand)
 
--- XYZ is a free name, so that of each code its own test is left
+-- XYZ is a free name, so that only the check of the code remains
 abbrev by_code : ℕ → Refusal
 by_code token = if not (is_free_code [] token) then Err faults.Code else Ok tt
 
@@ -155,7 +155,7 @@ free n = replicate n (Ok tt)
 abbrev taken : ℕ → List Refusal
 taken n = replicate n (Err faults.Code)
 
--- the codes of press that are free: 4A04 and 4A05, 4A07 to 4A09, 4A0B, 4A11, 4A19, 4A1D and 4A1E, and from 4A20 on all
+-- the free codes of press: 4A04 and 4A05, 4A07 to 4A09, 4A0B, 4A11, 4A19, 4A1D and 4A1E, and all from 4A20 on
 free_codes : (map of_code (range_with_len 0x4A00 256)
     ≡ taken 4 ++ free 2 ++ taken 1 ++ free 3 ++ taken 1 ++ free 1 ++ taken 5 ++ free 1 ++ taken 7 ++ free 1 ++ taken 3
     ++ free 2 ++ taken 1 ++ free 224)
@@ -167,7 +167,7 @@ free_codes = (
   of_codes (range_with_len 0x4B00 256) ∙ refl,
 )
 
--- no code of another category is: its first and its last
+-- no code of another category is free: its first and its last
 other_codes : (map of_code (map (λ c. c * 256) (range_with_len 0x00 0x4A)) ≡ taken 0x4A)
     × (map of_code (map (λ c. c * 256 + 255) (range_with_len 0x00 0x4A)) ≡ taken 0x4A)
     × (map of_code (map (λ c. c * 256) (range_with_len 0x4B 181)) ≡ taken 181)
@@ -180,7 +180,7 @@ other_codes = (
   of_codes (map (λ c. c * 256 + 255) (range_with_len 0x4B 181)) ∙ refl,
 )
 
--- of all bytes only the letters from A to Z, at each of a name's three places
+-- of all bytes only the letters from A to Z, at each of the three positions in a name
 abbrev letters : List Refusal
 letters = replicate 65 (Err faults.Name) ++ free 26 ++ replicate 165 (Err faults.Name)
 
@@ -195,7 +195,7 @@ protocols_names : map (λ entry. of_name entry.1) names ≡ replicate 198 (Err f
 unfolding name_of token_named names
 protocols_names = refl
 
--- each level of press and each operand, but no arrangement of a press
+-- each level of press with each operand, except an arrangement of a press
 abbrev from_level_10 : List Refusal
 from_level_10 = Err faults.Level ∷ free 6
 
@@ -205,7 +205,7 @@ meanings : (map (λ o. map (of_meaning slots.Press o) (L0 ∷ levels)) each ≡ 
 unfolding name_of token_named names
 meanings = (refl, refl)
 
--- after sixteen words no other, whatever else is wrong of it
+-- after sixteen words none, whatever else is wrong with it
 abbrev behind : List ℕ → ℕ → Level → ℕ → Refusal
 behind name token level n =
     word_fault (replicate n (0x4A50, codes "QQA")) (made name token slots.Press level operands.Power)

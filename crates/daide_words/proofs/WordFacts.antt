@@ -1,5 +1,5 @@
--- What the definitions say of single words, worked out by hand: XYZ, a press of a power from level 20 on, and QQQ, an
--- arrangement of an arrangement from level 30 on.
+-- The definitions at single words: XYZ, a press about a power from level 20 on, and QQQ, an arrangement about an
+-- arrangement from level 30 on. Worked out from the protocol.
 use Rattle.std.proofs.Common.{◌≡◌, ℕ, List, [], ◌∷◌, codes, true, refl}
 use Rattle.std.specs.Prelude.{Ok, Err}
 use Rattle.daide_token.specs.declared.class.Class.TheVariants.{Word}
@@ -35,7 +35,7 @@ qqq = made (codes "QQQ") 0x4A41 slots.Arrangement L30 operands.Arrangement
 abbrev words : Words
 words = grammar_words (xyz ∷ qqq ∷ [])
 
--- both are accepted, and so spoken
+-- both are accepted, and taken into account
 accepted : are_accepted (xyz ∷ qqq ∷ []) ≡ true
 unfolding name_of token_named names
 accepted = refl
@@ -61,12 +61,12 @@ refused :
 unfolding name_of token_named names
 refused = (refl, refl, refl, refl, refl, refl, refl, refl, refl, refl)
 
--- a code is its word's class, and another token's class is its own
+-- a word's code has the word's class, and another token has its own
 classes : ((dialect_of words).class_of 0x4A40 ≡ Word 0) × ((dialect_of words).class_of 0x4A41 ≡ Word 1)
     × ((dialect_of words).class_of 0x4A42 ≡ class_of 0x4A42)
 classes = (refl, refl, refl)
 
--- a press of a power, from level 20 on
+-- a press about a power, from level 20 on
 press_word : (answer_over words (Press L20) (Word 0) ≡ Take (PowerGroup ∷ []))
     × (answer_over words (Press L60) (Word 0) ≡ Take (PowerGroup ∷ []))
     × (answer_over words (Press L10) (Word 0) ≡ Stop)
@@ -76,7 +76,7 @@ press_word : (answer_over words (Press L20) (Word 0) ≡ Take (PowerGroup ∷ []
 unfolding answer_over table_answer entries may_end_of slot_of
 press_word = (refl, refl, refl, refl, refl, refl)
 
--- an arrangement of one, as an operand below level 50 of a flat one, as a fact never of a fact
+-- an arrangement about an arrangement; as an operand below level 50 about a flat one; as a fact never about a fact
 arrangement_word : (answer_over words (Arrangement L30) (Word 1) ≡ Take (ArrangementGroup L30 ∷ []))
     × (answer_over words (Arrangement L20) (Word 1) ≡ Stop)
     × (answer_over words (Operand L30) (Word 1) ≡ Take (OperandGroup L30 ∷ []))

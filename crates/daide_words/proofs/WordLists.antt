@@ -1,4 +1,4 @@
--- Words whose names and meanings are kept apart.
+-- Words with their names and meanings in separate lists.
 use Rattle.std.proofs.Common.{◌≡◌, ℕ, zero, suc, ◌+◌, ◌≤◌, ◌<◌, Bool, true, false, ◌&&◌, List, [], ◌∷◌, ◌++◌, length}
 use Rattle.std.proofs.Common.{take, refl, sym, ap, ◌∙◌, arith, subst, append_assoc, append-nil, nat_le, leb-true}
 use Rattle.std.proofs.Common.{leb-false, if◌then◌else◌, Result, Err, slice_set, get_or, Some, None}
@@ -19,7 +19,7 @@ use Rattle.daide_words.specs.Accepted.{word_fault, are_accepted_after, are_accep
 use Rattle.daide_grammar.specs.Words.{most_words}
 use Rattle.daide_words.proofs.AcceptedCodes.{joined}
 
--- the names of words that are put together are those they were put together from
+-- the names of words that are made from two lists are the names of the first list
 pub names_back : (names : List Named) (meanings : List WordMeaning) → length names ≤ length meanings →
     names_of (words_with names meanings) ≡ names
 names_back [] meanings h = refl
@@ -27,7 +27,7 @@ names_back (name ∷ names) [] h = absurd (omega (arith, h))
 names_back (name ∷ names) (meaning ∷ meanings) h =
     ap (λ (ns : List Named). name ∷ ns) (names_back names meanings (omega (arith, h)))
 
--- one more of each is one word more
+-- one more name and one more meaning make one more word
 pub words_with-append : (names : List Named) (meanings : List WordMeaning) (name : Named) (meaning : WordMeaning) →
     length names ≡ length meanings →
     words_with (names ++ name ∷ []) (meanings ++ meaning ∷ [])
@@ -43,7 +43,7 @@ both : (a b : Bool) → (a && b) ≡ true → (a ≡ true) × (b ≡ true)
 both true b h = (refl, h)
 both false b h = cc
 
--- words of which the last is accepted after the others, which are accepted
+-- a list of accepted words and one more word that is accepted after them
 pub accepted-append : (taken : List Named) (words : List Word) (word : Word) →
     are_accepted_after taken words ≡ true → is_ok (word_fault (taken ++ names_of words) word) ≡ true →
     are_accepted_after taken (words ++ word ∷ []) ≡ true
@@ -67,7 +67,7 @@ capitals_are_ascii (letter ∷ name) h zero =
 capitals_are_ascii (letter ∷ name) h (suc i) =
     capitals_are_ascii name (both (is_capital letter) (list_all is_capital name) h).1 i
 
--- whether a word is refused for want of room
+-- a word is refused if there is no room
 full-refused : (b : Bool) (other : Result (Unit {0}) WordError) → is_ok (if b then Err Full else other) ≡ true →
     b ≡ false
 full-refused true other h = cc
@@ -98,7 +98,7 @@ has_room names meanings n word few enough ok =
           (full-refused (nat_le most_words (length (names_of (first_words names meanings n)))) _ ok),
     )
 
--- one of each put in the place behind is one word more
+-- a name and a meaning written after the last ones make one more word
 pub kept : (names : List Named) (meanings : List WordMeaning) (n : ℕ) (name : Named) (meaning : WordMeaning) →
     n < length names → n < length meanings →
     first_words (slice_set names n name) (slice_set meanings n meaning) (n + 1)
@@ -109,7 +109,7 @@ kept names meanings n name meaning few enough =
     rw (take_more_set names n name few) (rw (take_more_set meanings n meaning enough)
     (words_with-append (take n names) (take n meanings) name meaning (many ∙ sym more)))
 
--- and they stay accepted
+-- and the words stay accepted
 pub kept-accepted : (names : List Named) (meanings : List WordMeaning) (n : ℕ) (name : Named) (meaning : WordMeaning) →
     n < length names → n < length meanings → are_accepted (first_words names meanings n) ≡ true →
     is_ok (word_fault (names_of (first_words names meanings n)) (new_word name meaning)) ≡ true →
@@ -118,7 +118,7 @@ kept-accepted names meanings n name meaning few enough h ok =
     rw (kept names meanings n name meaning few enough)
     (accepted-append [] (first_words names meanings n) (new_word name meaning) h ok)
 
--- a place behind the words has none
+-- an index after the last word has no word
 pub behind : (words : List Word) (k : ℕ) → length words ≤ k → word_at k words ≡ None
 behind [] k h = refl
 behind (word ∷ words) zero h = absurd (omega (arith, h))
@@ -128,7 +128,7 @@ pub names-length : (words : List Word) → length (names_of words) ≡ length wo
 names-length [] = refl
 names-length (word ∷ words) = ap suc (names-length words)
 
--- the word at a place is put together from what stands there
+-- the word at an index is made from the name and the meaning there
 word_at-words_with : (names : List Named) (meanings : List WordMeaning) (k : ℕ) (d : Named) (e : WordMeaning) →
     k < length names → k < length meanings →
     word_at k (words_with names meanings) ≡ Some (new_word (get_or names k d) (get_or meanings k e))
@@ -153,7 +153,7 @@ pub names-few : (names : List Named) (meanings : List WordMeaning) (n : ℕ) →
 names-few names meanings n few enough =
     ap length (first_names names meanings n few enough) ∙ length-take-le n names few
 
--- words that are put together of the first names and meanings are no more than these
+-- words that are made from the first names and meanings are at most as many
 within : (names : List Named) (meanings : List WordMeaning) (count : ℕ)
     → length (names_of (words_with (take count names) (take count meanings))) ≤ count
 within names meanings zero = omega arith

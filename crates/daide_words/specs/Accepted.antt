@@ -1,5 +1,5 @@
--- Which words an operator may add. The names and codes that are taken are the protocol's own and those of the words
--- before. (own)
+-- The words that an operator may add. The names and codes in use are the protocol's own and those of the earlier words.
+-- (own)
 use Rattle.std.specs.Prelude.{ℕ, Bool, true, false, not, ◌&&◌, ◌||◌, ◌==◌, nat_le, List, [], ◌∷◌, ◌++◌, length}
 use Rattle.std.specs.Prelude.{bytes_eq, is_none, is_ok, Result, Ok, Err, if◌then◌else◌}
 use Rattle.std.specs.List.{list_all, list_any}
@@ -19,16 +19,16 @@ use Rattle.daide_words.specs.declared.word.WordError.TheVariants as faults
 abbrev pub is_capital : ℕ → Bool
 is_capital letter = nat_le 65 letter && nat_le letter 90
 
--- capital letters that are no name of the protocol's and of no word before
+-- capital letters that are no name of the protocol or of an earlier word
 abbrev pub is_free_name : List Named → List ℕ → Bool
 is_free_name taken name =
     list_all is_capital name && (is_none (token_named name) && not (list_any (λ entry. bytes_eq entry.1 name) taken))
 
--- three codes of press that the protocol has no word for, and that no operator's word may take
+-- three codes of press without a word in the protocol, which no operator's word may use
 abbrev pub is_barred : ℕ → Bool
 is_barred code = code == 0x4A0D || code == 0x4A12 || code == 0x4A1B
 
--- a code of the category of press that is no token of the protocol's, not barred, and of no word before
+-- a code of category 4A that is no token of the protocol, not barred, and no code of an earlier word
 abbrev pub is_free_code : List Named → ℕ → Bool
 is_free_code taken code =
     (nat_le 0x4A00 code && nat_le code 0x4AFF)
@@ -39,12 +39,12 @@ abbrev pub has_press : Level → Bool
 has_press L0 = false
 has_press _ = true
 
--- whether what a word makes may hold its operand: an arrangement holds no press
+-- whether a word of this slot may have this operand: an arrangement contains no press
 abbrev pub may_hold : Slot → Operand → Bool
 may_hold slots.Arrangement operands.Press = false
 may_hold _ _ = true
 
--- what is wrong of a word after words with these codes and names: the first of these
+-- the first error of a word that is to follow words with these codes and names
 abbrev pub word_fault : List Named → Word → Result (Unit {0}) WordError
 word_fault taken word =
     if nat_le most_words (length taken) then Err faults.Full else
@@ -54,12 +54,12 @@ word_fault taken word =
     if not (may_hold word.slot word.operand) then Err faults.Operand else
     Ok tt
 
--- whether words are accepted one after the other, after words with these codes and names
+-- whether all words are accepted in order, after words with these codes and names
 abbrev pub are_accepted_after : List Named → List Word → Bool
 are_accepted_after taken [] = true
 are_accepted_after taken (word ∷ words) =
     is_ok (word_fault taken word) && are_accepted_after (taken ++ (word.code, word.name) ∷ []) words
 
--- whether words are accepted one after the other
+-- whether all words are accepted in order
 abbrev pub are_accepted : List Word → Bool
 are_accepted = are_accepted_after []

@@ -1,5 +1,5 @@
--- The table with an operator's words, and what is proved of it. Which words there are isn't defined here, so none of it
--- need be believed.
+-- The table with an operator's words, and the proofs about it. No word is defined here, so the main theorem does not
+-- depend on trust in it.
 pub mod OverWords
 pub mod Place
 pub mod Places

@@ -1,4 +1,4 @@
--- A word of an operator, and what it means to the grammar. (own)
+-- A word of an operator, and its form in the grammar. (own)
 use Rattle.std.specs.Prelude.{List, [], ◌∷◌, map}
 use Rattle.daide_token.specs.Names.{Named}
 use Rattle.daide_grammar.specs.Words.{AddedWord, Words, WordSlot, press_word, arrangement_word, WordOperand, one_power}
@@ -10,12 +10,12 @@ use Rattle.daide_words.specs.declared.operand.Operand.TheVariants as operands
 use Rattle.daide_words.specs.declared.word.Word.{Word}
 use Rattle.daide_words.specs.declared.word.WordMeaning.{WordMeaning}
 
--- what a slot is to the grammar
+-- a slot, in the grammar's form
 abbrev pub grammar_slot : Slot → WordSlot
 grammar_slot slots.Press = press_word
 grammar_slot slots.Arrangement = arrangement_word
 
--- what an operand is to the grammar
+-- an operand, in the grammar's form
 abbrev pub grammar_operand : Operand → WordOperand
 grammar_operand operands.Power = one_power
 grammar_operand operands.Powers = some_powers
@@ -24,7 +24,7 @@ grammar_operand operands.Order = an_order
 grammar_operand operands.Arrangement = an_arrangement
 grammar_operand operands.Press = a_press
 
--- what a word is to the grammar, which knows no name
+-- a word, in the grammar's form, which has no name
 abbrev pub grammar_word : Word → AddedWord
 grammar_word word = record {
   code = word.code;
@@ -33,7 +33,7 @@ grammar_word word = record {
   operand = grammar_operand word.operand;
 }
 
--- what the words of an operator are to the grammar
+-- the words of an operator, in the grammar's form
 abbrev pub grammar_words : List Word → Words
 grammar_words words = map grammar_word words
 
@@ -46,7 +46,7 @@ abbrev pub new_word : Named → WordMeaning → Word
 new_word named meaning =
     record { name = named.1; code = named.0; slot = meaning.slot; level = meaning.level; operand = meaning.operand }
 
--- the words of codes, names and meanings that are kept apart
+-- the words of separate lists of names and meanings
 abbrev pub words_with : List Named → List WordMeaning → List Word
 words_with (named ∷ names) (meaning ∷ meanings) = new_word named meaning ∷ words_with names meanings
 words_with _ _ = []

@@ -1,4 +1,4 @@
--- The names of slots and operands in an operator's settings, and a word by its parts. (own)
+-- The names of slots and operands in an operator's settings, and a word from its parts. (own)
 use Rattle.std.specs.Prelude.{ℕ, List, codes, bytes_eq, Option, Some, None, if◌then◌else◌}
 use Rattle.daide_grammar.specs.declared.level.Level.{Level}
 use Rattle.daide_words.specs.declared.word.Word.{Word}
@@ -7,14 +7,14 @@ use Rattle.daide_words.specs.declared.slot.Slot.TheVariants as slots
 use Rattle.daide_words.specs.declared.operand.Operand.{Operand}
 use Rattle.daide_words.specs.declared.operand.Operand.TheVariants as operands
 
--- the slot of a name, letter for letter
+-- the slot with a name, letter for letter
 abbrev pub slot_named : List ℕ → Option Slot
 slot_named name =
     if bytes_eq name (codes "press") then Some slots.Press else
     if bytes_eq name (codes "arrangement") then Some slots.Arrangement else
     None
 
--- the operand of a name, letter for letter
+-- the operand with a name, letter for letter
 abbrev pub operand_named : List ℕ → Option Operand
 operand_named name =
     if bytes_eq name (codes "power") then Some operands.Power else
@@ -25,7 +25,7 @@ operand_named name =
     if bytes_eq name (codes "press") then Some operands.Press else
     None
 
--- the name of each slot, and of each operand, the only one by which it is read
+-- the only name of each slot, and of each operand
 abbrev pub slot_name : Slot → List ℕ
 slot_name slots.Press = codes "press"
 slot_name slots.Arrangement = codes "arrangement"
@@ -38,7 +38,7 @@ operand_name operands.Order = codes "order"
 operand_name operands.Arrangement = codes "arrangement"
 operand_name operands.Press = codes "press"
 
--- a word by its parts, if each is there
+-- a word from its parts, if all are present
 abbrev pub word_of_parts : Option (List ℕ) → Option ℕ → Option Slot → Option Level → Option Operand → Option Word
 word_of_parts (Some name) (Some code) (Some slot) (Some level) (Some operand) =
     Some (record { name = name; code = code; slot = slot; level = level; operand = operand })

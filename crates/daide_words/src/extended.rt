@@ -1,7 +1,7 @@
 //! Predictions with the words of an operator.
 //!
-//! Where the protocol's table stops, an operator's word may stand; everywhere else its answer is the answer. So a token
-//! that is no word is looked up once, as without words.
+//! An operator's word can change only a Stop of the protocol's table. So a token that the protocol's table takes needs
+//! no further look-up.
 
 ghost use Rattle.std.specs.Prelude.{◌≡◌};
 ghost use Rattle.daide_grammar.specs.Table.Answers.{Stop};
@@ -34,7 +34,7 @@ pub struct Extended {
 impl Extended {
     ghost use Rattle.daide_words.specs.Table.Extended.{extended_look_ups, spoken_words};
 
-    /// A table with these words that was never asked.
+    /// Creates a table with these words and no look-up counted.
     pub fn new(words: Words) -> Extended
         ensures words { spoken_words result ≡ grammar_words (words_of words) }
         ensures all_spoken { spoken (grammar_words (words_of words)) ≡ grammar_words (words_of words) }
@@ -47,7 +47,7 @@ impl Extended {
     }
 }
 
-/// What a token of the class means to the symbol where the protocol's table stops it.
+/// Returns the entry for a symbol and a class if the protocol's table stops the class.
 #[cold]
 #[inline(never)]
 fn where_stopped(words: &Words, sym: Symbol, class: Column) -> Move
@@ -66,7 +66,7 @@ fn where_stopped(words: &Words, sym: Symbol, class: Column) -> Move
     }
 }
 
-/// The class of a token that is a word, else the class that it has without words.
+/// Returns the class of a word for a token that is one, or else the class that the token has without words.
 #[cold]
 #[inline(never)]
 fn class_among(words: &Words, token: Token, class: Column) -> Column
@@ -79,7 +79,7 @@ fn class_among(words: &Words, token: Token, class: Column) -> Column
     }
 }
 
-/// The same, where most tokens have a meaning without words, and are looked at no further.
+/// Returns what `class_among` returns, but early for tokens with a meaning without words, which most tokens have.
 #[inline(always)]
 fn class_with(words: &Words, token: Token, class: Column) -> Column
     requires { class_of token ≡ class }

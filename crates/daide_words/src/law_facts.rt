@@ -1,5 +1,4 @@
-//! Each law of `laws`, used once at values that were worked out by hand, so that a weaker law does not check. Nothing
-//! here is called.
+//! Uses each law of `laws` once, at concrete values, so that a weaker law does not check. Nothing here is called.
 
 ghost use Rattle.std.specs.Prelude.{◌≡◌, ◌↔◌, ℕ, ◌≤◌, true, false, List, [], ◌∷◌, codes, length};
 ghost use Rattle.daide_token.specs.declared.class.Class.TheVariants as classes;
@@ -30,8 +29,8 @@ ghost use Rattle.daide_words.specs.Words.{word_at, words_of};
 use crate::laws;
 use crate::words::Words;
 
-/// Over any one word that is accepted, a bracket begins `( power )` exactly where a power and the other bracket follow; a
-/// stack with 62 open brackets has 512 entries at most; and few symbols are asked.
+/// For any single accepted word: a bracket begins `( power )` exactly if a power and the other bracket follow. A stack
+/// with 62 open brackets has at most 512 entries, and each token needs few look-ups.
 fn prediction_at_values()
     ensures takes { (word : Word) (rest : List ℕ) → are_accepted (word ∷ []) ≡ true →
         let over = SymbolMatchesIn (dialect_of (grammar_words (word ∷ []))) in
@@ -47,8 +46,8 @@ fn prediction_at_values()
     laws::added_words_keep_the_laws();
 }
 
-/// Over any one word that is accepted no symbol of a bot stands for a report PRN, what a bot may say at level 20 it may
-/// say at level 60, and what a server may say there is paired. A table speaks the word.
+/// For any single accepted word: no start symbol of a bot derives a report PRN. A message of a bot at level 20 is one
+/// at level 60. A message of a server there is paired. A table takes the word into account.
 fn messages_at_values()
     ensures start_symbol { (word : Word) (m : List ℕ) → are_accepted (word ∷ []) ≡ true →
         ¬ SymbolMatchesIn (dialect_of (grammar_words (word ∷ []))) (Client L20) (prn ∷ m) }
@@ -65,7 +64,7 @@ fn messages_at_values()
     laws::messages_are_paired();
 }
 
-/// `PRN ( ) )`, `HUH ( ( ) )` and `HUH ( ERR #4A40 )` are messages without press, over any one word that is accepted.
+/// `PRN ( ) )`, `HUH ( ( ) )` and `HUH ( ERR #4A40 )` are messages at level 0, with any single accepted word.
 fn answers_at_values()
     ensures prn { (word : Word) →
         IsMessageOver (grammar_words (word ∷ [])) BotSide L0 (prn ∷ bra ∷ ket ∷ ket ∷ []) }
@@ -79,9 +78,9 @@ fn answers_at_values()
     laws::huh_answer_with_err_is_a_message();
 }
 
-/// The code of any one word that is accepted has its own class, and without the word no meaning. A press of a power
-/// from level 10 on stands for a press there. Whatever the word, it begins no message of a bot, as HLO would, and in a
-/// list of words it is one.
+/// The code of any single accepted word has a class of its own, and without the word no meaning. A press word about a
+/// power from level 10 on is a press at level 10. No word begins a message of a bot, as HLO would, and in a list of
+/// free words it is one.
 fn classes_at_values()
     ensures class { (word : Word) → are_accepted (word ∷ []) ≡ true →
         ((dialect_of (grammar_words (word ∷ []))).class_of word.code ≡ classes.Word 0)
@@ -97,7 +96,7 @@ fn classes_at_values()
     laws::added_words_move_as_other();
 }
 
-/// Of two words that are accepted one after the other, the second has another name and another code.
+/// Of two accepted words, the second has another name and another code.
 fn words_at_values()
     ensures name { (one other : Word) → are_accepted (one ∷ other ∷ []) ≡ true → ¬ (one.name ≡ other.name) }
     ensures code { (one other : Word) → are_accepted (one ∷ other ∷ []) ≡ true → ¬ (one.code ≡ other.code) }
@@ -105,7 +104,7 @@ fn words_at_values()
     laws::accepted_words_differ();
 }
 
-/// `orders` is no operand's name, and `order` the only one of its operand, which it is; `Press` is no slot's.
+/// `orders` is no operand's name. `order` is the name of its operand and the only one. `Press` is no slot's name.
 fn operands_at_values()
     ensures orders { (operand : Operand) → ¬ (operand_named (codes "orders") ≡ Some operand) }
     ensures order { (name : List ℕ) → operand_named name ≡ Some operands.Order → name ≡ codes "order" }
@@ -115,7 +114,7 @@ fn operands_at_values()
     laws::operands_have_one_name();
 }
 
-/// Who holds words has the laws of them.
+/// The laws hold for the words of any value of `Words`.
 fn held_at_values(words: &Words)
     ensures err { IsMessageOver (grammar_words (words_of words.now)) BotSide L0
         (huh ∷ bra ∷ err ∷ 0x4A40 ∷ ket ∷ []) }

@@ -1,16 +1,16 @@
-//! What follows a word in brackets.
+//! The operand of a word.
 
 ghost use Rattle.std.specs.Prelude.{◌≡◌};
 ghost use Rattle.daide_words.specs.WordNames.{operand_named};
 
-/// What follows a word in brackets. Its arrangements and press have the level of the whole.
+/// The operand in brackets after a word. An arrangement or a press has the level of the whole.
 #[derive(Clone, Copy, Debug, PartialEq, Eq)]
 pub enum Operand {
     /// `( power )`
     Power,
-    /// `( power+ )`: one at least
+    /// `( power+ )`: at least one
     Powers,
-    /// `( province+ )`: one at least
+    /// `( province+ )`: at least one
     Provinces,
     /// `( order )`
     Order,
@@ -21,7 +21,7 @@ pub enum Operand {
 }
 
 impl Operand {
-    /// The operand of a name in lower case: `power`, `powers`, `provinces`, `order`, `arrangement` or `press`.
+    /// Returns the operand with a lower-case name: `power`, `powers`, `provinces`, `order`, `arrangement` or `press`.
     pub fn by_name(name: &str) -> Option<Operand>
         ensures { result ≡ operand_named name.now }
     {

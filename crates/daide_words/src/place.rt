@@ -1,4 +1,4 @@
-//! Where a word may stand, and what follows it there.
+//! The positions of a word in the grammar, and the operand after it.
 
 ghost use Rattle.std.specs.Prelude.{◌≡◌, ◌∷◌, [], option_map, ◌≤◌, ◌<◌};
 ghost use Rattle.daide_grammar.specs.Table.Answers.{Stop, Take};
@@ -20,7 +20,7 @@ use daide_grammar::numbers::{
 use daide_grammar::predict::Move;
 use daide_grammar::symbol::{Sym, level_place};
 
-/// Where the grammar has a place for words.
+/// A position for words in the grammar.
 #[derive(Clone, Copy)]
 pub(crate) enum WordPosition {
     /// Among the presses.
@@ -31,7 +31,7 @@ pub(crate) enum WordPosition {
     Flat,
 }
 
-/// The place for words of a symbol, with its level.
+/// Returns the position for words of a symbol, with its level, if it has one.
 pub(crate) fn slot_of(sym: Sym) -> Option<(WordPosition, Level)>
     ensures { option_map (λ slot. (grammar_place slot.0, slot.1)) result ≡ slot_of sym }
 {
@@ -44,7 +44,7 @@ pub(crate) fn slot_of(sym: Sym) -> Option<(WordPosition, Level)>
     }
 }
 
-/// What AND and ORR join: from level 50 on any arrangement.
+/// Returns the position of an operand of AND and ORR: from level 50 on any arrangement.
 fn operand_place(level: Level) -> WordPosition
     ensures { result ≡ operand_place level }
 {
@@ -54,7 +54,8 @@ fn operand_place(level: Level) -> WordPosition
     }
 }
 
-/// What a word means at a place for words: its operand follows where it may stand there, else no message continues so.
+/// Returns the entry of a word at a position: its operand follows if the word is allowed there, or else no message
+/// continues.
 pub(crate) fn move_in(word: &Word, place: WordPosition, level: Level) -> Move
     ensures { result ≡ if_stands (stands (grammar_word word.now) (grammar_place place) level)
         (operand_symbol (grammar_operand word.now.operand) (grammar_place place) level) Stop }
@@ -68,7 +69,7 @@ pub(crate) fn move_in(word: &Word, place: WordPosition, level: Level) -> Move
     Move::of(operand_rule(word.operand, place, level))
 }
 
-/// Whether what a word makes may stand at the place.
+/// Returns whether a word for this slot is allowed at the position.
 fn may_make(slot: Slot, place: WordPosition) -> bool
     ensures { result ≡ makes (grammar_slot slot) (grammar_place place) }
 {
@@ -79,7 +80,7 @@ fn may_make(slot: Slot, place: WordPosition) -> bool
     }
 }
 
-/// The rule of the table that leaves a word's operand in its brackets.
+/// Returns the rule of the table that leaves a word's operand in brackets.
 fn operand_rule(operand: Operand, place: WordPosition, level: Level) -> u8
     ensures { action result ≡ Take (operand_symbol (grammar_operand operand) (grammar_place place) level ∷ []) }
 {
@@ -93,7 +94,7 @@ fn operand_rule(operand: Operand, place: WordPosition, level: Level) -> u8
     }
 }
 
-/// The rule that leaves an arrangement in its brackets, a flat one at a place of flat ones.
+/// Returns the rule that leaves an arrangement in brackets: a flat one at a position for flat arrangements.
 fn arrangement_rule(place: WordPosition, level: Level) -> u8
     ensures { action result ≡ Take (operand_symbol an_arrangement (grammar_place place) level ∷ []) }
 {

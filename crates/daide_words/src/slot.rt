@@ -1,9 +1,9 @@
-//! What a word makes with its operand.
+//! What a word forms with its operand.
 
 ghost use Rattle.std.specs.Prelude.{◌≡◌};
 ghost use Rattle.daide_words.specs.WordNames.{slot_named};
 
-/// What a word makes with its operand.
+/// What a word forms with its operand.
 #[derive(Clone, Copy, Debug, PartialEq, Eq)]
 pub enum Slot {
     /// A press.
@@ -13,7 +13,7 @@ pub enum Slot {
 }
 
 impl Slot {
-    /// The slot of a name in lower case: `press` or `arrangement`.
+    /// Returns the slot with a lower-case name: `press` or `arrangement`.
     pub fn by_name(name: &str) -> Option<Slot>
         ensures { result ≡ slot_named name.now }
     {

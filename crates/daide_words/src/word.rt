@@ -1,4 +1,4 @@
-//! A word that an operator adds, and what is wrong of one.
+//! A word that an operator adds, and the reasons to refuse one.
 
 use crate::operand::Operand;
 use crate::slot::Slot;
@@ -8,19 +8,19 @@ use daide_token::token::Token;
 /// A word of press that an operator adds to the grammar.
 #[derive(Clone, Copy, Debug, PartialEq, Eq)]
 pub struct Word {
-    /// Three letters from A to Z, by which the word is printed.
+    /// Three letters from A to Z, the printed name.
     pub name: [u8; 3],
     /// Its token, 4A00 to 4AFF hexadecimal.
     pub code: Token,
-    /// What it makes with its operand.
+    /// What it forms with its operand.
     pub slot: Slot,
-    /// The level from which it may stand there.
+    /// The lowest level at which it is allowed.
     pub level: Level,
-    /// What follows it in brackets.
+    /// Its operand, in brackets.
     pub operand: Operand,
 }
 
-/// What a word makes, from which level on, and of what.
+/// What a word forms, from which level on, and with which operand.
 #[derive(Clone, Copy)]
 pub(crate) struct WordMeaning {
     pub(crate) slot: Slot,
@@ -28,18 +28,18 @@ pub(crate) struct WordMeaning {
     pub(crate) operand: Operand,
 }
 
-/// Why a word is refused, in the order in which it is looked at.
+/// Why a word is refused, in the order of the checks.
 #[derive(Clone, Copy, Debug, PartialEq, Eq)]
 pub enum WordError {
-    /// Sixteen words are there.
+    /// There are sixteen words already.
     Full,
-    /// The name isn't three letters from A to Z, or is a name of the protocol's or of an earlier word.
+    /// The name isn't three letters from A to Z, or belongs to the protocol or to an earlier word.
     Name,
-    /// The code isn't one of 4A00 to 4AFF, or is a token of the protocol's, one of the barred 4A0D, 4A12 and
-    /// 4A1B, or an earlier word's.
+    /// The code isn't one of 4A00 to 4AFF, is a token of the protocol, is one of the barred 4A0D, 4A12 and 4A1B, or
+    /// belongs to an earlier word.
     Code,
-    /// The level is 0, where there is no press.
+    /// The level is 0, which has no press.
     Level,
-    /// An arrangement can't hold a press.
+    /// An arrangement can't contain a press.
     Operand,
 }

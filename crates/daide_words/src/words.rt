@@ -1,4 +1,4 @@
-//! The words of an operator, in fixed memory.
+//! The words of an operator, in an array of fixed size.
 
 ghost use Rattle.std.specs.Prelude.{◌≡◌, ℕ, ◌≤◌, ◌<◌, true, false, not, ◌||◌, ◌==◌, List, [], ◌∷◌, ◌++◌, take, length};
 ghost use Rattle.std.specs.Prelude.{OnOk, OnErr, IfSome, is_some, get_or, slice_index_or, bytes_eq};
@@ -17,7 +17,7 @@ use daide_grammar::numbers::WORD_COUNT;
 use daide_token::token::Token;
 use std::str;
 
-/// The most words that an operator may add.
+/// The maximum number of words that an operator may add.
 pub const MAX_WORDS: usize = WORD_COUNT;
 
 /// Words that an operator added, each accepted after the ones before it.
@@ -33,7 +33,7 @@ pub struct Words {
 impl Words {
     ghost use Rattle.daide_words.specs.Words.{word_at, words_of};
 
-    /// No words.
+    /// Creates an empty list of words.
     pub fn new() -> Words
         ensures { words_of result ≡ [] }
     {
@@ -68,7 +68,7 @@ impl Words {
         Ok(())
     }
 
-    /// The word at a place, the first one's being 0.
+    /// Returns the word at an index, counted from 0.
     pub fn get(&self, place: usize) -> Option<Word>
         ensures { result ≡ word_at place (words_of self.now) }
     {
@@ -93,7 +93,7 @@ impl Words {
         ensures { are_accepted (words_of self.now) ≡ true }
     {}
 
-    /// Each word's code and name, in the order in which the words were added.
+    /// Returns each word's code and name, in the order in which the words were added.
     pub fn names(&self) -> &[(Token, [u8; 3])]
         ensures names { result.now ≡ names_of (words_of self.now) }
         ensures few { length result.now ≤ most_words }
@@ -102,7 +102,7 @@ impl Words {
     }
 }
 
-/// The place of the first entry of a token.
+/// Returns the index of the first entry with a token.
 pub(crate) fn place_in(names: &[(Token, [u8; 3])], token: Token) -> Option<u8>
     requires { length names.now ≤ most_words }
     ensures place { result ≡ place_from 0 names.now token }
@@ -121,7 +121,8 @@ pub(crate) fn place_in(names: &[(Token, [u8; 3])], token: Token) -> Option<u8>
     None
 }
 
-/// What is wrong of a word after words with these codes and names.
+/// Checks a word that is to follow words with these codes and names. Returns the first error of the order of
+/// `WordError`.
 fn check(taken: &[(Token, [u8; 3])], word: &Word) -> Result<(), WordError>
     ensures { result ≡ word_fault taken.now word.now }
 {
@@ -144,35 +145,32 @@ fn check(taken: &[(Token, [u8; 3])], word: &Word) -> Result<(), WordError>
     Ok(())
 }
 
-/// Whether a name is three capital letters, and neither a name of the protocol's nor taken.
+/// Returns whether a name is three capital letters, and belongs neither to the protocol nor to an earlier word.
 fn is_free_name(taken: &[(Token, [u8; 3])], name: [u8; 3]) -> bool
     ensures { result ≡ is_free_name taken.now name }
 {
     are_capitals(name) && !is_named(name) && !has_name(taken, name)
 }
 
-/// Whether all letters are from A to Z.
 fn are_capitals(name: [u8; 3]) -> bool
     ensures { result ≡ list_all is_capital name }
 {
     name.iter().all(|letter| letter.is_ascii_uppercase())
 }
 
-/// Whether a name is taken.
 fn has_name(taken: &[(Token, [u8; 3])], name: [u8; 3]) -> bool
     ensures { result ≡ list_any (λ entry. bytes_eq entry.1 name) taken.now }
 {
     taken.iter().any(|entry| entry.1 == name)
 }
 
-/// Whether a code is taken.
 fn has_code(taken: &[(Token, [u8; 3])], code: u16) -> bool
     ensures { result ≡ list_any (λ entry. entry.0 == code) taken.now }
 {
     taken.iter().any(|entry| entry.0.code() == code)
 }
 
-/// Whether the protocol has a token of this name.
+/// Returns whether the protocol has a token with this name.
 fn is_named(name: [u8; 3]) -> bool
     requires { list_all is_capital name ≡ true }
     ensures { result ≡ is_some (token_named name) }
@@ -183,7 +181,7 @@ fn is_named(name: [u8; 3]) -> bool
     }
 }
 
-/// Whether a code is one of press that is no token of the protocol's, not barred and not taken.
+/// Returns whether a code is of category 4A and neither a token of the protocol, nor barred, nor in an entry.
 fn is_free_code(taken: &[(Token, [u8; 3])], token: Token) -> bool
     ensures { result ≡ is_free_code taken.now token }
 {

@@ -1,13 +1,13 @@
-//! Reports with their explanations, worked out by hand from the protocol.
+//! Reports with explanations, worked out from the protocol.
 
 use daide_log::{LogFault, explain_log};
 use daide_test_support::rows::same;
 use std::alloc::Global;
 use std::test::Fail;
 
-/// Logs, their reports with explanations, and how many frames are not whole.
+/// A log | its report with explanations | the number of incomplete frames.
 const ROWS: &[(&str, &str, u32)] = &[
-    // a frame over two lines, comments between, PRN and HUH
+    // a frame over two lines with comments between, PRN and HUH
     (
         "daide-log 1\nconfig 60 1024 16\n# began\nbot 00000004\nbot 0001DA10\nserver 01000000\n# a bracket\r\n\nbot 02000004\nbot 48034000\nbot 02000004480F4803\nend bot\n",
         "# began\n5 bot IM 4 relay\n6 server RM 0 relay\n# a bracket\n10 bot DM 4 prn\n    GOF (\n    judged at level 0\n    PRN ( GOF ( )\n    unpaired: ( at 1\n11 bot DM 4 huh 1\n    OBS GOF\n    judged at level 0\n    HUH ( OBS ERR GOF )\n    expected: <end>\n12 bot end\nrelayed 2 prn 1 huh 1 faults 0\n",
@@ -40,7 +40,7 @@ const ROWS: &[(&str, &str, u32)] = &[
         "3 bot fault 01\n    no IM in time\nrelayed 0 prn 0 huh 0 faults 1\n",
         0,
     ),
-    // frames that are not whole, and a log without its last line feed
+    // incomplete frames, and a log without its last line feed
     (
         "daide-log 1\nconfig 60 1024 16\nbot 0000000400",
         "    bot: 5 of 8 bytes of a frame\nrelayed 0 prn 0 huh 0 faults 0\n",
@@ -51,7 +51,7 @@ const ROWS: &[(&str, &str, u32)] = &[
         "4 2 bot IM 4 relay\n# the end\n    1 bot: 5 of 8 bytes of a frame\n    2 server: 3 of 4 bytes of a header\nrelayed 1 prn 0 huh 0 faults 0\n",
         2,
     ),
-    // words of the operator by their names
+    // an operator's words by their names
     (
         "daide-log 2\nconfig 60 1024 16 1 1\nword XYZ 4A40 press 20 power\n1 bot 000000040001DA10\n1 server 01000000\n1 bot 020000024A40\n",
         "4 1 bot IM 4 relay\n5 1 server RM 0 relay\n6 1 bot DM 2 huh 0\n    XYZ\n    judged at level 0\n    HUH ( ERR XYZ )\n    expected: DRW GOF HLO HST HUH IAM MAP MDF MIS NME NOT NOW OBS ORD PRN REJ SCO SUB TME YES ADM\nrelayed 2 prn 0 huh 1 faults 0\n",
@@ -59,7 +59,7 @@ const ROWS: &[(&str, &str, u32)] = &[
     ),
 ];
 
-/// What an explained check answers, and what it writes.
+/// Returns the number of incomplete frames or the fault, and the report.
 fn explained(alloc: Global, log: &str) -> Result<(Option<u32>, Option<LogFault>, String), Fail> {
     let mut bytes = log.as_bytes();
     let mut report = Vec::new(alloc);

@@ -1,4 +1,4 @@
-//! Lines of the log of a match.
+//! Lines of a match's log.
 
 use daide_frame::Side;
 use daide_log::config_line::{MatchConfig, read_match_config};
@@ -14,7 +14,7 @@ const CONFIG: Config = Config {
     max_depth: 16,
 };
 
-/// First lines, and whether they begin the log of a match.
+/// A first line | whether it begins the log of a match.
 const NAMES: &[(&[u8], bool)] = &[
     (b"daide-log 2", true),
     (b"daide-log 1", false),
@@ -29,14 +29,14 @@ fn first_line_of_a_match(_rt: HostRuntime) -> Result<(), Fail> {
     Ok(())
 }
 
-/// Lines, and the sessions and the words that they give.
+/// A second line | its number of sessions | its number of words.
 const SIZES: &[(&[u8], u16, u16)] = &[
     (b"config 60 1024 16 2 1", 2, 1),
     (b"config 60 1024 16 1 0", 1, 0),
     (b"config 60 1024 16 256 16", 256, 16),
 ];
 
-/// Lines that give none.
+/// Second lines that are refused.
 const NO_SIZES: &[&[u8]] = &[
     b"config 60 1024 16",
     b"config 60 1024 16 2",
@@ -65,7 +65,7 @@ fn sessions_and_words_of_a_match(_rt: HostRuntime) -> Result<(), Fail> {
     Ok(())
 }
 
-/// Lines of a match of two sessions, and what they tell.
+/// A line in a match of two sessions | its event.
 const EVENTS: &[(&[u8], ParsedMatchEvent)] = &[
     (
         b"2 timer",
@@ -83,7 +83,7 @@ const EVENTS: &[(&[u8], ParsedMatchEvent)] = &[
     (b"# 3 timer", ParsedMatchEvent::Quiet),
 ];
 
-/// Lines that tell nothing that may be told of them.
+/// Lines that are refused in a match of two sessions.
 const NO_EVENTS: &[&[u8]] = &[
     b"3 timer",
     b"0 timer",

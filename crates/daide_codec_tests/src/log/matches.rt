@@ -5,7 +5,7 @@ use daide_test_support::rows::{holds, same};
 use std::alloc::Global;
 use std::test::Fail;
 
-/// Logs | their reports, with `/` for a line feed | the text of the fault, if any.
+/// A log | its report, both with `/` for a line feed | the text of the fault, if there is one.
 const ROWS: &str = "\
 daide-log 2/config 60 1024 16 2 1/word XYZ 4A40 press 20 power/1 bot 000000040001DA10/2 timer/1 server 01000000/1 bot 0200000448034000/ | 4 1 bot IM 4 relay/5 2 bot fault 01/6 1 server RM 0 relay/7 1 bot DM 4 prn/relayed 2 prn 1 huh 0 faults 1/ |
 daide-log 2/config 60 1024 16 2 1/word XYZ 4A40 press 20 power/1 bot 000000040001DA10/2 timer/1 server 01000000/1 bot 0200000448034000/3 timer/ | 4 1 bot IM 4 relay/5 2 bot fault 01/6 1 server RM 0 relay/7 1 bot DM 4 prn/ | line 8 is not a log line
@@ -50,7 +50,7 @@ fn matches_and_their_reports(rt: HostRuntime) -> Result<(), Fail> {
     check_rows(rt.alloc(), ROWS)
 }
 
-/// The bot's offer `SND ( FRA ) ( XYZ ( ENG ) )` at level 20, behind the opening of a game, with XYZ as a word.
+/// The bot's offer `SND ( FRA ) ( XYZ ( ENG ) )` at level 20, after the opening of a game, with XYZ as a word.
 const WORDED: &str =
     "daide-log 2/config 60 1024 16 1 1/word XYZ 4A40 press 20 power/1 bot 000000040001DA10/1 server 01000000/1 server 0200001A4804400041014001400004D24001400040004903001440014001/1 bot 02000014481740004102400140004A404000410140014001/";
 
@@ -65,7 +65,7 @@ const WORDED_REPORT: &str =
 const UNWORDED_REPORT: &str =
     "3 1 bot IM 4 relay/4 1 server RM 0 relay/5 1 server DM 26 relay/6 1 bot DM 20 huh 5/relayed 3 prn 0 huh 1 faults 0/";
 
-/// A log has this report.
+/// Checks that a log has this report.
 fn check_reported(alloc: Global, log: &str, report: &str) -> Result<(), Fail> {
     let (written, _) = checked_row(alloc, log)?;
     same(&written.as_str(), &report, &log)
@@ -77,7 +77,7 @@ fn words_are_of_each_session(rt: HostRuntime) -> Result<(), Fail> {
     check_reported(rt.alloc(), UNWORDED, UNWORDED_REPORT)
 }
 
-/// What the sessions of a match are told in turn: a session goes on as far as its number modulo 5 says.
+/// The events of a match's sessions, in order. A session gets only as many of them as its number modulo 5.
 const EVENTS: &[&str] = &[
     "bot 000000040001DA10\n",
     "server 01000000\n",
@@ -87,20 +87,20 @@ const EVENTS: &[&str] = &[
     "timer\n",
 ];
 
-/// What a session is told in a round.
+/// Returns the event of a session in a round.
 fn event_of(session: usize, round: usize) -> &'static str {
     let place = if session % 5 < round { 5 } else { round };
     EVENTS.get(place).unwrap_or(&"")
 }
 
-/// A number, and a blank.
+/// Returns a number followed by a space.
 fn number_of(alloc: Global, session: usize) -> Result<String, Fail> {
     let mut number = session.to_string(alloc)?;
     number.push(' ')?;
     Ok(number)
 }
 
-/// What each of so many sessions is told in a round.
+/// Appends the events of all sessions in a round.
 fn push_round(log: &mut String, alloc: Global, round: usize, sessions: usize) -> Result<(), Fail> {
     for session in 1..=sessions {
         log.push_str(number_of(alloc, session)?.as_str())?;
@@ -109,7 +109,7 @@ fn push_round(log: &mut String, alloc: Global, round: usize, sessions: usize) ->
     Ok(())
 }
 
-/// The log of a hundred sessions, of which each is told one event in each round.
+/// Returns the log of a hundred sessions, with one event for each session in each round.
 fn interleaved(alloc: Global) -> Result<String, Fail> {
     let mut log = String::from_str(alloc, "daide-log 2\nconfig 60 512 16 100 0\n")?;
     for round in 0..EVENTS.len() {
@@ -118,7 +118,7 @@ fn interleaved(alloc: Global) -> Result<String, Fail> {
     Ok(log)
 }
 
-/// An event without the number of a session, where it is of that, and else `#`.
+/// Appends an event without the session's number, or `#` if the line is another session's.
 fn push_event(own: &mut String, line: &str, number: &str) -> Result<(), Fail> {
     match line.strip_prefix(number) {
         Some(event) => own.push_str(event)?,
@@ -127,7 +127,7 @@ fn push_event(own: &mut String, line: &str, number: &str) -> Result<(), Fail> {
     Ok(own.push_str("\n")?)
 }
 
-/// The log of one session alone: its own lines without its number, and `#` for every other.
+/// Returns the log of one session alone: its own lines without its number, and `#` for every other line.
 fn own_log(alloc: Global, log: &str, number: &str) -> Result<String, Fail> {
     let mut own = String::from_str(alloc, "daide-log 1\nconfig 60 512 16\n")?;
     for line in log.lines().skip(2) {
@@ -136,7 +136,7 @@ fn own_log(alloc: Global, log: &str, number: &str) -> Result<String, Fail> {
     Ok(own)
 }
 
-/// A line without the number of a session, where it names that.
+/// Appends a line of the report without the session's number, if it names that session.
 fn push_own_line(own: &mut String, line: &str, number: &str) -> Result<(), Fail> {
     let Some((place, told)) = line.split_once(' ') else {
         return Ok(());
@@ -150,7 +150,7 @@ fn push_own_line(own: &mut String, line: &str, number: &str) -> Result<(), Fail>
     Ok(own.push_str("\n")?)
 }
 
-/// The lines of a report that name a session, without its number, and then the last.
+/// Returns the lines of a report that name a session, without its number, followed by the last line.
 fn own_report(alloc: Global, report: &str, number: &str, last: &str) -> Result<String, Fail> {
     let mut own = String::new(alloc);
     for line in report.lines() {
@@ -161,19 +161,18 @@ fn own_report(alloc: Global, report: &str, number: &str, last: &str) -> Result<S
     Ok(own)
 }
 
-/// The last line of a report.
 fn last_line(report: &str) -> &str {
     report.lines().last().unwrap_or("")
 }
 
-/// The report of a log that has no fault.
+/// Returns the report of a log without a fault.
 fn report_of(alloc: Global, log: &str) -> Result<String, Fail> {
     let (answer, report) = checked(alloc, log.as_bytes())?;
     holds(answer.is_ok(), "a fault")?;
     Ok(report)
 }
 
-/// The report of a match has of a session what the session's own log has.
+/// Checks that the report of a match has the same lines for a session as the report of the session's own log.
 fn session_is_alone(alloc: Global, log: &str, report: &str, session: usize) -> Result<(), Fail> {
     let number = number_of(alloc, session)?;
     let own = own_log(alloc, log, number.as_str())?;

@@ -1,4 +1,4 @@
-//! Logs of any length, and readers, writers and heaps that refuse.
+//! Logs of any length, and readers, writers and heaps that fail.
 
 use daide_log::LogFault;
 use daide_log::check::check_log;
@@ -11,11 +11,11 @@ use std::io;
 use std::io::{ErrorKind, Read, Write};
 use std::test::Fail;
 
-/// A log of which each event line is reported in one line.
+/// A log, each event line of which has one line in the report.
 const LOG: &[u8] =
     b"daide-log 1\nconfig 60 1024 16\nbot 000000040001DA10\nserver 01000000\nbot 020000024803\nbot 0200000448034000\nserver 03000000\n";
 
-/// Its report, line by line.
+/// The report of `LOG`, line by line.
 const REPORT: &[&str] = &[
     "3 bot IM 4 relay\n",
     "4 server RM 0 relay\n",
@@ -34,7 +34,7 @@ const NOTHING: Summary = Summary {
     faults: 0,
 };
 
-/// The first lines of the report.
+/// Returns the first `count` lines of the report.
 fn first_lines(alloc: Global, count: usize) -> Result<String, Fail> {
     let mut text = String::new(alloc);
     for line in REPORT.iter().take(count) {
@@ -43,7 +43,7 @@ fn first_lines(alloc: Global, count: usize) -> Result<String, Fail> {
     Ok(text)
 }
 
-/// The answer to a log of the opening and a line of so many `#`, with this end.
+/// Checks a log of the opening and a line of `count` `#`, with this line end, and returns the result.
 fn comment_of(alloc: Global, count: usize, end: &[u8]) -> Result<Result<Summary, LogFault>, Fail> {
     let mut log = Vec::from_slice(alloc, OPENING)?;
     for _byte in 0..count {
@@ -54,7 +54,7 @@ fn comment_of(alloc: Global, count: usize, end: &[u8]) -> Result<Result<Summary,
     Ok(check_log(alloc, &mut log.as_slice(), &mut report))
 }
 
-/// How many `#` there are, the end of their line, and the answer.
+/// The number of `#` | the end of their line | the result.
 const LINES: &[(usize, &[u8], Result<Summary, LogFault>)] = &[
     (2100, b"\n", Ok(NOTHING)),
     (2100, b"", Ok(NOTHING)),
@@ -72,7 +72,7 @@ fn longest_line(rt: HostRuntime) -> Result<(), Fail> {
     Ok(())
 }
 
-/// The opening of a log, and behind it so many lines `#`, made as they are read.
+/// A reader of the opening of a log, followed by this number of lines `#`, which it generates.
 #[derive(Drop)]
 struct Comments<'a> {
     opening: &'a [u8],
@@ -97,13 +97,13 @@ impl Read for Comments<'_> {
     }
 }
 
-/// How many lines there are, and the answer.
+/// The number of lines | the result.
 const COUNTS: &[(usize, Result<Summary, LogFault>)] = &[
     (999_998, Ok(NOTHING)),
     (999_999, Err(LogFault::TooManyLines)),
 ];
 
-/// A log of so many lines is answered so, and reported only where it is whole.
+/// Checks that a log of `lines` lines has this result, and is reported only if it has no fault.
 fn assert_lines(alloc: Global, lines: usize, want: &Result<Summary, LogFault>) -> Result<(), Fail> {
     let mut log = Comments {
         opening: OPENING,
@@ -126,7 +126,7 @@ fn most_lines(rt: HostRuntime) -> Result<(), Fail> {
     Ok(())
 }
 
-/// A log without end, given byte by byte and counted: its opening, and then one line.
+/// A reader of an endless log, byte by byte, which counts the bytes: an opening, then one line.
 #[derive(Drop)]
 struct Endless<'a> {
     opening: &'a [u8],
@@ -147,10 +147,10 @@ impl Read for Endless<'_> {
     }
 }
 
-/// What goes before the line, and the number of the line.
+/// The lines before the endless one | the number of that line.
 const ENDLESS: &[(&[u8], u32)] = &[(b"", 1), (b"daide-log 1\n", 2), (OPENING, 3)];
 
-/// A line without end is too long at its byte 2,101, and nothing is reported.
+/// Checks that an endless line is too long at its byte 2,101, and that nothing is reported.
 fn assert_endless(alloc: Global, opening: &[u8], number: u32) -> Result<(), Fail> {
     let mut log = Endless { opening, given: 0 };
     let mut report = Vec::new(alloc);
@@ -168,7 +168,7 @@ fn endless_line_is_left_at_its_byte_2101(rt: HostRuntime) -> Result<(), Fail> {
     Ok(())
 }
 
-/// How many lines of the report stand for the first bytes of the log.
+/// Returns the number of lines in the report of the first `count` bytes of the log.
 fn lines_for(count: usize) -> usize {
     let whole = LOG
         .iter()
@@ -178,10 +178,10 @@ fn lines_for(count: usize) -> usize {
     whole.saturating_sub(2)
 }
 
-/// How many reads are enough for the log.
+/// The number of reads that the log needs.
 const ENOUGH_READS: usize = LOG.len() / 3 + 2;
 
-/// Whether these are the first lines of the report, and no more.
+/// Returns whether a report consists of its first `count` lines.
 fn are_first_lines(report: &[u8], count: usize) -> bool {
     let mut left = report;
     for line in REPORT.iter().take(count) {
@@ -193,7 +193,7 @@ fn are_first_lines(report: &[u8], count: usize) -> bool {
     left.is_empty()
 }
 
-/// Where a read fails, that is told, after the report of all lines before it.
+/// Checks that a failed read is returned, after the report of all lines before it.
 fn assert_read(alloc: Global, reads: usize) -> Result<(), Fail> {
     let mut log = FailsAtRead {
         bytes: LOG,
@@ -223,10 +223,10 @@ fn each_read_refused_in_turn(rt: HostRuntime) -> Result<(), Fail> {
     Ok(())
 }
 
-/// How many writes are enough for the report: 89 bytes before the last read, and 31 behind it.
+/// The number of writes that the report needs: 23 for the 89 bytes before the last read, and 8 for the 31 after it.
 const ENOUGH_WRITES: usize = 23 + 8;
 
-/// Where a write fails, that is told, and the start of the whole report is written.
+/// Checks that a failed write is returned, and that a prefix of the report is written.
 fn assert_write(alloc: Global, writes: usize, whole: &[u8]) -> Result<(), Fail> {
     let mut log = LOG;
     let mut report = FailsAtWrite {
@@ -252,7 +252,7 @@ fn each_write_refused_in_turn(rt: HostRuntime) -> Result<(), Fail> {
     Ok(())
 }
 
-/// A writer that counts its writes, and takes each whole.
+/// A writer that counts its writes and their bytes, and accepts each write whole.
 #[derive(Drop)]
 struct Counts {
     writes: u32,
@@ -271,7 +271,7 @@ impl Write for Counts {
     }
 }
 
-/// How many writes, of how many bytes in all, there are for a log that is read at once.
+/// Returns the number of writes, and of their bytes, for a log that is read at once.
 fn writes_for(alloc: Global, log: &[u8]) -> (u32, usize) {
     let mut bytes = log;
     let mut report = Counts {
@@ -282,7 +282,7 @@ fn writes_for(alloc: Global, log: &[u8]) -> (u32, usize) {
     (report.writes, report.bytes)
 }
 
-/// A line of 256 empty messages.
+/// Appends a line of 256 empty messages.
 fn push_busy_line(log: &mut Vec<u8>) -> Result<(), Fail> {
     log.extend_from_slice(b"bot ")?;
     for _message in 0..256 {
@@ -291,7 +291,7 @@ fn push_busy_line(log: &mut Vec<u8>) -> Result<(), Fail> {
     Ok(log.push(b'\n')?)
 }
 
-/// The log up to its first message, and two such lines.
+/// Returns the log up to its first message, followed by two such lines.
 fn busy_log(alloc: Global) -> Result<Vec<u8>, Fail> {
     let mut log = Vec::from_slice(alloc, &LOG[..67])?;
     push_busy_line(&mut log)?;
@@ -303,13 +303,13 @@ fn busy_log(alloc: Global) -> Result<Vec<u8>, Fail> {
 fn report_goes_out_in_blocks(rt: HostRuntime) -> Result<(), Fail> {
     let busy = busy_log(rt.alloc())?;
     let of_busy = writes_for(rt.alloc(), busy.as_slice());
-    // before the read that finds the end, and at the end; and where a line more might not find room: 37 bytes, 512 lines
-    // of 17, and 33
+    // Writes occur before the read that finds the end, at the end, and if another line might not fit. The report of the
+    // busy log has 37 bytes, 512 lines of 17, and 33.
     let told = (writes_for(rt.alloc(), LOG), of_busy);
     same(&told, &((2, 120), (3, 8774)), &"at the end, and no room")
 }
 
-/// A line of so many empty messages of the last server of a match, or one that says nothing.
+/// Appends a line of `count` empty messages from the server of a match's last session, or a comment if there are none.
 fn push_messages(log: &mut Vec<u8>, count: usize) -> Result<(), Fail> {
     if count == 0 {
         return Ok(log.extend_from_slice(b"#\n")?);
@@ -321,7 +321,8 @@ fn push_messages(log: &mut Vec<u8>, count: usize) -> Result<(), Fail> {
     Ok(log.push(b'\n')?)
 }
 
-/// A match whose last session is open at line 4, with so many messages at line 5, and 256 each at the lines 10 and 11.
+/// Returns the log of a match whose last session is open at line 4. Line 5 has `count` messages, and lines 10 and 11
+/// have 256 each.
 fn match_log(alloc: Global, count: usize) -> Result<Vec<u8>, Fail> {
     let opening =
         b"daide-log 2\nconfig 60 512 16 256 0\n256 bot 000000040001DA10\n256 server 01000000\n";
@@ -333,8 +334,8 @@ fn match_log(alloc: Global, count: usize) -> Result<Vec<u8>, Fail> {
     Ok(log)
 }
 
-/// The lines of a report are of 24 bytes below line 10 and of 25 from there on, so with 0 to 24 of the former every room
-/// that may be left before a line of the latter is there once.
+/// Lines of a report have 24 bytes below line 10 of the log, and 25 from there on. So with 0 to 24 of the shorter ones,
+/// each possible free space before a longer one occurs once.
 #[test]
 fn line_finds_room_whatever_is_left(rt: HostRuntime) -> Result<(), Fail> {
     for count in 0..25usize {
@@ -347,14 +348,14 @@ fn line_finds_room_whatever_is_left(rt: HostRuntime) -> Result<(), Fail> {
     Ok(())
 }
 
-/// A log that wants room for a session and two bodies of 512 bytes, and has a bad line behind that.
+/// A log that needs memory for a session with two bodies of 512 bytes, and has a bad line after the event.
 const SMALL: &[u8] = b"daide-log 1\nconfig 60 512 16\ntimer\nbad\n";
 
-/// The same of a match, with a word and two sessions.
+/// The same for a match with a word and two sessions.
 const SMALL_MATCH: &[u8] =
     b"daide-log 2\nconfig 60 512 16 2 1\nword XYZ 4A40 press 20 power\n2 timer\nbad\n";
 
-/// The fault of a log whose memory lies in a heap, and the report.
+/// Checks a log with its memory on a heap, and returns its fault and its report.
 fn checked_on(alloc: Global, heap: &LocalHeap, log: &[u8]) -> (Option<LogFault>, Vec<u8>) {
     let mut rest = log;
     let mut report = Vec::new(alloc);
@@ -362,7 +363,7 @@ fn checked_on(alloc: Global, heap: &LocalHeap, log: &[u8]) -> (Option<LogFault>,
     (answer.err(), report)
 }
 
-/// The same in a heap of so many bytes, which is given back.
+/// The same on a heap of this size, which must be empty at the end.
 fn checked_within(alloc: Global, bytes: usize, log: &[u8]) -> Result<(LogFault, Vec<u8>), Fail> {
     let heap = LocalHeap::new(alloc, bytes)?;
     let (fault, report) = checked_on(alloc, &heap, log);
@@ -372,8 +373,8 @@ fn checked_within(alloc: Global, bytes: usize, log: &[u8]) -> Result<(LogFault, 
     }
 }
 
-/// Whether a log is refused for want of memory on a heap of so many bytes, and reports nothing then; else it has this
-/// fault, and this report before it.
+/// Returns whether a log is refused for lack of memory on a heap of this size, with an empty report. Otherwise checks
+/// that it has this fault, after this report.
 fn is_refused_within(
     alloc: Global,
     bytes: usize,
@@ -391,7 +392,7 @@ fn is_refused_within(
     }
 }
 
-/// Over heaps from empty to ample a log is refused for want of memory up to some size.
+/// Checks that on heaps of growing size a log is refused for lack of memory up to some size, and not above it.
 fn assert_growths(
     alloc: Global,
     log: &[u8],
@@ -405,7 +406,7 @@ fn assert_growths(
             refused = unit + 1;
         }
     }
-    // room for the sessions alone is refused at less than that of their bodies
+    // the sessions alone need less memory than their bodies
     holds(4 < refused && refused < 64, "how often")
 }
 
@@ -417,7 +418,7 @@ fn growth_refused_in_turn(rt: HostRuntime) -> Result<(), Fail> {
     assert_growths(rt.alloc(), SMALL_MATCH, fault, b"4 2 bot fault 01\n")
 }
 
-/// Logs, and their faults where there is no memory.
+/// A log | its fault if there is no memory.
 #[rattlefmt::skip]
 const WITHOUT_MEMORY: &[(&[u8], LogFault)] = &[
     (b"daide-log 2\n", LogFault::BadLine(2)),
@@ -428,7 +429,7 @@ const WITHOUT_MEMORY: &[(&[u8], LogFault)] = &[
     (SMALL_MATCH, LogFault::Memory),
     (b"", LogFault::BadLine(1)),
     (b"daide-log 1\n", LogFault::BadLine(2)),
-    // only later lines may say nothing
+    // only lines after the head may be empty or comments
     (b"\ndaide-log 1\n", LogFault::BadLine(1)),
     (b"# 1\ndaide-log 1\n", LogFault::BadLine(1)),
     (b"daide-log 1\n\nconfig 60 512 16\n", LogFault::BadLine(2)),

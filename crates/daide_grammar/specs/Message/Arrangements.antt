@@ -1,4 +1,4 @@
--- Arrangements, which press proposes, and facts, which press states. At which level a form enters is our own reading.
+-- Arrangements, which press proposes, and facts, which press states. The level at which a form enters is (own).
 use Rattle.std.specs.Prelude.{true, false, nat_le}
 use Rattle.daide_token.specs.declared.class.Class.TheVariants.{Aly, And, Dmz, Drw, Not, Occ, Orr, Pce}
 use Rattle.daide_token.specs.declared.class.Class.TheVariants.{Qry, Scd, Slo, Vss, Xdo}
@@ -27,12 +27,12 @@ fact l = named (Fact_name l)
 abbrev pub draw : Form
 draw = tok Drw · maybe (group (some power))
 
--- what AND and ORR join: flat arrangements below level 50, from then on any arrangement
+-- the operands of AND and ORR: flat arrangements below level 50, any arrangement from level 50 on
 abbrev pub joinable : Level → Form
 joinable l = elim (nat_le 50 (level_number l)) [ true ↦ arrangement l | false ↦ flat_arrangement l ]
 
--- the arrangements that are no AND and no ORR, with what a NOT holds: peace, an alliance against others, a draw, a
--- solo, a NOT; from 20 an order, a zone without units; from 40 shares of the supply centres, an occupation by units
+-- the arrangements other than AND and ORR, with the operand of a NOT: peace, an alliance against others, a draw, a
+-- solo, a NOT; from 20 an order, a demilitarised zone; from 40 shares of the supply centres, an occupation by units
 abbrev pub simple : Level → Form → Form
 simple l inside =
     tok Pce · group (some power)
@@ -43,7 +43,7 @@ simple l inside =
     ∣ from_level L20 l (tok Xdo · group order ∣ tok Dmz · group (some power) · group (some province))
     ∣ from_level L40 l (tok Scd · some (group (power · many province)) ∣ tok Occ · some (group unit))
 
--- two or more operands, all of which or one of which is proposed
+-- two or more operands: AND proposes all of them, ORR one of them
 abbrev pub joined : Level → Form
 joined l =
     tok And · group (joinable l) · some (group (joinable l))
@@ -56,7 +56,7 @@ arrangement_rule l =
     ∣ from_level L30 l (joined l)
     ∣ named (Added Arrangement_slot l)
 
--- a simple arrangement whose NOT holds a flat one, or an operator's word
+-- a simple arrangement whose NOT has a flat one as its operand, or an operator's word
 abbrev pub flat_rule : Level → Form
 flat_rule l = simple l (flat_arrangement l) ∣ named (Added Flat_slot l)
 

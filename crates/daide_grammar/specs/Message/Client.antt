@@ -1,4 +1,4 @@
--- What a client says: requests, replies and the report HUH. (The report PRN stands in Message.)
+-- What a client says: requests, replies and the report HUH. (Message has the report PRN.)
 use Rattle.daide_token.specs.declared.class.Class.TheVariants.{Adm, Gof, Hlo, Hst, Huh, Iam, Lod, Map, Mdf}
 use Rattle.daide_token.specs.declared.class.Class.TheVariants.{Mis, Nme, Not, Now, Num, Obs, Ord, Rej, Sco}
 use Rattle.daide_token.specs.declared.class.Class.TheVariants.{Sub, Sve, Tme, Yes}
@@ -10,19 +10,19 @@ use Rattle.daide_grammar.specs.Message.Orders.{order}
 use Rattle.daide_grammar.specs.Message.Arrangements.{draw}
 use Rattle.daide_grammar.specs.Message.Press.{send}
 
--- orders, for a turn or for the present one
+-- orders, for a given turn or for the current one
 abbrev pub submit : Form
 submit = tok Sub · maybe (group season_and_year) · many (group order)
 
--- the time that is left, or a wish to be told at so many seconds
+-- the time that is left, or a request for a notice at this number of seconds
 abbrev pub time : Form
 time = tok Tme · maybe (group (tok Num))
 
--- what a client may take back
+-- a client's earlier request that it may take back
 abbrev pub cancel : Form
 cancel = submit ∣ tok Gof ∣ time ∣ draw
 
--- what a client asks of the server
+-- a client's request to the server
 abbrev pub request : Level → Form
 request l = named (Request_name l)
 
@@ -48,15 +48,15 @@ request_rule l =
     ∣ tok Adm · group text · group text
     ∣ from_level L10 l (send l)
 
--- what a client says yes or no to
+-- a server's message that a client accepts or refuses
 abbrev pub reply : Form
 reply = tok Map · group text ∣ tok Sve · group text ∣ tok Lod · group text
 
--- the report of either side that a list of tokens was not understood
+-- the report, from either side, that a list of tokens was not understood
 abbrev pub report : Form
 report = tok Huh · group any
 
--- what a client may say, but for the report PRN
+-- what a client may say, except for the report PRN
 abbrev pub client : Level → Form
 client l =
     request l

@@ -10,15 +10,15 @@ power = tok Power
 abbrev pub province : Form
 province = tok Province
 
--- a season and the number of its year
+-- a season and its year, a number
 abbrev pub season_and_year : Form
 season_and_year = tok Season · tok Num
 
--- characters, none or more (that there may be none is our own leniency)
+-- characters, none or more (that there may be none is (own))
 abbrev pub text : Form
 text = many (tok Text)
 
--- any tokens but the brackets, none or more
+-- any tokens except brackets, none or more
 abbrev pub words : Form
 words = many (one any_but_brackets)
 

@@ -8,9 +8,9 @@ use Rattle.daide_grammar.specs.Message.Places.{province_or_coast, unit}
 abbrev pub order : Form
 order = named Order_name
 
--- what an order says of its unit: hold, move to a place, support a unit (or its move to a province, never to a
--- coast), convoy a unit to a province, move to a province by convoy through one province at least, retreat, disband,
--- build, remove
+-- what an order says of its unit: hold, move to a place, support a unit (or its move to a province, never to a coast),
+-- convoy a unit to a province, move to a province by convoy through at least one province, retreat, disband, build,
+-- remove
 abbrev pub order_tail : Form
 order_tail =
     tok Hld
@@ -23,6 +23,6 @@ order_tail =
     ∣ tok Bld
     ∣ tok Rem
 
--- a unit in brackets and what it shall do, or a power that waives a build
+-- a unit in brackets and its order, or a power that waives a build
 abbrev pub order_rule : Form
 order_rule = group unit · order_tail ∣ power · tok Wve

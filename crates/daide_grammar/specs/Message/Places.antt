@@ -3,7 +3,7 @@ use Rattle.daide_token.specs.declared.class.Class.TheVariants.{Coast, Amy, Flt}
 use Rattle.daide_grammar.specs.Forms.{Place_name, Unit_name, Form, ◌·◌, ◌∣◌, group, named, tok}
 use Rattle.daide_grammar.specs.Message.Lists.{power, province}
 
--- where a unit may stand
+-- a place for a unit
 abbrev pub province_or_coast : Form
 province_or_coast = named Place_name
 

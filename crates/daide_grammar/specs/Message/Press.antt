@@ -1,4 +1,4 @@
--- Press, and how a client sends it. At which level a form enters is our own reading.
+-- Press, and how a client sends it. The level at which a form enters is (own).
 use Rattle.daide_token.specs.declared.class.Class.TheVariants.{Bwx, Fct, Huh, Idk, Ins, Prp, Qry, Rej, Snd}
 use Rattle.daide_token.specs.declared.class.Class.TheVariants.{Sry, Sug, Thk, Try, Yes}
 use Rattle.daide_grammar.specs.declared.level.Level.{Level}
@@ -12,7 +12,7 @@ use Rattle.daide_grammar.specs.Message.Arrangements.{arrangement, fact}
 abbrev pub press : Level → Form
 press l = named (Press_name l)
 
--- an insistence, a query, a suggestion, a belief, and the answers that one doesn't know and is sorry
+-- an insistence, a query, a suggestion, a belief, and the replies "I don't know" and "sorry"
 abbrev pub asking_press : Level → Form
 asking_press l =
     tok Ins · group (arrangement l)
@@ -22,8 +22,8 @@ asking_press l =
     ∣ tok Idk · group (press l)
     ∣ tok Sry · group (press l)
 
--- from 10 a proposal, a statement, the words that may be tried, and the answers yes, no, none of your business, not
--- understood; at 60 what asks; an operator's word. (No message holds a press below level 10.)
+-- From 10 a proposal, a statement, the words that may be tried, and the replies yes, no, none of your business, not
+-- understood; at 60 the press that queries; an operator's word. (No message contains a press below level 10.)
 abbrev pub press_rule : Level → Form
 press_rule l =
     tok Prp · group (arrangement l)
@@ -36,7 +36,7 @@ press_rule l =
     ∣ from_level L60 l (asking_press l)
     ∣ named (Added Press_slot l)
 
--- the sending of a press to powers, in a turn or in the present one
+-- the sending of a press to powers, in a given turn or in the current one
 abbrev pub send : Level → Form
 send l = named (Send_name l)
 

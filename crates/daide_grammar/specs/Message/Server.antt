@@ -1,4 +1,4 @@
--- What a server says, and the report HUH. (The report PRN stands in Message.)
+-- What a server says, and the report HUH. (Message has the report PRN.)
 use Rattle.daide_token.specs.declared.class.Class.TheVariants.{Adm, Ccd, Coast, Flt, Frm, Hlo, Lod, Lvl, Map}
 use Rattle.daide_token.specs.declared.class.Class.TheVariants.{Mdf, Mis, Mrt, Not, Note, Now, Num, Off, Ord}
 use Rattle.daide_token.specs.declared.class.Class.TheVariants.{Out, Outcome, Param, Rej, Sco, Slo, Smr, Sve}
@@ -13,15 +13,15 @@ use Rattle.daide_grammar.specs.Message.Arrangements.{draw}
 use Rattle.daide_grammar.specs.Message.Press.{press, send}
 use Rattle.daide_grammar.specs.Message.Client.{request, report}
 
--- whom the server greets: a power, or nobody
+-- the addressee of the server's HLO: a power, or nobody
 abbrev pub who : Form
 who = power ∣ tok Uno
 
--- an option of the game: one token of the parameters
+-- an option of the game: one token of category 49
 abbrev pub param : Form
 param = tok Lvl ∣ tok Mrt ∣ tok Uno ∣ tok Param
 
--- who owns supply centres: a power, nobody, or several powers (each of them)
+-- the owner of supply centres: a power, nobody, or several powers (each of them)
 abbrev pub owner : Form
 owner = power ∣ tok Uno ∣ group (some power)
 
@@ -29,19 +29,19 @@ owner = power ∣ tok Uno ∣ group (some power)
 abbrev pub owned : Form
 owned = owner · many province
 
--- the places that armies, fleets, or fleets from one coast can go to
+-- the places that armies, fleets, or fleets from one coast can reach
 abbrev pub kind_places : Form
 kind_places = (unit_type ∣ group (tok Flt · tok Coast)) · many province_or_coast
 
--- a province and where each kind of unit can go from it
+-- a province, and for each kind of unit the places that it can reach from there
 abbrev pub borders : Form
 borders = province · many (group kind_places)
 
--- a unit where it stands, with the places to which it must retreat if it is dislodged
+-- a unit at its place, with the places to which it must retreat if it is dislodged
 abbrev pub stand : Form
 stand = unit ∣ unit · tok Mrt · group (many province_or_coast)
 
--- what became of an order
+-- a result of an order
 abbrev pub outcome : Form
 outcome = tok Note ∣ tok Outcome
 
@@ -49,22 +49,22 @@ outcome = tok Note ∣ tok Outcome
 abbrev pub player : Form
 player = power · group text · group text · tok Num · maybe (tok Num)
 
--- the map: its powers; the supply centres of each owner, and the provinces that are none; and all borders
+-- the map: its powers; the supply centres of each owner, and the provinces without one; and all borders
 abbrev pub map_definition : Form
 map_definition =
     group (some power)
     · group (group (many (group owned)) · group (many province))
     · group (many (group borders))
 
--- the press that a power sent to powers; and a send that the server hands back, since a power is in civil disorder or
--- out of the game (that it may stand there is our own leniency)
+-- the press that a power sent to powers; and a send that the server returns, since a power is in civil disorder or out
+-- of the game (that a send is allowed there is (own))
 abbrev pub press_message : Level → Form
 press_message l =
     tok Frm · group power · group (some power) · group (press l)
     ∣ tok Ccd · group power · group (send l)
     ∣ tok Out · group power · group (send l)
 
--- the server messages but for the report PRN, in the order of the protocol's table; press from level 10
+-- the server messages except for the report PRN, in the order of the protocol's table; press from level 10
 abbrev pub server : Level → Form
 server l =
     tok Map · group text

@@ -1,4 +1,4 @@
--- Brackets counted from left to right, one token after the other.
+-- Brackets counted from left to right, token by token.
 use Rattle.std.specs.Prelude.{ℕ, zero, suc, ◌+◌, ◌==◌, Bool, true, false, List, Option, None, Some, if◌then◌else◌}
 use Rattle.daide_token.specs.Token.{bra, ket}
 use Rattle.daide_grammar.specs.Depth.{has_unmatched_ket, excess}
@@ -10,11 +10,11 @@ is_bra t = t == bra
 abbrev pub is_ket : ℕ → Bool
 is_ket t = t == ket
 
--- how many brackets are open, or None once a KET came with nothing open
+-- the number of open brackets, or None after a KET with nothing open
 abbrev pub excess_or_none : List ℕ → Option ℕ
 excess_or_none p = if has_unmatched_ket p then None else Some (excess p)
 
--- what that count becomes at one more token, which opens a bracket or not and closes one or not
+-- the new count after one token, by whether it opens a bracket and whether it closes one
 abbrev pub count_one : Bool → Bool → Option ℕ → Option ℕ
 count_one opens closes None = None
 count_one true closes (Some n) = Some (n + 1)

@@ -1,4 +1,4 @@
--- What the table's symbols stand for.
+-- The languages of the table's symbols.
 use Rattle.std.specs.Prelude.{ℕ, List}
 use Rattle.daide_grammar.specs.declared.symbol.Sym.{Sym}
 use Rattle.daide_grammar.specs.Forms.{Dialect}
@@ -10,6 +10,6 @@ use Rattle.daide_grammar.specs.Table.Symbols.{form_of}
 abbrev pub SymbolMatchesIn : Dialect → Sym → List ℕ → Type 0
 SymbolMatchesIn d s m = Matches d (form_of s) m
 
--- the lists of tokens that a symbol of the table stands for
+-- the lists of tokens that a symbol of the table derives
 abbrev pub SymbolMatches : Sym → List ℕ → Type 0
 SymbolMatches = SymbolMatchesIn standard

@@ -8,8 +8,8 @@ use Rattle.daide_grammar.specs.declared.symbol.Sym.{Sym}
 use Rattle.daide_grammar.specs.Table.Answers.{TableEntry, Take, Skip}
 use Rattle.daide_grammar.specs.Table.Symbols.{start_symbol_of}
 
--- The stacks, each with its number of open brackets: an opening symbol alone with none, and what an answer of the
--- table makes of one. A token that is taken leaves its rest in the symbol's place; a skipped symbol is dropped.
+-- The reachable stacks, each with its number of open brackets: a start symbol alone with none, and any stack that an
+-- entry makes of a reachable one. A token that is taken replaces the symbol by its rest; a skipped symbol is dropped.
 pub data IsLawful (moves : Sym → Class → TableEntry) : List Sym → ℕ → Type 0 where
   start_symbol : (side : Side2) (level : Level) → IsLawful moves (start_symbol_of side level ∷ []) 0
   word : {n : ℕ} {s : Sym} {rest below : List Sym} (c : Class) →

@@ -1,4 +1,4 @@
--- The numbers of symbols and classes, by which the constant table is looked up. (own)
+-- The numbers of symbols and classes, which index the constant table. (own)
 use Rattle.std.specs.Prelude.{ℕ, ◌+◌, Bool, true, false, List, [], ◌∷◌, ◌++◌, slice_index_or, Option, Some, None}
 use Rattle.daide_token.specs.declared.class.Class.{Class}
 use Rattle.daide_token.specs.declared.class.Class.TheVariants.{Bra, Ket, Num, Word}
@@ -28,7 +28,7 @@ use Rattle.daide_grammar.specs.declared.symbol.Sym.TheVariants.{Fact, OperandGro
 use Rattle.daide_grammar.specs.declared.symbol.Sym.TheVariants.{Press, SendGroup, MaybeSendGroup, Send, SendTail}
 use Rattle.daide_grammar.specs.declared.symbol.Sym.TheVariants.{SendFirst, Client, RequestGroup, Request, Server}
 
--- a symbol at each level, the lowest first
+-- a symbol at each level, in ascending order
 abbrev pub at_levels : (Level → Sym) → List Sym
 at_levels s = s L0 ∷ s L10 ∷ s L20 ∷ s L30 ∷ s L40 ∷ s L50 ∷ s L60 ∷ []
 
@@ -41,7 +41,7 @@ level_symbols =
     at_levels SendTail ++ at_levels SendFirst ++ at_levels Client ++ at_levels RequestGroup ++
     at_levels Request ++ at_levels Server
 
--- the symbols in the order of their numbers: those without a level, then each of the others level by level
+-- the symbols in the order of their numbers: those without a level, then each of the others at all levels
 abbrev pub symbols : List Sym
 symbols =
     Closing ∷ OnePower ∷ OneProvince ∷ OneCoast ∷ OneNumber ∷ OneNote ∷ OneFleet ∷ Waived ∷ ConvoyTo ∷ Through ∷
@@ -54,11 +54,11 @@ symbols =
     Stands ∷ OneStand ∷ StandTail ∷ MissingTail ∷ MissingFirst ∷ NoteGroup ∷ OutcomesGroup ∷ Outcomes ∷ OneOutcome ∷
     CivilDisorderGroup ∷ CivilDisorder ∷ Players ∷ OnePlayer ∷ level_symbols
 
--- the symbol of a number
+-- the symbol with a number
 abbrev pub symbol_at : ℕ → Sym
 symbol_at n = slice_index_or symbols n Closing
 
--- the level's place among the levels
+-- the index of a level among the levels
 abbrev pub level_place : Level → ℕ
 level_place L0 = 0
 level_place L10 = 1
@@ -68,7 +68,7 @@ level_place L40 = 4
 level_place L50 = 5
 level_place L60 = 6
 
--- the symbol's place in the list of symbols
+-- the index of a symbol in the list of symbols
 abbrev pub symbol_number : Sym → ℕ
 symbol_number Closing = 0
 symbol_number OnePower = 1
@@ -165,11 +165,11 @@ symbol_number (RequestGroup l) = 181 + level_place l
 symbol_number (Request l) = 188 + level_place l
 symbol_number (Server l) = 195 + level_place l
 
--- how many symbols there are
+-- the number of symbols
 abbrev pub all_symbols : ℕ
 all_symbols = 202
 
--- how many classes there are with those of an operator's words
+-- the number of classes, including those of an operator's words
 abbrev pub all_classes : ℕ
 all_classes = own_classes + most_words
 
@@ -179,13 +179,13 @@ classes =
     classes_in_order ++ (Word 0 ∷ Word 1 ∷ Word 2 ∷ Word 3 ∷ Word 4 ∷ Word 5 ∷ Word 6 ∷ Word 7 ∷ Word 8 ∷ Word 9 ∷
     Word 10 ∷ Word 11 ∷ Word 12 ∷ Word 13 ∷ Word 14 ∷ Word 15 ∷ [])
 
--- what a token of the class adds to a count of open brackets of sixteen bits, which wraps
+-- what a token of the class adds to a 16-bit count of open brackets, which wraps
 abbrev pub bracket_step : Class → ℕ
 bracket_step Bra = 1
 bracket_step Ket = 65535
 bracket_step _ = 0
 
--- the class of a number
+-- the class with a number
 abbrev pub class_at : ℕ → Class
 class_at n = slice_index_or classes n Num
 
@@ -194,7 +194,7 @@ is_bracket Bra = true
 is_bracket Ket = true
 is_bracket _ = false
 
--- the place of an added word among the operator's words
+-- the index of an added word among the operator's words
 abbrev pub word_number : Class → Option ℕ
 word_number (Word place) = Some place
 word_number _ = None

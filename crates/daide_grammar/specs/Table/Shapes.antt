@@ -1,4 +1,4 @@
--- Two values of each symbol, by which every stack is bounded.
+-- Two values for each symbol, which bound every stack.
 use Rattle.std.specs.Prelude.{ℕ, ◌+◌, Bool, true, false, List, [], ◌∷◌}
 use Rattle.daide_grammar.specs.declared.symbol.Sym.{Sym}
 use Rattle.daide_grammar.specs.declared.symbol.Sym.TheVariants.{Closing, OnePower, OneProvince, OneCoast, OneNumber}
@@ -16,7 +16,7 @@ use Rattle.daide_grammar.specs.declared.symbol.Sym.TheVariants.{CivilDisorder, O
 use Rattle.daide_grammar.specs.declared.symbol.Sym.TheVariants.{OnePlayer, Request, Client, SendTail, SendFirst, Send}
 use Rattle.daide_grammar.specs.declared.symbol.Sym.TheVariants.{Server, Arrangement, Operand, Fact}
 
--- the symbols that stand on the bottom or right above a closing bracket, and only there
+-- the symbols that occur only at the bottom or directly above a closing bracket
 unfoldable pub is_bottom_symbol : Sym → Bool
 is_bottom_symbol Closing = false
 is_bottom_symbol OnePower = false
@@ -71,7 +71,8 @@ is_bottom_symbol (SendFirst l) = false
 is_bottom_symbol (Send l) = false
 is_bottom_symbol _ = true
 
--- How many entries a symbol may grow to: one size for each bracket that it closes and doesn't open, and one for below.
+-- The number of entries that a symbol may grow to: one size for each bracket that it closes and doesn't open, and one
+-- for the entries below.
 unfoldable pub shape : Sym → List ℕ
 shape Closing = 1 ∷ 0 ∷ []
 shape OneUnit = 2 ∷ []

@@ -1,6 +1,5 @@
--- The table: for each symbol its form, its entries, whether it may be empty, and where an operator's word may stand.
--- The order is that of the grammar: single tokens, lists, places and units, orders, arrangements, press, client,
--- server.
+-- The table: for each symbol its form, its entries, whether it is nullable, and the slot of an operator's word. The
+-- order is that of the grammar: single tokens, lists, places and units, orders, arrangements, press, client, server.
 use Rattle.std.specs.Prelude.{Bool, true, false, nat_le, List, [], ◌∷◌, ◌++◌, Option, Some, None}
 use Rattle.daide_token.specs.declared.class.Class.{Class}
 use Rattle.daide_token.specs.declared.class.Class.TheVariants.{Num, Bra, Ket, Power, Note, Outcome, Coast, Season}
@@ -155,7 +154,7 @@ form_of CivilDisorder = tok Ccd · group power
 form_of Players = many (group player)
 form_of OnePlayer = player
 
--- an entry of the table: on a token of the kind, these symbols take the symbol's place
+-- an entry of the table: a token that passes the test replaces the symbol by these symbols
 pub record Alternative : Type 0 where
   pub kind : TokenTest
   pub rest : List Sym
@@ -172,7 +171,7 @@ on_word rest = record { kind = any_but_brackets; rest = rest }
 abbrev pub only_from : Level → Level → List Alternative → List Alternative
 only_from a l es = elim (nat_le (level_number a) (level_number l)) [ true ↦ es | false ↦ [] ]
 
--- what begins a client request
+-- the entries of a client request
 abbrev pub request_entries : Level → List Alternative
 request_entries l =
     on Nme (TextGroup ∷ TextGroup ∷ [])
@@ -194,7 +193,7 @@ request_entries l =
     ∷ on Adm (TextGroup ∷ TextGroup ∷ [])
     ∷ only_from L10 l (on Snd (SendTail l ∷ []) ∷ [])
 
--- what begins an arrangement that is no AND and no ORR, with the symbol of what a NOT holds
+-- the entries of an arrangement other than AND and ORR, with the symbol for the operand of a NOT
 abbrev pub simple_entries : Level → Sym → List Alternative
 simple_entries l inside =
     on Pce (PowersGroup ∷ [])
@@ -212,11 +211,11 @@ joining_entries l =
     ∷ on Orr (OperandGroup l ∷ OperandGroup l ∷ Operands l ∷ [])
     ∷ []
 
--- what a NOT holds where a fact is expected: a fact from level 60 on, which an arrangement is too
+-- the operand of a NOT if a fact is expected: a fact from level 60 on, which includes the arrangements
 abbrev pub negated_fact : Level → Sym
 negated_fact l = elim (nat_le 60 (level_number l)) [ true ↦ FactGroup l | false ↦ ArrangementGroup l ]
 
--- what begins a press that asks
+-- the entries of a press that queries
 abbrev pub asking_entries : Level → List Alternative
 asking_entries l =
     on Ins (ArrangementGroup l ∷ [])
@@ -227,7 +226,7 @@ asking_entries l =
     ∷ on Sry (PressGroup l ∷ [])
     ∷ []
 
--- the entries of each symbol, first one that leads to an end
+-- the entries of each symbol, beginning with one that leads to an end
 unfoldable pub entries : Sym → List Alternative
 -- single tokens
 entries Closing = on Ket [] ∷ []
@@ -409,7 +408,7 @@ entries CivilDisorder = on Ccd (PowerGroup ∷ []) ∷ []
 entries Players = on Bra (OnePlayer ∷ Closing ∷ Players ∷ []) ∷ []
 entries OnePlayer = on Power (TextGroup ∷ TextGroup ∷ OneNumber ∷ MaybeNumber ∷ []) ∷ []
 
--- the symbols that may be empty
+-- the nullable symbols
 unfoldable pub may_end_of : Sym → Bool
 may_end_of Texts = true
 may_end_of MaybePowersGroup = true
@@ -438,7 +437,7 @@ may_end_of Outcomes = true
 may_end_of Players = true
 may_end_of _ = false
 
--- where an operator's word may stand for the symbol, and of which level it then is
+-- the slot of an operator's word for this symbol, and its level
 unfoldable pub slot_of : Sym → Option (Slot × Level)
 slot_of (Press l) = Some (Press_slot, l)
 slot_of (Arrangement l) = Some (Arrangement_slot, l)
@@ -446,7 +445,7 @@ slot_of (Fact l) = Some (Arrangement_slot, l)
 slot_of (Operand l) = Some (elim (nat_le 50 (level_number l)) [ true ↦ Arrangement_slot | false ↦ Flat_slot ], l)
 slot_of _ = None
 
--- the forms of symbols that stand one after the other
+-- the forms of a list of symbols
 abbrev pub forms : List Sym → List Form
 forms [] = []
 forms (s ∷ ss) = form_of s ∷ forms ss
@@ -455,22 +454,22 @@ abbrev pub this_or : Bool → Alternative → Option Alternative → Option Alte
 this_or true e o = Some e
 this_or false e o = o
 
--- the first entry whose kind takes the class
+-- the first entry that takes the class
 abbrev pub entry_at : Class → List Alternative → Option Alternative
 entry_at c [] = None
 entry_at c (e ∷ es) = this_or (is_of_kind e.kind c) e (entry_at c es)
 
--- Take of an entry; without one Skip where the symbol may be empty, else Stop
+-- Take for an entry; without one, Skip if the symbol is nullable, or else Stop
 abbrev pub answer_by : Option Alternative → Bool → TableEntry
 answer_by (Some e) b = Take e.rest
 answer_by None true = Skip
 answer_by None false = Stop
 
--- what a token of the class means to the symbol
+-- the table's entry for a symbol and a class
 unfoldable pub table_answer : Sym → Class → TableEntry
 table_answer s c = answer_by (entry_at c (entries s)) (may_end_of s)
 
--- the symbol of a side's messages at a level
+-- the start symbol for a side's messages at a level
 abbrev pub start_symbol_of : Side2 → Level → Sym
 start_symbol_of ClientSide l = Client l
 start_symbol_of ServerSide l = Server l

@@ -9,7 +9,7 @@ use crate::meaning::{Meaning, Rest};
 use crate::symbol::Sym;
 use daide_token::class::Class;
 
-/// A province, or a province and a coast in brackets.
+/// Predicts a province, or a province and a coast in brackets.
 #[inline(always)]
 pub fn one_place(class: Class) -> Meaning
     ensures { entry_of_meaning result ≡ table_answer Sym.OnePlace class }
@@ -21,7 +21,7 @@ pub fn one_place(class: Class) -> Meaning
     }
 }
 
-/// Places, none or more.
+/// Predicts a list of places, which may be empty.
 #[inline(always)]
 pub fn places(class: Class) -> Meaning
     ensures { entry_of_meaning result ≡ table_answer Sym.Places class }
@@ -38,7 +38,7 @@ pub fn places(class: Class) -> Meaning
     }
 }
 
-/// An army or a fleet.
+/// Predicts an army or a fleet.
 #[inline(always)]
 pub fn unit_type(class: Class) -> Meaning
     ensures { entry_of_meaning result ≡ table_answer Sym.UnitType class }
@@ -49,7 +49,7 @@ pub fn unit_type(class: Class) -> Meaning
     }
 }
 
-/// A unit in brackets and what it shall do, or a power that waives a build.
+/// Predicts a unit in brackets and its order, or a power that waives a build.
 #[inline(always)]
 pub fn one_order(class: Class) -> Meaning
     ensures { entry_of_meaning result ≡ table_answer Sym.OneOrder class }
@@ -61,7 +61,7 @@ pub fn one_order(class: Class) -> Meaning
     }
 }
 
-/// What a unit shall do. The target of a supported move is a province and no coast.
+/// Predicts what a unit is ordered to do. The target of a supported move is a province and not a coast.
 #[inline(always)]
 pub fn order_tail(class: Class) -> Meaning
     ensures { entry_of_meaning result ≡ table_answer Sym.OrderTail class }

@@ -11,9 +11,9 @@ use crate::meaning::{Meaning, Rest};
 use crate::symbol::Sym;
 use daide_token::class::Class;
 
-/// An arrangement that is no AND and no ORR, with the symbol of what a NOT holds.
+/// Predicts an arrangement other than AND and ORR, with the symbol for the operand of a NOT.
 //
-// It stands in line in its callers, so that the first token of an arrangement costs no call.
+// It is inlined into its callers, so that the first token of an arrangement costs no call.
 #[inline(always)]
 fn simple(level: Level, inside: Sym, class: Class) -> Meaning
     ensures { entry_of_meaning result ≡ answer_by (entry_at class (simple_entries level inside)) false }
@@ -41,7 +41,7 @@ fn simple(level: Level, inside: Sym, class: Class) -> Meaning
     }
 }
 
-/// What follows AND and ORR: two operands at least.
+/// Returns what follows AND and ORR: at least two operands.
 #[inline(always)]
 fn joined(level: Level) -> Meaning
     ensures { entry_of_meaning result ≡ Take (OperandGroup level ∷ OperandGroup level ∷ Operands level ∷ []) }
@@ -53,7 +53,7 @@ fn joined(level: Level) -> Meaning
     ]))
 }
 
-/// An arrangement. AND and ORR come from level 30 on.
+/// Predicts an arrangement, with AND and ORR from level 30 on.
 #[inline(always)]
 pub fn arrangement(level: Level, class: Class) -> Meaning
     ensures { entry_of_meaning result ≡ table_answer (Sym.Arrangement level) class }
@@ -64,7 +64,7 @@ pub fn arrangement(level: Level, class: Class) -> Meaning
     }
 }
 
-/// What AND and ORR join: an AND or ORR among them only from level 50 on, at any depth of NOT.
+/// Predicts an operand of AND or ORR. From level 50 on it may contain AND and ORR, below that not at any depth of NOT.
 #[inline(always)]
 pub fn operand(level: Level, class: Class) -> Meaning
     ensures { entry_of_meaning result ≡ table_answer (Sym.Operand level) class }
@@ -75,7 +75,7 @@ pub fn operand(level: Level, class: Class) -> Meaning
     }
 }
 
-/// A fact: an arrangement, and at level 60 also a query and the negation of a fact.
+/// Predicts a fact: an arrangement, and at level 60 also a query and the negation of a fact.
 #[inline(always)]
 pub fn fact(level: Level, class: Class) -> Meaning
     ensures { entry_of_meaning result ≡ table_answer (Sym.Fact level) class }
@@ -89,7 +89,7 @@ pub fn fact(level: Level, class: Class) -> Meaning
     }
 }
 
-/// A press: what is said, and at level 60 also what is asked, insisted on and believed.
+/// Predicts a press: a statement, and at level 60 also a question, an insistence and a belief.
 #[inline(always)]
 pub fn press(level: Level, class: Class) -> Meaning
     ensures { entry_of_meaning result ≡ table_answer (Sym.Press level) class }
@@ -111,7 +111,7 @@ pub fn press(level: Level, class: Class) -> Meaning
     }
 }
 
-/// A send in brackets, which may stand from level 10 on.
+/// Predicts an optional send in brackets, which is allowed from level 10 on.
 #[inline(always)]
 pub fn maybe_send_group(level: Level, class: Class) -> Meaning
     ensures { entry_of_meaning result ≡ table_answer (Sym.MaybeSendGroup level) class }
@@ -125,7 +125,7 @@ pub fn maybe_send_group(level: Level, class: Class) -> Meaning
     }
 }
 
-/// What follows the first bracket of a send: its turn, or already the powers.
+/// Predicts what follows the first bracket of a send: its turn, or the first of its powers.
 #[inline(always)]
 pub fn send_first(level: Level, class: Class) -> Meaning
     ensures { entry_of_meaning result ≡ table_answer (Sym.SendFirst level) class }

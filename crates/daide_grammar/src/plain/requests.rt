@@ -10,7 +10,7 @@ use crate::meaning::{Meaning, Rest};
 use crate::symbol::Sym;
 use daide_token::class::Class;
 
-/// Words: any tokens but the brackets.
+/// Predicts words: any tokens other than brackets.
 #[inline(always)]
 pub fn word_list(class: Class) -> Meaning
     ensures { entry_of_meaning result ≡ table_answer Sym.WordList class }
@@ -21,7 +21,7 @@ pub fn word_list(class: Class) -> Meaning
     }
 }
 
-/// Any tokens whose brackets balance.
+/// Predicts any tokens whose brackets balance.
 #[inline(always)]
 pub fn any(class: Class) -> Meaning
     ensures { entry_of_meaning result ≡ table_answer Sym.Any class }
@@ -33,7 +33,7 @@ pub fn any(class: Class) -> Meaning
     }
 }
 
-/// A client request. Press is sent from level 10 on.
+/// Predicts a client request. SND is one from level 10 on.
 #[inline(always)]
 pub fn request(level: Level, class: Class) -> Meaning
     ensures { entry_of_meaning result ≡ table_answer (Sym.Request level) class }
@@ -55,7 +55,7 @@ pub fn request(level: Level, class: Class) -> Meaning
     }
 }
 
-/// A client's message: a request, a reply, or the report HUH.
+/// Predicts a client's message: a request, a reply, or the report HUH.
 #[inline(always)]
 pub fn client(level: Level, class: Class) -> Meaning
     ensures { entry_of_meaning result ≡ table_answer (Sym.Client level) class }
@@ -67,7 +67,7 @@ pub fn client(level: Level, class: Class) -> Meaning
     }
 }
 
-/// What follows the first bracket of a SUB: its turn, or already an order.
+/// Predicts what follows the first bracket of a SUB: its turn, or its first order.
 #[inline(always)]
 pub fn submit_first(class: Class) -> Meaning
     ensures { entry_of_meaning result ≡ table_answer Sym.SubmitFirst class }
@@ -86,7 +86,7 @@ pub fn submit_first(class: Class) -> Meaning
     }
 }
 
-/// What a client may take back.
+/// Predicts what a client may take back.
 #[inline(always)]
 pub fn cancel(class: Class) -> Meaning
     ensures { entry_of_meaning result ≡ table_answer Sym.Cancel class }
@@ -100,7 +100,7 @@ pub fn cancel(class: Class) -> Meaning
     }
 }
 
-/// What a client says yes or no to.
+/// Predicts the server's message that a client accepts or refuses.
 #[inline(always)]
 pub fn reply(class: Class) -> Meaning
     ensures { entry_of_meaning result ≡ table_answer Sym.Reply class }

@@ -1,4 +1,4 @@
-//! A meaning's rule: the number by which a move holds it.
+//! The rule of an entry: the number that represents it in a `Move`.
 
 ghost use Rattle.std.specs.Prelude.{◌≡◌, ◌<◌, ◌≤◌};
 ghost use Rattle.std.specs.Bool.{Decides};
@@ -10,7 +10,7 @@ use crate::numbers::{RULE_COUNT, SKIP, STOP};
 use crate::predict::Move;
 use crate::symbol::{Sym, Symbol};
 
-/// The move that says what a meaning says. The rules are gone through: nobody asks this table who is in a hurry.
+/// Returns the move for an entry. It searches the rules in order, since no caller of this table needs speed.
 #[tactic(auto, unfolding(crate::specs::Table::ParseActions::action))]
 pub(super) fn rule_of(meaning: Meaning) -> Move
     requires { HasRule (entry_of_meaning meaning) }
@@ -23,7 +23,7 @@ pub(super) fn rule_of(meaning: Meaning) -> Move
     }
 }
 
-/// The move that takes a token and leaves these symbols.
+/// Returns the move that takes a token and leaves these symbols.
 fn rule_of_rest(rest: &Rest) -> Move
     requires { HasRule (Take (symbols_of rest.now)) }
     ensures { result ≡ Take (symbols_of rest.now) }
@@ -37,7 +37,7 @@ fn rule_of_rest(rest: &Rest) -> Move
     Move::of(STOP)
 }
 
-/// Whether a rule leaves these symbols and no others.
+/// Returns whether a rule leaves exactly these symbols.
 fn leaves(rule: u8, wanted: &[Sym]) -> bool
     ensures { Decides result (rest_of (action rule) ≡ wanted.now) }
 {

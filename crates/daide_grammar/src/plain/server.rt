@@ -10,7 +10,7 @@ use crate::meaning::{Meaning, Rest};
 use crate::symbol::Sym;
 use daide_token::class::Class;
 
-/// A server's message. CCD and OUT may hand back a send, and FRM hands on a press, from level 10 on.
+/// Predicts a server's message. From level 10 on, CCD and OUT may return a send, and FRM passes on a press.
 #[inline(always)]
 pub fn server(level: Level, class: Class) -> Meaning
     ensures { entry_of_meaning result ≡ table_answer (Sym.Server level) class }
@@ -52,7 +52,7 @@ pub fn server(level: Level, class: Class) -> Meaning
     }
 }
 
-/// Whom the server greets: a power, or nobody.
+/// Predicts the addressee of a HLO: a power, or nobody.
 #[inline(always)]
 pub fn who(class: Class) -> Meaning
     ensures { entry_of_meaning result ≡ table_answer Sym.Who class }
@@ -63,7 +63,7 @@ pub fn who(class: Class) -> Meaning
     }
 }
 
-/// An option of the game.
+/// Predicts an option of the game.
 #[inline(always)]
 pub fn one_param(class: Class) -> Meaning
     ensures { entry_of_meaning result ≡ table_answer Sym.OneParam class }
@@ -76,7 +76,7 @@ pub fn one_param(class: Class) -> Meaning
     }
 }
 
-/// An owner, one power or several or nobody, and its supply centres.
+/// Predicts an owner (one power, several powers, or nobody) and its supply centres.
 #[inline(always)]
 pub fn owned(class: Class) -> Meaning
     ensures { entry_of_meaning result ≡ table_answer Sym.Owned class }
@@ -93,7 +93,7 @@ pub fn owned(class: Class) -> Meaning
     }
 }
 
-/// A kind of unit, or a fleet at a coast, and the places where it can go.
+/// Predicts a kind of unit, or a fleet at a coast, and the places that it can reach.
 #[inline(always)]
 pub fn kind_places(class: Class) -> Meaning
     ensures { entry_of_meaning result ≡ table_answer Sym.KindPlaces class }
@@ -110,7 +110,7 @@ pub fn kind_places(class: Class) -> Meaning
     }
 }
 
-/// What follows the first bracket of a MIS: a number, or already a unit.
+/// Predicts what follows the first bracket of a MIS: a number, or a unit.
 #[inline(always)]
 pub fn missing_first(class: Class) -> Meaning
     ensures { entry_of_meaning result ≡ table_answer Sym.MissingFirst class }
@@ -128,7 +128,7 @@ pub fn missing_first(class: Class) -> Meaning
     }
 }
 
-/// What became of an order, once more or no more.
+/// Predicts the results of an order after the first.
 #[inline(always)]
 pub fn outcomes(class: Class) -> Meaning
     ensures { entry_of_meaning result ≡ table_answer Sym.Outcomes class }
@@ -139,7 +139,7 @@ pub fn outcomes(class: Class) -> Meaning
     }
 }
 
-/// What became of an order.
+/// Predicts a result of an order.
 #[inline(always)]
 pub fn one_outcome(class: Class) -> Meaning
     ensures { entry_of_meaning result ≡ table_answer Sym.OneOutcome class }

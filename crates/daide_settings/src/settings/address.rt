@@ -1,11 +1,11 @@
-//! An address as its text.
+//! An address, stored as its text.
 
 ghost use Rattle.std.specs.Prelude.{◌≡◌, ℕ, List, string_bytes, IfOk};
 
 use std::alloc::{AllocError, Global};
 use std::marker::Model;
 
-/// A host and a port as the settings have them, as `127.0.0.1:16713`. Contracts see its bytes.
+/// A host and a port as the settings have them, for example `127.0.0.1:16713`. The abstract value is its bytes.
 #[derive(Drop)]
 pub struct Address {
     text: String,
@@ -18,7 +18,7 @@ impl Model for Address {
 }
 
 impl Address {
-    /// An address of this text, which is copied.
+    /// Creates an address by copying the text.
     pub(crate) fn new(alloc: Global, text: &str) -> Result<Address, AllocError>
         ensures { IfOk result (λ address. address ≡ text.now) }
     {

@@ -1,4 +1,4 @@
-//! The keys of the settings: their names, their defaults and their ranges.
+//! The keys of the settings: their names, defaults and ranges.
 
 ghost use Rattle.std.specs.Prelude.{◌≡◌, true, Some, IfSome};
 ghost use Rattle.daide_settings.specs.Settings.{key_text, default_of};
@@ -8,39 +8,39 @@ use daide_grammar::level::Level;
 use daide_protocol::{MAX_BODY, MAX_DEPTH, MAX_SESSIONS, MIN_BODY, MIN_DEPTH};
 use std::fmt;
 
-/// A key of the settings, in the order in which they are judged.
+/// A key of the settings. The variants are in the order of the checks.
 #[derive(Clone, Copy, Debug, PartialEq, Eq)]
 pub enum Key {
-    /// The address at which bots are listened for: a text of 1 to 255 bytes, which must stand.
+    /// The address on which the gateway listens for bots: a text of 1 to 255 bytes; required.
     Listen,
-    /// The address of the server: a text of 1 to 255 bytes, which must stand.
+    /// The address of the server: a text of 1 to 255 bytes; required.
     Server,
     /// The highest level of press that an HLO may set: 0, 10, 20, 30, 40, 50 or 60; 60 by default.
     TopLevel,
-    /// The longest body that is taken, in bytes: even, 512 to 65,526; 65,526 by default.
+    /// The longest body that is accepted, in bytes: even, 512 to 65,526; 65,526 by default.
     MaxBody,
-    /// How many brackets of a message may be open at once: 4 to 254; 62 by default.
+    /// The most brackets of a message that may be open at once: 4 to 254; 62 by default.
     MaxDepth,
-    /// How long a bot's IM is waited for, in seconds: 1 to 3,600; 30 by default.
+    /// The timeout of a bot's IM, in seconds: 1 to 3,600; 30 by default.
     ImSeconds,
-    /// How many sessions are held at once: 1 to 256; 16 by default.
+    /// The greatest number of sessions at once: 1 to 256; 16 by default.
     MaxSessions,
-    /// How many bots are served in all: 1 to 1,000,000; 1 by default.
+    /// The number of bots to serve in all: 1 to 1,000,000; 1 by default.
     Sessions,
-    /// How many turns a session has at most: 1 to 1,000,000,000,000; 1,000,000,000 by default.
+    /// The greatest number of turns of a session: 1 to 1,000,000,000,000; 1,000,000,000 by default.
     Turns,
-    /// After how long a side of which nothing comes is taken as ended, in seconds: 0 to 86,400, where 0 is never; 0 by
-    /// default.
+    /// The idle timeout, in seconds: a side that sends nothing for this long counts as ended. From 0, for never, to
+    /// 86,400; 0 by default.
     IdleSeconds,
     /// The words of press that an operator adds: an array of at most 16 tables; none by default.
     Words,
-    /// After how long a side that takes none of the bytes that wait for it counts as lost, in seconds: 0 to 86,400, where
-    /// 0 is never; 60 by default.
+    /// The stall timeout, in seconds: a side that accepts none of its queued bytes for this long counts as lost. From
+    /// 0, for never, to 86,400; 60 by default.
     StallSeconds,
 }
 
 impl Key {
-    /// Every key, in the order in which they are judged.
+    /// All keys, in the order of the checks.
     pub const ALL: [Key; 12] = [
         Key::Listen,
         Key::Server,
@@ -56,7 +56,7 @@ impl Key {
         Key::StallSeconds,
     ];
 
-    /// The key as a document writes it.
+    /// Returns the key as a document writes it.
     pub fn text(self) -> &'static str
         ensures { result.now ≡ key_text self }
     {
@@ -76,8 +76,8 @@ impl Key {
         }
     }
 
-    /// The number of a key that a document doesn't have; none of the two addresses, which must stand,
-    /// and none of the words.
+    /// Returns the number of a key that is missing in a document; `None` for the two addresses, which are required, and
+    /// for the words.
     pub fn default_number(self) -> Option<u64>
         ensures number { result ≡ default_of self }
         ensures within { IfSome result (λ n. is_in_keys_range self n ≡ true) }
@@ -96,7 +96,7 @@ impl Key {
         }
     }
 
-    /// Whether a number is in the key's range; of an address, the number of its bytes, and of words, their number.
+    /// Returns true if a number is in the key's range. The number is that of the bytes of an address, or of the words.
     pub fn is_in_range(self, number: u64) -> bool
         ensures { result ≡ is_in_keys_range self number }
     {
@@ -129,7 +129,7 @@ impl fmt::Display for Key {
     }
 }
 
-/// Whether a document may have this key.
+/// Returns true if a document may have this key.
 pub(crate) fn is_known(text: &str) -> bool
     ensures { result ≡ is_known_key text.now }
 {

@@ -1,6 +1,7 @@
 //! The key `words`: an array of tables, one for each word that an operator adds.
 //!
-//! The shape of all entries is judged before the range of any, so that a fault of type is told first wherever it is.
+//! The shape of all entries is checked before the range of any, so that a wrong type is reported first, in whatever
+//! entry.
 
 ghost use Rattle.std.specs.Prelude.{◌≡◌, Some, Ok, Err, MatchResult, codes, option_and_then, option_copied, option_map};
 ghost use Rattle.std.specs.List.{list_all};
@@ -22,35 +23,35 @@ use daide_token::token::Token;
 use daide_words::{Operand, Slot, Word, Words};
 use toml::{Table, Value};
 
-/// Whether an entry may have this key.
+/// Returns true if an entry may have this key.
 fn is_field(text: &str) -> bool
     ensures { result ≡ is_field text.now }
 {
     matches!(text, "name" | "code" | "slot" | "level" | "operand")
 }
 
-/// Whether a table's keys are all those of an entry.
+/// Returns true if all keys of a table are those of an entry.
 fn keys_are_fields(table: &Table) -> bool
     ensures { result ≡ list_all (λ key. is_field (string_bytes key)) (keys table.now) }
 {
     table.keys().all(|key| is_field(key.as_str()))
 }
 
-/// Whether an entry has no other keys than a word's.
+/// Returns true if an entry has only keys of a word.
 fn has_only_fields(table: &Table) -> bool
     ensures { result ≡ has_only is_field (table_view table.now) }
 {
     keys_are_fields(table)
 }
 
-/// The value at a key of an entry.
+/// Returns the value of a key in an entry.
 fn field<'a>(table: &'a Table, name: &str) -> Option<&'a Value>
     ensures { option_map (λ value. view value.now) result ≡ get_member name.now (table_view table.now) }
 {
     table.get(name)
 }
 
-/// The text at a key of an entry.
+/// Returns the text of a key in an entry.
 fn text_in<'a>(table: &'a Table, name: &str) -> Option<&'a str>
     ensures { option_copied result ≡ text_in name.now (table_view table.now) }
 {
@@ -60,7 +61,7 @@ fn text_in<'a>(table: &'a Table, name: &str) -> Option<&'a str>
     }
 }
 
-/// The number at a key of an entry.
+/// Returns the number of a key in an entry.
 fn number_in(table: &Table, name: &str) -> Option<i64>
     ensures { result ≡ number_in name.now (table_view table.now) }
 {
@@ -70,7 +71,7 @@ fn number_in(table: &Table, name: &str) -> Option<i64>
     }
 }
 
-/// Whether a table has exactly the fields of a word, each of its type.
+/// Returns true if a table has exactly the fields of a word, each of its type.
 fn has_fields(table: &Table) -> bool
     ensures { result ≡ has_fields (table_view table.now) }
 {
@@ -82,7 +83,7 @@ fn has_fields(table: &Table) -> bool
         && text_in(table, "operand").is_some()
 }
 
-/// Whether a value is a table with exactly the fields of a word, each of its type.
+/// Returns true if a value is a table with exactly the fields of a word, each of its type.
 fn is_entry(value: &Value) -> bool
     ensures { result ≡ is_entry (view value.now) }
 {
@@ -92,7 +93,7 @@ fn is_entry(value: &Value) -> bool
     }
 }
 
-/// The name of an entry, of three bytes.
+/// Returns the name of an entry, which has three bytes.
 fn name_in(table: &Table) -> Option<[u8; 3]>
     ensures { result ≡ option_and_then three_of (text_in (codes "name") (table_view table.now)) }
 {
@@ -102,7 +103,7 @@ fn name_in(table: &Table) -> Option<[u8; 3]>
     }
 }
 
-/// The token of an entry's number.
+/// Returns the token with the number of an entry.
 fn code_in(table: &Table) -> Option<Token>
     ensures { result ≡ option_and_then code_of_integer (number_in (codes "code") (table_view table.now)) }
 {
@@ -112,14 +113,14 @@ fn code_in(table: &Table) -> Option<Token>
     }
 }
 
-/// The slot of an entry.
+/// Returns the slot of an entry.
 fn slot_in(table: &Table) -> Option<Slot>
     ensures { result ≡ option_and_then slot_named (text_in (codes "slot") (table_view table.now)) }
 {
     Slot::by_name(text_in(table, "slot")?)
 }
 
-/// The level of an entry's number.
+/// Returns the level with the number of an entry.
 fn level_in(table: &Table) -> Option<Level>
     ensures { result ≡ option_and_then level_of_integer (number_in (codes "level") (table_view table.now)) }
 {
@@ -129,14 +130,14 @@ fn level_in(table: &Table) -> Option<Level>
     }
 }
 
-/// The operand of an entry.
+/// Returns the operand of an entry.
 fn operand_in(table: &Table) -> Option<Operand>
     ensures { result ≡ option_and_then operand_named (text_in (codes "operand") (table_view table.now)) }
 {
     Operand::by_name(text_in(table, "operand")?)
 }
 
-/// The word of an entry's members, if each is in its range.
+/// Returns the word of an entry's members, if each is in its range.
 fn word_of_members(table: &Table) -> Option<Word>
     ensures { result ≡ word_of_members (table_view table.now) }
 {
@@ -149,7 +150,7 @@ fn word_of_members(table: &Table) -> Option<Word>
     })
 }
 
-/// The word of an entry.
+/// Returns the word of an entry.
 fn word_of(entry: &Value) -> Option<Word>
     ensures { result ≡ word_of (view entry.now) }
 {
@@ -159,21 +160,21 @@ fn word_of(entry: &Value) -> Option<Word>
     }
 }
 
-/// Whether each value is an entry.
+/// Returns true if each value is an entry.
 fn each_is_entry(entries: &[Value]) -> bool
     ensures { result ≡ list_all (λ entry. is_entry (view entry)) entries.now }
 {
     entries.iter().all(|entry| is_entry(entry))
 }
 
-/// Whether all items of an array are entries.
+/// Returns true if all items of an array are entries.
 fn are_entries(entries: &[Value]) -> bool
     ensures { result ≡ are_entries (items_view entries.now) }
 {
     each_is_entry(entries)
 }
 
-/// The words of all entries, each accepted after the ones before it.
+/// Returns the words of all entries. Fails with `Range` if one has no word, or is refused after the ones before it.
 fn accepted_words(entries: &[Value]) -> Result<Words, SettingsError>
     ensures { let judged = accepted_words (words_of_entries (items_view entries.now)) in
         MatchResult result (λ words. judged ≡ Ok (words_of words)) (λ fault. judged ≡ Err fault) }
@@ -190,7 +191,7 @@ fn accepted_words(entries: &[Value]) -> Result<Words, SettingsError>
     Ok(words)
 }
 
-/// The words of entries: the shape of all is judged before the range of any.
+/// Returns the words of the entries. Fails with `WrongType` if the shape of one is wrong, and then with `Range`.
 fn words_of_entries(entries: &[Value]) -> Result<Words, SettingsError>
     ensures { let judged = entries_judged (Some (items_view entries.now)) in
         MatchResult result (λ words. judged ≡ Ok (words_of words)) (λ fault. judged ≡ Err fault) }
@@ -201,7 +202,7 @@ fn words_of_entries(entries: &[Value]) -> Result<Words, SettingsError>
     accepted_words(entries)
 }
 
-/// The words at the key; none without it.
+/// Returns the words of the key; none if the document does not have it.
 pub(super) fn words_at(value: Option<&Value>) -> Result<Words, SettingsError>
     ensures { let judged = words_judged (option_map (λ value. view value.now) value.entry) in
         MatchResult result (λ words. judged ≡ Ok (words_of words)) (λ fault. judged ≡ Err fault) }

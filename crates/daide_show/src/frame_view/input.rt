@@ -8,16 +8,16 @@ use super::ShowFault;
 use std::alloc::{AllocError, Allocator};
 use std::io::Read;
 
-/// The most bytes that an input may have.
+/// The most bytes of an input.
 pub(crate) const LIMIT: usize = 200_000;
 
 /// The most bytes of one read.
 const PIECE: usize = 4096;
 
-/// Reads all there is, if that is not too long; at most 200,001 bytes are read.
+/// Reads the whole input, but at most 200,001 bytes.
 ///
-/// The faults are `Read`, `TooLong` and `Memory`. A failed read is a fault whatever its kind, so that a reader which is
-/// always interrupted ends the call too.
+/// Fails with `Read`, `TooLong` and `Memory`. Every failed read is a fault, even an interrupted one, so the call ends
+/// even if the reader is always interrupted.
 pub fn read_input<A: Allocator, R: Read>(alloc: A, reader: &mut R) -> Result<Vec<u8, A>, ShowFault>
     ensures fits { IfOk result (λ input. length input.items ≤ limit) }
     ensures whole { IfOk result (λ input. IfSome (R.remaining reader.old) (λ all. input.items ≡ all)) }
@@ -47,14 +47,14 @@ pub fn read_input<A: Allocator, R: Read>(alloc: A, reader: &mut R) -> Result<Vec
     unreachable!()
 }
 
-/// Returns whether a byte is a blank, which is dropped.
+/// Returns whether a byte is a blank. Blanks are ignored.
 pub(crate) fn is_blank(byte: u8) -> bool
     ensures { result ≡ is_blank byte }
 {
     matches!(byte, b' ' | b'\t' | b'\r' | b'\n')
 }
 
-/// Returns the digits in their order, without the blanks.
+/// Returns the input without its blanks.
 pub(crate) fn digits_of<A: Allocator>(alloc: A, input: &[u8]) -> Result<Vec<u8, A>, AllocError>
     ensures { IfOk result (λ digits. digits.items ≡ digits_of input.now) }
 {

@@ -1,4 +1,4 @@
-//! The frame that some bytes are.
+//! The parsing of an input as one frame.
 
 ghost use Rattle.std.specs.Prelude.{◌≡◌, [], drop};
 ghost use Rattle.daide_show.specs.Shown.{parse_frame};
@@ -7,18 +7,18 @@ ghost use Rattle.daide_show.specs.Found.{parsed_input_by, parsed_input_of};
 use daide_frame::{Code, Cutter, Head, Step};
 use std::alloc::Allocator;
 
-/// What some bytes are as one frame.
+/// The input as one frame.
 #[derive(Clone, Copy)]
 pub(crate) enum ParsedInput {
-    /// The frame is wrong; what follows its fault was not looked at.
+    /// The frame has a fault. The bytes after it were not examined.
     Fault(Code),
-    /// They are the frame of this header, whole and with nothing after it; its body is in the cutter.
+    /// A complete frame with this header, and nothing after it. The cutter has its body.
     Whole(Head),
-    /// The frame is not whole, or something follows it.
+    /// The frame is incomplete, or more bytes follow it.
     NotOneFrame,
 }
 
-/// What the last step says of the bytes, if they were all taken.
+/// Returns the result after the cutter's last step. `is_all` states whether the cutter got all bytes.
 fn found_of(step: Step, head: Option<Head>, is_all: bool) -> ParsedInput
     ensures { result ≡ parsed_input_of step head is_all }
 {
@@ -29,7 +29,7 @@ fn found_of(step: Step, head: Option<Head>, is_all: bool) -> ParsedInput
     }
 }
 
-/// Cuts the header off, and then the body.
+/// Feeds the header to the cutter, and then the body.
 pub(crate) fn find_frame<A: Allocator>(cutter: &mut Cutter<A>, bytes: &[u8]) -> ParsedInput
     requires { cutter.old.bytes ≡ [] }
     ensures { parsed_input_by result (drop 4 cutter.new.bytes) ≡ parse_frame cutter.old.cap bytes.now }

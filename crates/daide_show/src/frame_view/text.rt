@@ -28,7 +28,7 @@ use std::alloc::{AllocError, Allocator};
 use std::io;
 use std::io::Write;
 
-/// Returns the rules by which a message is judged: those of its side, at the greatest depth.
+/// Returns the rules for judging a message of the request: those of its side and level, at the greatest depth limit.
 fn rules_of<'a>(request: &Request<'a>) -> Rules<'a>
     ensures words { result.words.now ≡ request.now.words.now }
     ensures end { result.end ≡ side2_of request.now.side }
@@ -43,7 +43,7 @@ fn rules_of<'a>(request: &Request<'a>) -> Rules<'a>
     }
 }
 
-/// Writes a frame's kind, and the length of its body.
+/// Writes a frame's kind and the length of its body.
 fn write_kind<A: Allocator>(head: Head, text: &mut Vec<u8, A>) -> io::Result<()>
     ensures { OnOk result (text.new.items ≡ text.old.items ++ kind_line head.kind head.len) }
 {
@@ -52,7 +52,7 @@ fn write_kind<A: Allocator>(head: Head, text: &mut Vec<u8, A>) -> io::Result<()>
     writeln!(text, "{kind} {len}")
 }
 
-/// Writes the text form of tokens on a line, the operator's words by their own names.
+/// Writes the text of tokens on a line, with the operator's words by their names.
 fn write_tokens<A: Allocator>(words: &Words, tokens: &[u8], text: &mut Vec<u8, A>) -> io::Result<()>
     requires { length tokens.now % 2 ≡ 0 }
     ensures { OnOk result (text.new.items ≡ text.old.items
@@ -62,7 +62,7 @@ fn write_tokens<A: Allocator>(words: &Words, tokens: &[u8], text: &mut Vec<u8, A
     text.write_all(b"\n")
 }
 
-/// The answer to a message that is not paired.
+/// Returns the answer to a message that is not paired.
 fn answer_prn<A: Allocator>(alloc: A, body: &[u8]) -> Result<Vec<u8, A>, AllocError>
     requires { length body.now % 2 ≡ 0 }
     ensures even { IfOk result (λ answer. length answer.items % 2 ≡ 0) }
@@ -72,7 +72,7 @@ fn answer_prn<A: Allocator>(alloc: A, body: &[u8]) -> Result<Vec<u8, A>, AllocEr
     parts.concat(alloc)
 }
 
-/// The answer to a message that is wrong at a place.
+/// Returns the answer to a message with an error place.
 fn answer_huh<A: Allocator>(alloc: A, place: u16, body: &[u8]) -> Result<Vec<u8, A>, AllocError>
     requires even { length body.now % 2 ≡ 0 }
     requires within { 2 * place ≤ length body.now }
@@ -84,7 +84,7 @@ fn answer_huh<A: Allocator>(alloc: A, place: u16, body: &[u8]) -> Result<Vec<u8,
     parts.concat(alloc)
 }
 
-/// Writes a verdict, and the answer that the sender gets.
+/// Writes a verdict, and the answer to the sender if there is one. Returns whether the message is relayed.
 fn write_verdict<A: Allocator + Copy>(
     alloc: A,
     words: &Words,
@@ -116,7 +116,7 @@ fn write_verdict<A: Allocator + Copy>(
     Ok(false)
 }
 
-/// Writes that a frame is at fault.
+/// Writes the fault of a frame. Returns false.
 pub(super) fn write_fault<A: Allocator>(code: Code, text: &mut Vec<u8, A>) -> io::Result<bool>
     ensures { IfOk result (λ relayed. WritesShown text.old.items text.new.items relayed (fault_shown code)) }
 {
@@ -125,7 +125,7 @@ pub(super) fn write_fault<A: Allocator>(code: Code, text: &mut Vec<u8, A>) -> io
     Ok(false)
 }
 
-/// Writes what becomes of a frame that holds no message and is good.
+/// Writes a valid frame that is not a message. Returns true.
 fn write_relayed<A: Allocator>(head: Head, text: &mut Vec<u8, A>) -> io::Result<bool>
     ensures { IfOk result (λ relayed. WritesShown text.old.items text.new.items relayed (relayed_shown head.kind head.len)) }
 {
@@ -134,7 +134,7 @@ fn write_relayed<A: Allocator>(head: Head, text: &mut Vec<u8, A>) -> io::Result<
     Ok(true)
 }
 
-/// Writes what becomes of an IM.
+/// Writes an IM, or the fault of its body. Returns whether it is relayed.
 fn write_im<A: Allocator>(head: Head, body: &[u8], text: &mut Vec<u8, A>) -> io::Result<bool>
     requires im { head.kind ≡ Kind.Im }
     requires four { length body.now ≡ 4 }
@@ -146,7 +146,7 @@ fn write_im<A: Allocator>(head: Head, body: &[u8], text: &mut Vec<u8, A>) -> io:
     }
 }
 
-/// Writes the lines that explain a verdict, if that was asked for.
+/// Writes the lines that explain a verdict, if the request includes an explanation.
 fn write_lines<A: Allocator + Copy>(
     alloc: A,
     request: &Request<'_>,
@@ -166,7 +166,7 @@ fn write_lines<A: Allocator + Copy>(
     write_explained(alloc, &rules_of(request), verdict, body, text)
 }
 
-/// Writes a message, what becomes of it, and why, if that was asked for.
+/// Writes a message and its verdict, and the explanation if the request includes one. Returns whether it is relayed.
 fn write_message<A: Allocator + Copy>(
     alloc: A,
     request: &Request<'_>,
@@ -189,7 +189,7 @@ fn write_message<A: Allocator + Copy>(
     Ok(relayed)
 }
 
-/// Writes a whole frame and what becomes of it; the answer is whether it would be relayed.
+/// Writes a complete frame and its verdict. Returns whether it would be relayed.
 pub(super) fn write_frame<A: Allocator + Copy>(
     alloc: A,
     request: &Request<'_>,

@@ -4,7 +4,7 @@ use Rattle.daide_codec_tests.proofs.judging.course_of.Goals as goal
 never : false ≡ true → ⊥
 never h = cc
 
--- a reader that isn't full has room for a token
+-- a reader that is not full has room for a token
 pub push-requires : goal.push-requires
 push-requires g c =
     let full : 32767 ≤ c.loop-token.reader.outline.tokens → ⊥ =

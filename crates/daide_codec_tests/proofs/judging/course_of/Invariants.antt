@@ -1,4 +1,4 @@
--- while tokens are read, the message is not ended
+-- the message has not ended while tokens are read
 use Rattle.std.proofs.Common.{◌≡◌, false}
 use Rattle.daide_codec_tests.proofs.judging.course_of.Given as goal
 

@@ -1,4 +1,4 @@
--- while pieces are read, the message is not ended, and no more was read of it than there is
+-- the message has not ended while pieces are read, and at most the whole body was read
 use Rattle.std.proofs.Common.{◌≡◌, ◌≤◌, ◌*◌, false, length}
 use Rattle.daide_reader.specs.Reading.{tokens_read}
 use Rattle.daide_codec_tests.proofs.judging.judged.Given as goal

@@ -21,7 +21,7 @@ returns-then-is_empty-clause-puts g c =
       λ side. paid_same side now now refl refl,
     )
 
--- the wire took bytes
+-- the wire accepted bytes
 
 pub wrote-requires : goal.wrote-requires
 wrote-requires g c =

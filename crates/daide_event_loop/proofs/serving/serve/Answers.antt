@@ -28,7 +28,7 @@ returns-then-is_done-clause-served g c =
           (sym c.is_done.ensures ∙ c.if-is_done.true),
     )
 
--- the settings are wrong, or the places have no room
+-- the settings are wrong, or the places were refused
 pub returns-in_err-service-clause-given_up : goal.returns-in_err-service-clause-given_up
 returns-in_err-service-clause-given_up g c =
     at_fault c.from_residual.result c.in_err-service.field-0.0
@@ -48,7 +48,7 @@ returns-in_err-service-clause-refused g c =
     (IsServeCause g.A.Memory.Refuses c.args.settings.now) c.from_residual.ensures.1
     (opening_cause g.A.Memory.Refuses c.args.settings.now c.in_err-service.field-0.0 c.in_err-service.ensures.refused)
 
--- a round is broken off for want of memory alone
+-- only refused memory breaks off a round
 pub returns-in_err-round-clause-given_up : goal.returns-in_err-round-clause-given_up
 returns-in_err-round-clause-given_up g c =
     let broken = c.in_err-round.ensures.broken_off in
@@ -71,7 +71,7 @@ returns-in_err-round-clause-refused g c =
           c.loop-round.service ran.2 broken.2.refused),
     )
 
--- all rounds were made where the loop went to its end
+-- all rounds were made if the loop ran to its end
 pub returns-clause-given_up : goal.returns-clause-given_up
 returns-clause-given_up g c =
     let ran = c.loop-round.invariant in

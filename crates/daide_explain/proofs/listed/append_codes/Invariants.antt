@@ -7,7 +7,7 @@ use Rattle.daide_explain.specs.Expected.{IsExpected}
 use Rattle.daide_explain.specs.Listed.{IsFilteredBy}
 use Rattle.daide_explain.proofs.listed.append_codes.Given as goal
 
--- the first items were filtered
+-- the first `code-index` codes were filtered
 abbrev pub invariant-loop-code : goal.invariant-loop-code
 invariant-loop-code g l =
     let expected = IsExpected (IsMessageOver (grammar_words (words_of l.fn.rules.words.now)) l.fn.rules.end l.fn.rules.level) l.fn.rules.max_depth

@@ -7,7 +7,7 @@ use Rattle.daide_explain.specs.Expected.{IsExpected}
 use Rattle.daide_explain.specs.Listed.{IsFilteredBy, codes_of}
 use Rattle.daide_explain.proofs.listed.append_words.Given as goal
 
--- the first items were filtered
+-- the first `named-index` names were filtered
 abbrev pub invariant-loop-named : goal.invariant-loop-named
 invariant-loop-named g l =
     let expected = IsExpected (IsMessageOver (grammar_words (words_of l.fn.rules.words.now)) l.fn.rules.end l.fn.rules.level) l.fn.rules.max_depth

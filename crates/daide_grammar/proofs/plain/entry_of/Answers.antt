@@ -1,4 +1,4 @@
--- Each symbol with one entry is what `must` and `may` say; of the others their own function says it.
+-- A symbol with one entry has the entry of `must` or `may`. The other symbols have functions with their own contracts.
 use Rattle.std.proofs.Common.{[], ◌∷◌, refl, ◌∙◌}
 use Rattle.daide_token.specs.declared.class.Class.TheVariants.{Bra, Ccd, Coast, Cto, Flt, Ket, Mrt, Mto, Note, Num}
 use Rattle.daide_token.specs.declared.class.Class.TheVariants.{Power, Province, Season, Snd, Text, Via, Vss, Wve}

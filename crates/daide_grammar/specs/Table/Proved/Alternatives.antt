@@ -1,4 +1,4 @@
--- A list of forms as a sum of lists that hold no choice, and a test that says that one language holds another.
+-- A list of forms as a union of lists of forms without a choice, and a test that one language contains another.
 use Rattle.std.proofs.Common.{◌≡◌, ℕ, Bool, true, false, ◌&&◌, ◌||◌, nat_eq, List, [], ◌∷◌, ◌++◌, map, ◌⊎◌, inl, inr}
 use Rattle.std.proofs.Common.{IsTrue, refl, sym, ◌∙◌, ap, subst, append_assoc, append-nil}
 use Rattle.std.proofs.lemmas.Bool.{eqb-true}
@@ -16,17 +16,17 @@ use Rattle.daide_grammar.specs.Matches.{Matches, token, nothing, both, first, se
 use Rattle.daide_grammar.specs.Matches.{by_name, MatchAll}
 use Rattle.daide_grammar.specs.Table.Proved.Reading.{Some-of, Some-first, Some-second, Some-split}
 
--- each of the one in front of each of the other
+-- each list of the first, followed by each of the second
 unfoldable pub product : List (List Form) → List (List Form) → List (List Form)
 product [] ys = []
 product (x ∷ xs) ys = map (λ y. x ++ y) ys ++ product xs ys
 
--- the alternatives of a name: itself alone, but the words and brackets of `any` stand for themselves
+-- the alternatives of a name: the name itself, except for `any`, which is expanded to its words and brackets
 unfoldable pub name_parts : Nonterminal → List (List Form)
 name_parts Any_name = (anything ∷ []) ∷ []
 name_parts n = (named n ∷ []) ∷ []
 
--- the alternatives of a form, each a list of forms that hold no choice at the top
+-- the alternatives of a form, each a list of forms without a choice at the top
 unfoldable pub parts : Form → List (List Form)
 parts (one k) = (one k ∷ []) ∷ []
 parts never = []
@@ -42,7 +42,7 @@ unfoldable pub parts_all : List Form → List (List Form)
 parts_all [] = [] ∷ []
 parts_all (f ∷ fs) = product (parts f) (parts_all fs)
 
--- some member of a mapped list is the image of some member
+-- a property of an image of a member is a property of a member of the mapped list
 Some-map : {X Y : Type 0} (P : Y → Type 0) (f : X → Y) (xs : List X) → Some-of (λ x. P (f x)) xs → Some-of P (map f xs)
 Some-map P f [] h = h
 Some-map P f (x ∷ xs) (inl h) = inl h
@@ -54,13 +54,13 @@ Some-unmap P f [] h = h
 Some-unmap P f (x ∷ xs) (inl h) = inl h
 Some-unmap P f (x ∷ xs) (inr h) = inr (Some-unmap P f xs h)
 
--- what holds of some member holds more weakly of it
+-- a property of some member implies a weaker property of some member
 Some-weaker : {X : Type 0} (P Q : X → Type 0) (xs : List X) → ((x : X) → P x → Q x) → Some-of P xs → Some-of Q xs
 Some-weaker P Q [] f h = h
 Some-weaker P Q (x ∷ xs) f (inl h) = inl (f x h)
 Some-weaker P Q (x ∷ xs) f (inr h) = inr (Some-weaker P Q xs f h)
 
--- a reading of a product is one of its factors, in turn
+-- a match of a product is a match of one list of each factor, in order
 product-from : (P : List Form → Type 0) (xs ys : List (List Form)) → Some-of P (product xs ys) →
     Some-of (λ x. Some-of (λ y. P (x ++ y)) ys) xs
 unfolding product
@@ -71,7 +71,7 @@ product-from P (x ∷ xs) ys h =
       | inr b ↦ inr (product-from P xs ys b)
     ]
 
--- and the other way round
+-- and conversely
 product-to : (P : List Form → Type 0) (xs ys : List (List Form)) → Some-of (λ x. Some-of (λ y. P (x ++ y)) ys) xs →
     Some-of P (product xs ys)
 unfolding product
@@ -79,14 +79,14 @@ product-to P [] ys h = h
 product-to P (x ∷ xs) ys (inl h) = Some-first P (map (λ y. x ++ y) ys) (product xs ys) (Some-map P (λ y. x ++ y) ys h)
 product-to P (x ∷ xs) ys (inr h) = Some-second P (map (λ y. x ++ y) ys) (product xs ys) (product-to P xs ys h)
 
--- two lists of forms match one after the other
+-- matches of two lists of forms are concatenated
 pub MatchAll-join : (d : Dialect) (ps qs : List Form) (u v : List ℕ) → MatchAll d ps u → MatchAll d qs v →
     MatchAll d (ps ++ qs) (u ++ v)
 MatchAll-join d [] qs u v e n = subst (λ (x : List ℕ). MatchAll d qs (x ++ v)) (sym e) n
 MatchAll-join d (p ∷ ps) qs u v h n =
     (h.0, h.1 ++ v, h.2, MatchAll-join d ps qs h.1 v h.3 n, sym (append_assoc h.0 h.1 v) ∙ ap (λ x. x ++ v) h.4)
 
--- a list that matches two lists of forms is in two parts
+-- a list that matches two lists of forms splits into two parts
 pub MatchAll-split : (d : Dialect) (ps qs : List Form) (w : List ℕ) → MatchAll d (ps ++ qs) w →
     (u : List ℕ) × (v : List ℕ) × MatchAll d ps u × MatchAll d qs v × (u ++ v ≡ w)
 MatchAll-split d [] qs w h = ([], w, refl, h, refl)
@@ -94,14 +94,14 @@ MatchAll-split d (p ∷ ps) qs w h =
     let k = MatchAll-split d ps qs h.1 h.3 in
     (h.0 ++ k.0, k.1, (h.0, k.0, h.2, k.2, refl), k.3, append_assoc h.0 k.0 k.1 ∙ ap (λ x. h.0 ++ x) k.4 ∙ h.4)
 
--- a form alone is a list of one form
+-- a single form is a list of one form
 pub alone : (d : Dialect) (f : Form) (u : List ℕ) → Matches d f u → MatchAll d (f ∷ []) u
 alone d f u m = (u, [], m, refl, append-nil u)
 
 pub unalone : (d : Dialect) (f : Form) (u : List ℕ) → MatchAll d (f ∷ []) u → Matches d f u
 unalone d f u h = subst (Matches d f) (sym (append-nil h.0) ∙ ap (λ x. h.0 ++ x) (sym h.3) ∙ h.4) h.2
 
--- a product matches as a member of the one and then a member of the other
+-- a match of the first factor followed by a match of the second is a match of the product
 product-match : (d : Dialect) (xs ys : List (List Form)) (u v : List ℕ) → Some-of (λ p. MatchAll d p u) xs →
     Some-of (λ q. MatchAll d q v) ys → Some-of (λ p. MatchAll d p (u ++ v)) (product xs ys)
 product-match d xs ys u v h k =
@@ -110,11 +110,11 @@ product-match d xs ys u v h k =
     (λ p m. Some-weaker (λ q. MatchAll d q v) (λ q. MatchAll d (p ++ q) (u ++ v)) ys
     (λ q n. MatchAll-join d p q u v m n) k) h)
 
--- a list of tokens in two, of which each side's forms match a part
+-- a list of tokens in two parts, the first with one property and the second with another
 abbrev pub Divided : Dialect → (List ℕ → Type 0) → (List ℕ → Type 0) → List ℕ → Type 0
 Divided d P Q w = (u : List ℕ) × (v : List ℕ) × P u × Q v × (u ++ v ≡ w)
 
--- a list that matches a product is in two parts: for one row of it,
+-- a list that matches a product splits into two parts: for one row of it,
 row-divided : (d : Dialect) (x : List Form) (ys : List (List Form)) (w : List ℕ) →
     Some-of (λ y. MatchAll d (x ++ y) w) ys →
     Divided d (MatchAll d x) (λ v. Some-of (λ q. MatchAll d q v) ys) w
@@ -136,7 +136,7 @@ product-divided : (d : Dialect) (xs ys : List (List Form)) (w : List ℕ) →
     Divided d (λ u. Some-of (λ p. MatchAll d p u) xs) (λ v. Some-of (λ q. MatchAll d q v) ys) w
 product-divided d xs ys w h = rows-divided d xs ys w (product-from (λ p. MatchAll d p w) xs ys h)
 
--- some member of a list of one is that one
+-- a member of a list of one item is that item
 only-one : {X : Type 0} (P : X → Type 0) (x : X) → Some-of P (x ∷ []) → P x
 only-one P x (inl h) = h
 only-one P x (inr h) = absurd h
@@ -168,7 +168,7 @@ parts-cover d (many f) u m = inl (alone d (many f) u m)
 parts-cover d (group f) u m = inl (alone d (group f) u m)
 parts-cover d (named n) u m = name_parts-cover d n u m
 
--- and the other way round
+-- and conversely
 parts-sound : (d : Dialect) (f : Form) (w : List ℕ) → Some-of (λ p. MatchAll d p w) (parts f) → Matches d f w
 unfolding parts
 parts-sound d (one k) w (inl h) = unalone d (one k) w h
@@ -190,7 +190,7 @@ parts-sound d (group f) w (inl h) = unalone d (group f) w h
 parts-sound d (group f) w (inr h) = absurd h
 parts-sound d (named n) w h = name_parts-sound d n w h
 
--- what matches a list of forms matches one of its alternatives
+-- a list that matches a list of forms matches one of its alternatives
 pub parts_all-cover : (d : Dialect) (fs : List Form) (w : List ℕ) → MatchAll d fs w →
     Some-of (λ p. MatchAll d p w) (parts_all fs)
 unfolding parts_all
@@ -208,13 +208,13 @@ parts_all-sound d (f ∷ fs) w h =
     let k = product-divided d (parts f) (parts_all fs) w h in
     (k.0, k.1, parts-sound d f k.0 k.2, parts_all-sound d fs k.1 k.3, k.4)
 
--- ---- one language within another
+-- ---- one language contained in another
 
 -- whether two levels are the same
 abbrev pub same_level : Level → Level → Bool
 same_level l m = nat_eq (level_number l) (level_number m)
 
--- the level of a number
+-- the level with a number
 level_of : ℕ → Level
 level_of n =
     elim (nat_eq n 0) [
@@ -245,7 +245,7 @@ level_of-level_number L40 = refl
 level_of-level_number L50 = refl
 level_of-level_number L60 = refl
 
--- levels that compare as the same are the same
+-- levels that compare equal are equal
 pub same_level-means : (l m : Level) → same_level l m ≡ true → l ≡ m
 same_level-means l m e =
     sym (level_of-level_number l) ∙ ap level_of (eqb-true (level_number l) (level_number m) e) ∙ level_of-level_number m
@@ -260,13 +260,13 @@ pub either-passes : (a b : Bool) → (a || b) ≡ true → (a ≡ true) ⊎ (b �
 either-passes true b e = inl refl
 either-passes false b e = inr e
 
--- whether two kinds are the same
+-- whether two tests are the same
 abbrev pub same_kind : TokenTest → TokenTest → Bool
 same_kind (is c) (is d) = same_class c d
 same_kind any_but_brackets any_but_brackets = true
 same_kind _ _ = false
 
--- a class that one accepts the same kind accepts
+-- a class that a test accepts, an equal test accepts
 pub same_kind-sound : (k m : TokenTest) (c : Class) → same_kind k m ≡ true → IsTrue (is_of_kind k c) → IsTrue (is_of_kind m c)
 same_kind-sound (is a) (is b) c e h =
     subst (λ (n : ℕ). nat_eq n (class_number c) ≡ true) (eqb-true (class_number a) (class_number b) e) h
@@ -274,7 +274,7 @@ same_kind-sound any_but_brackets any_but_brackets c e h = h
 same_kind-sound (is a) any_but_brackets c e h = cc
 same_kind-sound any_but_brackets (is b) c e h = cc
 
--- what the one name stands for is also what the other does
+-- the language of the first name is contained in that of the second, by this test
 unfoldable pub name_below : Nonterminal → Nonterminal → Bool
 name_below Place_name Place_name = true
 name_below Unit_name Unit_name = true
@@ -289,7 +289,7 @@ name_below (Fact_name l) (Fact_name m) = same_level l m
 name_below (Arrangement_name l) (Fact_name m) = same_level l m
 name_below _ _ = false
 
--- the lists of a name below another are lists of the other
+-- if the test passes, the lists of the first name are lists of the second
 name_below-sound : (d : Dialect) (n m : Nonterminal) (w : List ℕ) → name_below n m ≡ true → Matches d (named n) w →
     Matches d (named m) w
 unfolding name_below
@@ -313,7 +313,7 @@ name_below-sound d (Arrangement_name l) (Fact_name m) w e h =
     by_name (first (subst (λ (x : Level). Matches d (named (Arrangement_name x)) w) (same_level-means l m e) h))
 name_below-sound d _ _ w e h = cc
 
--- whether what matches the first form is seen to match the second
+-- whether the language of the first form is contained in that of the second, by this test
 unfoldable pub below : Form → Form → Bool
 below (one k) (one m) = same_kind k m
 below empty empty = true
@@ -324,14 +324,14 @@ below (group f) (group g) = below f g
 below (named n) (named m) = name_below n m
 below _ _ = false
 
--- a repetition of lists of one form is one of lists of a form above it
+-- a repetition of a smaller form is a repetition of the larger one
 many-below : (d : Dialect) (f g : Form) (w : List ℕ) → ((u : List ℕ) → Matches d f u → Matches d g u) →
     Matches d (many f) w →
     Matches d (many g) w
 many-below d f g w k no_more = no_more
 many-below d f g w k (one_more {u = u} {v = v} m n) = one_more (k u m) (many-below d f g v k n)
 
--- the lists of a form below another are lists of the other
+-- if the test passes, the lists of the first form are lists of the second
 pub below-sound : (d : Dialect) (f g : Form) (w : List ℕ) → below f g ≡ true → Matches d f w → Matches d g w
 unfolding below
 below-sound d (one k) (one m) w e (token {t = t} h) = token (same_kind-sound k m (d.class_of t) e h)
@@ -346,7 +346,7 @@ below-sound d (group f) (group g) w e (bracketed {u = u} o k b m c) = bracketed 
 below-sound d (named n) (named m) w e h = name_below-sound d n m w e h
 below-sound d _ _ w e h = cc
 
--- whether each form of a list is below that of another, in turn
+-- whether each form of a list is contained in the form at the same index of another
 unfoldable pub below_all : List Form → List Form → Bool
 below_all [] [] = true
 below_all (f ∷ fs) (g ∷ gs) = below f g && below_all fs gs
@@ -362,11 +362,11 @@ below_all-sound d (f ∷ fs) (g ∷ gs) w e h =
 below_all-sound d [] (g ∷ gs) w e h = cc
 below_all-sound d (f ∷ fs) [] w e h = cc
 
--- whether each list of the first sum is within one of the second
+-- whether each list of the first union is contained in some list of the second
 unfoldable pub covers : List (List Form) → List (List Form) → Bool
 covers ps qs = list_all (λ p. list_any (below_all p) qs) ps
 
--- a list of forms below some alternative matches it
+-- a list that matches forms contained in some alternative matches that union
 any-below : (d : Dialect) (p : List Form) (qs : List (List Form)) (w : List ℕ) → list_any (below_all p) qs ≡ true →
     MatchAll d p w →
     Some-of (λ q. MatchAll d q w) qs
@@ -377,7 +377,7 @@ any-below d p (q ∷ qs) w e h =
       | inr b ↦ inr (any-below d p qs w b h)
     ]
 
--- where the one covers, every list of it is one of the other
+-- if the second union covers the first, every list of the first is a list of the second
 pub covers-sound : (d : Dialect) (ps qs : List (List Form)) (w : List ℕ) → covers ps qs ≡ true →
     Some-of (λ p. MatchAll d p w) ps →
     Some-of (λ q. MatchAll d q w) qs

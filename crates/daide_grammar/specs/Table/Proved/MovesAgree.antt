@@ -1,4 +1,4 @@
--- What a right table does: its answers agree with the languages of its symbols.
+-- A right table: its entries agree with the languages of its symbols.
 use Rattle.std.proofs.Common.{◌≡◌, ℕ, ◌<◌, Bool, true, false, not, ◌&&◌, nat_eq, List, [], ◌∷◌, Option, Some, None, ◌⊎◌}
 use Rattle.std.proofs.Common.{◌↔◌, inl, inr, IsTrue, refl, sym, ◌∙◌, ap, subst}
 use Rattle.std.specs.Bool.{beq}
@@ -32,22 +32,22 @@ pub record Proper (d : Dialect) : Type 0 where
       (k : ℕ) × (d.class_of t ≡ Word k)
   pub token_of : (c : Class) → class_number c < own_classes → (t : ℕ) × (d.class_of t ≡ c)
 
--- no word that may be added at the place begins with the token
+-- no word that may be added at this slot begins with the token
 abbrev pub NoWord : Dialect → Option (Slot × Level) → ℕ → Type 0
 NoWord d None t = Unit {0}
 NoWord d (Some p) t = (w : List ℕ) → Matches d (d.added p.0 p.1) (t ∷ w) → ⊥
 
--- no class of the standard's tokens
+-- the class is no operator's word
 abbrev pub IsStandard : Class → Type 0
 IsStandard c = (k : ℕ) → c ≡ Word k → ⊥
 
--- none begins with a standard token
+-- no added word begins with a standard token
 pub standard-no-word : (d : Dialect) (ok : Proper d) (o : Option (Slot × Level)) (t : ℕ) → IsStandard (d.class_of t) →
     NoWord d o t
 standard-no-word d ok None t std = tt
 standard-no-word d ok (Some p) t std = λ w m. let h = ok.by_word p.0 p.1 t w m in std h.0 h.1
 
--- a class that one kind accepts is accepted by the same kind
+-- a class that a test accepts, an equal test accepts: the converse direction
 same_kind-back : (k m : TokenTest) (c : Class) → same_kind k m ≡ true → IsTrue (is_of_kind m c) → IsTrue (is_of_kind k c)
 same_kind-back (is a) (is b) c e h =
     subst (λ (n : ℕ). nat_eq n (class_number c) ≡ true) (sym (eqb-true (class_number a) (class_number b) e)) h
@@ -55,7 +55,7 @@ same_kind-back any_but_brackets any_but_brackets c e h = h
 same_kind-back (is a) any_but_brackets c e h = cc
 same_kind-back any_but_brackets (is b) c e h = cc
 
--- no test both passes and fails
+-- a test does not both pass and fail
 pub no-yes : (b : Bool) → b ≡ true → b ≡ false → ⊥
 no-yes true e h = cc
 no-yes false e h = cc
@@ -64,12 +64,12 @@ pub not-both : (b : Bool) → b ≡ true → not b ≡ true → ⊥
 not-both true e h = cc
 not-both false e h = cc
 
--- a class is accepted where one of its number is
+-- a test accepts a class if it accepts one with the same number
 pub is_of_kind-like : (k : TokenTest) (c d : Class) → class_number c ≡ class_number d → is_of_kind k c ≡ is_of_kind k d
 is_of_kind-like (is a) c d e = ap (nat_eq (class_number a)) e
 is_of_kind-like any_but_brackets c d e = ap (λ n. not (nat_eq 0 n) && not (nat_eq 1 n)) e
 
--- kinds that are apart accept no class in common
+-- tests that are apart accept no common class
 pub apart-sound : (k m : TokenTest) (c : Class) → apart k m ≡ true → IsTrue (is_of_kind k c) → IsTrue (is_of_kind m c) → ⊥
 apart-sound (is a) (is b) c e h i =
     not-both (same_class a b) (eq-eqb (class_number a) (class_number b) (eqb-true (class_number a) (class_number c) h
@@ -80,18 +80,18 @@ apart-sound any_but_brackets (is b) c e h i =
     not-both (is_of_kind any_but_brackets b) (is_of_kind-like any_but_brackets b c (eqb-true (class_number b) (class_number c) i) ∙ h) e
 apart-sound any_but_brackets any_but_brackets c e h i = cc
 
--- the entry that is found is the first, or a later one where the first doesn't take the class
+-- the entry that is found is the first, or a later one if the first does not take the class
 this_or-some : (b : Bool) (x : Alternative) (o : Option Alternative) (e : Alternative) → this_or b x o ≡ Some e →
     ((b ≡ true) × (x ≡ e)) ⊎ ((b ≡ false) × (o ≡ Some e))
 this_or-some true x o e h = inl (refl, (cc))
 this_or-some false x o e h = inr (refl, h)
 
--- where no entry is found, the first does not take the class and none is found in the rest
+-- if no entry is found, the first does not take the class and none of the rest does
 this_or-none : (b : Bool) (x : Alternative) (o : Option Alternative) → this_or b x o ≡ None → (b ≡ false) × (o ≡ None)
 this_or-none true x o h = cc
 this_or-none false x o h = (refl, h)
 
--- a kind of the list that takes the class is a kind of an entry that takes it
+-- if a test in the list takes the class, no entry apart from all of them takes it
 takes-any : (c : Class) (k : TokenTest) (es : List Alternative) → list_any (λ f. same_kind k f.kind) es ≡ true →
     is_of_kind k c ≡ true → (x : Alternative) →
     list_all (λ f. apart x.kind f.kind) es ≡ true → is_of_kind x.kind c ≡ true → ⊥
@@ -103,7 +103,7 @@ takes-any c k (y ∷ es) m h x a i =
       | inr r ↦ takes-any c k es r h x p.1 i
     ]
 
--- an entry that takes the class is the one that is found
+-- of entries that are apart, the one that is found has the test that takes the class
 find-agrees : (c : Class) (k : TokenTest) (es : List Alternative) (e : Alternative) → all_apart es ≡ true → entry_at c es ≡ Some e →
     list_any (λ f. same_kind k f.kind) es ≡ true → is_of_kind k c ≡ true → same_kind k e.kind ≡ true
 unfolding all_apart
@@ -121,7 +121,7 @@ find-agrees c k (x ∷ es) e a f m h =
       ]
     ]
 
--- where no entry is found, a kind of one of them accepts no such class
+-- if no entry is found, no entry's test accepts the class
 find-none : (c : Class) (k : TokenTest) (es : List Alternative) → entry_at c es ≡ None →
     list_any (λ f. same_kind k f.kind) es ≡ true →
     is_of_kind k c ≡ true → ⊥
@@ -133,7 +133,7 @@ find-none c k (x ∷ es) f m h =
       | inr r ↦ find-none c k es j.1 r h
     ]
 
--- what is found is one of the entries, and takes the class
+-- the entry that is found takes the class
 pub find-takes : (c : Class) (es : List Alternative) (e : Alternative) → entry_at c es ≡ Some e → is_of_kind e.kind c ≡ true
 find-takes c [] e f = cc
 find-takes c (x ∷ es) e f =
@@ -142,7 +142,7 @@ find-takes c (x ∷ es) e f =
       | inr j ↦ find-takes c es e j.1
     ]
 
--- what is found passes every test that all entries pass
+-- the entry that is found passes every test that all entries pass
 pub find-passes : (test : Alternative → Bool) (c : Class) (es : List Alternative) (e : Alternative) → list_all test es ≡ true →
     entry_at c es ≡ Some e →
     test e ≡ true
@@ -154,20 +154,20 @@ find-passes test c (x ∷ es) e a f =
       | inr j ↦ find-passes test c es e p.1 j.1
     ]
 
--- ---- the heads that a token may stand at
+-- ---- the heads for a token
 
--- a list of a named form is one of what the name stands for
+-- a list of a named form is a list of the name's rule
 pub named-rule : (d : Dialect) (n : Nonterminal) (w : List ℕ) → Matches d (named n) w → Matches d (rule d n) w
 named-rule d n w (by_name m) = m
 
--- slots that compare as the same are the same
+-- slots that compare equal are equal
 pub same_slot-means : (a b : Slot) → same_slot a b ≡ true → a ≡ b
 same_slot-means Press_slot Press_slot e = refl
 same_slot-means Arrangement_slot Arrangement_slot e = refl
 same_slot-means Flat_slot Flat_slot e = refl
 same_slot-means _ _ e = cc
 
--- what stands for the words of a slot reads one of them
+-- the form for the words of a slot derives one of the words
 pub added-reads : (d : Dialect) (p : Slot × Level) (fs : List Form) (w : List ℕ) → is_added (Some p) fs ≡ true →
     LeftDerivation d fs w →
     Matches d (d.added p.0 p.1) w
@@ -179,7 +179,7 @@ added-reads d p (named (Added s l) ∷ []) w e r =
     (named-rule d (Added s l) w (unalone d (named (Added s l)) w (MatchAll_from_Reads d r))))
 added-reads d p _ w e r = cc
 
--- no list begins with a token at which no added word stands
+-- no list begins with a token that begins no added word
 no-added : (d : Dialect) (o : Option (Slot × Level)) (fs : List Form) (t : ℕ) (w : List ℕ) → NoWord d o t →
     is_added o fs ≡ true →
     LeftDerivation d fs (t ∷ w) → ⊥
@@ -187,7 +187,7 @@ unfolding is_added
 no-added d None fs t w std e r = cc
 no-added d (Some p) fs t w std e r = std w (added-reads d p fs (t ∷ w) e r)
 
--- alternatives are among those of a choice, on either side
+-- an alternative on one side of a choice is an alternative of the choice
 if_same-here : (P : List Form → Type 0) (b : Bool) (ps qs : List (List Form)) → b ≡ true → Some-of P ps →
     Some-of P (if_same b ps qs)
 if_same-here P true ps qs e h = Some-first P ps qs h
@@ -198,13 +198,13 @@ if_same-later : (P : List Form → Type 0) (b : Bool) (ps qs : List (List Form))
 if_same-later P true ps qs h = Some-second P ps qs h
 if_same-later P false ps qs h = h
 
--- an alternative of a choice is of one of its sides
+-- an alternative of a choice is an alternative on one of its two sides
 if_same-either : (P : List Form → Type 0) (b : Bool) (ps qs : List (List Form)) → Some-of P (if_same b ps qs) →
     ((b ≡ true) × Some-of P ps) ⊎ Some-of P qs
 if_same-either P true ps qs h = elim (Some-split P ps qs h) [ inl a ↦ inl (refl, a) | inr b ↦ inr b ]
 if_same-either P false ps qs h = inr h
 
--- what follows the token, where the heads read it
+-- the rest after the token, if the heads derive the list
 head-after : (d : Dialect) (ok : Proper d) (o : Option (Slot × Level)) (es : List Alternative) (e : Alternative) (t : ℕ)
     (w : List ℕ) → NoWord d o t →
     all_apart es ≡ true → entry_at (d.class_of t) es ≡ Some e →
@@ -228,7 +228,7 @@ head-after d ok o es e t w std a f (unopened gs ∷ hs) k (inl r) =
 head-after d ok o es e t w std a f (unopened gs ∷ hs) k (inr r) =
     head-after d ok o es e t w std a f hs (both-pass (is_added o gs) (list_all (known o es) hs) k).1 r
 
--- and the other way round
+-- and conversely
 after-head : (d : Dialect) (e : Alternative) (t : ℕ) (w : List ℕ) → is_of_kind e.kind (d.class_of t) ≡ true →
     (hs : List FirstItem) → Some-of (λ p. MatchAll d p w) (after e.kind hs) → Some-of (HeadReads d (t ∷ w)) hs
 unfolding after
@@ -245,7 +245,7 @@ after-head d e t w i (starts m fs ∷ hs) h =
 after-head d e t w i (ends ∷ hs) h = inr (after-head d e t w i hs h)
 after-head d e t w i (unopened gs ∷ hs) h = inr (after-head d e t w i hs h)
 
--- no head reads a token of a class that no entry takes
+-- no head derives a list that begins with a class that no entry takes
 no-head : (d : Dialect) (ok : Proper d) (o : Option (Slot × Level)) (es : List Alternative) (t : ℕ) (w : List ℕ) →
     NoWord d o t →
     entry_at (d.class_of t) es ≡ None →
@@ -264,7 +264,7 @@ no-head d ok o es t w std f (unopened gs ∷ hs) k (inl r) =
 no-head d ok o es t w std f (unopened gs ∷ hs) k (inr r) =
     no-head d ok o es t w std f hs (both-pass (is_added o gs) (list_all (known o es) hs) k).1 r
 
--- the empty list is read where a head ends
+-- if a head is the end, the heads derive the empty list
 end-head : (d : Dialect) (hs : List FirstItem) → list_any is_end_marker hs ≡ true → Some-of (HeadReads d []) hs
 end-head d [] e = cc
 end-head d (starts m fs ∷ hs) e = inr (end-head d hs e)
@@ -278,7 +278,7 @@ unfolding is_added
 not-added-empty d ok None fs e r = cc
 not-added-empty d ok (Some p) fs e r = ok.not_empty p.0 p.1 (added-reads d p fs [] e r)
 
--- and a head ends where the empty list is read
+-- if the heads derive the empty list, a head is the end
 head-end : (d : Dialect) (ok : Proper d) (o : Option (Slot × Level)) (es : List Alternative) (hs : List FirstItem) →
     list_all (known o es) hs ≡ true →
     Some-of (HeadReads d []) hs → list_any is_end_marker hs ≡ true
@@ -295,7 +295,7 @@ head-end d ok o es (unopened gs ∷ hs) k (inr r) =
 
 -- ---- the laws
 
--- what a right symbol's parts are
+-- the parts of the test of a symbol
 pub record RightParts (d : Dialect) (s : Sym) : Type 0 where
   pub entries_right : list_all (entry_right (heads d 60 (form_of s ∷ []))) (entries s) ≡ true
   pub heads_known : list_all (known (slot_of s) (entries s)) (heads d 60 (form_of s ∷ [])) ≡ true
@@ -303,14 +303,14 @@ pub record RightParts (d : Dialect) (s : Sym) : Type 0 where
   pub may_end : list_any is_end_marker (heads d 60 (form_of s ∷ [])) ≡ may_end_of s
   pub added : added_right (slot_of s) (entries s) (heads d 60 (form_of s ∷ [])) ≡ true
 
--- tests that compare as the same are the same
+-- tests that compare equal are equal
 beq-same : (a b : Bool) → beq a b ≡ true → a ≡ b
 beq-same true true e = refl
 beq-same false false e = refl
 beq-same true false e = cc
 beq-same false true e = cc
 
--- what the test of a symbol consists of
+-- the conjuncts of the test of a symbol
 right_by_parts : (o : Option (Slot × Level)) (b : Bool) (es : List Alternative) (hs : List FirstItem) → right_by o b es hs ≡ true →
     (list_all (entry_right hs) es ≡ true) × (list_all (known o es) hs ≡ true) × (all_apart es ≡ true) ×
     (list_any is_end_marker hs ≡ b) × (added_right o es hs ≡ true)
@@ -331,11 +331,11 @@ right_parts d s =
     let p = right_by_parts (slot_of s) (may_end_of s) (entries s) (heads d 60 (form_of s ∷ [])) (all_right d s) in
     record { entries_right = p.0; heads_known = p.1; kinds_apart = p.2; may_end = p.3; added = p.4 }
 
--- the lists in parts, one for each symbol in turn
+-- a concatenation of one list for each symbol, in order
 abbrev pub AllMatchIn : Dialect → List Sym → List ℕ → Type 0
 AllMatchIn d ss w = MatchAll d (forms ss) w
 
--- a symbol's lists are those that the heads of its form read
+-- a symbol's lists are those that the heads of its form derive
 pub to_heads : (d : Dialect) (s : Sym) (w : List ℕ) → SymbolMatchesIn d s w →
     Some-of (HeadReads d w) (heads d 60 (form_of s ∷ []))
 to_heads d s w m =
@@ -345,7 +345,7 @@ pub from_heads : (d : Dialect) (s : Sym) (w : List ℕ) → Some-of (HeadReads d
     SymbolMatchesIn d s w
 from_heads d s w h = unalone d (form_of s) w (MatchAll_from_Reads d (heads-sound d 60 (form_of s ∷ []) w h))
 
--- an entry that is right covers what follows its token, and is covered by it
+-- a right entry covers what follows its token, and is covered by it
 covered : (hs : List FirstItem) (e : Alternative) → entry_right hs e ≡ true →
     (covers (parts_all (forms e.rest)) (after e.kind hs) ≡ true) × (covers (after e.kind hs) (parts_all
     (forms e.rest)) ≡ true)
@@ -353,7 +353,7 @@ unfolding entry_right
 covered hs e h = both-pass (covers (parts_all (forms e.rest)) (after e.kind hs)) (covers (after e.kind hs) (parts_all
     (forms e.rest))) h
 
--- where an entry is found, the symbol's language goes on as its rest
+-- if an entry is found, a list of the symbol that begins with the token continues as a list of its rest
 pub entry-law : (d : Dialect) (ok : Proper d) (s : Sym) (e : Alternative) (t : ℕ) (w : List ℕ) → NoWord d (slot_of s) t →
     entry_at (d.class_of t) (entries s) ≡ Some e →
     SymbolMatchesIn d s (t ∷ w) ↔ AllMatchIn d e.rest w
@@ -368,14 +368,14 @@ entry-law d ok s e t w std f =
           (covers-sound d (parts_all (forms e.rest)) (after e.kind hs) w c.0 (parts_all-cover d (forms e.rest) w m))),
     )
 
--- where none is found, no list of its language begins with the token
+-- if no entry is found, no list of the symbol begins with the token
 pub no-entry-law : (d : Dialect) (ok : Proper d) (s : Sym) (t : ℕ) (w : List ℕ) → NoWord d (slot_of s) t →
     entry_at (d.class_of t) (entries s) ≡ None → SymbolMatchesIn d s (t ∷ w) → ⊥
 no-entry-law d ok s t w std f m =
     let p = right_parts d s in
     no-head d ok (slot_of s) (entries s) t w std f (heads d 60 (form_of s ∷ [])) p.heads_known (to_heads d s (t ∷ w) m)
 
--- the symbols that may end are those whose language has the empty list
+-- the nullable symbols are those whose language has the empty list
 pub may_end-law : (d : Dialect) (ok : Proper d) (s : Sym) → (may_end_of s ≡ true) ↔ SymbolMatchesIn d s []
 may_end-law d ok s =
     let p = right_parts d s in
@@ -384,9 +384,9 @@ may_end-law d ok s =
       λ m. sym p.may_end ∙ head-end d ok (slot_of s) (entries s) hs p.heads_known (to_heads d s [] m),
     )
 
--- ---- the laws of the answers
+-- ---- the laws of the table's entries
 
--- which entry and which end an answer comes from
+-- the entry and the nullable flag from which a table entry is made
 pub take-entry : (o : Option Alternative) (b : Bool) (rest : List Sym) → answer_by o b ≡ Take rest →
     (e : Alternative) × (o ≡ Some e) × (e.rest ≡ rest)
 take-entry (Some e) b rest h = (e, refl, (cc))
@@ -412,7 +412,7 @@ take-law d ok s rest t w std h =
     let k = take-entry (entry_at (d.class_of t) (entries s)) (may_end_of s) rest h in
     subst (λ (r : List Sym). SymbolMatchesIn d s (t ∷ w) ↔ AllMatchIn d r w) k.2 (entry-law d ok s k.0 t w std k.1)
 
--- a Skip does
+-- so does a Skip
 pub skip-law : (d : Dialect) (ok : Proper d) (s : Sym) (t : ℕ) → NoWord d (slot_of s) t →
     table_answer s (d.class_of t) ≡ Skip →
     SymbolMatchesIn d s [] × ((w : List ℕ) → SymbolMatchesIn d s (t ∷ w) → ⊥)
@@ -421,7 +421,7 @@ skip-law d ok s t std h =
     let k = skip-entry (entry_at (d.class_of t) (entries s)) (may_end_of s) h in
     ((may_end-law d ok s).0 k.1, λ w. no-entry-law d ok s t w std k.0)
 
--- and a Stop does
+-- and a Stop
 pub stop-law : (d : Dialect) (ok : Proper d) (s : Sym) (t : ℕ) → NoWord d (slot_of s) t →
     table_answer s (d.class_of t) ≡ Stop →
     (SymbolMatchesIn d s [] → ⊥) × ((w : List ℕ) → SymbolMatchesIn d s (t ∷ w) → ⊥)

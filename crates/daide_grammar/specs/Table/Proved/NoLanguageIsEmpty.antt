@@ -1,4 +1,4 @@
--- No symbol's language is empty: a list of it is found by taking first entries.
+-- No symbol's language is empty: taking the first entries derives a list of it.
 use Rattle.std.proofs.Common.{◌≡◌, ℕ, zero, suc, ◌<◌, Bool, true, false, ◌&&◌, nat_lt, List, [], ◌∷◌, ◌++◌, refl, sym}
 use Rattle.std.proofs.Common.{◌∙◌, ap, subst, arith, ltb-true, Some}
 use Rattle.std.proofs.lemmas.Bool.{eq-eqb}
@@ -19,13 +19,12 @@ use Rattle.daide_grammar.specs.Table.Proved.Alternatives.{both-pass, MatchAll-sp
 use Rattle.daide_grammar.specs.Table.Proved.MovesAgree.{Proper, IsStandard, standard-no-word, AllMatchIn, entry-law}
 use Rattle.daide_grammar.specs.Table.Proved.MovesAgree.{may_end-law}
 
--- the class of a token of the kind
+-- a class that passes the test
 abbrev pub sample : TokenTest → Class
 sample (is c) = c
 sample any_but_brackets = Obs
 
--- whether the symbols end after so many steps, each of which takes a symbol away or replaces it by its first entry's
--- rest
+-- whether the symbols end after n steps, each of which removes a symbol or replaces it by the rest of its first entry
 unfoldable pub ends_in : ℕ → List Sym → Bool
 ends_in n [] = true
 ends_in zero (s ∷ ss) = false
@@ -39,8 +38,7 @@ ends_in (suc n) (s ∷ ss) =
       ]
     ]
 
--- a test that computes: every symbol ends so within forty steps. A symbol that does not is named by the clause that
--- fails
+-- A test that computes: every symbol ends within forty steps. The clause that fails names the symbol.
 pub all_end : (s : Sym) → ends_in 40 (s ∷ []) ≡ true
 unfolding ends_in entries may_end_of
 all_end (PressGroup L60) = refl
@@ -63,33 +61,33 @@ all_end (Operands L60) = refl
 all_end (Fact L60) = refl
 all_end _ = refl
 
--- one list of the language, at least
+-- the language has a list
 abbrev pub Inhabited : Dialect → List Sym → Type 0
 Inhabited d ss = (w : List ℕ) × AllMatchIn d ss w
 
--- the forms of two lists of symbols, one after the other
+-- the forms of two concatenated lists of symbols
 forms-append : (rest ss : List Sym) → forms (rest ++ ss) ≡ forms rest ++ forms ss
 forms-append [] ss = refl
 forms-append (s ∷ rest) ss = ap (λ fs. form_of s ∷ fs) (forms-append rest ss)
 
--- a kind accepts its sample
+-- a test accepts its sample
 takes-sample : (k : TokenTest) → is_of_kind k (sample k) ≡ true
 takes-sample (is c) = eq-eqb (class_number c) (class_number c) refl
 takes-sample any_but_brackets = refl
 
--- an entry that takes the class and stands first is the one that is found
+-- a first entry that takes the class is the one that is found
 first-found : (c : Class) (e : Alternative) (es : List Alternative) → is_of_kind e.kind c ≡ true → entry_at c (e ∷ es) ≡ Some e
 first-found c e es h = ap (λ b. this_or b e (entry_at c es)) h
 
--- the classes with a number below that of any word are those of the protocol's own tokens
+-- a class with a number below the words is a class of the protocol's own tokens
 standard-below : (c : Class) → class_number c < own_classes → IsStandard c
 standard-below c h k e = omega (arith, ap class_number e)
 
--- a symbol that may be empty leaves the list of those below
+-- a nullable symbol adds the empty list
 skipped : (d : Dialect) (s : Sym) (ss : List Sym) → SymbolMatchesIn d s [] → Inhabited d ss → Inhabited d (s ∷ ss)
 skipped d s ss m h = (h.0, ([], h.0, m, h.1, refl))
 
--- a token of the first entry's kind, and a list of its rest
+-- a token of the first entry's class, and a list of its rest
 taken : (d : Dialect) (ok : Proper d) (s : Sym) (ss : List Sym) (e : Alternative) (es : List Alternative) → entries s ≡ e ∷ es →
     class_number (sample e.kind) < own_classes → Inhabited d (e.rest ++ ss) → Inhabited d (s ∷ ss)
 taken d ok s ss e es q h i =
@@ -102,7 +100,7 @@ taken d ok s ss e es q h i =
     (standard-below (sample e.kind) h))) found in
     (tk.0 ∷ (k.0 ++ k.1), (tk.0 ∷ k.0, k.1, law.1 k.2, k.3, refl))
 
--- symbols that end so have a list
+-- symbols that end in this way have a list
 pub inhabited : (d : Dialect) (ok : Proper d) (n : ℕ) (ss : List Sym) → ends_in n ss ≡ true → Inhabited d ss
 unfolding ends_in
 inhabited d ok n [] h = ([], refl)

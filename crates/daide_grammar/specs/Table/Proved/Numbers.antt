@@ -1,4 +1,4 @@
--- A symbol and a class of a number have that very number.
+-- The symbol or class with a number has that number.
 use Rattle.std.proofs.Common.{◌≡◌, ℕ, zero, suc, ◌+◌, ◌<◌, Bool, true, ◌&&◌, nat_eq, List, [], ◌∷◌, length, get_or}
 use Rattle.std.proofs.Common.{refl, ◌∙◌, arith}
 use Rattle.std.proofs.lemmas.Bool.{and_parts, eqb-true}
@@ -7,12 +7,12 @@ use Rattle.daide_grammar.specs.declared.symbol.Sym.TheVariants.{Closing}
 use Rattle.daide_grammar.specs.Classes.{class_number}
 use Rattle.daide_grammar.specs.Table.Numbers.{symbols, symbol_number, symbol_at, all_symbols, classes, class_at, all_classes}
 
--- whether each item of a list has its place as its number, the first one's being given
+-- whether each item of a list has its index as its number, counted from a first one
 abbrev in_order : {X : Type 0} → (X → ℕ) → ℕ → List X → Bool
 in_order number place [] = true
 in_order number place (x ∷ xs) = nat_eq (number x) place && in_order number (suc place) xs
 
--- then the item at a place has that number
+-- then the item at an index has that number
 numbered : {X : Type 0} (number : X → ℕ) (place k : ℕ) (xs : List X) (d : X) →
     in_order number place xs ≡ true → k < length xs → number (get_or xs k d) ≡ place + k
 numbered number place k [] d h less = absurd (omega arith)

@@ -21,10 +21,10 @@ only_bra t = (class_bra t, λ e. ap class_of e ∙ class_of-bra)
 pub only_ket : (t : ℕ) → (class_of t ≡ Ket) ↔ (t ≡ ket)
 only_ket t = (class_ket t, λ e. ap class_of e ∙ class_of-ket)
 
--- the table keeps the laws of prediction
+-- the table satisfies the laws of prediction
 pub plain_laws : IsCorrectPrediction class_of SymbolMatches table_answer may_end_of (IsLawful table_answer)
 plain_laws = table_laws standard standard-proper (λ s t. standard-words (slot_of s) t) only_bra only_ket
 
--- the symbol of a side's messages alone is a stack that can arise
+-- a start symbol alone is a lawful stack
 pub plain_begins : (side : Side2) (level : Level) → IsLawful table_answer (start_symbol_of side level ∷ []) 0
 plain_begins side level = start_symbol side level

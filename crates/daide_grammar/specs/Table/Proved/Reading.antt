@@ -1,4 +1,4 @@
--- Reading a list of forms from the left, and what such a list begins with.
+-- Reading a list of forms from the left, and the first items of such a list.
 use Rattle.std.proofs.Common.{◌≡◌, ℕ, zero, suc, List, [], ◌∷◌, ◌++◌, Option, Some, None, ◌⊎◌, inl, inr, IsTrue, refl}
 use Rattle.std.proofs.Common.{sym, ◌∙◌, ap, subst, append_assoc}
 use Rattle.daide_token.specs.declared.class.Class.TheVariants.{Bra, Ket}
@@ -23,7 +23,7 @@ pub data LeftDerivation (d : Dialect) : List Form → List ℕ → Type 0 where
       LeftDerivation d (group f ∷ fs) (t ∷ w)
   unfold' : {n : Nonterminal} {fs : List Form} {w : List ℕ} → LeftDerivation d (rule d n ∷ fs) w → LeftDerivation d (named n ∷ fs) w
 
--- a match, and then a reading of the rest
+-- a match, and then a derivation of the rest
 pub LeftDerivation-front : (d : Dialect) {f : Form} {u : List ℕ} {fs : List Form} (v : List ℕ) → Matches d f u → LeftDerivation d fs v →
     LeftDerivation d (f ∷ fs) (u ++ v)
 LeftDerivation-front d v (token h) r = take h r
@@ -52,7 +52,7 @@ in_brackets : (d : Dialect) (f : Form) (fs : List Form) (t : ℕ) {w : List ℕ}
 in_brackets d f fs t b u v m x y (token {t = k} e) r p q =
     (t ∷ (u ++ k ∷ []), y, bracketed t k b m e, r, ap (λ z. t ∷ z) (append_assoc u (k ∷ []) y ∙ ap (λ z. u ++ z) p ∙ q))
 
--- what is read is a match of each form, in order
+-- a derivation is a match of each form, in order
 pub MatchAll_from_Reads : (d : Dialect) {fs : List Form} {w : List ℕ} → LeftDerivation d fs w → MatchAll d fs w
 MatchAll_from_Reads d end = refl
 MatchAll_from_Reads d (take {t = t} h r) = front d _ _ (token h) (MatchAll_from_Reads d r)
@@ -74,18 +74,18 @@ MatchAll_from_Reads d (enter {f = f} {fs = fs} {t = t} b r) =
     in_brackets d f fs t b h.0 h.1 h.2 k.0 k.1 k.2 k.3 k.4 h.4
 MatchAll_from_Reads d (unfold' r) = let h = MatchAll_from_Reads d r in (h.0, h.1, by_name h.2, h.3, h.4)
 
--- and the other way round
+-- and conversely
 pub Reads_from_MatchAll : (d : Dialect) (fs : List Form) (w : List ℕ) → MatchAll d fs w → LeftDerivation d fs w
 Reads_from_MatchAll d [] w e = subst (LeftDerivation d []) (sym e) end
 Reads_from_MatchAll d (f ∷ fs) w h =
     subst (LeftDerivation d (f ∷ fs)) h.4 (LeftDerivation-front d h.1 h.2 (Reads_from_MatchAll d fs h.1 h.3))
 
--- one of the items has P
+-- one of the items has property P
 abbrev pub Some-of : {X : Type 0} → (X → Type 0) → List X → Type 0
 Some-of P [] = ⊥
 Some-of P (x ∷ xs) = P x ⊎ Some-of P xs
 
--- some member of the first list is one of both, one after the other
+-- a member of one list is a member of the concatenation
 pub Some-first : {X : Type 0} (P : X → Type 0) (xs ys : List X) → Some-of P xs → Some-of P (xs ++ ys)
 Some-first P [] ys h = absurd h
 Some-first P (x ∷ xs) ys (inl h) = inl h
@@ -95,43 +95,43 @@ pub Some-second : {X : Type 0} (P : X → Type 0) (xs ys : List X) → Some-of P
 Some-second P [] ys h = h
 Some-second P (x ∷ xs) ys h = inr (Some-second P xs ys h)
 
--- and a member of both is one of either
+-- a member of the concatenation is a member of one of the lists
 pub Some-split : {X : Type 0} (P : X → Type 0) (xs ys : List X) → Some-of P (xs ++ ys) → Some-of P xs ⊎ Some-of P ys
 Some-split P [] ys h = inr h
 Some-split P (x ∷ xs) ys (inl h) = inl (inl h)
 Some-split P (x ∷ xs) ys (inr h) = elim (Some-split P xs ys h) [ inl a ↦ inl (inr a) | inr b ↦ inr b ]
 
--- what a list of forms may begin with
+-- the first items of a list of forms
 pub data FirstItem : Type 0 where
   starts : TokenTest → List Form → FirstItem  -- a token of this kind, and then these forms
   ends : FirstItem  -- nothing: the list is empty
   unopened : List Form → FirstItem  -- as this list of forms, which was not opened
 
--- what a head reads
+-- the lists that a head derives
 abbrev pub HeadReads : Dialect → List ℕ → FirstItem → Type 0
 HeadReads d [] (starts k fs) = ⊥
 HeadReads d (t ∷ w) (starts k fs) = IsTrue (is_of_kind k (d.class_of t)) × LeftDerivation d fs w
 HeadReads d w ends = w ≡ []
 HeadReads d w (unopened fs) = LeftDerivation d fs w
 
--- what a name stands for, but for the words that were added
+-- the form of a name, except for the added words
 unfoldable pub opened : Dialect → Nonterminal → Option Form
 opened d (Added s l) = None
 opened d n = Some (rule d n)
 
--- a name that opens stands for what it opens to
+-- an expanded name has the form of its rule
 pub opened-rule : (d : Dialect) (n : Nonterminal) (f : Form) → opened d n ≡ Some f → rule d n ≡ f
 unfolding opened
 opened-rule d (Added s l) f e = cc
 opened-rule d Place_name f e = cc
 opened-rule d n f e = cc
 
--- the heads of what a name stands for, or the name's own
+-- the heads of the form of a name, or the name as its own head
 abbrev pub by_start_symbol : Option Form → FirstItem → (Form → List FirstItem) → List FirstItem
 by_start_symbol None h then = h ∷ []
 by_start_symbol (Some f) h then = then f
 
--- what a list of forms begins with; the number bounds how often forms are opened
+-- the first items of a list of forms; n bounds how often names are expanded
 unfoldable pub heads : Dialect → ℕ → List Form → List FirstItem
 heads d n [] = ends ∷ []
 heads d zero (f ∷ fs) = unopened (f ∷ fs) ∷ []
@@ -144,7 +144,7 @@ heads d (suc n) (many f ∷ fs) = heads d n fs ++ heads d n (f ∷ many f ∷ fs
 heads d (suc n) (group f ∷ fs) = starts (is Bra) (f ∷ one (is Ket) ∷ fs) ∷ []
 heads d (suc n) (named m ∷ fs) = by_start_symbol (opened d m) (unopened (named m ∷ fs)) (λ f. heads d n (f ∷ fs))
 
--- an unopened head reads what its forms read
+-- an unopened head derives what its forms derive
 unopened-holds : (d : Dialect) (w : List ℕ) (fs : List Form) → LeftDerivation d fs w → HeadReads d w (unopened fs)
 unopened-holds d [] fs r = r
 unopened-holds d (t ∷ w) fs r = r
@@ -153,7 +153,7 @@ unopened-reads : (d : Dialect) (w : List ℕ) (fs : List Form) → HeadReads d w
 unopened-reads d [] fs r = r
 unopened-reads d (t ∷ w) fs r = r
 
--- the heads of a name: every reading is by one of them,
+-- the heads of a name: every derivation is by one of them,
 by_start_symbol-covers : (d : Dialect) (n : ℕ) (m : Nonterminal) (fs : List Form) (w : List ℕ) (o : Option Form) →
     ((f : Form) → o ≡ Some f → rule d m ≡ f) →
     ((f : Form) → LeftDerivation d (f ∷ fs) w → Some-of (HeadReads d w) (heads d n (f ∷ fs))) →
@@ -162,7 +162,7 @@ by_start_symbol-covers : (d : Dialect) (n : ℕ) (m : Nonterminal) (fs : List Fo
 by_start_symbol-covers d n m fs w None k go r = inl (unopened-holds d w (named m ∷ fs) r)
 by_start_symbol-covers d n m fs w (Some f) k go (unfold' r) = go f (subst (λ (g : Form). LeftDerivation d (g ∷ fs) w) (k f refl) r)
 
--- and each reads only such
+-- and each derives only such lists
 by_start_symbol-sound : (d : Dialect) (n : ℕ) (m : Nonterminal) (fs : List Form) (w : List ℕ) (o : Option Form) →
     ((f : Form) → o ≡ Some f → rule d m ≡ f) →
     ((f : Form) → Some-of (HeadReads d w) (heads d n (f ∷ fs)) → LeftDerivation d (f ∷ fs) w) →
@@ -173,7 +173,7 @@ by_start_symbol-sound d n m fs w None k go (inr e) = absurd e
 by_start_symbol-sound d n m fs w (Some f) k go h =
     unfold' (subst (λ (g : Form). LeftDerivation d (g ∷ fs) w) (sym (k f refl)) (go f h))
 
--- every reading is by one of the heads
+-- every derivation is by one of the heads
 pub heads-cover : (d : Dialect) (n : ℕ) (fs : List Form) (w : List ℕ) → LeftDerivation d fs w →
     Some-of (HeadReads d w) (heads d n fs)
 unfolding heads
@@ -197,7 +197,7 @@ heads-cover d (suc n) (group f ∷ fs) w (enter b r) = inl (b, r)
 heads-cover d (suc n) (named m ∷ fs) w r =
     by_start_symbol-covers d n m fs w (opened d m) (opened-rule d m) (λ f h. heads-cover d n (f ∷ fs) w h) r
 
--- and what a head reads is a reading
+-- and what a head derives is a derivation
 pub heads-sound : (d : Dialect) (n : ℕ) (fs : List Form) (w : List ℕ) → Some-of (HeadReads d w) (heads d n fs) →
     LeftDerivation d fs w
 unfolding heads

@@ -1,4 +1,4 @@
--- Whether the entries of a symbol are right: a test that computes, and what it means.
+-- A test that the entries of a symbol are right, and its meaning.
 use Rattle.std.proofs.Common.{Bool, true, false, not, ◌&&◌, nat_lt, List, [], ◌∷◌, ◌++◌, Option, Some, None, IsTrue}
 use Rattle.std.proofs.Common.{refl}
 use Rattle.std.specs.Bool.{beq}
@@ -19,26 +19,26 @@ use Rattle.daide_grammar.specs.Table.Proved.Reading
 use Rattle.daide_grammar.specs.Table.Proved.Alternatives.{same_level, same_kind, parts_all, covers}
 use Rattle.daide_grammar.specs.Table.Proved.Alternatives
 
--- the one alternatives before the others, where the test passes
+-- the first alternatives before the others if the test passes
 abbrev pub if_same : Bool → List (List Form) → List (List Form) → List (List Form)
 if_same true ps qs = ps ++ qs
 if_same false ps qs = qs
 
--- what follows a token of the kind
+-- the alternatives after a token that passes the test
 unfoldable pub after : TokenTest → List FirstItem → List (List Form)
 after k [] = []
 after k (starts m fs ∷ hs) = if_same (same_kind m k) (parts_all fs) (after k hs)
 after k (ends ∷ hs) = after k hs
 after k (unopened fs ∷ hs) = after k hs
 
--- no token is of both kinds
+-- no token passes both tests
 abbrev pub apart : TokenTest → TokenTest → Bool
 apart (is c) (is d) = not (same_class c d)
 apart (is c) any_but_brackets = not (is_of_kind any_but_brackets c)
 apart any_but_brackets (is c) = not (is_of_kind any_but_brackets c)
 apart any_but_brackets any_but_brackets = false
 
--- whether the kinds of the entries are pairwise apart
+-- whether the tests of the entries are pairwise apart
 unfoldable pub all_apart : List Alternative → Bool
 all_apart [] = true
 all_apart (e ∷ es) = list_all (λ f. apart e.kind f.kind) es && all_apart es
@@ -50,18 +50,18 @@ same_slot Arrangement_slot Arrangement_slot = true
 same_slot Flat_slot Flat_slot = true
 same_slot _ _ = false
 
--- the added words of the slot, and nothing else
+-- only the added words of the slot
 unfoldable pub is_added : Option (Slot × Level) → List Form → Bool
 is_added (Some p) (named (Added s l) ∷ []) = same_slot s p.0 && same_level l p.1
 is_added _ _ = false
 
--- a head is that of an entry, or the end, or an added word's
+-- a head is that of an entry, or the end, or an added word
 unfoldable pub known : Option (Slot × Level) → List Alternative → FirstItem → Bool
 known o es (starts k fs) = list_any (λ e. same_kind k e.kind) es
 known o es ends = true
 known o es (unopened fs) = is_added o fs
 
--- an entry is right where its rest and what follows its token cover each other
+-- an entry is right if its rest and the alternatives after its token cover each other
 unfoldable pub entry_right : List FirstItem → Alternative → Bool
 entry_right hs e =
     let rest = parts_all (forms e.rest) in
@@ -78,18 +78,18 @@ abbrev pub is_unopened : FirstItem → Bool
 is_unopened (unopened fs) = true
 is_unopened _ = false
 
--- a kind of the standard's own classes
+-- the test of one of the standard's own classes
 abbrev pub is_plain : TokenTest → Bool
 is_plain (is c) = nat_lt (class_number c) own_classes
 is_plain any_but_brackets = false
 
--- where words may be added, they are heads, and no entry takes them
+-- if words may be added, they are among the heads, and no entry takes them
 unfoldable pub added_right : Option (Slot × Level) → List Alternative → List FirstItem → Bool
 added_right None es hs = true
 added_right (Some p) es hs = list_any is_unopened hs && list_all (λ e. is_plain e.kind) es
 
--- whether a symbol with these entries and heads is right: each entry is, each head is known, the kinds are apart, and
--- the end is told
+-- whether a symbol with these entries and heads is right: each entry is right, each head is known, the tests are apart,
+-- and the nullable flag agrees
 unfoldable pub right_by : Option (Slot × Level) → Bool → List Alternative → List FirstItem → Bool
 right_by o b es hs =
     (((list_all (entry_right hs) es && list_all (known o es) hs) && all_apart es) && beq (list_any is_end_marker hs) b)
@@ -99,8 +99,8 @@ right_by o b es hs =
 unfoldable pub agrees_with_first : Dialect → Sym → Bool
 agrees_with_first d s = right_by (slot_of s) (may_end_of s) (entries s) (heads d 60 (form_of s ∷ []))
 
--- a test that computes: every symbol of the table is right, whatever words are added. A wrong entry is named by the
--- clause of its symbol
+-- A test that computes: every symbol of the table is right, whatever words are added. The clause of a symbol names a
+-- wrong entry.
 pub all_right : (d : Dialect) (s : Sym) → IsTrue (agrees_with_first d s)
 unfolding agrees_with_first right_by added_right slot_of entry_right known is_added all_apart after entries form_of may_end_of
     Reading.heads Reading.opened Alternatives.parts_all Alternatives.parts Alternatives.name_parts Alternatives.product

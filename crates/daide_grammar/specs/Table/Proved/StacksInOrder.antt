@@ -1,4 +1,4 @@
--- The stacks that can arise are short, and what may be empty stands right above a closing bracket or on the bottom.
+-- The reachable stacks are short, and a nullable symbol is directly above a closing bracket or at the bottom.
 use Rattle.std.proofs.Common.{◌≡◌, ◌≢◌, ℕ, suc, Bool, true, false, not, ◌&&◌, ◌||◌, nat_eq, List, [], ◌∷◌, ◌++◌, Some}
 use Rattle.std.proofs.Common.{None, refl, sym, ◌∙◌, ap, subst, arith, append-nil}
 use Rattle.std.proofs.lemmas.Bool.{eqb-true}
@@ -32,34 +32,34 @@ abbrev pub is_closing : Sym → Bool
 is_closing Closing = true
 is_closing _ = false
 
--- whether each symbol that must stand last does, where the bottom counts as b says
+-- whether each bottom symbol is directly above a closing bracket, or last if b is true
 unfoldable pub tidy : Bool → List Sym → Bool
 tidy b [] = true
 tidy b (s ∷ []) = not (is_bottom_symbol s) || b
 tidy b (s ∷ r ∷ ss) = (not (is_bottom_symbol s) || is_closing r) && tidy b (r ∷ ss)
 
--- what a token of the kind does to the count of open brackets, and so to the sizes
+-- the change of the sizes by a token, by whether it opens and whether it closes a bracket
 abbrev pub sized_by : Bool → Bool → List ℕ → List ℕ → Bool
 sized_by true b rest whole = fits_below 8 rest whole
 sized_by false true rest whole = fits_tail rest whole
 sized_by false false rest whole = fits rest whole
 
--- whether the sizes of a rest fit those of its symbol, by the kind that is taken
+-- whether the sizes of a rest fit those of its symbol, by the test of the token
 unfoldable pub sized : TokenTest → List ℕ → List ℕ → Bool
 sized (is c) rest whole = sized_by (same_class c Bra) (same_class c Ket) rest whole
 sized any_but_brackets rest whole = fits rest whole
 
--- whether an entry's rest has last what must stand last, and fits its symbol's sizes
+-- whether an entry's rest has its bottom symbol last, and fits the sizes of its symbol
 unfoldable pub entry_ordered : Sym → Alternative → Bool
 entry_ordered s e = tidy (is_bottom_symbol s) e.rest && sized e.kind (shapes e.rest) (shape s)
 
--- each entry is in order, the symbol has a size, and one that may be empty stands last and closes no bracket
+-- each entry is in order, the symbol has a size, and a nullable symbol is a bottom symbol and closes no bracket
 unfoldable pub ordered : Sym → Bool
 ordered s =
     (list_all (entry_ordered s) (entries s) && begins_positive (shape s))
     && (not (may_end_of s) || (is_bottom_symbol s && is_single (shape s)))
 
--- a test that computes: every symbol of the table is in order. One that is not is named by the clause that fails
+-- A test that computes: every symbol of the table is in order. The clause that fails names the symbol.
 pub all_ordered : (s : Sym) → ordered s ≡ true
 unfolding ordered entry_ordered sized tidy fits shape is_bottom_symbol entries may_end_of
 all_ordered (PressGroup L60) = refl
@@ -84,7 +84,7 @@ all_ordered _ = refl
 
 -- ---- the entries keep the order
 
--- the classes of the brackets are known by their numbers
+-- the numbers of the brackets' classes determine them
 pub number-Bra : (c : Class) → class_number c ≡ 0 → c ≡ Bra
 number-Bra Bra e = refl
 number-Bra (Word k) e = absurd (omega arith)
@@ -95,12 +95,12 @@ number-Ket Ket e = refl
 number-Ket (Word k) e = absurd (omega arith)
 number-Ket _ e = cc
 
--- a stack whose sizes fit, and where what must stand last does
+-- a stack whose sizes fit, and whose bottom symbols are last
 pub record Ordered (n : ℕ) (ss : List Sym) : Type 0 where
   pub sizes : Fits (shapes ss) (caps n)
   pub tidied : tidy true ss ≡ true
 
--- what the table's tests say of an entry that is taken
+-- what the table's tests say about an entry
 record OrderedEntry (s : Sym) (e : Alternative) : Type 0 where
   tidied : tidy (is_bottom_symbol s) e.rest ≡ true
   sized_so : sized e.kind (shapes e.rest) (shape s) ≡ true
@@ -115,22 +115,22 @@ ordered-entry s c e f =
     (entry_ordered s) c (entries s) e q.0 f) in
     record { tidied = r.0; sized_so = r.1 }
 
--- a choice with true passes
+-- a disjunction with true passes
 pub or-true : (a : Bool) → (a || true) ≡ true
 or-true true = refl
 or-true false = refl
 
--- a symbol that is skipped may be empty
+-- a symbol that is skipped is nullable
 pub skip-ends : (s : Sym) (c : Class) → table_answer s c ≡ Skip → may_end_of s ≡ true
 unfolding table_answer
 skip-ends s c m = (skip-entry (entry_at c (entries s)) (may_end_of s) m).1
 
--- what must stand last still does where the symbol is replaced
+-- a bottom symbol stays in order if it is alone
 tidy-one : (b : Bool) (s : Sym) → tidy b (s ∷ []) ≡ true → tidy true (s ∷ []) ≡ true
 unfolding tidy
 tidy-one b s e = or-true (not (is_bottom_symbol s))
 
--- what is in order above something is in order on the bottom
+-- a list in order above others is in order at the bottom
 tidy-bottom : (b : Bool) (ss : List Sym) → tidy b ss ≡ true → tidy true ss ≡ true
 unfolding tidy
 tidy-bottom b [] e = refl
@@ -139,13 +139,13 @@ tidy-bottom b (s ∷ r ∷ ss) e =
     let p = both-pass (not (is_bottom_symbol s) || is_closing r) (tidy b (r ∷ ss)) e in
     ap (λ (x : Bool). x && tidy true (r ∷ ss)) p.0 ∙ tidy-bottom b (r ∷ ss) p.1
 
--- what stands last in a rest that stands last, stands last
+-- a rest may end with a bottom symbol only if the symbol that it replaces is one
 last-handed : (r s q : Bool) → (not r || s) ≡ true → (not s || q) ≡ true → (not r || q) ≡ true
 last-handed true true q e h = h
 last-handed true false q e h = cc
 last-handed false s q e h = refl
 
--- a rest in the place of its symbol, above another
+-- a rest in place of its symbol, above another symbol
 tidy-above : (s q : Sym) (below rest : List Sym) → tidy (is_bottom_symbol s) rest ≡ true →
     (not (is_bottom_symbol s) || is_closing q) ≡ true →
     tidy true (q ∷ below) ≡ true → tidy true (rest ++ (q ∷ below)) ≡ true
@@ -157,7 +157,7 @@ tidy-above s q below (r ∷ r' ∷ rest) e h k =
     let p = both-pass (not (is_bottom_symbol r) || is_closing r') (tidy (is_bottom_symbol s) (r' ∷ rest)) e in
     ap (λ (x : Bool). x && tidy true (r' ∷ (rest ++ (q ∷ below)))) p.0 ∙ tidy-above s q below (r' ∷ rest) p.1 h k
 
--- a rest in the place of its symbol
+-- a rest in place of its symbol
 tidy-replaced : (s : Sym) (below rest : List Sym) → tidy (is_bottom_symbol s) rest ≡ true → tidy true (s ∷ below) ≡ true →
     tidy true (rest ++ below) ≡ true
 unfolding tidy
@@ -166,7 +166,7 @@ tidy-replaced s [] rest e h =
 tidy-replaced s (q ∷ below) rest e h =
     let p = both-pass (not (is_bottom_symbol s) || is_closing q) (tidy true (q ∷ below)) h in tidy-above s q below rest e p.0 p.1
 
--- which of the three a class asks for
+-- which of the three cases a class selects
 pub sized-Bra : (k : TokenTest) (xs ys : List ℕ) → is_of_kind k Bra ≡ true → sized k xs ys ≡ true → fits_below 8 xs ys ≡ true
 unfolding sized
 sized-Bra (is c) xs ys h e = subst (λ (b : Bool). sized_by b (same_class c Ket) xs ys ≡ true) h e
@@ -178,7 +178,7 @@ sized-Ket (is c) xs ys h e =
     subst (λ (m : ℕ). sized_by (nat_eq m 0) (nat_eq m 1) xs ys ≡ true) (eqb-true (class_number c) 1 h) e
 sized-Ket any_but_brackets xs ys h e = cc
 
--- a test that doesn't pass
+-- a test that does not pass is false
 not-so : (b : Bool) → (b ≡ true → ⊥) → b ≡ false
 not-so true h = absurd (h refl)
 not-so false h = refl
@@ -202,12 +202,12 @@ unfolding shape
 shape-cons Closing = tt
 shape-cons _ = tt
 
--- what may be empty stands last and has one size
+-- a nullable symbol is a bottom symbol and has one size
 pub record Empty (s : Sym) : Type 0 where
   pub last : is_bottom_symbol s ≡ true
   pub single : is_single (shape s) ≡ true
 
--- a symbol that may be empty is so, by its test
+-- a nullable symbol has these properties, by its test
 pub empty-parts : (s : Sym) → may_end_of s ≡ true → Empty s
 unfolding ordered
 empty-parts s h =
@@ -216,26 +216,26 @@ empty-parts s h =
     let t = both-pass (is_bottom_symbol s) (is_single (shape s)) q in
     record { last = t.0; single = t.1 }
 
--- what is below a symbol is in order
+-- the stack below a symbol is in order
 tidy-under : (s : Sym) (ss : List Sym) → tidy true (s ∷ ss) ≡ true → tidy true ss ≡ true
 unfolding tidy
 tidy-under s [] h = refl
 tidy-under s (r ∷ ss) h = (both-pass (not (is_bottom_symbol s) || is_closing r) (tidy true (r ∷ ss)) h).1
 
--- what a table's moves keep in order: a Take's rest stands where its symbol stood, by some kind that takes the class
+-- what a table's moves keep in order: a rest replaces its symbol, by some test that takes the class
 pub record GoodTake (s : Sym) (c : Class) (rest : List Sym) : Type 0 where
   pub kind : TokenTest
   pub takes : is_of_kind kind c ≡ true
   pub tidied : tidy (is_bottom_symbol s) rest ≡ true
   pub sized_so : sized kind (shapes rest) (shape s) ≡ true
 
--- a table whose Takes keep the order, whose skipped symbols may be empty, and whose closing bracket takes nothing else
+-- a table whose Takes keep the order, whose skipped symbols are nullable, and whose closing bracket takes nothing else
 pub record GoodMoves (moves : Sym → Class → TableEntry) : Type 0 where
   pub take : (s : Sym) (c : Class) (rest : List Sym) → moves s c ≡ Take rest → GoodTake s c rest
   pub skips : (s : Sym) (c : Class) → moves s c ≡ Skip → may_end_of s ≡ true
   pub closes : (c : Class) → c ≢ Ket → moves Closing c ≡ Stop
 
--- the table's own moves do
+-- the table's own moves keep the order
 pub table-take : (s : Sym) (c : Class) (rest : List Sym) → table_answer s c ≡ Take rest → GoodTake s c rest
 unfolding table_answer
 table-take s c rest a =
@@ -249,12 +249,12 @@ table-take s c rest a =
       sized_so = o.sized_so;
     })
 
--- the answer of one entry that does not take the class
+-- the table entry made of one alternative that does not take the class
 closed-by : (b : Bool) → b ≡ false → answer_by (this_or b (on Ket []) None) false ≡ Stop
 closed-by true e = cc
 closed-by false e = refl
 
--- a closing bracket's symbol takes nothing else
+-- the symbol of a closing bracket takes nothing else
 table-closes : (c : Class) → c ≢ Ket → table_answer Closing c ≡ Stop
 unfolding table_answer entries may_end_of
 table-closes c n = closed-by (same_class Ket c) (not-so (same_class Ket c) (λ t. n (number-Ket c (sym (eqb-true 1
@@ -263,7 +263,7 @@ table-closes c n = closed-by (same_class Ket c) (not-so (same_class Ket c) (λ t
 pub table-moves : GoodMoves table_answer
 table-moves = record { take = table-take; skips = skip-ends; closes = table-closes }
 
--- the stack after a rest took the symbol's place
+-- the stack after a rest replaces the symbol
 replaced-rest : (n m : ℕ) (s : Sym) (c : Class) (rest below : List Sym) → GoodTake s c rest → Ordered n (s ∷ below) →
     ((k : TokenTest) (xs : List ℕ) → IsCons xs → is_of_kind k c ≡ true → sized k xs (shape s) ≡ true → Fits (join (shape s)
     (shapes below)) (caps n) → Fits (join xs (shapes below)) (caps m)) →
@@ -276,7 +276,7 @@ replaced-rest n m s c rest below t o go =
       tidied = tidy-replaced s below rest t.tidied o.tidied;
     }
 
--- an opening symbol alone is no higher than sixteen
+-- a start symbol alone has at most sixteen entries
 start_symbol-sizes : (side : Side2) (level : Level) → Fits (shapes (start_symbol_of side level ∷ [])) (caps 0)
 unfolding shape
 start_symbol-sizes ClientSide l = (omega arith, tt)
@@ -287,7 +287,7 @@ tidy-alone : (s : Sym) → tidy true (s ∷ []) ≡ true
 unfolding tidy
 tidy-alone s = or-true (not (is_bottom_symbol s))
 
--- every stack that can arise is in order
+-- every reachable stack is in order
 pub Lawful-ordered : {moves : Sym → Class → TableEntry} (g : GoodMoves moves) {n : ℕ} {ss : List Sym} →
     IsLawful moves ss n → Ordered n ss
 Lawful-ordered g (start_symbol side level) =

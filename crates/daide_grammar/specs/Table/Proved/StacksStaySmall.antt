@@ -1,5 +1,5 @@
--- What holds of every stack that can arise: it is short, and what may be empty stands right above a closing bracket or
--- on the bottom.
+-- Properties of every reachable stack: it is short, and a nullable symbol is directly above a closing bracket or at the
+-- bottom.
 use Rattle.std.proofs.Common.{◌≡◌, ◌≢◌, ℕ, zero, suc, ◌+◌, ◌*◌, ◌≤◌, Bool, true, false, not, ◌&&◌, ◌||◌, List, [], ◌∷◌}
 use Rattle.std.proofs.Common.{◌++◌, length, Option, None, Some, refl, sym, ◌∙◌, ap, subst, arith, add-one}
 use Rattle.std.proofs.Common.{if◌then◌else◌}
@@ -26,37 +26,37 @@ shape-positive s =
     let p = both-pass (list_all (entry_ordered s) (entries s) && begins_positive (shape s)) _ (all_ordered s) in
     positive-total (shape s) (both-pass (list_all (entry_ordered s) (entries s)) (begins_positive (shape s)) p.0).1
 
--- there are at most as many symbols as their sizes allow
+-- the sizes bound the number of symbols
 length-total : (ss : List Sym) → length ss ≤ total (shapes ss)
 length-total [] = omega arith
 length-total (s ∷ ss) =
     omega (arith, total-join (shape s) (shapes ss) (shapes-cons ss), shape-positive s, length-total ss)
 
--- at most eight entries for each open bracket, and sixteen
+-- at most eight entries for each open bracket, plus sixteen
 pub Lawful-short : {moves : Sym → Class → TableEntry} (g : GoodMoves moves) (ss : List Sym) (n : ℕ) → IsLawful moves ss n →
     length ss ≤ 8 * n + 16
 Lawful-short g ss n l =
     omega (arith, length-total ss, total-mono (shapes ss) (caps n) (Lawful-ordered g l).sizes, total-caps n)
 
--- what is a closing bracket is that symbol
+-- the test identifies the closing bracket
 closing-is : (r : Sym) → is_closing r ≡ true → r ≡ Closing
 closing-is Closing e = refl
 closing-is _ e = cc
 
--- what must stand last stands above a closing bracket
+-- a bottom symbol is directly above a closing bracket
 above-closing : (s r : Sym) (ss : List Sym) → tidy true (s ∷ r ∷ ss) ≡ true → is_bottom_symbol s ≡ true → r ≡ Closing
 unfolding tidy
 above-closing s r ss h e =
     let p = both-pass (not (is_bottom_symbol s) || is_closing r) (tidy true (r ∷ ss)) h in
     closing-is r (subst (λ (b : Bool). (not b || is_closing r) ≡ true) e p.0)
 
--- what may be empty stands on the bottom, or right above a closing bracket
+-- a nullable symbol is at the bottom, or directly above a closing bracket
 pub Lawful-last : {moves : Sym → Class → TableEntry} (g : GoodMoves moves) {n : ℕ} (s r : Sym) (ss : List Sym) →
     IsLawful moves (s ∷ r ∷ ss) n →
     may_end_of s ≡ true → r ≡ Closing
 Lawful-last g s r ss l h = above-closing s r ss (Lawful-ordered g l).tidied (empty-parts s h).last
 
--- a symbol that may be empty takes no closing bracket
+-- a nullable symbol takes no closing bracket
 pub empty-keeps-open : {moves : Sym → Class → TableEntry} (g : GoodMoves moves) (s : Sym) (rest : List Sym) →
     may_end_of s ≡ true →
     moves s Ket ≡ Take rest → ⊥
@@ -65,7 +65,7 @@ empty-keeps-open g s rest h m =
     no-tail (shapes rest) (shape s) (shapes-cons rest) (empty-parts s h).single (sized-Ket t.kind (shapes rest)
     (shape s) t.takes t.sized_so)
 
--- where no bracket is open, no closing one is taken
+-- if no bracket is open, no closing bracket is taken
 pub Lawful-closing : {moves : Sym → Class → TableEntry} (g : GoodMoves moves) (s : Sym) (below rest : List Sym) →
     IsLawful moves (s ∷ below) 0 →
     moves s Ket ≡ Take rest → ⊥
@@ -74,9 +74,9 @@ Lawful-closing g s below rest l m =
     no-room (shapes rest) (shape s) (shapes below) (shapes-cons rest) (shapes-cons below) (sized-Ket t.kind
     (shapes rest) (shape s) t.takes t.sized_so) (Lawful-ordered g l).sizes
 
--- ---- the laws, as the trait states them
+-- ---- the laws, in the form of the trait
 
--- a symbol that may be empty and what follows it do not begin with the same class
+-- a nullable symbol and what follows it do not begin with the same class
 pub Lawful-apart : {moves : Sym → Class → TableEntry} (g : GoodMoves moves) (s : Sym) (c : Class) (rest stack : List Sym)
     (k : ℕ) →
     IsLawful moves (s ∷ stack) k → may_end_of s ≡ true → moves s c ≡ Take rest → stack_after moves c stack ≡ None
@@ -96,38 +96,38 @@ Lawful-apart {moves} g s c rest (r ∷ stack) k l h m =
     stopped Skip e = cc
     stopped (Take x) e = cc
 
--- BRA leaves a lawful stack with one bracket more
+-- BRA leaves a lawful stack with one more open bracket
 pub Lawful-open : {moves : Sym → Class → TableEntry} (s : Sym) (rest stack : List Sym) (k : ℕ) →
     IsLawful moves (s ∷ stack) k →
     moves s Bra ≡ Take rest → IsLawful moves (rest ++ stack) (k + 1)
 Lawful-open s rest stack k l m = rw add-one (bra {s = s} m l)
 
--- KET leaves one with a bracket less, and there was one
+-- KET leaves one with one open bracket fewer, and requires an open one
 pub Lawful-close : {moves : Sym → Class → TableEntry} (g : GoodMoves moves) (s : Sym) (rest stack : List Sym) (k : ℕ) →
     IsLawful moves (s ∷ stack) k → moves s Ket ≡ Take rest → (below : ℕ) × (k ≡ below + 1) × IsLawful moves
     (rest ++ stack) below
 Lawful-close g s rest stack zero l m = absurd (Lawful-closing g s stack rest l m)
 Lawful-close g s rest stack (suc k) l m = (k, (omega arith), ket {s = s} m l)
 
--- ---- few answers
+-- ---- few look-ups
 
--- a closing bracket's symbol is never empty
+-- the symbol of a closing bracket is not nullable
 closing-stays : may_end_of Closing ≡ true → ⊥
 unfolding may_end_of
 closing-stays e = cc
 
--- a closing bracket is asked, and nothing below it
+-- at a closing bracket the look-ups end
 closing-asked : (r : Sym) (ss : List Sym) → r ≡ Closing → ends_asked may_end_of (r ∷ ss) ≤ 1
 unfolding may_end_of
 closing-asked Closing ss e = omega arith
 closing-asked _ ss e = cc
 
--- one question more where the test passes
+-- one more look-up if the test passes
 one-more : (b : Bool) (n : ℕ) → (b ≡ true → n ≤ 1) → (if b then 1 + n else 1) ≤ 2
 one-more true n h = omega (arith, h refl)
 one-more false n h = omega arith
 
--- one Skip more where the symbol is skipped
+-- one more Skip if the symbol is skipped
 skips-one : (moves : Sym → Class → TableEntry) (c : Class) (s : Sym) (ss : List Sym) (n : ℕ) →
     (moves s c ≡ Skip → skips_before moves c ss ≤ n) → skips_before moves c (s ∷ ss) ≤ 1 + n
 skips-one moves c s ss n h = go (moves s c) h
@@ -138,7 +138,7 @@ skips-one moves c s ss n h = go (moves s c) h
     go Skip k = omega (arith, k refl)
     go Stop k = omega arith
 
--- a token meets at most one symbol that is empty
+-- a token skips at most one symbol
 pub Lawful-skips : {moves : Sym → Class → TableEntry} (g : GoodMoves moves) (stack : List Sym) (k : ℕ) (c : Class) →
     IsLawful moves stack k →
     skips_before moves c stack ≤ 1
@@ -155,7 +155,7 @@ Lawful-skips {moves} g (s ∷ r ∷ ss) k c l =
     none Skip k = absurd (k refl)
     none Stop k = omega arith
 
--- at most two answers decide whether all that is left may be empty
+-- at most two look-ups decide whether the rest of a stack is nullable
 pub Lawful-ends : {moves : Sym → Class → TableEntry} (g : GoodMoves moves) (stack : List Sym) (k : ℕ) →
     IsLawful moves stack k →
     ends_asked may_end_of stack ≤ 2

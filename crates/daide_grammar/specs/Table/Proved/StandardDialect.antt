@@ -1,4 +1,4 @@
--- The protocol's own tokens and forms as a dialect: each class has a token, and no words are added.
+-- The protocol's own tokens and forms as a dialect: each class has a token, and there are no added words.
 use Rattle.std.proofs.Common.{◌≡◌, ℕ, ◌<◌, true, Option, None, Some, refl, arith}
 use Rattle.daide_token.specs.declared.class.Class.{Class}
 use Rattle.daide_token.specs.declared.class.Class.TheVariants.{Word}
@@ -10,16 +10,16 @@ use Rattle.daide_grammar.specs.Forms.{Slot}
 use Rattle.daide_grammar.specs.SideMessages.{standard}
 use Rattle.daide_grammar.specs.Table.Proved.MovesAgree.{Proper, NoWord}
 
--- the classes with a number below that of any word are those of tokens
+-- a class with a number below the words is a class of tokens
 pub is_standard-below : (c : Class) → class_number c < own_classes → is_standard c ≡ true
 is_standard-below (Word k) h = absurd (omega arith)
 is_standard-below _ h = refl
 
--- a token of each class but those of added words
+-- a token of each class, except for added words
 token_of_class : (c : Class) → class_number c < own_classes → (t : ℕ) × (class_of t ≡ c)
 token_of_class c h = (token_of c, class_of-token_of c (is_standard-below c h))
 
--- added forms are none, and each class has a token
+-- there are no added forms, and each class has a token
 pub standard-proper : Proper standard
 standard-proper =
     record { not_empty = λ s l m. elim m [ ]; by_word = λ s l t w m. elim m [ ]; token_of = token_of_class }

@@ -1,5 +1,4 @@
--- What the trait asks of a table, shown of this one, whatever the dialect, for the tokens that no added word stands
--- for.
+-- The laws of the trait, proved for this table in any dialect, for the tokens that begin no added word.
 use Rattle.std.proofs.Common.{◌≡◌, ℕ, List, [], ◌∷◌, ◌↔◌, sym, arith}
 use Rattle.daide_token.specs.declared.class.Class.TheVariants.{Bra, Ket}
 use Rattle.daide_grammar.specs.declared.symbol.Sym.{Sym}
@@ -16,7 +15,7 @@ use Rattle.daide_grammar.specs.Table.Proved.StacksStaySmall.{Lawful-short, Lawfu
 use Rattle.daide_grammar.specs.Table.Proved.StacksStaySmall.{Lawful-skips, Lawful-ends}
 use Rattle.daide_grammar.specs.Table.Proved.NoLanguageIsEmpty.{symbol-inhabited}
 
--- the forms of the symbols, one after the other, are their languages one after the other
+-- the concatenation of the symbols' forms is the concatenation of their languages
 pub follows : (d : Dialect) (ss : List Sym) (w : List ℕ) → AllMatchIn d ss w → StackMatches (SymbolMatchesIn d) ss w
 follows d [] w h = h
 follows d (s ∷ ss) w h = (h.0, h.1, sym h.4, h.2, follows d ss h.1 h.3)

@@ -19,6 +19,6 @@ invariant-lines g l =
     × IsSameReader l.fn.input l.input × IsSameWriter l.fn.account.output l.account.output
     × (l.account.head ≡ l.fn.account.head)
 
--- how many lines there may still be
+-- the number of lines that may still follow
 abbrev pub decreases-lines : goal.decreases-lines
 decreases-lines g l = 1000000 - l.count

@@ -7,7 +7,7 @@ use Rattle.daide_log.specs.Progress.{states_of}
 use Rattle.daide_log.specs.Reporting.{IsReady}
 use Rattle.daide_log.proofs.opening.open_sessions.Given as goal
 
--- so many sessions were made, and there is room for all
+-- this number of sessions was created, and there is room for all
 abbrev pub invariant-loop-session : goal.invariant-loop-session
 invariant-loop-session g l =
     (states_of l.sessions.items ≡ replicate l._session (initial_state (limits_with l.head.limits.config (words_of l.head.words))))

@@ -10,6 +10,6 @@ invariant-lines g l =
     (all_of g.W.Write.contents l.fn.output)
     (all_of g.W.Write.contents l.output) × IsSameReader l.fn.input l.input × IsSameWriter l.fn.output l.output
 
--- how many lines there may still be
+-- the number of lines that may still follow
 abbrev pub decreases-lines : goal.decreases-lines
 decreases-lines g l = 1000000 - l.count

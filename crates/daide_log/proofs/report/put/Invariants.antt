@@ -1,7 +1,7 @@
 use Rattle.std.proofs.Common.{◌≡◌, ◌+◌, ◌++◌, length, take}
 use Rattle.daide_log.proofs.report.put.Given as goal
 
--- the bytes before i stand behind the line
+-- the bytes before i were appended to the line
 abbrev pub invariant-loop-i : goal.invariant-loop-i
 invariant-loop-i l =
     (l.line.items ≡ l.initial.line.items ++ take l.i l.text)

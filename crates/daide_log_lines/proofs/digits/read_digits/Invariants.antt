@@ -4,7 +4,7 @@ use Rattle.hex.specs.Hex.{is_hex_digit}
 use Rattle.daide_log_lines.specs.Digits.{bytes_of_hex}
 use Rattle.daide_log_lines.proofs.digits.read_digits.Given as goal
 
--- whether all bytes so far are digits, and then what they stand for
+-- whether all digits so far are valid, and if so, their bytes
 abbrev pub invariant-loop-turn : goal.invariant-loop-turn
 invariant-loop-turn l = record {
   same : length l.bytes ≡ length l.fn.bytes;

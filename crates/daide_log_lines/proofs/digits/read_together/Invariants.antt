@@ -4,7 +4,7 @@ use Rattle.hex.specs.Hex.{is_hex_digit}
 use Rattle.daide_log_lines.specs.Digits.{bytes_of_hex, value_of}
 use Rattle.daide_log_lines.proofs.digits.read_together.Given as goal
 
--- whether all bytes so far are digits, and then their values
+-- whether all digits so far are valid, and if so, their values
 abbrev pub invariant-loop-j : goal.invariant-loop-j
 invariant-loop-j l = record {
   room : length l.values ≡ 32;
@@ -13,7 +13,7 @@ invariant-loop-j l = record {
       get_or l.values k 0 ≡ value_of (get_or l.digits k 0);
 }
 
--- the bytes so far, and those of the digits that are left
+-- the bytes so far, followed by those of the digits that are left
 abbrev pub invariant-loop-i : goal.invariant-loop-i
 invariant-loop-i l = record {
   same : length l.bytes ≡ length l.fn.bytes;

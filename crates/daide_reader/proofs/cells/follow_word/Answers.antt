@@ -63,7 +63,7 @@ returns-then-is_take g c =
       steps = word_stopped _ _ _ c.predict_word-answer.ensures.counts_each_answer due;
     }
 
--- it stops it
+-- the symbol stops it
 pub returns-then-is_stop : goal.returns-then-is_stop
 returns-then-is_stop g c =
     let moves = g.T.Predict.moves (g.T.Predict.words c.args.table.now) in
@@ -86,7 +86,7 @@ returns-then-is_stop g c =
       steps = word_stopped _ _ _ c.predict_word-answer.ensures.counts_each_answer due;
     }
 
--- the word's symbol is skipped, and those below it follow
+-- the word's symbol is skipped, and those below it come next
 pub follow-requires : goal.follow-requires
 follow-requires g c =
     let moves = g.T.Predict.moves (g.T.Predict.words c.args.table.now) in

@@ -6,7 +6,7 @@ use Rattle.daide_reader.proofs.BodyLemmas.{tokens_of-length}
 use Rattle.daide_reader.proofs.SliceLemmas.{count_all-none, count_all-end, closed_early}
 use Rattle.daide_reader.proofs.slice.count_from.Goals as goal
 
--- nothing is counted once a KET came with nothing open
+-- nothing is counted after a KET with nothing open
 pub returns-in_default : goal.returns-in_default
 returns-in_default c =
     let q = drop c.args.next (tokens_of c.args.body.now) in

@@ -3,7 +3,7 @@ use Rattle.daide_token.specs.Token.{tokens_of}
 use Rattle.daide_reader.specs.Outline.{count_all}
 use Rattle.daide_reader.proofs.slice.count_from.Given as goal
 
--- what is left to count
+-- the count so far, continued over the rest, is the whole count
 abbrev pub invariant-loop-i : goal.invariant-loop-i
 invariant-loop-i l = record {
   few : l.opened ≤ 32767 + l.i;

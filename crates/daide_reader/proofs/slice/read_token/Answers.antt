@@ -10,7 +10,7 @@ use Rattle.daide_reader.proofs.StackLemmas.{bracket_told}
 use Rattle.daide_reader.proofs.SliceLemmas.{taken_at, refused_by}
 use Rattle.daide_reader.proofs.slice.read_token.Goals as goal
 
--- the class tells the brackets
+-- the class decides whether the token is a bracket
 pub recount-requires : goal.recount-requires
 recount-requires g c =
     let laws = g.met.T.Predict.laws (g.T.Predict.words c.args.table.now) in

@@ -20,7 +20,7 @@ loop-next-init g c =
           c.requires.deep c.requires.lawful;
     }
 
--- a stretch in which a token is refused
+-- a run in which a token is refused
 pub returns-then-is_some : goal.returns-then-is_some
 returns-then-is_some g c = record {
   inside = c.run_below_depth_limit-reached.ensures.inside;
@@ -43,7 +43,7 @@ returns-then-is_some g c = record {
       inv.at c.run_below_depth_limit-reached.ensures.reads;
 }
 
--- a stretch that is taken
+-- a run in which all tokens are taken
 pub loop-next-preserved-then-opened-max_depth : goal.loop-next-preserved-then-opened-max_depth
 loop-next-preserved-then-opened-max_depth g c =
     let old : SliceState g.row.T.Denot =
@@ -66,7 +66,7 @@ loop-next-preserved-then-opened-max_depth g c =
           inv.at c.run_below_depth_limit-reached.ensures.reads c.unwrap_or-opened.ensures (none_from_test _ c.if-is_some.ensures);
     }
 
--- at the greatest depth there is room for what the token leaves
+-- at the depth limit there is room for what the token leaves
 pub read_token-requires : goal.read_token-requires
 read_token-requires g c = (
   search rules,
@@ -160,7 +160,7 @@ returns g c = record {
       c.loop-next.next c.loop-next.opened now c.loop-next.invariant.at);
 }
 
--- what the calls on the way ask
+-- the preconditions of the calls
 pub token_at-token-requires : goal.token_at-token-requires
 token_at-token-requires g c = record {
   inside = whole_token (length c.args.body.now) c.loop-next.next c.loop-next-test.true;
@@ -170,7 +170,7 @@ token_at-token-requires g c = record {
 pub reject_at-requires : goal.reject_at-requires
 reject_at-requires g c = place_fits (length c.args.body.now) c.loop-next.next c.loop-next-test.true c.requires.room
 
--- with each turn fewer tokens are left
+-- each iteration leaves fewer tokens
 pub loop-next-smaller-then-opened-max_depth : goal.loop-next-smaller-then-opened-max_depth
 loop-next-smaller-then-opened-max_depth g c =
     fewer_left (length c.args.body.now / 2) c.loop-next.next c.run_below_depth_limit-reached.result.tokens c.loop-next-test.true

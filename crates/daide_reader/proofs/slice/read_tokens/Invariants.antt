@@ -2,7 +2,7 @@ use Rattle.std.proofs.Common.{◌≤◌, ◌-◌, ◌/◌, length, take, reverse
 use Rattle.daide_reader.proofs.StretchLemmas.{AtToken}
 use Rattle.daide_reader.proofs.slice.read_tokens.Given as goal
 
--- the locals are a reader that stands after the tokens so far
+-- the locals are a reader that has read the tokens so far
 abbrev pub invariant-loop-next : goal.invariant-loop-next
 invariant-loop-next g l = record {
   inside : l.left ≤ g.row.N;

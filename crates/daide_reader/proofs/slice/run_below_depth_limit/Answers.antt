@@ -31,7 +31,7 @@ loop-next-init g c =
           (less_within _ _ c.requires.deep) c.requires.lawful);
     }
 
--- nothing is left to take the token
+-- the stack is empty, so nothing takes the token
 pub returns-then-left-eq0 : goal.returns-then-left-eq0
 returns-then-left-eq0 g c = record {
   inside = subst (λ (k : ℕ). k ≤ g.row.N) (sym c.reject_at.ensures.count) (omega arith);
@@ -117,7 +117,7 @@ loop-next-preserved-then-is_take g c =
       mid = next.0;
     }
 
--- where the protocol's own table stops, a word may stand
+-- the protocol's own table stops the token, which may be a word
 pub follow_word-requires : goal.follow_word-requires
 follow_word-requires g c =
     let old : SliceState g.row.T.Denot =
@@ -308,7 +308,7 @@ returns g c = record {
   none_left = λ some. absurd cc;
 }
 
--- what the calls on the way ask
+-- the preconditions of the calls
 pub token_at-token-requires : goal.token_at-token-requires
 token_at-token-requires g c = record {
   inside = whole_token (length c.args.body.now) c.loop-next.next
@@ -363,7 +363,7 @@ put-left-requires g c =
       ),
     )
 
--- a token that is taken, or a symbol of the stack, is not read again
+-- a token that is taken, or a symbol that is removed, is not read again
 pub loop-next-smaller-then-is_take : goal.loop-next-smaller-then-is_take
 loop-next-smaller-then-is_take g c =
     token_less c.min-end.result c.loop-next.next c.put-left.result c.loop-next.left g.row.N c.loop-next-test.true

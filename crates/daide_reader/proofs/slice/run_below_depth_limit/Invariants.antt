@@ -2,7 +2,7 @@ use Rattle.std.proofs.Common.{◌≤◌, ◌+◌, ◌-◌, ◌*◌, take, revers
 use Rattle.daide_reader.proofs.StretchLemmas.{MidToken}
 use Rattle.daide_reader.proofs.slice.run_below_depth_limit.Given as goal
 
--- the locals are a reader that stands after the tokens so far, or in the midst of one
+-- the locals are a reader that has read the tokens so far, or is inside one
 abbrev pub invariant-loop-next : goal.invariant-loop-next
 invariant-loop-next g l = record {
   inside : l.left ≤ g.row.N;
@@ -14,6 +14,6 @@ invariant-loop-next g l = record {
       l.next l.opened l.end (record { table = l.table; stack = reverse (take l.left l.cells) });
 }
 
--- after a token that is taken the stack may have grown, in the midst of one it has shrunk
+-- after a token that is taken the stack may be higher; inside a token it is lower
 abbrev pub decreases-loop-next : goal.decreases-loop-next
 decreases-loop-next g l = (l.end - l.next) * 4097 + l.left

@@ -8,7 +8,7 @@ use Rattle.daide_session.proofs.FrameEventsLemmas.{answered_whole, dropped_whole
 use Rattle.daide_session.proofs.SessionFronts.{fronts_same}
 use Rattle.daide_session.proofs.frame_events.answer.Goals as goal
 
--- the frame may not go out
+-- the frame must not be sent
 pub returns-then-not-is_sent-clause-reacts : goal.returns-then-not-is_sent-clause-reacts
 returns-then-not-is_sent-clause-reacts g c =
     let t = c.args.channels.now in

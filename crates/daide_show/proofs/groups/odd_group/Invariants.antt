@@ -5,7 +5,7 @@ use Rattle.daide_show.specs.Groups.{odd_group_of}
 use Rattle.daide_show.proofs.OddGroups.{odd_from}
 use Rattle.daide_show.proofs.groups.odd_group.Given as goal
 
--- the first odd group of the parts that are left is that of the input
+-- the first odd group of the rest is that of the input
 abbrev pub invariant-loop-group : goal.invariant-loop-group
 invariant-loop-group l =
     (goal.iterator-loop-group).can_next l.group-iterator × (goal.iterator-loop-group).is_finite l.group-iterator

@@ -4,7 +4,7 @@ use Rattle.std.specs.Io.KnownBytes.{Consumes}
 use Rattle.daide_text.specs.Lines.{is_no_end}
 use Rattle.daide_text.proofs.input.read_line.Given as goal
 
--- the line so far is what the reader gave, one byte a turn, and no byte is a line feed
+-- the line so far is what the reader returned, one byte each turn, without a line feed
 abbrev pub invariant-loop-count : goal.invariant-loop-count
 invariant-loop-count g l = record {
   given : Consumes (g.R.Read.remaining l.initial.reader) (g.R.Read.remaining l.reader) l.line.items;

@@ -3,7 +3,7 @@ use Rattle.std.specs.List.{list_all}
 use Rattle.daide_text.specs.Word.{greatest_magnitude, is_digit, value_after}
 use Rattle.daide_text.proofs.word.magnitude.Given as goal
 
--- the digits before the rest are digits, and the value so far goes on as that of all
+-- the characters before the rest are digits, and the value so far, continued by the rest, is that of all
 abbrev pub invariant-loop-rest : goal.invariant-loop-rest
 invariant-loop-rest l = record {
   some : 0 < length l.digits;

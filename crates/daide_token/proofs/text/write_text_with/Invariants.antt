@@ -5,7 +5,7 @@ use Rattle.daide_token.specs.Token.{tokens_of}
 use Rattle.daide_token.specs.TextSteps.{rest_of_text}
 use Rattle.daide_token.proofs.text.write_text_with.Given as goal
 
--- what is left completes what was written to the whole text
+-- the text so far, completed by the text of the remaining tokens, is the whole text
 abbrev pub invariant-tokens : goal.invariant-tokens
 invariant-tokens g l = record {
   even : length l.rest % 2 ≡ 0;

@@ -2,7 +2,7 @@ use Rattle.std.proofs.Common.{◌≡◌, ◌+◌, length}
 use Rattle.daide_words.specs.Table.Places.{place_from}
 use Rattle.daide_words.proofs.words.place_in.Given as goal
 
--- the names before the place are of other tokens
+-- the names before the index belong to other tokens
 abbrev pub invariant-loop-rest : goal.invariant-loop-rest
 invariant-loop-rest l = record {
   counted : l.place + length l.rest ≡ length l.names;

@@ -1,4 +1,4 @@
--- With words of free codes each class of the protocol's has its tokens as before, and each word its own class.
+-- With words of free codes each class of the protocol keeps its tokens, and each word has a class of its own.
 use Rattle.std.proofs.Common.{◌≡◌, ℕ, suc, ◌+◌, ◌<◌, Bool, true, false, not, ◌==◌, nat_le, List, [], ◌∷◌, ◌↔◌}
 use Rattle.std.proofs.Common.{◌⊎◌, inl, inr, refl, sym, ◌∙◌, ap, arith, if◌then◌else◌}
 use Rattle.std.proofs.lemmas.Bool.{eqb-true, eq-eqb}
@@ -21,12 +21,12 @@ use Rattle.daide_words.specs.Table.OverWords.{is_free, are_free}
 use Rattle.daide_words.specs.Table.Proved.WordForms.{token-then, no-token, stands-passes}
 use Rattle.daide_grammar.specs.Table.Proved.StandardDialect.{is_standard-below}
 
--- the class of a word's number
+-- the class with a word's number
 class-Word : (c : Class) (j : ℕ) → class_number c ≡ own_classes + j → c ≡ Word j
 class-Word (Word k) j e = ap Word (omega arith)
 class-Word _ j e = absurd (omega arith)
 
--- and that of the number of tokens without a meaning
+-- the class with the number of tokens without a meaning
 pub class-Other : (c : Class) → class_number c ≡ class_number Other → c ≡ Other
 class-Other Other e = refl
 class-Other (Word k) e = absurd (omega arith)
@@ -55,7 +55,7 @@ module _ (s : Slot) (l : Level) where
       (j, class-Word (d.class_of t) j (sym (eqb-true (own_classes + j) (class_number (d.class_of t)) g.0)))
   begins-word d j (x ∷ words) t w (second m) = begins-word d (suc j) words t w m
 
--- a token of this class has no word's code
+-- no word has the code of this token
 abbrev pub NoCode : Words → ℕ → Type 0
 NoCode [] t = Unit {0}
 NoCode (x ∷ words) t = ((t == x.code) ≡ true → ⊥) × NoCode words t
@@ -70,7 +70,7 @@ keeps j [] t h = refl
 keeps j (x ∷ words) t h =
     not-that (t == x.code) (Word j) ((dialect_from (suc j) words).class_of t) h.0 ∙ keeps (suc j) words t h.1
 
--- a free code is of no other class, and isn't the token that stands for its own
+-- a free code has no other class, and isn't the token that represents its class
 free-code : (x : AddedWord) (c : Class) → is_free x ≡ true → class_number c < own_classes → token_of c ≡ x.code → ⊥
 free-code x c f h e =
     let p = both-pass (same_class (class_of x.code) Other) (not (x.code == token_of Other)) f in
@@ -85,7 +85,7 @@ free-codes (x ∷ words) c f h =
     let p = both-pass (is_free x) (are_free words) f in
     (λ e. free-code x c p.0 h (eqb-true (token_of c) x.code e), free-codes words c p.1 h)
 
--- a token of another class than that of tokens without a meaning has no word's code
+-- a token with a meaning has no word's code
 pub other-class : (words : Words) (t : ℕ) → are_free words ≡ true → (class_number (class_of t) ≡ class_number Other → ⊥) →
     NoCode words t
 other-class [] t f h = tt
@@ -97,7 +97,7 @@ other-class (x ∷ words) t f h =
       other-class words t p.1 h,
     )
 
--- a dialect of words with free codes is a proper one
+-- the dialect of words with free codes is proper
 pub words-proper : (words : Words) → are_free words ≡ true → Proper (dialect_of words)
 words-proper words f = record {
   not_empty = λ s l m. no-empty s l (dialect_of words) 0 words m;
@@ -108,7 +108,7 @@ words-proper words f = record {
   );
 }
 
--- the class of a token is a word's or its own
+-- the class of a token is a word's, or its own class
 either-class : (j : ℕ) (words : Words) (t : ℕ) →
     ((k : ℕ) × ((dialect_from j words).class_of t ≡ Word k)) ⊎ ((dialect_from j words).class_of t ≡ class_of t)
 either-class j [] t = inr refl

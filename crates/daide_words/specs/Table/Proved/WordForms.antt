@@ -1,4 +1,4 @@
--- The forms of added words: what begins with a word goes on with its operand.
+-- The forms of added words: a list that begins with a word continues with the word's operand.
 use Rattle.std.proofs.Common.{◌≡◌, ℕ, suc, ◌+◌, ◌≤◌, Bool, true, false, ◌&&◌, nat_eq, nat_le, List, [], ◌∷◌, Option}
 use Rattle.std.proofs.Common.{Some}
 use Rattle.std.proofs.Common.{◌⊎◌, inl, inr, ◌↔◌, IsTrue, refl, sym, ◌∙◌, ap, subst, arith, ltb-true}
@@ -31,16 +31,16 @@ use Rattle.daide_words.specs.Table.OverWords.{makes, stands, this_word, word_fro
 
 -- ---- a word and its operand
 
--- a token and then a form
+-- a token, and then a form
 pub token-then : (d : Dialect) (k : TokenTest) (f : Form) (t : ℕ) (w : List ℕ) → LeftDerivation d ((one k · f) ∷ []) (t ∷ w) →
     IsTrue (is_of_kind k (d.class_of t)) × Matches d f w
 token-then d k f t w (open' (take h r)) = (h, unalone d f w (MatchAll_from_Reads d r))
 
--- and the empty list is none
+-- and the empty list does not match
 pub no-token : (d : Dialect) (k : TokenTest) (f : Form) → LeftDerivation d ((one k · f) ∷ []) [] → ⊥
 no-token d k f (open' r) = elim r [ ]
 
--- a list that begins with a word, and is of the form of one, is of its form
+-- a list that begins with a word and matches a word's form matches the form of that word
 pub word-then : (d : Dialect) (j k : ℕ) (f : Form) (t : ℕ) (w : List ℕ) → d.class_of t ≡ Word k →
     Matches d (tok (Word j) · f) (t ∷ w) → (j ≡ k) × Matches d f w
 word-then d j k f t w e m =
@@ -56,7 +56,7 @@ word-matches d j k f t w e q m =
     (token (subst (λ (c : Class). is_of_kind (is (Word j)) c ≡ true) (sym e)
     (eq-eqb (own_classes + j) (own_classes + k) (ap (λ n. own_classes + n) q)))) m
 
--- a form that stands from a level on
+-- a form that is allowed from a level on
 from-passes : (d : Dialect) (b : Bool) (f : Form) (w : List ℕ) → Matches d (elim b [ true ↦ f | false ↦ never ]) w →
     (b ≡ true) × Matches d f w
 from-passes d true f w m = (refl, m)
@@ -89,7 +89,7 @@ stands-true d arrangement_word Flat_slot b f w e m = from-true d b f w e m
 
 -- ---- the forms of the words
 
--- the word that a list begins with
+-- the word at the front of a list
 pub record StartsWithWord (d : Dialect) (k j : ℕ) (words : Words) (s : Slot) (l : Level) (w : List ℕ) : Type 0 where
   pub word : AddedWord
   pub found : word_from k j words ≡ Some word
@@ -113,7 +113,7 @@ this_word-either false x y o e = inr e
 different : (j k : ℕ) → suc j ≤ k → nat_eq j k ≡ false
 different j k h = grind (arith, nat_tests)
 
--- a list of an added form that begins with a word is that word's, and its operand follows
+-- a list of an added form that begins with a word matches that word's form, and the operand follows
 pub words-to : (d : Dialect) (k j : ℕ) (words : Words) (s : Slot) (l : Level) (t : ℕ) (w : List ℕ) →
     d.class_of t ≡ Word k → Matches d ((dialect_from j words).added s l) (t ∷ w) → StartsWithWord d k j words s l w
 words-to d k j [] s l t w e m = elim m [ ]
@@ -139,7 +139,7 @@ words-to d k j (x ∷ words) s l t w e (second m) =
       later = omega (arith, h.later);
     }
 
--- and the other way round
+-- and conversely
 pub words-from : (d : Dialect) (k j : ℕ) (words : Words) (s : Slot) (l : Level) (t : ℕ) (w : List ℕ) (x : AddedWord) →
     d.class_of t ≡ Word k → word_from k j words ≡ Some x → stands x s l ≡ true →
     Matches d (group (operand_in x.operand s l)) w → Matches d ((dialect_from j words).added s l) (t ∷ w)
@@ -153,9 +153,9 @@ words-from d k j (y ∷ words) s l t w x e f h m =
       | inr b ↦ second (words-from d k (suc j) words s l t w x e b h m)
     ]
 
--- ---- a symbol at whose place words may stand
+-- ---- a symbol with a slot for words
 
--- no plain kind takes a word
+-- no test of a standard class accepts a word
 pub plain-no-word : (k : TokenTest) (c : Class) (i : ℕ) → is_plain k ≡ true → c ≡ Word i → is_of_kind k c ≡ true → ⊥
 plain-no-word (is a) c i p e h =
     omega (arith, ltb-true (class_number a) own_classes p, eqb-true (class_number a) (class_number c) h, ap class_number e)
@@ -212,7 +212,7 @@ slot-from d p es t w m (ends ∷ hs) k u = inr (slot-from d p es t w m hs k u)
 slot-from d p es t w m (unopened gs ∷ hs) k u =
     inl (added-back d p gs (t ∷ w) (both-pass (is_added (Some p) gs) (list_all (known (Some p) es) hs) k).0 m)
 
--- where words may stand, a word begins the symbol exactly where it begins an added form
+-- at a slot for words, a word begins the symbol exactly if it begins an added form
 pub slot-law : (d : Dialect) (s : Sym) (p : Slot × Level) (t i : ℕ) (w : List ℕ) → slot_of s ≡ Some p →
     d.class_of t ≡ Word i → SymbolMatchesIn d s (t ∷ w) ↔ Matches d (d.added p.0 p.1) (t ∷ w)
 unfolding added_right

@@ -18,7 +18,7 @@ use Rattle.daide_words.specs.Table.Proved.WordMoves.{takes-over, skips-over, sto
 use Rattle.daide_words.specs.Table.Proved.WordStacks.{word-moves}
 use Rattle.daide_words.specs.Table.Proved.WordDialect.{words-proper, only_bra_with, only_ket_with}
 
--- added words keep the laws of prediction, whatever their list
+-- any list of words with free codes keeps the laws of prediction
 pub laws_over : (words : Words) → are_free words ≡ true →
     IsCorrectPrediction (dialect_of words).class_of (SymbolMatchesIn (dialect_of words)) (answer_over words) may_end_of
     (IsLawful (answer_over words))
@@ -47,7 +47,7 @@ laws_over words f =
       few_ends = λ stack l. omega (arith, Lawful-ends moves stack 0 l);
     }
 
--- the words that a table speaks have free codes
+-- the words that a table takes into account have free codes
 spoken-free : (words : Words) → are_free (spoken words) ≡ true
 unfolding spoken
 spoken-free words = go (are_free words) refl
@@ -56,7 +56,7 @@ spoken-free words = go (are_free words) refl
     go true e = e
     go false e = refl
 
--- a table speaks all words with free codes
+-- a table takes all words with free codes into account
 pub all-spoken : (words : Words) → are_free words ≡ true → spoken words ≡ words
 unfolding spoken
 all-spoken words f = ap (λ b. if b then words else []) f
@@ -67,7 +67,7 @@ pub spoken_laws : (words : Words) →
     may_end_of (IsLawful (answer_over (spoken words)))
 spoken_laws words = laws_over (spoken words) (spoken-free words)
 
--- a message's symbol alone is a stack that can arise
+-- a start symbol alone is a stack that can arise
 pub spoken_begins : (words : Words) (side : Side2) (level : Level) →
     IsLawful (answer_over (spoken words)) (start_symbol_of side level ∷ []) 0
 spoken_begins words side level = start_symbol side level

@@ -1,4 +1,4 @@
--- The answers with added words agree with the languages.
+-- The entries with added words agree with the languages.
 use Rattle.std.proofs.Common.{◌≡◌, ℕ, Bool, true, false, List, [], ◌∷◌, Option, Some, None, ◌⊎◌, inl, inr, ◌↔◌}
 use Rattle.std.proofs.Common.{refl, sym, ◌∙◌, ap, subst}
 use Rattle.daide_token.specs.declared.class.Class.{Class}
@@ -22,7 +22,7 @@ use Rattle.daide_grammar.specs.Table.Proved.MovesAgree.{stop-law, no-yes}
 use Rattle.daide_words.specs.Table.OverWords.{operand_symbol, stands, word_from, if_stands, word_answer, answer_over}
 use Rattle.daide_words.specs.Table.Proved.WordForms.{words-to, words-from, slot-law}
 
--- the symbol of an operand stands for the operand in its brackets, at each symbol that has a slot
+-- the symbol of an operand has the form of the operand in brackets, at each slot
 abbrev pub HasOperands : Option (Slot × Level) → Type 0
 HasOperands None = Unit {0}
 HasOperands (Some p) = (o : WordOperand) → form_of (operand_symbol o p.0 p.1) ≡ group (operand_in o p.0 p.1)
@@ -66,7 +66,7 @@ module _ (words : Words) (t i : ℕ) (e : (dialect_of words).class_of t ≡ Word
   abbrev d : Dialect
   d = dialect_of words
 
-  -- no word that stands at the place begins with the token
+  -- no word that is allowed in the slot begins with the token
   none-found : (p : Slot × Level) → word_from i 0 words ≡ None → NoWord d (Some p) t
   none-found p f w m = let h = words-to d i 0 words p.0 p.1 t w e m in none-some h.word (sym f ∙ h.found)
 
@@ -77,7 +77,7 @@ module _ (words : Words) (t i : ℕ) (e : (dialect_of words).class_of t ≡ Word
       no-yes (stands x p.0 p.1)
       (subst (λ (y : AddedWord). stands y p.0 p.1 ≡ true) (same-some h.word x (sym h.found ∙ f)) h.stands_so) b
 
-  -- where the word stands, its operand follows
+  -- if the word is allowed, its operand follows
   word-follows : (s : Sym) (p : Slot × Level) (x : AddedWord) (w : List ℕ) → slot_of s ≡ Some p →
       word_from i 0 words ≡ Some x → stands x p.0 p.1 ≡ true →
       SymbolMatchesIn d s (t ∷ w) ↔ AllMatchIn d (operand_symbol x.operand p.0 p.1 ∷ []) w
@@ -94,7 +94,7 @@ module _ (words : Words) (t i : ℕ) (e : (dialect_of words).class_of t ≡ Word
             (subst (λ (f : Form). Matches d f w) form (unalone d (form_of g) w m))),
       )
 
-  -- which of the cases it is: no word stands there, or one does
+  -- the two cases: no word is allowed there, or one is
   Case : Sym → Type 0
   Case s =
       (NoWord d (slot_of s) t × ((a : TableEntry) → word_answer (slot_of s) (word_from i 0 words) a ≡ a))
@@ -141,7 +141,7 @@ unfolding answer_over
 answer-word words s c i e =
     ap (answer_over words s) e ∙ ap (λ x. word_answer (slot_of s) (word_from i 0 words) (table_answer s x)) (sym e)
 
--- a class of the protocol's own means what it does in the protocol's table
+-- a class of the protocol has its entry of the protocol's table
 pub answer-standard : (words : Words) (s : Sym) (c : Class) → IsStandard c → answer_over words s c ≡ table_answer s c
 unfolding answer_over
 answer-standard words s (Word i) std = absurd (std i refl)
@@ -168,7 +168,7 @@ module _ (words : Words) (ok : Proper (dialect_of words)) (s : Sym) (t : ℕ) wh
   abbrev c : Class
   c = (dialect_of words).class_of t
 
-  -- either an answer of the protocol's table, where no word stands, or a word's
+  -- an entry of the protocol's table if no word is allowed, or the entry of a word
   Either : Type 0
   Either =
       (NoWord (dialect_of words) (slot_of s) t × (answer_over words s c ≡ table_answer s c))

@@ -1,4 +1,4 @@
--- The stacks that can arise with added words are in the same order.
+-- The reachable stacks with added words satisfy the same order.
 use Rattle.std.proofs.Common.{◌≡◌, ◌≢◌, ℕ, Bool, true, false, List, [], ◌∷◌, Option, Some, None, refl, sym, subst}
 use Rattle.std.proofs.Common.{arith}
 use Rattle.std.proofs.lemmas.Bool.{eq-eqb}
@@ -20,7 +20,7 @@ use Rattle.daide_grammar.specs.Table.Proved.StacksInOrder.{tidy, sized, sized_by
 use Rattle.daide_grammar.specs.Table.Proved.StacksInOrder.{table-moves}
 use Rattle.daide_words.specs.Table.OverWords.{operand_symbol, stands, word_from, if_stands, word_answer, answer_over}
 
--- an operand's symbol is one entry, and needn't stand last
+-- the symbol of an operand is one entry, and need not be last
 operand-size : (o : WordOperand) (s : Slot) (l : Level) → shapes (operand_symbol o s l ∷ []) ≡ 1 ∷ []
 unfolding shape
 operand-size one_power s l = refl
@@ -43,7 +43,7 @@ operand-free an_arrangement Arrangement_slot l b = refl
 operand-free an_arrangement Flat_slot l b = refl
 operand-free a_press s l b = refl
 
--- a symbol at whose place words may stand has room for one
+-- a symbol with a slot for words has room for one entry
 abbrev pub roomy : Option (Slot × Level) → List ℕ → Bool
 roomy None sizes = true
 roomy (Some p) sizes = fits (1 ∷ []) sizes
@@ -111,7 +111,7 @@ unfolding answer_over
 word-skip words s (Word i) h = slot-skip s i (slot_of s) (word_from i 0 words) h
 word-skip words s c h = skip-ends s c h
 
--- a closing bracket's symbol takes no word
+-- the symbol of a closing bracket takes no word
 word-closes : (words : Words) (c : Class) → c ≢ Ket → answer_over words Closing c ≡ Stop
 unfolding answer_over slot_of
 word-closes words (Word i) n = table-moves.closes (Word i) n

@@ -4,7 +4,7 @@ use Rattle.daide_channels.specs.PerSide.{at}
 use Rattle.daide_channels.proofs.GoneLemmas.{IsLosing}
 use Rattle.daide_channels.proofs.channels.Channels.lose.Given as goal
 
--- as many first frames are gone as rounds were made, and the other wire is handed what it was
+-- each iteration removes one first frame, and the parts of the other wire stay
 abbrev pub invariant-loop : goal.invariant-loop
 invariant-loop g l =
     IsLosing l.fn.self l.self l.fn.to l.counter

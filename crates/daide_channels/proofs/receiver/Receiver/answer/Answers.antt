@@ -23,7 +23,7 @@ use Rattle.daide_channels.proofs.receiver.Receiver.answer.Given as given
 use Rattle.daide_channels.proofs.receiver.Receiver.answer.Goals as goal
 use Rattle.daide_channels.proofs.receiver.Receiver.answer.Goals.{then-is_message, else-is_message}
 
--- the header's length is at most the longest body's
+-- the length in the header is at most that of the longest body
 pub answer_head-requires : goal.answer_head-requires
 answer_head-requires g c =
     let i = c.self.inside in
@@ -32,7 +32,7 @@ answer_head-requires g c =
     (ap (λ (v : Receiver). head_in v.cap v.held) c.self.view_is ∙ c.requires.head) in
     omega arith
 
--- what the verdict is, and what was read
+-- the verdict, and the tokens read
 judged : (g : given.Over) (c : goal.After-self-2-1 g) →
     IsJudged ghosts words_in extended_look_ups c.args.self.now c.if-is_message.self-inside.side
     c.if-is_message.self-inside.level c.if-is_message.self-inside.cutter c.if-is_message.self-inside.reader

@@ -5,8 +5,8 @@ use Rattle.daide_channels.specs.Receiver.{Receiver, words_in}
 use Rattle.daide_channels.proofs.ReceiverLemmas.{begins_of, fresh_on}
 use Rattle.daide_channels.proofs.receiver.Receiver.clear.Goals as goal
 
--- What the reader is then is searched for, so that a body which leaves it as it was is refused by what it says, and
--- not by a name.
+-- The prover searches for the reader's new state. So a body that leaves the reader unchanged is refused by its meaning,
+-- and not by a name.
 pub invariant_of-self : goal.invariant_of-self
 invariant_of-self g c =
     let i = c.self.inside in

@@ -14,7 +14,7 @@ index_mut-lent-requires g c =
     c.args.i c.args.self.now c.self.view_is c.requires in
     omega (arith, inside, s.places.ok.0)
 
--- whatever ports are left there, the session is the same
+-- the session stays the same, whatever ports the borrower leaves
 pub invariant_of-self-lent : goal.invariant_of-self-lent
 invariant_of-self-lent g c w =
     let s = c.self.inside in

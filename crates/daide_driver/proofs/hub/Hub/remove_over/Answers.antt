@@ -66,7 +66,7 @@ returns-clause-moved_down g c =
           c.args.self.now c.self.view_is),
     )
 
--- the session is closed, so what ended it is known
+-- the session is closed, so its ending is known
 pub unwrap-requires : goal.unwrap-requires
 unwrap-requires g c =
     let s = c.self.inside in

@@ -10,7 +10,7 @@ use Rattle.daide_driver.specs.Hub.{IsHubSession, session_bound, weight_at}
 use Rattle.daide_driver.proofs.HubLemmas.{place_small, config_small, one_more, sum_by-map}
 use Rattle.daide_driver.proofs.hub.Hub.weight.Goals as goal
 
--- what the place that comes next weighs
+-- the weight of the next place
 next_weighs : (g : _) (c : goal.After-weight-total g) →
     c.weight-total.result ≤ session_bound (limits_with c.self.inside.config (words_of c.self.inside.words))
 next_weighs g c =

@@ -55,7 +55,7 @@ returns-clause-round g c =
           (record { hub = c.remove_closed-removed.new.hub; counters = c.finish_connect.new.counters })) c.self.view_is step,
     )
 
--- what holds anyway holds at an error
+-- a statement that holds in any case holds at an error
 at_error : {A E : Type 0} (r : Result A E) (P : Type 0) → P → OnErr r P
 at_error (Ok x) P h = tt
 at_error (Err e) P h = h

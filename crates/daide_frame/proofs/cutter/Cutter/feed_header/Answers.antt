@@ -13,7 +13,7 @@ use Rattle.daide_frame.proofs.FramesLemmas.{at_head}
 use Rattle.daide_frame.proofs.cutter.Cutter.feed_header.Goals as goal
 use Rattle.daide_frame.proofs.cutter.Cutter.feed_header.Goals.{then-head-eq0, else-head-eq0}
 
--- a header that isn't whole wants what it lacks of four bytes
+-- an incomplete header takes what is missing of its four bytes
 room_left : (cap have : ℕ) (header body : List ℕ) (old : Cut) (n : ℕ) → have < 4 → length header ≡ 4 → body ≡ [] →
     record { cap = cap; bytes = take have header ++ body } ≡ old → n ≤ missing old.cap old.bytes → have + n ≤ 4
 room_left cap have header body old n less four none same room =

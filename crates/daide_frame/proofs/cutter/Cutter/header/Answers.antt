@@ -8,7 +8,7 @@ use Rattle.daide_frame.specs.Cutter.{IsConsistent}
 use Rattle.daide_frame.proofs.ListLemmas.{take_whole}
 use Rattle.daide_frame.proofs.cutter.Cutter.header.Goals as goal
 
--- the header's bytes so far are the first four of the frame's
+-- the header's bytes so far are the first four of the frame
 header_of : (limit have : ℕ) (header : List ℕ) (head : Option Head) (f : Bool) (body : List ℕ) (capacity : ℕ) →
     IsConsistent limit have header head f body capacity → take have header ≡ take 4 (take have header ++ body)
 header_of limit have header head f body capacity i = by_have (leb_tells 4 have)

@@ -1,7 +1,7 @@
 use Rattle.std.proofs.Common.{◌≡◌, take, length}
 use Rattle.daide_grammar.proofs.meaning.Rest.of.Given as goal
 
--- the symbols so far stand in their places
+-- the symbols so far are copied
 abbrev pub invariant-loop-i : goal.invariant-loop-i
 invariant-loop-i g l = record {
   room : length l.all ≡ 5;

@@ -1,4 +1,4 @@
--- A class that no arm lists is told by the table's entries.
+-- A class that no arm lists follows the table's entries.
 use Rattle.std.proofs.Common.{rules}
 use Rattle.daide_grammar.proofs.OtherClasses.{fact_other, fact_below}
 use Rattle.daide_grammar.proofs.plain.press.fact.Goals as goal

@@ -1,4 +1,4 @@
--- A class that no arm lists is told by the table's entries.
+-- A class that no arm lists follows the table's entries.
 use Rattle.std.proofs.Common.{rules}
 use Rattle.daide_grammar.proofs.OtherClasses.{simple_other, simple_xdo, simple_dmz, simple_scd, simple_occ}
 use Rattle.daide_grammar.proofs.plain.press.simple.Goals as goal

@@ -4,7 +4,7 @@ use Rattle.daide_reader.specs.Reading.{IsRaised}
 use Rattle.daide_protocol.specs.HloLevel.{lvl_scan_of}
 use Rattle.daide_protocol.proofs.hlo.HloScan.read_on.Given as goal
 
--- each token before i was looked at, once
+-- each token before i was examined once
 abbrev pub invariant-loop-i : goal.invariant-loop-i
 invariant-loop-i l =
     (l.initial.self.found ≡ lvl_scan_of (tokens_of (take (2 * l.from) l.body)) →

@@ -5,14 +5,14 @@ use Rattle.std.proofs.Math.Seq.{take-suc-set}
 use Rattle.daide_reader.proofs.Counts.{next_within}
 use Rattle.daide_reader.proofs.parse_stack.ParseStack.push.Goals as goal
 
--- where fewer symbols are than cells, there is a cell for one more
+-- if there are fewer symbols than cells, a cell is free
 free : {S : Type 0} (cells old : List S) (count size : ℕ) → take count cells ≡ old → length cells ≡ size → count ≤ size
     → length old < size → count < size
 free cells old count size same all inside less =
     let long : length old ≡ count = ap length (sym same) ∙ length-take-le count cells (omega (arith, all, inside)) in
     omega (arith, long, less)
 
--- the cell behind the symbols holds one more
+-- the cell after the symbols holds the new one
 pushed : {S : Type 0} (cells old : List S) (count : ℕ) (x : S) → take count cells ≡ old → count < length cells
     → take (count + 1) (set cells count x) ≡ old ++ x ∷ []
 pushed {S = S} cells old count x same less =

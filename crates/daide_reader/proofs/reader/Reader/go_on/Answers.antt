@@ -15,7 +15,7 @@ use Rattle.daide_reader.proofs.SliceLemmas.{as_reading, behind_fits, behind_none
 use Rattle.daide_reader.proofs.SliceLemmas.{counts_past, counts_up, stands_on, stands_report_on, steady_on}
 use Rattle.daide_reader.proofs.reader.Reader.go_on.Goals as goal
 
--- the numbers of a reader, and of a body that comes next
+-- the numbers of a reader, and of the next body
 module _ (read before size total : ℕ) (same : before ≡ read) (sum : total ≡ read + size / 2) where
   more_read : 2 ≤ size → before < total
   more_read some = omega arith
@@ -78,7 +78,7 @@ returns-then-outline g c = record {
   unfinished = ap (λ (v : Reading g.row.T.Denot). v.finished) c.self.view_is ∙ c.requires.unfinished;
 }
 
--- a place was found before
+-- an error place was found before
 pub invariant_of-self-then-is_some : goal.invariant_of-self-then-is_some
 invariant_of-self-then-is_some g c =
     let m = tokens_of c.args.body.now in

@@ -4,7 +4,7 @@ use Rattle.daide_reader.proofs.Fronts.{place_said}
 use Rattle.daide_reader.proofs.ReadingLemmas.{stands_along}
 use Rattle.daide_reader.proofs.reader.Reader.place.Goals as goal
 
--- a stack tells more than that no place was found
+-- a stack says more than that there is no error place
 pub returns : goal.returns
 returns g c =
     let Predict = g.T.Predict in

@@ -12,14 +12,14 @@ use Rattle.daide_reader.proofs.ReadingLemmas.{raised_none, raised_within}
 use Rattle.daide_reader.proofs.SliceLemmas.{slice_on, stands_before, stands_still, tokens_of-drop}
 use Rattle.daide_reader.proofs.reader.Reader.read.Goals as goal
 
--- the tokens that were read lie in the body, and the body in itself
+-- the tokens that were read are within the body
 read_within : (tokens read size : ℕ) → tokens ≡ read → 2 * read ≤ size → 2 * tokens ≤ size
 read_within tokens read size same within = omega arith
 
 all_within : (size : ℕ) → size ≤ size
 all_within size = omega arith
 
--- no whole token came
+-- no new whole token
 pub returns-then-read-body : goal.returns-then-read-body
 returns-then-read-body g c = record {
   stands_after = λ words first max_depth h.
@@ -35,7 +35,7 @@ returns-then-read-body g c = record {
   unfinished = c.requires.unfinished;
 }
 
--- a whole token came
+-- a new whole token
 pub on-outline-requires : goal.on-outline-requires
 on-outline-requires g c =
     let same = ap (λ (v : Reading g.row.T.Denot). tokens_read v) c.self.view_is in
@@ -61,7 +61,7 @@ slice_bounds-go_on-start g c =
 pub slice_bounds-go_on-end : goal.slice_bounds-go_on-end
 slice_bounds-go_on-end g c = all_within (length c.args.body.now)
 
--- what was not read yet is a body of its own
+-- the unread part is a body of its own
 pub go_on-requires : goal.go_on-requires
 go_on-requires g c =
     let b = c.args.body.now in

@@ -5,7 +5,7 @@ use Rattle.daide_session.proofs.SessionFronts.{none_waits}
 use Rattle.daide_session.proofs.session.Session.is_closed.Goals.{then-is_over, else-is_over}
 use Rattle.daide_session.proofs.session.Session.is_closed.Goals as goal
 
--- nothing waits for the bot
+-- the queue of the bot's wire is empty
 pub returns-then-is_empty : goal.returns-then-is_empty
 returns-then-is_empty g c =
     let now = c.args.self.now in
@@ -22,7 +22,7 @@ returns-then-is_empty g c =
           absurd (let f : false ≡ true = sym w.if-is_over.false ∙ (sym w.value-is ∙ c.if-is_empty.true) in cc)
     ]
 
--- something waits for it, or the session isn't over
+-- the queue of the bot's wire is not empty, or the session is not over
 pub returns-else-is_empty : goal.returns-else-is_empty
 returns-else-is_empty g c =
     let now = c.args.self.now in

@@ -34,7 +34,7 @@ returns-then-is_over-clause-waited_for g c = λ live free. elim c.then-is_over.b
       ∙ w.if-is_awaited.true)) free)
 ]
 
--- what is missing of the side's next frame
+-- the number of bytes that the side's next frame lacks
 pub returns-clause-missing : goal.returns-clause-missing
 returns-clause-missing g c =
     let t = c.self.inside.channels in

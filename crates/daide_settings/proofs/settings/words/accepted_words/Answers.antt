@@ -12,7 +12,7 @@ use Rattle.daide_words.specs.Words.{words_of}
 use Rattle.daide_settings.proofs.WordEntries.{further, further_last, further_next, further_refused}
 use Rattle.daide_settings.proofs.settings.words.accepted_words.Goals as goal
 
--- what is said of an accepted word holds
+-- the postcondition of success holds for an accepted word
 of_ok : (r : Result (Unit {0}) WordError) (P : Type 0) → is_ok r ≡ true → OnOk r P → P
 of_ok (Ok done) P e h = h
 of_ok (Err fault) P e h = absurd cc

@@ -5,7 +5,7 @@ use Rattle.daide_settings.specs.WordSettings.{accepted_words, words_of_entries}
 use Rattle.daide_settings.proofs.WordEntries.{further}
 use Rattle.daide_settings.proofs.settings.words.accepted_words.Given as goal
 
--- what is left to judge, after the words so far, is what there was to judge
+-- the result of the entries left, after the words so far, is the result of all entries
 abbrev pub invariant-loop-entry : goal.invariant-loop-entry
 invariant-loop-entry l =
     accepted_words (words_of_entries (items_view l.entries))

@@ -12,14 +12,14 @@ use Rattle.daide_reader.specs.Verdict.{HasVerdict}
 use Rattle.daide_show.specs.Shown.{message_shown, kind_line, line, printed, verdict_lines}
 use Rattle.daide_show.proofs.frame_view.text.write_message.Goals as goal
 
--- four texts written one after the other
+-- four texts written in sequence
 joined : (old a b c d first second third fourth : List ℕ) → first ≡ old ++ a → second ≡ first ++ b →
     third ≡ second ++ c → fourth ≡ third ++ d → fourth ≡ old ++ (((a ++ b) ++ c) ++ d)
 joined old a b c d first second third fourth x y z w =
     w ∙ ap (λ (l : List ℕ). l ++ d) (z ∙ ap (λ (l : List ℕ). l ++ c) (y ∙ ap (λ (l : List ℕ). l ++ b) x))
     ∙ simp append_assoc
 
--- the verdict of a reader by the rules that are the request's
+-- the verdict of a reader, by the rules of the request
 ruled : (words asked : Words) (end side : Side2) (level at : Level) (depth most : ℕ) (m : List ℕ) (verdict : Verdict) →
     words ≡ asked → end ≡ side → level ≡ at → depth ≡ most →
     HasVerdict (IsMessageOver (grammar_words (words_of words)) end level) depth m verdict →

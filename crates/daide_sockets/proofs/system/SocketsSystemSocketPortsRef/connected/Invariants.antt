@@ -2,7 +2,7 @@ use Rattle.std.proofs.Common.{◌≡◌}
 use Rattle.daide_sockets.specs.Pairing.{ChecksArrivals}
 use Rattle.daide_sockets.proofs.system.SocketsSystemSocketPortsRef.connected.Given as goal
 
--- so many were looked at
+-- the arrivals checked so far
 abbrev pub invariant-loop-look : goal.invariant-loop-look
 invariant-loop-look g l = record {
   looks : ChecksArrivals l._look l.initial.self.arrivals.items l.self.arrivals.items;
