@@ -58,6 +58,10 @@ pub record WritesNothing {S : Type 0} (got : S → Option (List ℕ)) (old new :
   pub write_buffer : new.write_buffer ≡ old.write_buffer
   pub takes : got new.stream ≡ got old.stream
 
+-- the largest piece that one call of a drain discards
+abbrev pub drop_size : ℕ
+drop_size = 4096
+
 -- the bytes of one buffer, and the free space after them
 pub record Roomful : Type 0 where
   pub bytes : List ℕ

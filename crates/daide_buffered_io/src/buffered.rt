@@ -217,6 +217,7 @@ impl<S: Duplex + Drop> Buffered<S> {
         ensures failed { self.new.has_failed ≡ self.old.has_failed }
         ensures handed { 0 < length self.old.read_buffer →
             result ≡ Pull.Got (min (length self.old.read_buffer) (length buffer.old)) }
+        ensures known { 0 < length self.old.read_buffer → readiness.new ≡ readiness.old }
         ensures all_out { result ≡ Pull.Ended → self.old.read_buffer ≡ [] }
     {
         if let Some(held) = self.take_ahead(pool) {
@@ -240,6 +241,7 @@ impl<S: Duplex + Drop> Buffered<S> {
         ensures written { self.old.has_failed ≡ false → 0 < length self.old.write_buffer →
             IsFlushed S.calls readiness.old self.old readiness.new self.new }
         ensures failed { self.old.has_failed ≡ true → (self.new ≡ self.old) × (readiness.new ≡ readiness.old) }
+        ensures empty { self.old.write_buffer ≡ [] → (self.new ≡ self.old) × (readiness.new ≡ readiness.old) }
     {
         if self.has_failed {
             return;

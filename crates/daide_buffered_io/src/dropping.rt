@@ -1,8 +1,8 @@
 //! Draining: bytes that are read from a closing stream and discarded.
 
-ghost use Rattle.std.specs.Prelude.{◌≡◌, ◌+◌, ◌≤◌, ℕ, List, [], length, true};
+ghost use Rattle.std.specs.Prelude.{◌≡◌, ◌+◌, ◌<◌, ◌≤◌, ℕ, List, [], min, length, true};
 ghost use Rattle.daide_protocol.specs.declared.ports.Pull.{Pull};
-ghost use Rattle.daide_buffered_io.specs.Buffers.{Passes, WritesNothing, IsBufferedPull};
+ghost use Rattle.daide_buffered_io.specs.Buffers.{Passes, WritesNothing, IsBufferedPull, drop_size};
 ghost use Rattle.daide_buffered_io.specs.Calls.{is_last_piece};
 
 use crate::buffered::Buffered;
@@ -49,8 +49,10 @@ impl Dropping {
         pool: &Pool,
         readiness: &mut Readiness,
     ) -> bool
-        ensures pulled { (free_space : ℕ) × (pull : Pull) × IsBufferedPull S.calls free_space readiness.old stream.old pull
-            readiness.new stream.new × (result ≡ is_last_piece pull self.new) }
+        ensures pulled { (pull : Pull) × IsBufferedPull S.calls (min self.old drop_size) readiness.old stream.old pull
+            readiness.new stream.new × (0 < length stream.old.read_buffer →
+            pull ≡ Pull.Got (min (length stream.old.read_buffer) (min self.old drop_size)))
+            × (result ≡ is_last_piece pull self.new) }
         ensures fewer { self.new ≤ self.old }
         ensures piece { self.old ≤ self.new + PIECE }
         ensures dropped { (bytes : List ℕ) × (self.old ≡ self.new + length bytes)

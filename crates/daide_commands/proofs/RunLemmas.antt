@@ -1,6 +1,7 @@
--- The end of a run, by the calls of the loop to a system over sockets.
-use Rattle.std.proofs.Common.{◌≡◌, ℕ, List, [], ◌∷◌, Option, Result, Ok, Err, refl, inl, inr, ap, subst}
+-- How a run ends, by the calls that the loop made of a system over sockets.
+use Rattle.std.proofs.Common.{◌≡◌, ℕ, List, [], ◌∷◌, Option, Result, Ok, Err, refl, inl, inr, ap}
 use Rattle.std.specs.Result.{OnOk, IfErr}
+use Rattle.std.specs.declared.time.Duration.{Duration}
 use Rattle.daide_protocol.specs.Ports.{PortCall}
 use Rattle.daide_protocol.specs.System.{SystemCall, TransitsBy}
 use Rattle.daide_settings.specs.declared.settings.Settings.{Settings}
@@ -8,17 +9,20 @@ use Rattle.daide_event_loop.specs.declared.serving.ServeFault.{ServeFault}
 use Rattle.daide_event_loop.specs.Served.{IsWholeRun}
 use Rattle.daide_event_loop.specs.Serving.{GivesUp}
 use Rattle.daide_buffered_io.specs.Calls.{StreamCall}
+use Rattle.daide_sockets.specs.Lingering.{no_closing}
 use Rattle.daide_sockets.specs.Pairing.{Paired, RunSockets, Transits}
+use Rattle.daide_sockets.specs.Times.{IsIdleTime}
 use Rattle.daide_commands.specs.declared.gateway.GatewayFault.{GatewayFault}
 use Rattle.daide_commands.specs.declared.gateway.GatewayFault.TheVariants as gateway_faults
 use Rattle.daide_commands.specs.declared.running.RunFault.{RunFault}
 use Rattle.daide_commands.specs.declared.running.RunFault.TheVariants.{Gateway}
 use Rattle.daide_commands.specs.declared.running.RunFault.TheVariants as run_faults
 use Rattle.daide_commands.specs.Gateway.{Announces, IsBeforeServing}
-use Rattle.daide_commands.specs.Running.{no_sockets, RunsBy, RunEnds, TextRuns, FileRuns, IsOfText, ending_by}
+use Rattle.daide_commands.specs.Running.{HasNoSockets, RunsBy, RunEnds, TextRuns, FileRuns, IsOfText, ending_by}
 
-module _ {P S T : Type 0} (to_give taken : S → Option (List ℕ)) (calls : S → Option (List StreamCall)) (pair : P → Paired S)
-    (transition : P → PortCall → P → Type 0) (sockets_of : T → RunSockets S) where
+-- A run of a system whose last value is given. Sockets are a part of a system.
+module _ {P S T : Type 0} (last : T) (to_give taken : S → Option (List ℕ)) (calls : S → Option (List StreamCall))
+    (pair : P → Paired S) (transition : P → PortCall → P → Type 0) (sockets_of : T → RunSockets S) where
   -- the effect of one call on the system
   abbrev step : T → SystemCall P → T → Type 0
   step old answer new = Transits to_give taken calls pair (sockets_of old) answer (sockets_of new)
@@ -29,28 +33,24 @@ module _ {P S T : Type 0} (to_give taken : S → Option (List ℕ)) (calls : S �
   sockets_go [] old new e = ap sockets_of e
   sockets_go (answer ∷ answers) old new h = (sockets_of h.0, h.1, sockets_go answers h.0 new h.2)
 
-  runs : (Kind : List (SystemCall P) → Type 0) (old new : T) → sockets_of old ≡ no_sockets →
-      ((answers : List (SystemCall P)) × TransitsBy step old answers new × Kind answers) →
-      RunsBy to_give taken calls pair Kind
-  runs Kind old new begun h = (
-    h.0,
-    sockets_of new,
-    subst (λ (s : RunSockets S). TransitsBy (Transits to_give taken calls pair) s h.0 (sockets_of new)) begun
-        (sockets_go h.0 old new h.1),
-    h.2,
-  )
+  runs : (seconds : ℕ) (Kind : List (SystemCall P) → Type 0) (old : T) → HasNoSockets seconds (sockets_of old) →
+      ((answers : List (SystemCall P)) × TransitsBy step old answers last × Kind answers) →
+      RunsBy to_give taken calls pair seconds Kind
+  runs seconds Kind old begun h =
+      (h.0, sockets_of old, sockets_of last, begun, sockets_go h.0 old last h.1, h.2)
 
   pub run_ends : (settings : Settings) (failed : Type 0) (before after : Option (List ℕ))
-      (served : Result (Unit {0}) ServeFault) (old new : T) → sockets_of old ≡ no_sockets →
-      Announces failed before after →
-      OnOk served ((answers : List (SystemCall P)) × TransitsBy step old answers new × IsWholeRun transition settings answers) →
-      IfErr served (λ fault. (answers : List (SystemCall P)) × TransitsBy step old answers new
+      (served : Result (Unit {0}) ServeFault) (old : T) → Announces failed before after →
+      OnOk served ((answers : List (SystemCall P)) × TransitsBy step old answers last × IsWholeRun transition settings answers) →
+      IfErr served (λ fault. (answers : List (SystemCall P)) × TransitsBy step old answers last
       × GivesUp (λ n. Unit {0}) transition settings fault answers) →
+      (time : Option Duration) → IsIdleTime settings.stall_seconds time →
+      sockets_of old ≡ record { came = 0; arrivals = []; closing = no_closing time } →
       RunEnds to_give taken calls pair transition settings failed before after (ending_by served)
-  run_ends settings failed before after (Ok done) old new begun said whole given_up =
-      (said, runs (IsWholeRun transition settings) old new begun whole)
-  run_ends settings failed before after (Err fault) old new begun said whole given_up =
-      (said, runs (GivesUp (λ n. Unit {0}) transition settings fault) old new begun given_up)
+  run_ends settings failed before after (Ok done) old said whole given_up time is_time none =
+      (said, runs settings.stall_seconds (IsWholeRun transition settings) old (time, is_time, none) whole)
+  run_ends settings failed before after (Err fault) old said whole given_up time is_time none =
+      (said, runs settings.stall_seconds (GivesUp (λ n. Unit {0}) transition settings fault) old (time, is_time, none) given_up)
 
 module _ {P S : Type 0} (to_give taken : S → Option (List ℕ)) (calls : S → Option (List StreamCall)) (pair : P → Paired S)
     (transition : P → PortCall → P → Type 0) where

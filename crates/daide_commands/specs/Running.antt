@@ -1,5 +1,6 @@
 -- The effect of a run, from its settings on. (own)
 use Rattle.std.specs.Prelude.{◌≡◌, ◌≢◌, ◌⊎◌, ℕ, List, [], Option, Result, Ok, Err}
+use Rattle.std.specs.declared.time.Duration.{Duration}
 use Rattle.toml.specs.Parse.{parse_document}
 use Rattle.daide_protocol.specs.Ports.{PortCall}
 use Rattle.daide_protocol.specs.System.{SystemCall, TransitsBy}
@@ -12,23 +13,27 @@ use Rattle.daide_event_loop.specs.declared.serving.ServeFault.{ServeFault}
 use Rattle.daide_event_loop.specs.Served.{IsWholeRun}
 use Rattle.daide_event_loop.specs.Serving.{GivesUp}
 use Rattle.daide_buffered_io.specs.Calls.{StreamCall}
+use Rattle.daide_sockets.specs.Lingering.{no_closing}
 use Rattle.daide_sockets.specs.Pairing.{Paired, RunSockets, Transits}
+use Rattle.daide_sockets.specs.Times.{IsIdleTime}
 use Rattle.daide_commands.specs.Gateway.{Announces}
 use Rattle.daide_commands.specs.declared.gateway.GatewayFault.TheVariants as gateway_faults
 use Rattle.daide_commands.specs.declared.running.RunFault.{RunFault}
 use Rattle.daide_commands.specs.declared.running.RunFault.TheVariants.{Unreadable, Memory, Record, Gateway}
 use Rattle.daide_commands.specs.declared.running.RunFault.TheVariants as run_faults
 
--- the sockets of a run with no bot yet, none of which is closing
-abbrev pub no_sockets : {S : Type 0} → RunSockets S
-no_sockets = record { came = 0; arrivals = []; closing = [] }
+-- sockets to which no bot came, and of which none closes; a peer of one that closes has so many seconds to take bytes
+abbrev pub HasNoSockets : {S : Type 0} → ℕ → RunSockets S → Type 0
+HasNoSockets stall_seconds sockets = (time : Option Duration) × IsIdleTime stall_seconds time
+    × (sockets ≡ record { came = 0; arrivals = []; closing = no_closing time })
 
 -- The sockets of a run began with none, and this property holds for the trace of their system calls.
 abbrev pub RunsBy : {P S : Type 0} → (S → Option (List ℕ)) → (S → Option (List ℕ)) →
     (S → Option (List StreamCall)) → (P → Paired S) →
-    (List (SystemCall P) → Type 0) → Type 0
-RunsBy {P} {S} to_give taken calls pair Kind = (answers : List (SystemCall P)) × (new : RunSockets S)
-    × TransitsBy (Transits to_give taken calls pair) no_sockets answers new × Kind answers
+    ℕ → (List (SystemCall P) → Type 0) → Type 0
+RunsBy {P} {S} to_give taken calls pair stall_seconds Kind = (answers : List (SystemCall P)) × (old : RunSockets S)
+    × (new : RunSockets S) × HasNoSockets stall_seconds old × TransitsBy (Transits to_give taken calls pair) old answers new
+    × Kind answers
 
 -- the result of a run from the result of its loop
 abbrev pub ending_by : Result (Unit {0}) ServeFault → Result (Unit {0}) RunFault
@@ -42,9 +47,10 @@ abbrev pub RunEnds : {P S : Type 0} → (S → Option (List ℕ)) → (S → Opt
     (P → PortCall → P → Type 0) → Settings → Type 0 → Option (List ℕ) → Option (List ℕ) →
     Result (Unit {0}) RunFault → Type 0
 RunEnds to_give taken calls pair transition settings failed old new (Ok done) =
-    Announces failed old new × RunsBy to_give taken calls pair (IsWholeRun transition settings)
+    Announces failed old new × RunsBy to_give taken calls pair settings.stall_seconds (IsWholeRun transition settings)
 RunEnds to_give taken calls pair transition settings failed old new (Err (Gateway (gateway_faults.Serve fault))) =
-    Announces failed old new × RunsBy to_give taken calls pair (GivesUp (λ n. Unit {0}) transition settings fault)
+    Announces failed old new × RunsBy to_give taken calls pair settings.stall_seconds
+    (GivesUp (λ n. Unit {0}) transition settings fault)
 RunEnds to_give taken calls pair transition settings failed old new (Err (Gateway gateway_faults.Listen)) = new ≡ old
 RunEnds to_give taken calls pair transition settings failed old new (Err (Gateway gateway_faults.Memory)) = new ≡ old
 RunEnds to_give taken calls pair transition settings failed old new (Err Memory) = new ≡ old

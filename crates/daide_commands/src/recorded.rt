@@ -28,7 +28,7 @@ impl<R: AllocGlobal + Clock + Net + Files, E: Write + Drop> RecordedSockets<'_, 
     pub(crate) fn finish(&mut self)
         ensures { (rounds : ℕ) × GoOnFor ⟦<Connection as Duplex>⟧.to_give ⟦<Connection as Duplex>⟧.taken
             ⟦<Connection as Duplex>⟧.calls rounds self.old.sockets.closings self.new.sockets.closings
-            × ((self.new.sockets.closings ≡ []) ⊎ (rounds ≡ u64.MAX)) }
+            × ((self.new.sockets.closings.streams ≡ []) ⊎ (rounds ≡ u64.MAX)) }
     {
         self.sockets.finish();
     }

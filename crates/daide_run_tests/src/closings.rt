@@ -70,7 +70,7 @@ fn holding<'w>(poller: &'w Poller<Steps>, wire: Wire, flags: &'w Flags) -> Socke
 /// Closes one socket, step by step.
 fn closes_one(rt: &HostRuntime, poller: &Poller<Steps>) -> Result<(), Fail> {
     let (flags, _) = two_rows(rt, poller)?;
-    let mut closings = Closings::new(rt.alloc())?;
+    let mut closings = Closings::new(rt.alloc(), None)?;
     closings.begin(poller, holding(poller, Wire::new(TAKES, 0), flags));
     let wrong = wrong_step(poller, &mut closings, flags, CLOSES);
     same(&wrong, &None, &"a step")
@@ -115,7 +115,7 @@ fn closes_second(
 /// Closes two sockets, the second of which has writes that fail.
 fn closes_two(rt: &HostRuntime, poller: &Poller<Steps>) -> Result<(), Fail> {
     let flags = two_rows(rt, poller)?;
-    let mut closings = Closings::new(rt.alloc())?;
+    let mut closings = Closings::new(rt.alloc(), None)?;
     closings.begin(poller, holding(poller, Wire::new(LATE, 0), flags.0));
     closings.begin(poller, holding(poller, broken(), flags.1));
     let told = closes_second(poller, &mut closings, flags);
@@ -154,9 +154,8 @@ const STALLS: &[Closes] = &[
 /// Closes a socket whose peer accepts nothing, step by step.
 fn closes_stalled(rt: &HostRuntime, poller: &Poller<Steps>) -> Result<(), Fail> {
     let (flags, _) = two_rows(rt, poller)?;
-    let mut closings = Closings::new(rt.alloc())?;
+    let mut closings = Closings::new(rt.alloc(), Some(Duration::from_secs(1)))?;
     let mut socket = socket_over(poller, Wire::new(&[], 0), flags);
-    socket.set_stall_time(Some(Duration::from_secs(1)));
     flags.note(true, true);
     socket.put(b"abc");
     closings.begin(poller, socket);

@@ -1,18 +1,23 @@
 -- Looks along a list of streams that close, one after another.
-use Rattle.std.proofs.Common.{◌≡◌, ◌⊎◌, ℕ, suc, ◌+◌, ◌<◌, ◌≤◌, List, [], ◌∷◌, ◌++◌, length, take, drop, refl, sym, ap, ◌∙◌, subst}
-use Rattle.std.proofs.Common.{Option, Some, None, Bool, true, false, zero, arith, inl, inr, append_assoc, append-nil, take-append-drop, get_or}
-use Rattle.std.specs.Prelude.{◌||◌, not, slice_get, slice_set, remove}
+use Rattle.std.proofs.Common.{◌≡◌, ◌⊎◌, ℕ, suc, ◌+◌, ◌-◌, ◌<◌, ◌≤◌, List, [], ◌∷◌, ◌++◌, length, take, drop, refl, sym, ap, ◌∙◌}
+use Rattle.std.proofs.Common.{Option, Some, None, Bool, true, false, zero, arith, inl, inr, append_assoc, append-nil, subst}
+use Rattle.std.proofs.Common.{take-append-drop, get_or}
+use Rattle.std.specs.Prelude.{◌||◌, not, min, nat_lt, if◌then◌else◌, slice_get, slice_set, remove}
+use Rattle.std.specs.declared.time.Duration.{Duration}
 use Rattle.std.proofs.lemmas.List.{length-append, length-take-le}
 use Rattle.std.proofs.Math.Seq.{set-append_seam}
 use Rattle.std.proofs.lemmas.Option.{slice_get_read}
 use Rattle.std.specs.declared.time.Instant.{Instant}
 use Rattle.daide_protocol.specs.declared.ports.Pull.{Pull}
+use Rattle.daide_protocol.specs.declared.ports.Pull.TheVariants.{Got}
 use Rattle.daide_buffered_io.specs.declared.readiness.Readiness.{Readiness}
-use Rattle.daide_buffered_io.specs.Buffers.{Passes, WritesNothing, IsBufferedPull}
+use Rattle.daide_buffered_io.specs.Buffers.{Buffer, Passes, WritesNothing, IsBufferedPull, IsFlushed}
 use Rattle.daide_buffered_io.specs.Calls.{StreamCall, is_last_piece}
-use Rattle.daide_sockets.specs.Times.{is_time_over}
-use Rattle.daide_sockets.specs.Lingering.{ClosingStream, Discards, Lingers, Leaves, IsLookedAt, LooksAtOne}
-use Rattle.daide_sockets.specs.Lingering.{LingerOrLeave, LooksAlong, IsWritingOver, ClosingsGoOn, GoOnFor, is_released}
+use Rattle.daide_sockets.specs.Pairing.{with_room}
+use Rattle.daide_sockets.specs.Times.{StallsNext, has_stalled, is_time_over}
+use Rattle.daide_sockets.specs.Lingering.{ClosingStream, ClosingList, Discards, Lingers, Leaves, IsLookedAt, LooksAtOne}
+use Rattle.daide_sockets.specs.Lingering.{LooksAtEach, LooksAlong, IsWriting, IsWritingOver, ClosingsGoOn, GoOnFor, is_released}
+use Rattle.daide_sockets.specs.Lingering.{TriesWriting, LooksAround}
 
 -- ---- lists
 
@@ -21,7 +26,7 @@ module _ {A : Type 0} where
   value_or d None = d
   value_or d (Some x) = x
 
-  -- the element after a prefix is the first of the rest
+  -- what is read behind a front is the first of the rest
   there : (xs rest : List A) (one : A) → slice_get (xs ++ rest) (length xs) ≡ Some one →
       (back : List A) × (rest ≡ one ∷ back)
   there [] [] one e = absurd (cc)
@@ -37,31 +42,6 @@ module _ {A : Type 0} where
   shift a b x c = append_assoc a b (x ∷ c) ∙ ap (λ (l : List A). a ++ l) (sym (append_assoc b (x ∷ []) c))
       ∙ sym (append_assoc a (b ++ x ∷ []) c)
 
-  -- a front that is no longer than another one is its front
-  cut : (xs us ys vs : List A) → xs ++ us ≡ ys ++ vs → length xs ≤ length ys →
-      (mid : List A) × (ys ≡ xs ++ mid) × (us ≡ mid ++ vs)
-  cut [] us ys vs e le = (ys, refl, e)
-  cut (x ∷ xs) us [] vs e le = absurd (omega (arith, le))
-  cut (x ∷ xs) us (y ∷ ys) vs e le =
-      let further = cut xs us ys vs (ap tail_of e) (omega (arith, le)) in (
-        further.0,
-        ap (λ (l : List A). y ∷ l) further.1
-            ∙ ap (λ (z : A). z ∷ (xs ++ further.0)) (sym (ap (head_of x) e)),
-        further.2,
-      )
-    where
-      tail_of : List A → List A
-      tail_of [] = []
-      tail_of (z ∷ zs) = zs
-
-      head_of : A → List A → A
-      head_of d [] = d
-      head_of d (z ∷ zs) = z
-
-  none_left : (xs : List A) → length xs ≡ 0 → xs ≡ []
-  none_left [] e = refl
-  none_left (x ∷ xs) e = absurd (omega (arith, e))
-
 -- ---- looks
 
 module _ {S : Type 0} (to_give taken : S → Option (List ℕ)) (calls : S → Option (List StreamCall)) (now : Option Instant)
@@ -69,36 +49,26 @@ module _ {S : Type 0} (to_give taken : S → Option (List ℕ)) (calls : S → O
     abbrev Streams : Type 0
     Streams = List (ClosingStream S)
 
-    abbrev Looked : ℕ → Streams → Streams → Type 0
-    Looked = LingerOrLeave to_give taken calls now
+    abbrev Looked : Streams → Streams → Type 0
+    Looked = LooksAtEach to_give taken calls now
 
     abbrev Along : ℕ → ℕ → Streams → ℕ → Streams → Type 0
     Along = LooksAlong to_give taken calls now
 
-    -- those that are not looked at stay
-    stay : (xs : Streams) → Looked 0 xs xs
-    stay [] = (refl, refl)
-    stay (x ∷ xs) = (0, xs, stay xs, inl (refl, refl))
-
-    -- one list after another
-    both : (n m : ℕ) (xs ys us vs : Streams) → Looked n xs ys → Looked m us vs → Looked (n + m) (xs ++ us) (ys ++ vs)
-    both n m [] ys us vs h k =
-        let none : m ≡ n + m = let e = h.0 in omega (arith, e) in
-        subst (λ (l : Streams). Looked (n + m) us (l ++ vs)) (sym h.1) (subst (λ (c : ℕ). Looked c us vs) none k)
-    both n m (x ∷ xs) ys us vs h k = (h.0 + m, h.1 ++ vs, both h.0 m xs h.1 us vs h.2 k, by h.3)
+    -- one list behind another
+    both : (xs ys us vs : Streams) → Looked xs ys → Looked us vs → Looked (xs ++ us) (ys ++ vs)
+    both [] ys us vs h k = subst (λ (l : Streams). Looked us (l ++ vs)) (sym h) k
+    both (x ∷ xs) ys us vs h k = (h.0 ++ vs, both xs h.0 us vs h.1 k, by h.2)
       where
-        by : ((n ≡ h.0) × (ys ≡ x ∷ h.1)) ⊎ ((n ≡ suc h.0) × IsLookedAt to_give taken calls now x h.1 ys) →
-            ((n + m ≡ h.0 + m) × (ys ++ vs ≡ x ∷ (h.1 ++ vs)))
-            ⊎ ((n + m ≡ suc (h.0 + m)) × IsLookedAt to_give taken calls now x (h.1 ++ vs) (ys ++ vs))
-        by (inl a) = inl (ap (λ (c : ℕ). c + m) a.0, ap (λ (l : Streams). l ++ vs) a.1)
-        by (inr (e, inl a)) = inr (omega (arith, e), inl (a.0, ap (λ (l : Streams). l ++ vs) a.1, a.2))
-        by (inr (e, inr a)) = inr (omega (arith, e), inr (ap (λ (l : Streams). l ++ vs) a.0, a.1))
+        by : IsLookedAt to_give taken calls now x h.0 ys → IsLookedAt to_give taken calls now x (h.0 ++ vs) (ys ++ vs)
+        by (inl a) = inl (a.0, ap (λ (l : Streams). l ++ vs) a.1, a.2)
+        by (inr a) = inr (ap (λ (l : Streams). l ++ vs) a.0, a.1)
 
-    lingered : (x y : ClosingStream S) → Lingers to_give taken calls now x y → Looked 1 (x ∷ []) (y ∷ [])
-    lingered x y h = (0, [], (refl, refl), inr (refl, inl (y, refl, h)))
+    lingered : (x y : ClosingStream S) → Lingers to_give taken calls now x y → Looked (x ∷ []) (y ∷ [])
+    lingered x y h = ([], refl, inl (y, refl, h))
 
-    gone : (x : ClosingStream S) → Leaves to_give taken calls now x → Looked 1 (x ∷ []) []
-    gone x h = (0, [], (refl, refl), inr (refl, inr (refl, h)))
+    gone : (x : ClosingStream S) → Leaves to_give taken calls now x → Looked (x ∷ []) []
+    gone x h = ([], refl, inr (refl, h))
 
     -- ---- a loop over positions
 
@@ -112,7 +82,7 @@ module _ {S : Type 0} (to_give taken : S → Option (List ℕ)) (calls : S → O
       after = sym (take-append-drop from old) ∙ ap (λ (l : Streams). l ++ drop from old) (sym (append-nil (take from old)));
       start = length-take-le from old le;
       len = omega (arith);
-      looked = (refl, refl);
+      looked = refl;
       end = omega (arith);
     }
 
@@ -135,9 +105,9 @@ module _ {S : Type 0} (to_give taken : S → Option (List ℕ)) (calls : S → O
         omega (arith, a, b, start, len, end, lt, le)
 
     -- what is before the next
-    write_buffer : (from k at : ℕ) (old mid : Streams) (one : ClosingStream S) → (h : Along from k old at mid) →
+    next_there : (from k at : ℕ) (old mid : Streams) (one : ClosingStream S) → (h : Along from k old at mid) →
         slice_get mid at ≡ Some one → (at ≡ length (h.front ++ h.moved)) × ((back : Streams) × (h.rest ≡ one ∷ back))
-    write_buffer from k at old mid one h e =
+    next_there from k at old mid one h e =
         let here : at ≡ length (h.front ++ h.moved) =
         (let start = h.start in let end = h.end in let len = length-append h.front h.moved in
         omega (arith, start, end, len)) in (
@@ -152,18 +122,17 @@ module _ {S : Type 0} (to_give taken : S → Option (List ℕ)) (calls : S → O
         slice_get mid at ≡ Some one → new ≡ slice_set mid at next → Lingers to_give taken calls now one next →
         Along from (k + 1) old (at + 1) new
     lingers_next from k at old mid new one next h e f g =
-        let registration = write_buffer from k at old mid one h e in
-        let back = registration.1.0 in
-        let rest = registration.1.1 in
+        let there = next_there from k at old mid one h e in
+        let back = there.1.0 in
+        let rest = there.1.1 in
         let changed : new ≡ h.front ++ h.moved ++ next ∷ back =
         f ∙ ap (λ (l : Streams). slice_set l at next) (h.after ∙ ap (λ (l : Streams). h.front ++ h.moved ++ l) rest)
-        ∙ ap (λ (n : ℕ). slice_set (h.front ++ h.moved ++ one ∷ back) n next) registration.0
+        ∙ ap (λ (n : ℕ). slice_set (h.front ++ h.moved ++ one ∷ back) n next) there.0
         ∙ set-append_seam (h.front ++ h.moved) one back next in
         let seen_len = length-append h.seen (one ∷ []) in
         let moved_len = length-append h.moved (next ∷ []) in
         let len = h.len in
         let end = h.end in
-        let counted : length h.seen + 1 ≡ length (h.seen ++ one ∷ []) = omega (arith, seen_len) in
         record {
           front = h.front;
           seen = h.seen ++ one ∷ [];
@@ -173,8 +142,7 @@ module _ {S : Type 0} (to_give taken : S → Option (List ℕ)) (calls : S → O
           after = changed ∙ shift h.front h.moved next back;
           start = h.start;
           len = omega (arith, len, seen_len);
-          looked = subst (λ (n : ℕ). Looked n (h.seen ++ one ∷ []) (h.moved ++ next ∷ [])) counted
-              (both (length h.seen) 1 h.seen h.moved (one ∷ []) (next ∷ []) h.looked (lingered one next g));
+          looked = both h.seen h.moved (one ∷ []) (next ∷ []) h.looked (lingered one next g);
           end = omega (arith, end, moved_len);
         }
 
@@ -183,16 +151,15 @@ module _ {S : Type 0} (to_give taken : S → Option (List ℕ)) (calls : S → O
         slice_get mid at ≡ Some one → new ≡ remove mid at → Leaves to_give taken calls now one →
         Along from (k + 1) old at new
     leaves_next from k at old mid new one h e f g =
-        let registration = write_buffer from k at old mid one h e in
-        let back = registration.1.0 in
-        let rest = registration.1.1 in
+        let there = next_there from k at old mid one h e in
+        let back = there.1.0 in
+        let rest = there.1.1 in
         let changed : new ≡ h.front ++ h.moved ++ back =
         f ∙ ap (λ (l : Streams). remove l at) (h.after ∙ ap (λ (l : Streams). h.front ++ h.moved ++ l) rest)
-        ∙ ap (λ (n : ℕ). remove (h.front ++ h.moved ++ one ∷ back) n) registration.0
+        ∙ ap (λ (n : ℕ). remove (h.front ++ h.moved ++ one ∷ back) n) there.0
         ∙ removed (h.front ++ h.moved) one back in
         let seen_len = length-append h.seen (one ∷ []) in
         let len = h.len in
-        let counted : length h.seen + 1 ≡ length (h.seen ++ one ∷ []) = omega (arith, seen_len) in
         record {
           front = h.front;
           seen = h.seen ++ one ∷ [];
@@ -202,21 +169,20 @@ module _ {S : Type 0} (to_give taken : S → Option (List ℕ)) (calls : S → O
           after = changed;
           start = h.start;
           len = omega (arith, len, seen_len);
-          looked = subst (λ (n : ℕ). Looked n (h.seen ++ one ∷ []) h.moved) counted
-              (subst (λ (l : Streams). Looked (length h.seen + 1) (h.seen ++ one ∷ []) l) (append-nil h.moved)
-              (both (length h.seen) 1 h.seen h.moved (one ∷ []) [] h.looked (gone one g)));
+          looked = subst (λ (l : Streams). Looked (h.seen ++ one ∷ []) l) (append-nil h.moved)
+              (both h.seen h.moved (one ∷ []) [] h.looked (gone one g));
           end = h.end;
         }
 
     -- either
-    pub next_looked : (from k at then : ℕ) (old mid new : Streams) → Along from k old at mid →
-        LooksAtOne to_give taken calls now at mid then new → Along from (k + 1) old then new
-    next_looked from k at then old mid new h look = by look.2
+    pub next_looked : (from k at next : ℕ) (old mid new : Streams) → Along from k old at mid →
+        LooksAtOne to_give taken calls now at mid next new → Along from (k + 1) old next new
+    next_looked from k at next old mid new h look = by look.2
       where
-        by : ((then ≡ at + 1) × ((later : ClosingStream S) × (new ≡ slice_set mid at later)
+        by : ((next ≡ at + 1) × ((later : ClosingStream S) × (new ≡ slice_set mid at later)
             × Lingers to_give taken calls now look.0 later))
-            ⊎ ((then ≡ at) × (new ≡ remove mid at) × Leaves to_give taken calls now look.0) →
-            Along from (k + 1) old then new
+            ⊎ ((next ≡ at) × (new ≡ remove mid at) × Leaves to_give taken calls now look.0) →
+            Along from (k + 1) old next new
         by (inl a) = subst (λ (n : ℕ). Along from (k + 1) old n new) (sym a.0)
             (lingers_next from k at old mid new look.0 a.1.0 h look.1 a.1.1 a.1.2)
         by (inr a) = subst (λ (n : ℕ). Along from (k + 1) old n new) (sym a.0)
@@ -257,14 +223,16 @@ module _ {S : Type 0} (to_give taken : S → Option (List ℕ)) (calls : S → O
     last_leaves old new false h e over = absurd (cc)
 
     -- a piece was dropped
-    pub piece_dropped : (old new was : ClosingStream S) (bytes : List ℕ) (room : ℕ) (pull : Pull) (known still : Readiness)
+    pub piece_dropped : (old new was : ClosingStream S) (bytes : List ℕ) (pull : Pull) (known still : Readiness)
         (last late result : Bool) → was ≡ old → was.quota ≡ new.quota + length bytes →
         Passes to_give taken was.stream bytes [] new.stream → WritesNothing taken was.stream new.stream →
         new.stream.has_failed ≡ was.stream.has_failed → new.released_at ≡ was.released_at →
-        IsBufferedPull calls room known was.stream pull still new.stream → last ≡ is_last_piece pull new.quota →
-        late ≡ is_time_over now new.released_at → result ≡ (last || late) →
+        IsBufferedPull calls (min was.quota 4096) known was.stream pull still new.stream →
+        (0 < length was.stream.read_buffer →
+        pull ≡ Got (min (length was.stream.read_buffer) (min was.quota 4096))) →
+        last ≡ is_last_piece pull new.quota → late ≡ is_time_over now new.released_at → result ≡ (last || late) →
         (pull : Pull) × Discards to_give taken calls pull old new × (result ≡ is_released now pull new)
-    piece_dropped old new was bytes room pull known still last late result e quota passes unwritten failed stays pulled is_last
+    piece_dropped old new was bytes pull known still last late result e quota passes unwritten failed stays pulled ahead is_last
         is_late either =
         subst (λ (o : ClosingStream S). (p : Pull) × Discards to_give taken calls p o new
         × (result ≡ is_released now p new)) e (
@@ -275,69 +243,126 @@ module _ {S : Type 0} (to_give taken : S → Option (List ℕ)) (calls : S → O
             unwritten = unwritten;
             failed = failed;
             quota = quota;
-            room = room;
             known = known;
             still = still;
             pulled = pulled;
+            ahead = ahead;
             released_at = stays;
           },
           either ∙ ap (λ (b : Bool). b || late) is_last ∙ ap (λ (b : Bool). is_last_piece pull new.quota || b) is_late,
         )
 
-    -- ---- a round
+    -- ---- a try to write
 
-    -- the checked streams are consecutive
-    pub looked_once : (from to at looks : ℕ) (old new : Streams) → Along from to old at new → from + looks ≡ to →
-        Looked looks old new
-    looked_once from to at looks old new h e =
-        let len = h.len in
-        let counted : 0 + length h.seen + 0 ≡ looks = omega (arith, len, e) in
-        subst (λ (l : Streams). Looked looks l new) (sym h.before)
-        (subst (λ (l : Streams). Looked looks (h.front ++ h.seen ++ h.rest) l) (sym h.after)
-        (subst (λ (n : ℕ). Looked n (h.front ++ h.seen ++ h.rest) (h.front ++ h.moved ++ h.rest)) counted
-        (both (0 + length h.seen) 0 (h.front ++ h.seen) (h.front ++ h.moved) h.rest h.rest
-        (both 0 (length h.seen) h.front h.front h.seen h.moved (stay h.front) h.looked) (stay h.rest))))
+    writing_or_over : (b : Buffer S) → IsWriting b ⊎ IsWritingOver b
+    writing_or_over b = by b.has_failed b.write_buffer refl refl
+      where
+        by : (failed : Bool) (held : List ℕ) → b.has_failed ≡ failed → b.write_buffer ≡ held → IsWriting b ⊎ IsWritingOver b
+        by true held e f = inr (λ h. absurd (cc))
+        by false [] e f = inr (λ h. f)
+        by false (x ∷ xs) e f = let len = ap length f in inl (e, omega (arith, len))
 
-    -- there are as many as are left to be looked at, before those that were
-    pub front_there : (from to at : ℕ) (old mid : Streams) → Along from to old at mid → from ≤ length mid
-    front_there from to at old mid h =
-        let b = whole_len h.front h.moved h.rest mid h.after in
-        let start = h.start in
-        omega (arith, b, start)
+    not_both : (b : Buffer S) → IsWriting b → IsWritingOver b → ⊥
+    not_both b h k = let none = ap length (k h.0) in let some = h.1 in omega (arith, none, some)
 
-    -- the last are looked at, and then the first
-    pub looked_twice : (from to at left end looks : ℕ) (old mid new : Streams) → Along from to old at mid →
-        Along 0 left mid end new → to ≡ length old → left ≤ from → from + looks ≡ to + left → Looked looks old new
-    looked_twice from to at left end looks old mid new h g whole le e =
+    -- a peer is given up if it is stalled, and then what is held is written once
+    pub tried_writing : (old new was : ClosingStream S) (mid : Buffer S) (time : Option Duration) (moment : Option Instant) →
+        was ≡ old → (has_stalled was.stall_time now was.stalls_at ≡ true → mid ≡ record was.stream { has_failed = true }) →
+        (has_stalled was.stall_time now was.stalls_at ≡ false → mid ≡ was.stream) →
+        (has_stalled was.stall_time now was.stalls_at ≡ false → moment ≡ was.stalls_at) → time ≡ was.stall_time →
+        (IsWriting mid → (known : Readiness) × (still : Readiness) × IsFlushed calls known mid still new.stream) →
+        (IsWritingOver mid → new.stream ≡ mid) →
+        (IsWriting mid → IsWriting new.stream → StallsNext time now moment
+        (nat_lt (length new.stream.write_buffer) (length mid.write_buffer)) new.stalls_at) →
+        new.stall_time ≡ time → TriesWriting calls now old new
+    tried_writing old new was mid time moment e gives_up stays same_moment same_time written nothing waits new_time =
+        subst (λ (o : ClosingStream S). TriesWriting calls now o new) e
+        (record {
+          gives_up = λ h. nothing (failed_over (gives_up h)) ∙ gives_up h;
+          written = λ h k. subst (λ (m : Buffer S). (known : Readiness) × (still : Readiness)
+              × IsFlushed calls known m still new.stream) (stays h)
+              (written (subst (λ (m : Buffer S). IsWriting m) (sym (stays h)) k));
+          nothing = λ h k. nothing (subst (λ (m : Buffer S). IsWritingOver m) (sym (stays h)) k) ∙ stays h;
+          waits = waits_by (has_stalled was.stall_time now was.stalls_at) refl;
+          stall_time = new_time ∙ same_time;
+        })
+      where
+        failed_over : mid ≡ record was.stream { has_failed = true } → IsWritingOver mid
+        failed_over h k =
+            let failed : mid.has_failed ≡ true = ap (λ (b : Buffer S). b.has_failed) h in
+            absurd (true_not_false (sym failed ∙ k))
+          where
+            true_not_false : true ≡ false → ⊥
+            true_not_false h = absurd (cc)
+
+        waits_by : (b : Bool) → has_stalled was.stall_time now was.stalls_at ≡ b → IsWriting new.stream →
+            StallsNext was.stall_time now was.stalls_at
+            (nat_lt (length new.stream.write_buffer) (length was.stream.write_buffer)) new.stalls_at
+        waits_by true h k =
+            let over : IsWritingOver mid = failed_over (gives_up h) in
+            absurd (not_both mid (subst (λ (m : Buffer S). IsWriting m) (nothing over) k) over)
+        waits_by false h k = by (writing_or_over mid)
+          where
+            by : IsWriting mid ⊎ IsWritingOver mid → StallsNext was.stall_time now was.stalls_at
+                (nat_lt (length new.stream.write_buffer) (length was.stream.write_buffer)) new.stalls_at
+            by (inl is) =
+                subst (λ (t : Option Duration). StallsNext t now was.stalls_at
+                (nat_lt (length new.stream.write_buffer) (length was.stream.write_buffer)) new.stalls_at) same_time
+                (subst (λ (m : Option Instant). StallsNext time now m
+                (nat_lt (length new.stream.write_buffer) (length was.stream.write_buffer)) new.stalls_at) (same_moment h)
+                (subst (λ (m : Buffer S). StallsNext time now moment
+                (nat_lt (length new.stream.write_buffer) (length m.write_buffer)) new.stalls_at) (stays h) (waits is k)))
+            by (inr over) = absurd (not_both mid (subst (λ (m : Buffer S). IsWriting m) (nothing over) k) over)
+
+    -- ---- a list that grows
+
+    -- one that is given room keeps its time
+    pub room_time : (old : ClosingList S) → (with_room old).stall_time ≡ old.stall_time
+    room_time old = by (nat_lt (length old.streams) 256)
+      where
+        by : (b : Bool) → (if b then old
+            else record old { streams = remove old.streams 0; next = old.next - 1; pass_end = old.pass_end - 1 }).stall_time
+            ≡ old.stall_time
+        by true = refl
+        by false = refl
+
+    -- one stream more
+    pub appended : (was room : ClosingList S) (last : ClosingStream S) (streams : Streams) → was ≡ room →
+        streams ≡ was.streams ++ last ∷ [] →
+        record was { streams = streams } ≡ record room { streams = room.streams ++ last ∷ [] }
+    appended was room last streams e f =
+        ap (λ (l : Streams). record was { streams = l }) f
+        ∙ ap (λ (r : ClosingList S). record r { streams = r.streams ++ last ∷ [] }) e
+
+    -- the positions of a round
+    pub round_ends : (from to at pass_end : ℕ) (old new : Streams) → Along from to old at new → to ≤ pass_end →
+        pass_end ≤ length old → ((length old - pass_end) ≤ length new)
+        × ((length new - (length old - pass_end)) + length old ≡ pass_end + length new)
+        × (at ≤ length new - (length old - pass_end))
+    round_ends from to at pass_end old new h within there =
         let a = whole_len h.front h.seen h.rest old h.before in
+        let b = whole_len h.front h.moved h.rest new h.after in
         let start = h.start in
         let len = h.len in
-        let none : h.rest ≡ [] = none_left h.rest (omega (arith, a, start, len, whole)) in
-        let first : g.front ≡ [] = none_left g.front g.start in
-        let tail_old : old ≡ h.front ++ h.seen =
-        h.before ∙ ap (λ (l : Streams). h.front ++ h.seen ++ l) none ∙ append-nil (h.front ++ h.seen) in
-        let tail_mid : mid ≡ h.front ++ h.moved =
-        h.after ∙ ap (λ (l : Streams). h.front ++ h.moved ++ l) none ∙ append-nil (h.front ++ h.moved) in
-        let head_mid : mid ≡ g.seen ++ g.rest = g.before ∙ ap (λ (l : Streams). l ++ g.seen ++ g.rest) first in
-        let head_new : new ≡ g.moved ++ g.rest = g.after ∙ ap (λ (l : Streams). l ++ g.moved ++ g.rest) first in
-        let seen_len = g.len in
-        let short : length g.seen ≤ length h.front = omega (arith, seen_len, start, le) in
-        let parts = cut g.seen g.rest h.front h.moved (sym head_mid ∙ tail_mid) short in
-        let between = parts.0 in
-        let was : g.seen ++ between ++ h.seen ≡ old = sym (tail_old ∙ ap (λ (l : Streams). l ++ h.seen) parts.1) in
-        let is : g.moved ++ between ++ h.moved ≡ new =
-        append_assoc g.moved between h.moved ∙ sym (head_new ∙ ap (λ (l : Streams). g.moved ++ l) parts.2) in
-        let counted : length g.seen + 0 + length h.seen ≡ looks = omega (arith, seen_len, len, e) in
-        subst (λ (l : Streams). Looked looks l new) was
-        (subst (λ (l : Streams). Looked looks (g.seen ++ between ++ h.seen) l) is
-        (subst (λ (n : ℕ). Looked n (g.seen ++ between ++ h.seen) (g.moved ++ between ++ h.moved)) counted
-        (both (length g.seen + 0) (length h.seen) (g.seen ++ between) (g.moved ++ between) h.seen h.moved
-        (both (length g.seen) 0 g.seen g.moved between between g.looked (stay between)) h.looked)))
+        let end = h.end in (
+          omega (arith, a, b, start, len, end, within, there),
+          omega (arith, a, b, start, len, end, within, there),
+          omega (arith, a, b, start, len, end, within, there),
+        )
+
+    -- a round of a pass
+    pub around : (pass was new : ClosingList S) → was ≡ pass →
+        Along was.next (min was.pass_end (was.next + 8)) was.streams new.next new.streams →
+        new.pass_end + length was.streams ≡ was.pass_end + length new.streams → new.stall_time ≡ was.stall_time →
+        LooksAround to_give taken calls now pass new
+    around pass was new e looked ends time =
+        subst (λ (p : ClosingList S). LooksAround to_give taken calls now p new) e
+        (record { looked = looked; pass_end = ends; stall_time = time })
 
 -- ---- rounds
 
 module _ {S : Type 0} (to_give taken : S → Option (List ℕ)) (calls : S → Option (List StreamCall)) where
-  pub one_round_more : (rounds : ℕ) (old mid new : List (ClosingStream S)) → GoOnFor to_give taken calls rounds old mid →
+  pub one_round_more : (rounds : ℕ) (old mid new : ClosingList S) → GoOnFor to_give taken calls rounds old mid →
       ClosingsGoOn to_give taken calls mid new → GoOnFor to_give taken calls (rounds + 1) old new
   one_round_more rounds old mid new h k =
       let more : suc rounds ≡ rounds + 1 = omega (arith) in

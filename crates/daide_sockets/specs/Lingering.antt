@@ -1,57 +1,95 @@
--- Streams that close in stages: what is held for one is written, its writing ends, what still comes is dropped, and it is
--- released. (own)
-use Rattle.std.specs.Prelude.{◌≡◌, ◌⊎◌, ℕ, zero, suc, ◌+◌, ◌<◌, ◌||◌, min, Bool, true, false, List, [], ◌∷◌, ◌++◌, length, Option}
-use Rattle.std.specs.Prelude.{Some, None, slice_get, slice_set, remove}
+-- Streams that close in stages: the buffered bytes are written, writing ends, the bytes received are dropped, and the
+-- stream is released. (own)
+use Rattle.std.specs.Prelude.{◌≡◌, ◌⊎◌, ℕ, zero, suc, ◌+◌, ◌<◌, ◌||◌, min, nat_eq, nat_lt, if◌then◌else◌, Bool, true, false}
+use Rattle.std.specs.Prelude.{List, [], ◌∷◌, ◌++◌, length, Option, Some, None, slice_get, slice_set, remove}
+use Rattle.std.specs.declared.time.Duration.{Duration}
 use Rattle.std.specs.declared.time.Instant.{Instant}
 use Rattle.daide_protocol.specs.declared.ports.Pull.{Pull}
+use Rattle.daide_protocol.specs.declared.ports.Pull.TheVariants.{Got}
 use Rattle.daide_buffered_io.specs.declared.readiness.Readiness.{Readiness}
-use Rattle.daide_buffered_io.specs.Buffers.{Buffer, Passes, ReadsNothing, WritesNothing, IsBufferedPull}
+use Rattle.daide_buffered_io.specs.Buffers.{Buffer, Passes, ReadsNothing, WritesNothing, IsBufferedPull, IsFlushed}
 use Rattle.daide_buffered_io.specs.Calls.{StreamCall, is_last_piece}
-use Rattle.daide_sockets.specs.Times.{IsAfter, is_time_over}
+use Rattle.daide_sockets.specs.Times.{IsAfter, StallsNext, has_stalled, is_time_over}
 
--- a stream that closes, how many more bytes may be dropped of it, and when it is released at the latest: none is set before
--- its writing is over
+-- a closing stream: its peer's stall timeout, and when that expires; how many more bytes may be dropped; and the
+-- deadline of its release, none before its writing is over
 pub record ClosingStream (S : Type 0) : Type 0 where
   pub stream : Buffer S
+  pub stall_time : Option Duration
+  pub stalls_at : Option Instant
   pub quota : ℕ
   pub released_at : Option Instant
 
--- of one stream 1 MiB is dropped at most
+-- The closing streams, oldest first. A pass advances each stream that was closing when it began: those before `next`
+-- were advanced, those from there to `pass_end` are next, and those after it came since. Each has this stall timeout.
+pub record ClosingList (S : Type 0) : Type 0 where
+  pub streams : List (ClosingStream S)
+  pub next : ℕ
+  pub pass_end : ℕ
+  pub stall_time : Option Duration
+
+-- no stream is closing
+abbrev pub no_closing : {S : Type 0} → Option Duration → ClosingList S
+no_closing time = record { streams = []; next = 0; pass_end = 0; stall_time = time }
+
+-- at most 1 MiB of one stream is dropped
 abbrev pub drop_quota : ℕ
 drop_quota = 1048576
 
--- the peer's end is waited for a second at most, in nanoseconds
+-- the peer's end is awaited for at most a second, in nanoseconds
 abbrev pub end_time : ℕ
 end_time = 1000000000
 
--- a stream whose closing begins
-abbrev pub begins_closing : {S : Type 0} → Buffer S → ClosingStream S
-begins_closing stream = record { stream = stream; quota = drop_quota; released_at = None }
+-- a stream whose closing begins: its peer's stall timeout starts again
+abbrev pub begins_closing : {S : Type 0} → Option Duration → Buffer S → ClosingStream S
+begins_closing time stream =
+    record { stream = stream; stall_time = time; stalls_at = None; quota = drop_quota; released_at = None }
 
--- ---- one look
+-- ---- one step
 
--- bytes are held for it that may still be written
+-- some buffered bytes may still be written
 abbrev pub IsWriting : {S : Type 0} → Buffer S → Type 0
 IsWriting stream = (stream.has_failed ≡ false) × (0 < length stream.write_buffer)
 
--- all that was held for it is written, unless a write failed or the peer is given up as stalled
+-- all buffered bytes are written, or a write failed, or the peer was given up as stalled
 abbrev pub IsWritingOver : {S : Type 0} → Buffer S → Type 0
 IsWritingOver stream = stream.has_failed ≡ false → stream.write_buffer ≡ []
 
--- nothing was read of a stream or handed to it, and what it took is the front of what was held for it
+-- nothing was read from a stream or put to it, and the bytes that it took are a prefix of the buffered ones
 abbrev pub Flushes : {S : Type 0} → (S → Option (List ℕ)) → (S → Option (List ℕ)) → Buffer S → Buffer S → Type 0
 Flushes to_give taken old new = Passes to_give taken old [] [] new × ReadsNothing to_give old new
 
--- What is held is written further; once that is all, or a write failed, the last second begins at this reading of the clock.
-pub record WritesOut {S : Type 0} (to_give taken : S → Option (List ℕ)) (now : Option Instant)
+-- One try to write, at this reading of the clock. A stalled peer is given up. Otherwise all buffered bytes are written
+-- to the stream once, those that it doesn't take stay buffered, and it fails if the write does. Nothing else gives up.
+pub record TriesWriting {S : Type 0} (calls : S → Option (List StreamCall)) (now : Option Instant)
     (old new : ClosingStream S) : Type 0 where
+  pub gives_up : has_stalled old.stall_time now old.stalls_at ≡ true →
+      new.stream ≡ record old.stream { has_failed = true }
+  pub written : has_stalled old.stall_time now old.stalls_at ≡ false → IsWriting old.stream →
+      (known still : Readiness) × IsFlushed calls known old.stream still new.stream
+  pub nothing : has_stalled old.stall_time now old.stalls_at ≡ false → IsWritingOver old.stream →
+      new.stream ≡ old.stream
+  pub waits : IsWriting new.stream → StallsNext old.stall_time now old.stalls_at
+      (nat_lt (length new.stream.write_buffer) (length old.stream.write_buffer)) new.stalls_at
+  pub stall_time : new.stall_time ≡ old.stall_time
+
+-- Buffered bytes are written. Once all are, or a write failed or counts as failed, the last second begins at this
+-- reading of the clock.
+pub record WritesOut {S : Type 0} (to_give taken : S → Option (List ℕ)) (calls : S → Option (List StreamCall))
+    (now : Option Instant) (old new : ClosingStream S) : Type 0 where
+  pub tried : ClosingStream S
+  pub tries : TriesWriting calls now old tried
+  pub write_buffer : new.stream.write_buffer ≡ tried.stream.write_buffer
+  pub failed : new.stream.has_failed ≡ tried.stream.has_failed
+  pub stall_time : new.stall_time ≡ tried.stall_time
+  pub stalls_at : new.stalls_at ≡ tried.stalls_at
   pub flushes : Flushes to_give taken old.stream new.stream
   pub quota : new.quota ≡ old.quota
   pub stage : (IsWriting new.stream × (new.released_at ≡ old.released_at))
       ⊎ (IsWritingOver new.stream × IsAfter now end_time new.released_at)
 
--- By one pull a piece of what comes is dropped, within the quota. It is what was held ahead and what the stream gives next,
--- which takes nothing more.
+-- One pull of at most 4,096 bytes drops a piece, within the quota: the bytes read ahead, and the next bytes of the
+-- stream. The stream takes nothing more.
 pub record Discards {S : Type 0} (to_give taken : S → Option (List ℕ)) (calls : S → Option (List StreamCall))
     (pull : Pull) (old new : ClosingStream S) : Type 0 where
   pub bytes : List ℕ
@@ -59,24 +97,25 @@ pub record Discards {S : Type 0} (to_give taken : S → Option (List ℕ)) (call
   pub unwritten : WritesNothing taken old.stream new.stream
   pub failed : new.stream.has_failed ≡ old.stream.has_failed
   pub quota : old.quota ≡ new.quota + length bytes
-  pub room : ℕ
   pub known : Readiness
   pub still : Readiness
-  pub pulled : IsBufferedPull calls room known old.stream pull still new.stream
+  pub pulled : IsBufferedPull calls (min old.quota 4096) known old.stream pull still new.stream
+  pub ahead : 0 < length old.stream.read_buffer →
+      pull ≡ Got (min (length old.stream.read_buffer) (min old.quota 4096))
   pub released_at : new.released_at ≡ old.released_at
 
--- Behind this pull it is released: at the stream's end, if all was dropped that may be, or if its time is over.
+-- After this pull it is released: at the stream's end, at the end of its quota, or if its time is over.
 abbrev pub is_released : {S : Type 0} → Option Instant → Pull → ClosingStream S → Bool
 is_released now pull stream = is_last_piece pull stream.quota || is_time_over now stream.released_at
 
--- One look at a stream that closes on: while bytes are held for it they are written, and then what comes is dropped.
+-- One step of a stream that stays: while bytes are buffered, they are written, and then the bytes received are dropped.
 abbrev pub Lingers : {S : Type 0} → (S → Option (List ℕ)) → (S → Option (List ℕ)) → (S → Option (List StreamCall)) →
     Option Instant → ClosingStream S → ClosingStream S → Type 0
-Lingers to_give taken calls now old new = (IsWriting old.stream × WritesOut to_give taken now old new)
+Lingers to_give taken calls now old new = (IsWriting old.stream × WritesOut to_give taken calls now old new)
     ⊎ ((pull : Pull) × IsWritingOver old.stream × Discards to_give taken calls pull old new
     × (is_released now pull new ≡ false))
 
--- One look at a stream that is released: not before its writing was over.
+-- The last step of a stream that is released: not before its writing is over.
 abbrev pub Leaves : {S : Type 0} → (S → Option (List ℕ)) → (S → Option (List ℕ)) → (S → Option (List StreamCall)) →
     Option Instant → ClosingStream S → Type 0
 Leaves {S} to_give taken calls now old = (last : ClosingStream S) × (pull : Pull) × IsWritingOver old.stream
@@ -84,28 +123,31 @@ Leaves {S} to_give taken calls now old = (last : ClosingStream S) × (pull : Pul
 
 -- ---- one round
 
+-- a pass whose streams were all advanced is over: the next one has all that are closing
+abbrev pub in_pass : {S : Type 0} → ClosingList S → ClosingList S
+in_pass old = if nat_eq old.next old.pass_end then record old { next = 0; pass_end = length old.streams } else old
+
 module _ {S : Type 0} (to_give taken : S → Option (List ℕ)) (calls : S → Option (List StreamCall)) where
-  -- the first of a list is looked at: it lingers on in its place, or leaves
+  -- the first of a list is advanced: it stays in its place, or leaves
   abbrev pub IsLookedAt : Option Instant → ClosingStream S → List (ClosingStream S) → List (ClosingStream S) → Type 0
   IsLookedAt now stream others new =
       ((next : ClosingStream S) × (new ≡ next ∷ others) × Lingers to_give taken calls now stream next)
       ⊎ ((new ≡ others) × Leaves to_give taken calls now stream)
 
-  -- of streams that close so many are looked at; the others stay as they are, and all keep their order
-  abbrev pub LingerOrLeave : Option Instant → ℕ → List (ClosingStream S) → List (ClosingStream S) → Type 0
-  LingerOrLeave now looks [] new = (looks ≡ 0) × (new ≡ [])
-  LingerOrLeave now looks (stream ∷ old) new = (fewer : ℕ) × (others : List (ClosingStream S))
-      × LingerOrLeave now fewer old others
-      × (((looks ≡ fewer) × (new ≡ stream ∷ others)) ⊎ ((looks ≡ suc fewer) × IsLookedAt now stream others new))
+  -- each of a list is advanced, and all keep their order
+  abbrev pub LooksAtEach : Option Instant → List (ClosingStream S) → List (ClosingStream S) → Type 0
+  LooksAtEach now [] new = new ≡ []
+  LooksAtEach now (stream ∷ old) new = (others : List (ClosingStream S)) × LooksAtEach now old others
+      × IsLookedAt now stream others new
 
-  -- the one at a position was looked at; this is the position of the next
+  -- the one at a position was advanced; this is the position of the next
   abbrev pub LooksAtOne : Option Instant → ℕ → List (ClosingStream S) → ℕ → List (ClosingStream S) → Type 0
   LooksAtOne now at old next new = (one : ClosingStream S) × (slice_get old at ≡ Some one)
       × (((next ≡ at + 1) × ((later : ClosingStream S) × (new ≡ slice_set old at later)
       × Lingers to_give taken calls now one later))
       ⊎ ((next ≡ at) × (new ≡ remove old at) × Leaves to_give taken calls now one))
 
-  -- those from one position up to another were looked at; this is the position of the next
+  -- those from one position up to another were advanced, and the others are unchanged; this is the position of the next
   pub record LooksAlong (now : Option Instant) (from to : ℕ) (old : List (ClosingStream S)) (at : ℕ)
       (new : List (ClosingStream S)) : Type 0 where
     pub front : List (ClosingStream S)
@@ -116,14 +158,21 @@ module _ {S : Type 0} (to_give taken : S → Option (List ℕ)) (calls : S → O
     pub after : new ≡ front ++ moved ++ rest
     pub start : length front ≡ from
     pub len : from + length seen ≡ to
-    pub looked : LingerOrLeave now (length seen) seen moved
+    pub looked : LooksAtEach now seen moved
     pub end : at ≡ from + length moved
 
-  -- in one round all are looked at, by one reading of the clock, or eight of them if there are more
-  abbrev pub ClosingsGoOn : List (ClosingStream S) → List (ClosingStream S) → Type 0
-  ClosingsGoOn old new = (now : Option Instant) × LingerOrLeave now (min 8 (length old)) old new
+  -- One round advances the next eight of the pass, or those that are left of it, at one reading of the clock. So a pass
+  -- over 256 takes at most 32 rounds, and a stream that comes meanwhile is in the next pass.
+  pub record LooksAround (now : Option Instant) (pass new : ClosingList S) : Type 0 where
+    pub looked : LooksAlong now pass.next (min pass.pass_end (pass.next + 8)) pass.streams new.next new.streams
+    pub pass_end : new.pass_end + length pass.streams ≡ pass.pass_end + length new.streams
+    pub stall_time : new.stall_time ≡ pass.stall_time
 
-  -- so many rounds
-  abbrev pub GoOnFor : ℕ → List (ClosingStream S) → List (ClosingStream S) → Type 0
+  -- a round, at some reading of the clock
+  abbrev pub ClosingsGoOn : ClosingList S → ClosingList S → Type 0
+  ClosingsGoOn old new = (now : Option Instant) × LooksAround now (in_pass old) new
+
+  -- this number of rounds
+  abbrev pub GoOnFor : ℕ → ClosingList S → ClosingList S → Type 0
   GoOnFor zero old new = new ≡ old
-  GoOnFor (suc rounds) old new = (mid : List (ClosingStream S)) × GoOnFor rounds old mid × ClosingsGoOn mid new
+  GoOnFor (suc rounds) old new = (mid : ClosingList S) × GoOnFor rounds old mid × ClosingsGoOn mid new

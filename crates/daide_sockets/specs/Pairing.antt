@@ -1,5 +1,5 @@
--- The sockets of a run beside those of its sessions, and what each answer to the loop does to them. (own)
-use Rattle.std.specs.Prelude.{◌≡◌, ◌⊎◌, ℕ, ◌+◌, nat_lt, true, false, List, [], ◌∷◌, ◌++◌, length, remove}
+-- The sockets of a run beside those of its sessions, and the effect of each system call on them. (own)
+use Rattle.std.specs.Prelude.{◌≡◌, ◌⊎◌, ℕ, ◌+◌, ◌-◌, nat_lt, true, false, List, [], ◌∷◌, ◌++◌, length, remove}
 use Rattle.std.specs.Prelude.{Option, Some, None, if◌then◌else◌}
 use Rattle.daide_protocol.specs.System.{SystemCall, Begins, BeginsTurn, Accepts, Connects, Retires, Notifies, Waits}
 use Rattle.daide_protocol.specs.declared.system.Connect.{Connect}
@@ -7,11 +7,12 @@ use Rattle.daide_protocol.specs.declared.system.Connect.TheVariants.{Ready, Fail
 use Rattle.daide_buffered_io.specs.Buffers.{Buffer}
 use Rattle.daide_buffered_io.specs.Calls.{StreamCall}
 use Rattle.std.specs.declared.time.Instant.{Instant}
-use Rattle.daide_sockets.specs.Lingering.{ClosingStream, begins_closing, WritesOut, ClosingsGoOn}
+use Rattle.daide_sockets.specs.Lingering.{ClosingStream, ClosingList, begins_closing, WritesOut, ClosingsGoOn}
 
 -- ---- values
 
--- a bot whose connect to the server is under way: its session's number, its stream, and that of the connect, if one is made
+-- a bot whose connect to the server is pending: its session's number, its stream, and that of the connect, if there is
+-- one
 pub record Arriving (S : Type 0) : Type 0 where
   pub number : ℕ
   pub bot : Buffer S
@@ -23,42 +24,42 @@ pub record Paired (S : Type 0) : Type 0 where
   pub bot : Buffer S
   pub server : Buffer S
 
--- how many bots came, those whose connects are under way, and the streams that close, in the order in which they began
+-- the number of bots accepted, the bots with pending connects, and the closing streams
 pub record RunSockets (S : Type 0) : Type 0 where
   pub came : ℕ
   pub arrivals : List (Arriving S)
-  pub closing : List (ClosingStream S)
+  pub closing : ClosingList S
 
 -- ---- bots and their connects
 
--- a stream of which nothing is held, and no write failed
+-- a stream with empty buffers, of which no write failed
 abbrev pub IsFresh : {S : Type 0} → Buffer S → Type 0
 IsFresh stream = (stream.read_buffer ≡ []) × (stream.write_buffer ≡ []) × (stream.has_failed ≡ false)
 
--- a connect that was just begun, if one is
+-- a connect that just began, or none
 abbrev pub IsFreshConnect : {S : Type 0} → Option (Buffer S) → Type 0
 IsFreshConnect None = Unit {0}
 IsFreshConnect (Some stream) = IsFresh stream
 
--- ports are those of this bot and of the server that its own connect reached, by its number
+-- the ports hold this bot's stream and that of its own connect, under its number
 pub record IsJoined {S : Type 0} (arrival : Arriving S) (pair : Paired S) : Type 0 where
   pub number : pair.number ≡ arrival.number
   pub bot : pair.bot ≡ arrival.bot
   pub server : arrival.server ≡ Some pair.server
 
--- the same bot, whose connect is as it was, or was begun again
+-- the same bot, whose connect is unchanged or began again
 pub record StaysPending {S : Type 0} (old new : Arriving S) : Type 0 where
   pub number : new.number ≡ old.number
   pub bot : new.bot ≡ old.bot
   pub server : (new.server ≡ old.server) ⊎ IsFreshConnect new.server
 
--- each of them goes on
+-- each of them stays pending
 abbrev pub AllStayPending : {S : Type 0} → List (Arriving S) → List (Arriving S) → Type 0
 AllStayPending [] new = new ≡ []
 AllStayPending {S} (arrival ∷ arrivals) new = (one : Arriving S) × (others : List (Arriving S))
     × (new ≡ one ∷ others) × StaysPending arrival one × AllStayPending arrivals others
 
--- So many, from the first on, were looked at and go on; they stand behind the rest now, in their order.
+-- The first `count` were checked and stay pending. They are after the others now, in their order.
 pub record ChecksArrivals {S : Type 0} (count : ℕ) (old new : List (Arriving S)) : Type 0 where
   pub seen : List (Arriving S)
   pub rest : List (Arriving S)
@@ -68,7 +69,7 @@ pub record ChecksArrivals {S : Type 0} (count : ℕ) (old new : List (Arriving S
   pub goes : AllStayPending seen moved
   pub len : length seen ≡ count
 
--- Some were looked at and go on; the next is taken out, as it was.
+-- Some were checked and stay pending, and the next is removed, unchanged.
 pub record TakesOut {S : Type 0} (old : List (Arriving S)) (arrival : Arriving S) (new : List (Arriving S)) : Type 0 where
   pub seen : List (Arriving S)
   pub rest : List (Arriving S)
@@ -79,43 +80,44 @@ pub record TakesOut {S : Type 0} (old : List (Arriving S)) (arrival : Arriving S
 
 -- ---- streams that close
 
--- at most so many close at once: where one more comes, the one that began first is closed
-abbrev pub with_room : {S : Type 0} → List (ClosingStream S) → List (ClosingStream S)
-with_room closing = if nat_lt (length closing) 256 then closing else remove closing 0
+-- at most 256 close at once: a further one closes the oldest
+abbrev pub with_room : {S : Type 0} → ClosingList S → ClosingList S
+with_room closing = if nat_lt (length closing.streams) 256 then closing
+    else record closing { streams = remove closing.streams 0; next = closing.next - 1; pass_end = closing.pass_end - 1 }
 
--- one more stream closes, as the last: what was held for it is held further, but for what it took
-pub record Closes {S : Type 0} (to_give taken : S → Option (List ℕ)) (old : List (ClosingStream S)) (stream : Buffer S)
-    (new : List (ClosingStream S)) : Type 0 where
+-- One more stream closes, as the last, after the pass. Its buffered bytes stay buffered, except for those that it took.
+pub record Closes {S : Type 0} (to_give taken : S → Option (List ℕ)) (calls : S → Option (List StreamCall))
+    (old : ClosingList S) (stream : Buffer S) (new : ClosingList S) : Type 0 where
   pub clock : Option Instant
   pub last : ClosingStream S
-  pub writes : WritesOut to_give taken clock (begins_closing stream) last
-  pub now : new ≡ with_room old ++ last ∷ []
+  pub writes : WritesOut to_give taken calls clock (begins_closing old.stall_time stream) last
+  pub now : new ≡ record (with_room old) { streams = (with_room old).streams ++ last ∷ [] }
 
 -- the bot's stream closes, and then the server's
-abbrev pub ClosesBoth : {S : Type 0} → (S → Option (List ℕ)) → (S → Option (List ℕ)) → List (ClosingStream S) → Paired S →
-    List (ClosingStream S) → Type 0
-ClosesBoth {S} to_give taken old pair new = (mid : List (ClosingStream S))
-    × Closes to_give taken old pair.bot mid × Closes to_give taken mid pair.server new
+abbrev pub ClosesBoth : {S : Type 0} → (S → Option (List ℕ)) → (S → Option (List ℕ)) → (S → Option (List StreamCall)) →
+    ClosingList S → Paired S → ClosingList S → Type 0
+ClosesBoth {S} to_give taken calls old pair new = (mid : ClosingList S)
+    × Closes to_give taken calls old pair.bot mid × Closes to_give taken calls mid pair.server new
 
--- ---- one look
+-- ---- one check
 
--- What became of the first of the arrivals: ports of that bot and of the server that its connect reached; or its bot closes;
--- or it goes on, behind the others.
-abbrev pub FirstArrivalEvolves : {P S : Type 0} → (S → Option (List ℕ)) → (S → Option (List ℕ)) → (P → Paired S) →
-    RunSockets S → Connect P → RunSockets S → Type 0
-FirstArrivalEvolves {S = S} to_give taken pair old (Ready ports) new = (arrival : Arriving S)
+-- The check of the first arrival: ports of that bot and of its own connect; or its bot closes; or it stays pending,
+-- after the others.
+abbrev pub FirstArrivalEvolves : {P S : Type 0} → (S → Option (List ℕ)) → (S → Option (List ℕ)) →
+    (S → Option (List StreamCall)) → (P → Paired S) → RunSockets S → Connect P → RunSockets S → Type 0
+FirstArrivalEvolves {S = S} to_give taken calls pair old (Ready ports) new = (arrival : Arriving S)
     × (old.arrivals ≡ arrival ∷ new.arrivals) × IsJoined arrival (pair ports) × (new.came ≡ old.came)
     × (new.closing ≡ old.closing)
-FirstArrivalEvolves {S = S} to_give taken pair old Failed new = (arrival : Arriving S)
-    × (old.arrivals ≡ arrival ∷ new.arrivals) × Closes to_give taken old.closing arrival.bot new.closing
+FirstArrivalEvolves {S = S} to_give taken calls pair old Failed new = (arrival : Arriving S)
+    × (old.arrivals ≡ arrival ∷ new.arrivals) × Closes to_give taken calls old.closing arrival.bot new.closing
     × (new.came ≡ old.came)
-FirstArrivalEvolves {S = S} to_give taken pair old Pending new = (arrival moved : Arriving S) × (rest : List (Arriving S))
+FirstArrivalEvolves {S = S} to_give taken calls pair old Pending new = (arrival moved : Arriving S) × (rest : List (Arriving S))
     × (old.arrivals ≡ arrival ∷ rest) × (new.arrivals ≡ rest ++ moved ∷ []) × StaysPending arrival moved
     × (new.came ≡ old.came) × (new.closing ≡ old.closing)
 
--- ---- the answers to the loop
+-- ---- system calls
 
--- one more bot came: it has the next number and stands behind the others, and its connect begins
+-- one more bot was accepted: it has the next number and is after the others, and its connect begins
 pub record Comes {S : Type 0} (old new : RunSockets S) : Type 0 where
   pub arrival : Arriving S
   pub came : new.came ≡ old.came + 1
@@ -125,8 +127,8 @@ pub record Comes {S : Type 0} (old new : RunSockets S) : Type 0 where
   pub server : IsFreshConnect arrival.server
   pub closing : new.closing ≡ old.closing
 
--- What a call with this answer does to the sockets; `pair` is what ports hold. Where a round begins, the streams that close
--- go on; where a turn begins, it is with the streams of one session, and these here stay as they are.
+-- The effect of a system call on the sockets; `pair` is the content of ports. At the beginning of a round closing
+-- streams advance. A turn begins with the streams of one session, and leaves these here unchanged.
 abbrev pub Transits : {P S : Type 0} → (S → Option (List ℕ)) → (S → Option (List ℕ)) →
     (S → Option (List StreamCall)) → (P → Paired S) → RunSockets S → SystemCall P → RunSockets S → Type 0
 Transits to_give taken calls pair old Begins new = (new.came ≡ old.came) × (new.arrivals ≡ old.arrivals)
@@ -138,11 +140,11 @@ Transits {S = S} to_give taken calls pair old (Connects (Ready ports)) new = (ar
     × TakesOut old.arrivals arrival new.arrivals × IsJoined arrival (pair ports) × (new.came ≡ old.came)
     × (new.closing ≡ old.closing)
 Transits {S = S} to_give taken calls pair old (Connects Failed) new = (arrival : Arriving S)
-    × TakesOut old.arrivals arrival new.arrivals × Closes to_give taken old.closing arrival.bot new.closing
+    × TakesOut old.arrivals arrival new.arrivals × Closes to_give taken calls old.closing arrival.bot new.closing
     × (new.came ≡ old.came)
 Transits to_give taken calls pair old (Connects Pending) new =
     (count : ℕ) × ChecksArrivals count old.arrivals new.arrivals × (new.came ≡ old.came) × (new.closing ≡ old.closing)
-Transits to_give taken calls pair old (Retires ports end) new = ClosesBoth to_give taken old.closing (pair ports) new.closing
+Transits to_give taken calls pair old (Retires ports end) new = ClosesBoth to_give taken calls old.closing (pair ports) new.closing
     × (new.came ≡ old.came) × (new.arrivals ≡ old.arrivals)
 Transits to_give taken calls pair old (Notifies notice) new = new ≡ old
 Transits to_give taken calls pair old (Waits more) new = new ≡ old

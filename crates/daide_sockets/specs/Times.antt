@@ -33,3 +33,22 @@ is_past (Some now) (Some moment) = nat_le (instant_nanos moment) (instant_nanos 
 abbrev pub is_time_over : Option Instant → Option Instant → Bool
 is_time_over now None = true
 is_time_over now (Some moment) = is_past now (Some moment)
+
+-- ---- stalls
+
+-- the moment at which a stall timeout expires if bytes are queued from this reading of the clock on: none for never
+abbrev pub IsStallEnd : Option Instant → Option Duration → Option Instant → Type 0
+IsStallEnd now None moment = moment ≡ None
+IsStallEnd now (Some time) moment = IsAfter now (as_nanos time) moment
+
+-- The moment after a write that leaves bytes queued, by the moment before it. The timeout starts again if the peer took
+-- a byte, or if no byte was queued before.
+abbrev pub StallsNext : Option Duration → Option Instant → Option Instant → Bool → Option Instant → Type 0
+StallsNext time now None took new = IsStallEnd now time new
+StallsNext time now (Some moment) true new = IsStallEnd now time new
+StallsNext time now (Some moment) false new = new ≡ Some moment
+
+-- whether a peer is stalled at a reading of the clock: it has a timeout, and its moment is past
+abbrev pub has_stalled : Option Duration → Option Instant → Option Instant → Bool
+has_stalled None now moment = false
+has_stalled (Some time) now moment = is_past now moment

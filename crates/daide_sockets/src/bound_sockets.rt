@@ -1,6 +1,7 @@
 //! The resources of a run: its listener, the addresses of the server, and the table of its sockets.
 
 ghost use Rattle.std.specs.Prelude.{◌≡◌, ◌+◌, ◌*◌, ◌^◌, ◌<◌, IfOk, IfSome, false, [], vec_len};
+ghost use Rattle.daide_sockets.specs.Lingering.{no_closing};
 ghost use Rattle.daide_sockets.specs.Times.{IsSeconds, IsIdleTime};
 
 use crate::lingering_close::MOST_CLOSING;
@@ -108,7 +109,8 @@ pub fn sockets_on<'w, R: AllocGlobal + Clock + Net, E: Write + Drop>(
     errors: E,
 ) -> Option<Sockets<'w, R, E>>
     ensures none_came { IfSome result (λ sockets. (sockets.acceptor.came ≡ 0) × (sockets.is_verbose ≡ false)) }
-    ensures none_held { IfSome result (λ sockets. (sockets.arrivals.items ≡ []) × (sockets.closings ≡ [])) }
+    ensures none_held { IfSome result (λ sockets. (sockets.arrivals.items ≡ [])
+        × (sockets.closings ≡ no_closing sockets.stall_time)) }
     ensures im_time { IfSome result (λ sockets. IsSeconds settings.now.im_seconds sockets.im_time) }
     ensures idle_time { IfSome result (λ sockets. IsIdleTime settings.now.idle_seconds sockets.idle_time) }
     ensures stall_time { IfSome result (λ sockets. IsIdleTime settings.now.stall_seconds sockets.stall_time

@@ -1,17 +1,18 @@
 //! Closing in stages, so that the last message of a session isn't destroyed by a reset.
 //!
-//! A socket that is closed while bytes of its peer are unread resets the connection, and what was written last may
-//! never arrive. So what is held is written, and writing is shut down; what still comes is read and dropped, within bounds;
-//! then the socket is closed. Where the peer doesn't read, what is held is written once it does.
+//! Closing a socket with unread bytes of its peer resets the connection, and the last bytes written may never arrive.
+//! So the buffered bytes are written, and writing is shut down. Then the bytes received are dropped, within bounds, and
+//! the socket is closed. If the peer doesn't read, the buffered bytes are written once it does.
 
-ghost use Rattle.std.specs.Prelude.{◌≡◌, ◌⊎◌, ℕ, ◌+◌, ◌<◌, ◌≤◌, List, Option, [], ◌∷◌, length, min, true, false, IfOk};
+ghost use Rattle.std.specs.Prelude.{◌≡◌, ◌⊎◌, ℕ, ◌+◌, ◌<◌, ◌≤◌, List, Option, [], ◌∷◌, ◌++◌, length, min, remove, true, false};
+ghost use Rattle.std.specs.Prelude.{IfOk};
 ghost use Rattle.daide_protocol.specs.declared.ports.Pull.{Pull};
 ghost use Rattle.daide_protocol.specs.Ports.{AppendsTo};
 ghost use Rattle.daide_buffered_io.specs.Buffers.{Passes, ReadsNothing, WritesNothing};
 ghost use Rattle.daide_buffered_io.specs.Calls.{StreamCall, WritingEnded};
-ghost use Rattle.daide_sockets.specs.Lingering.{ClosingStream, begins_closing, WritesOut, Discards, is_released};
-ghost use Rattle.daide_sockets.specs.Lingering.{Lingers, Leaves, LooksAtOne, LingerOrLeave, LooksAlong, ClosingsGoOn};
-ghost use Rattle.daide_sockets.specs.Lingering.{GoOnFor};
+ghost use Rattle.daide_sockets.specs.Lingering.{ClosingStream, ClosingList, begins_closing, no_closing, TriesWriting, WritesOut};
+ghost use Rattle.daide_sockets.specs.Lingering.{Discards, is_released, Lingers, Leaves, LooksAtOne, LooksAlong, in_pass};
+ghost use Rattle.daide_sockets.specs.Lingering.{LooksAround, ClosingsGoOn, GoOnFor};
 ghost use Rattle.daide_sockets.specs.Pairing.{Closes, ClosesBoth, with_room};
 
 use crate::connection::Connection;
@@ -24,25 +25,26 @@ use std::marker::Model;
 use std::rt::Clock;
 use std::time::{Duration, Instant};
 
-/// The most bytes that are read and dropped of a socket.
+/// The most bytes that are read from one socket and dropped.
 const MOST_DROPPED: usize = 1 << 20;
 
-/// How many seconds they are waited for.
+/// The number of seconds for which the peer's end is awaited.
 const SECONDS: u64 = 1;
 
-/// How many sockets are looked at in one round, by turns, so that those that close don't hold up those at work.
+/// The most sockets that one round advances, so that closing sockets don't delay active ones.
 const MOST_LOOKS: usize = 8;
 
-/// How many sockets close at once; where one more comes, the one that began first is closed.
+/// The most sockets that close at once. A further one closes the oldest.
 pub const MOST_CLOSING: usize = 256;
 
-/// A socket that closes. Its writing is over once nothing is held that may still be written.
+/// A closing socket. Its writing is over once no buffered byte may still be written.
 #[derive(Drop)]
 struct LingeringClose<'w, S: Duplex + Drop = Connection> {
     socket: Socket<'w, S>,
-    /// What may still be dropped of it.
+    /// The bytes that may still be dropped.
     rest: Dropping,
-    /// When it is released at the latest, by the reading of the clock at which its writing was over.
+    /// The moment at which it is closed at the latest, counted from the reading of the clock at which its writing was
+    /// over.
     released_at: Option<Instant>,
 }
 
@@ -51,17 +53,25 @@ impl<'w, S: Duplex + Drop> Model for LingeringClose<'w, S> {
 
     ghost Value = { ClosingStream S };
 
-    ghost view = { λ c. record { stream = c.socket.stream; quota = c.rest; released_at = c.released_at } };
+    ghost view = { λ c. record {
+      stream = c.socket.stream;
+      stall_time = c.socket.stall_time;
+      stalls_at = c.socket.stalls_at;
+      quota = c.rest;
+      released_at = c.released_at;
+    } };
 }
 
 impl<'w, S: Duplex + Drop> LingeringClose<'w, S> {
-    /// A socket of which nothing is to be read any more.
-    fn new(socket: Socket<'w, S>) -> LingeringClose<'w, S>
-        ensures { result ≡ begins_closing socket.entry.stream }
+    /// Begins with a socket that no session reads any more. Its peer has this time to take bytes; `None` for ever.
+    fn new(socket: Socket<'w, S>, stall_time: Option<Duration>) -> LingeringClose<'w, S>
+        ensures { result ≡ begins_closing stall_time socket.entry.stream }
     {
-        // Until all that it holds is written, no moment is waited for.
+        let mut socket = socket;
+        // Until the buffered bytes are written, the stall timeout is the only deadline.
         socket.registration.flags.due.set(None);
         socket.registration.flags.silent_from.set(None);
+        socket.restart_stall(stall_time);
         LingeringClose {
             socket,
             rest: Dropping::new(MOST_DROPPED),
@@ -69,13 +79,14 @@ impl<'w, S: Duplex + Drop> LingeringClose<'w, S> {
         }
     }
 
-    /// Shuts down writing, where all that was held is written. One whose writing failed has nothing to shut down.
+    /// Shuts down writing, if all buffered bytes are written. After a failed write there is nothing to shut down.
     fn shut_down(&mut self)
         ensures passes { Passes S.to_give S.taken self.old.stream [] [] self.new.stream }
         ensures unread { ReadsNothing S.to_give self.old.stream self.new.stream }
         ensures unwritten { WritesNothing S.taken self.old.stream self.new.stream }
         ensures failed { self.new.stream.has_failed ≡ self.old.stream.has_failed }
         ensures stays { (self.new.quota ≡ self.old.quota) × (self.new.released_at ≡ self.old.released_at) }
+        ensures stalls { (self.new.stall_time ≡ self.old.stall_time) × (self.new.stalls_at ≡ self.old.stalls_at) }
         ensures told { self.old.stream.write_buffer ≡ [] → AppendsTo (S.calls self.old.stream.stream) (WritingEnded ∷ [])
             (S.calls self.new.stream.stream) }
     {
@@ -85,33 +96,35 @@ impl<'w, S: Duplex + Drop> LingeringClose<'w, S> {
         self.socket.stream.end_writing();
     }
 
-    /// Writes what is held, as far as that is without waiting, and gives it up if the peer is stalled. Of its bytes none is
-    /// read, and none is lost before that.
+    /// Writes buffered bytes, as many as the stream accepts, or gives up writing if the peer is stalled at this reading
+    /// of the clock. It reads nothing, and drops no byte before that.
     #[tactic(auto, using(daide_buffered_io::proofs::BufferLemmas::flush_then))]
-    fn write_on(&mut self)
+    fn write_on(&mut self, now: Option<Instant>)
         ensures passes { Passes S.to_give S.taken self.old.stream [] [] self.new.stream }
         ensures unread { ReadsNothing S.to_give self.old.stream self.new.stream }
         ensures stays { (self.new.quota ≡ self.old.quota) × (self.new.released_at ≡ self.old.released_at) }
+        ensures tries { TriesWriting S.calls now self.old self.new }
     {
-        self.socket.give_up_stalled();
-        self.socket.flush();
+        self.socket.give_up_stalled(now);
+        self.socket.flush_at(now);
     }
 
-    /// Writes the bytes that are held. Its writing is over once all is written, once a write failed, or once the peer
-    /// is stalled. Then it shuts down writing, and waits for the peer's end from this reading of the clock on.
+    /// Writes the buffered bytes. Its writing is over once all are written, once a write failed, or once the peer is
+    /// stalled. Then it shuts down writing, and awaits the peer's end from this reading of the clock on.
     ///
-    /// `writes`: no byte that is held is dropped before its writing is over.
+    /// `writes`: no buffered byte is dropped before its writing is over (`TriesWriting`). Each try writes all of them
+    /// once. Only a failed write, or a stall timeout that is over by the reading, gives up.
     ///
-    /// `told`: writing is shut down once nothing is held.
+    /// `told`: writing is shut down once no byte is buffered.
     ///
     /// Not said: that no frame of the session waits for the socket then. It is read from the callers: a run retires
     /// closed sessions alone, and nothing was written to a bot that could not be joined.
     fn end_writing(&mut self, now: Option<Instant>)
-        ensures writes { WritesOut S.to_give S.taken now self.old self.new }
+        ensures writes { WritesOut S.to_give S.taken S.calls now self.old self.new }
         ensures told { self.new.stream.write_buffer ≡ [] → (before : Option (List StreamCall))
             × AppendsTo before (WritingEnded ∷ []) (S.calls self.new.stream.stream) }
     {
-        self.write_on();
+        self.write_on(now);
         if self.socket.stream.is_behind() {
             return;
         }
@@ -120,8 +133,8 @@ impl<'w, S: Duplex + Drop> LingeringClose<'w, S> {
         self.shut_down();
     }
 
-    /// Drops a piece of what came, and returns whether the socket is to be closed now. What it drops is what the stream
-    /// gives next, behind all that its session read, and the stream takes nothing more.
+    /// Drops the next bytes of the stream, after all that its session read, and returns whether the socket is to be
+    /// closed now. The stream takes nothing more.
     fn drops_last(&mut self, now: Option<Instant>) -> bool
         ensures { (pull : Pull) × Discards S.to_give S.taken S.calls pull self.old self.new
             × (result ≡ is_released now pull self.new) }
@@ -144,7 +157,7 @@ impl<'w, S: Duplex + Drop> LingeringClose<'w, S> {
 
     /// Makes a step of closing a socket, and returns false if it is to be closed now.
     ///
-    /// `lingers`: while bytes are held for it, they are written. After that it drops a piece of what the stream gives.
+    /// `lingers`: while bytes are buffered for it, they are written. After that it drops a piece of the bytes received.
     ///
     /// `leaves`: it leaves only after its writing is over. Then it leaves at the stream's end, once 1 MiB was dropped,
     /// or a second later by the reading of the clock. It leaves at once if the clock can't be read (`Leaves`).
@@ -159,7 +172,7 @@ impl<'w, S: Duplex + Drop> LingeringClose<'w, S> {
         !self.drops_last(now)
     }
 
-    /// Whether a call may do something.
+    /// Returns whether a call may make progress.
     fn is_ready(&self) -> bool {
         let readiness = self.socket.registration.flags.readiness.get();
         if self.socket.stream.is_behind() {
@@ -170,17 +183,13 @@ impl<'w, S: Duplex + Drop> LingeringClose<'w, S> {
     }
 }
 
-/// The sockets that close, in the order in which they began: 256 at most. A further one closes the oldest as it is
-/// (`with_room`).
+/// The closing sockets, oldest first, with room for all.
 #[derive(Drop)]
-pub struct Closings<'w, S: Duplex + Drop = Connection> {
-    /// In the order in which they began.
+struct ClosingSockets<'w, S: Duplex + Drop = Connection> {
     sockets: Vec<LingeringClose<'w, S>>,
-    /// Which of them is looked at next.
-    next: usize,
 }
 
-impl<'w, S: Duplex + Drop> Model for Closings<'w, S> {
+impl<'w, S: Duplex + Drop> Model for ClosingSockets<'w, S> {
     ghost use Rattle.std.specs.Prelude.{◌≤◌, List, vec_len, vec_capacity};
     ghost use Rattle.daide_sockets.specs.Lingering.{ClosingStream};
 
@@ -192,53 +201,41 @@ impl<'w, S: Duplex + Drop> Model for Closings<'w, S> {
     ghost invariant = { λ c. (vec_len c.sockets ≤ 256) × (256 ≤ vec_capacity c.sockets) };
 }
 
-impl<'w, S: Duplex + Drop> Closings<'w, S> {
-    /// None yet, and room for all.
-    pub fn new(alloc: Global) -> Result<Closings<'w, S>, AllocError>
-        ensures { IfOk result (λ closings. closings ≡ []) }
+impl<'w, S: Duplex + Drop> ClosingSockets<'w, S> {
+    /// Creates an empty list, with room for all.
+    fn new(alloc: Global) -> Result<ClosingSockets<'w, S>, AllocError>
+        ensures { IfOk result (λ sockets. sockets ≡ []) }
     {
-        Ok(Closings {
+        Ok(ClosingSockets {
             sockets: Vec::with_capacity(alloc, MOST_CLOSING)?,
-            next: 0,
         })
     }
 
-    /// Closes the one that began first, where there are `MOST_CLOSING`.
-    fn make_room(&mut self)
-        ensures last_ones { self.new ≡ with_room self.old }
-        ensures room { length self.new < MOST_CLOSING }
+    /// Returns their number.
+    fn len(&self) -> usize
+        ensures count { result ≡ length self.now }
+        ensures few { result ≤ MOST_CLOSING }
     {
-        if self.sockets.len() >= MOST_CLOSING {
-            self.sockets.remove(0);
-            self.next = self.next.saturating_sub(1);
-        }
+        self.sockets.len()
     }
 
-    /// Begins to close a socket. Where there are `MOST_CLOSING` already, the one that began first is closed.
-    pub fn begin<R: Clock>(&mut self, poller: &Poller<R>, socket: Socket<'w, S>)
-        ensures { Closes S.to_give S.taken self.old socket.entry.stream self.new }
+    /// Closes the oldest.
+    fn remove_first(&mut self)
+        requires { 0 < length self.old }
+        ensures { self.new ≡ remove self.old 0 }
     {
-        self.make_room();
-        let mut closing = LingeringClose::new(socket);
-        let now = poller.now().get();
-        closing.end_writing(now);
+        self.sockets.remove(0);
+    }
+
+    /// Appends one.
+    fn push(&mut self, closing: LingeringClose<'w, S>)
+        requires { length self.old < MOST_CLOSING }
+        ensures { self.new ≡ self.old ++ closing.entry ∷ [] }
+    {
         self.sockets.push_reserved(closing);
     }
 
-    /// Begins to close both sockets of a session.
-    pub fn begin_both<R: Clock>(&mut self, poller: &Poller<R>, ports: SocketPorts<'w, R, S>)
-        ensures { ClosesBoth S.to_give S.taken self.old (record {
-          number = ports.entry.number;
-          bot = ports.entry.bot.stream;
-          server = ports.entry.server.stream;
-        }) self.new }
-    {
-        let (bot, server) = ports.into_sockets();
-        self.begin(poller, bot);
-        self.begin(poller, server);
-    }
-
-    /// Goes on with the one at a position, and returns that of the next: it is closed, or closes on.
+    /// Advances the socket at a position, closes it if it leaves, and returns the position of the next.
     fn look_at(&mut self, now: Option<Instant>, at: usize) -> usize
         requires { at < length self.old }
         ensures { LooksAtOne S.to_give S.taken S.calls now at self.old result self.new }
@@ -251,7 +248,7 @@ impl<'w, S: Duplex + Drop> Closings<'w, S> {
         at
     }
 
-    /// Goes on with those from one position up to another, and returns that of the next.
+    /// Advances those from one position up to another, and returns the position of the next.
     fn look_along(&mut self, now: Option<Instant>, from: usize, to: usize) -> usize
         requires order { from ≤ to }
         requires there { to ≤ length self.old }
@@ -264,46 +261,124 @@ impl<'w, S: Duplex + Drop> Closings<'w, S> {
         at
     }
 
-    /// Returns which are looked at in a round: from the first of these positions up to the second, and so many of the first.
-    fn looked_at(&self) -> (usize, usize, usize)
-        ensures order { result.0 ≤ result.1 }
-        ensures there { result.1 ≤ length self.now }
-        ensures looks { result.0 + min MOST_LOOKS (length self.now) ≡ result.1 + result.2 }
-        ensures last { 0 < result.2 → result.1 ≡ length self.now }
-        ensures few { result.2 ≤ result.0 }
+    /// Returns whether one of them may make progress.
+    fn is_ready(&self) -> bool {
+        self.sockets.iter().any(|closing| closing.is_ready())
+    }
+}
+
+/// The closing sockets, in the order in which they began: 256 at most. A further one closes the oldest as it is
+/// (`with_room`). They are advanced in passes, so that none waits for those that come after it (`in_pass`).
+#[derive(Drop)]
+pub struct Closings<'w, S: Duplex + Drop = Connection> {
+    sockets: ClosingSockets<'w, S>,
+    /// The position of the next to advance.
+    next: usize,
+    /// The number of sockets in this pass: those that were closing when it began.
+    pass_end: usize,
+    /// The stall timeout of a peer; `None` if there is none.
+    stall_time: Option<Duration>,
+}
+
+impl<'w, S: Duplex + Drop> Model for Closings<'w, S> {
+    ghost use Rattle.std.specs.Prelude.{◌≤◌, length};
+    ghost use Rattle.daide_sockets.specs.Lingering.{ClosingList};
+
+    ghost Value = { ClosingList S };
+
+    ghost view = { λ c. record {
+      streams = c.sockets;
+      next = c.next;
+      pass_end = c.pass_end;
+      stall_time = c.stall_time;
+    } };
+
+    ghost invariant = { λ c. (c.next ≤ c.pass_end) × (c.pass_end ≤ length c.sockets) };
+}
+
+impl<'w, S: Duplex + Drop> Closings<'w, S> {
+    /// Creates an empty list, with room for all. A peer has this time to take bytes; `None` for ever.
+    pub fn new(alloc: Global, stall_time: Option<Duration>) -> Result<Closings<'w, S>, AllocError>
+        ensures { IfOk result (λ closings. closings ≡ no_closing stall_time) }
     {
-        let count = self.sockets.len();
-        let looks = MOST_LOOKS.min(count);
-        let from = self.next.min(count);
-        let to = count.min(from + looks);
-        (from, to, looks - (to - from))
+        Ok(Closings {
+            sockets: ClosingSockets::new(alloc)?,
+            next: 0,
+            pass_end: 0,
+            stall_time,
+        })
     }
 
-    /// Goes on with the next few, behind the last with the first, at this reading of the clock, and returns the position of the
-    /// next.
-    fn look_around(&mut self, now: Option<Instant>) -> usize
-        ensures { LingerOrLeave S.to_give S.taken S.calls now (min MOST_LOOKS (length self.old)) self.old self.new }
+    /// Closes the oldest, if there are `MOST_CLOSING`.
+    fn make_room(&mut self)
+        ensures last_ones { self.new ≡ with_room self.old }
+        ensures room { length self.new.streams < MOST_CLOSING }
     {
-        let (from, to, left) = self.looked_at();
-        let next = self.look_along(now, from, to);
-        if left == 0 {
-            return next;
+        if self.sockets.len() < MOST_CLOSING {
+            return;
         }
-        self.look_along(now, 0, left)
+        self.sockets.remove_first();
+        self.next = self.next.saturating_sub(1);
+        self.pass_end = self.pass_end.saturating_sub(1);
     }
 
-    /// Goes on with the next few.
+    /// Begins to close a socket. If there are `MOST_CLOSING` already, the oldest is closed.
+    pub fn begin<R: Clock>(&mut self, poller: &Poller<R>, socket: Socket<'w, S>)
+        ensures { Closes S.to_give S.taken S.calls self.old socket.entry.stream self.new }
+    {
+        self.make_room();
+        let mut closing = LingeringClose::new(socket, self.stall_time);
+        let now = poller.now().get();
+        closing.end_writing(now);
+        self.sockets.push(closing);
+    }
+
+    /// Begins to close both sockets of a session.
+    pub fn begin_both<R: Clock>(&mut self, poller: &Poller<R>, ports: SocketPorts<'w, R, S>)
+        ensures { ClosesBoth S.to_give S.taken S.calls self.old (record {
+          number = ports.entry.number;
+          bot = ports.entry.bot.stream;
+          server = ports.entry.server.stream;
+        }) self.new }
+    {
+        let (bot, server) = ports.into_sockets();
+        self.begin(poller, bot);
+        self.begin(poller, server);
+    }
+
+    /// Begins the next pass, if all of the last one were advanced.
+    fn begin_pass(&mut self)
+        ensures { self.new ≡ in_pass self.old }
+    {
+        if self.next == self.pass_end {
+            self.next = 0;
+            self.pass_end = self.sockets.len();
+        }
+    }
+
+    /// Advances the next few of the pass, at this reading of the clock.
+    fn look_around(&mut self, now: Option<Instant>)
+        ensures { LooksAround S.to_give S.taken S.calls now (in_pass self.old) self.new }
+    {
+        self.begin_pass();
+        let came_since = self.sockets.len() - self.pass_end;
+        let to = self.pass_end.min(self.next + MOST_LOOKS);
+        self.next = self.sockets.look_along(now, self.next, to);
+        self.pass_end = self.sockets.len() - came_since;
+    }
+
+    /// Advances the next few: eight of the pass, or those that are left of it (`LooksAround`).
     pub fn advance<R: Clock>(&mut self, poller: &Poller<R>)
         ensures { ClosingsGoOn S.to_give S.taken S.calls self.old self.new }
     {
-        self.next = self.look_around(poller.now().get());
+        self.look_around(poller.now().get());
     }
 
     /// Makes the same rounds until no socket closes, or until 2^64 - 1 rounds were made, and waits between them
-    /// (`GoOnFor`). So at the end of a run too no held byte is dropped before its writing is over.
+    /// (`GoOnFor`). So at the end of a run too no buffered byte is dropped before its writing is over.
     pub fn finish<R: Clock>(&mut self, poller: &Poller<R>)
         ensures { (rounds : ℕ) × GoOnFor S.to_give S.taken S.calls rounds self.old self.new
-            × ((self.new ≡ []) ⊎ (rounds ≡ u64.MAX)) }
+            × ((self.new.streams ≡ []) ⊎ (rounds ≡ u64.MAX)) }
     {
         for _round in 0..u64::MAX {
             self.advance(poller);
@@ -314,7 +389,7 @@ impl<'w, S: Duplex + Drop> Closings<'w, S> {
         }
     }
 
-    /// Waits, but where one of them may have more to drop.
+    /// Waits for events, unless a socket may make progress at once.
     pub fn rest<R: Clock>(&self, poller: &Poller<R>) {
         if self.is_ready() {
             poller.look();
@@ -323,15 +398,15 @@ impl<'w, S: Duplex + Drop> Closings<'w, S> {
         }
     }
 
-    /// Whether there are none.
+    /// Returns whether there are none.
     pub fn is_empty(&self) -> bool
-        ensures { result ≡ true → self.now ≡ [] }
+        ensures { result ≡ true → self.now.streams ≡ [] }
     {
-        self.sockets.is_empty()
+        self.sockets.len() == 0
     }
 
-    /// Whether one of them may go on.
+    /// Returns whether one of them may make progress.
     pub fn is_ready(&self) -> bool {
-        self.sockets.iter().any(|closing| closing.is_ready())
+        self.sockets.is_ready()
     }
 }

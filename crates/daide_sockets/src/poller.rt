@@ -5,7 +5,7 @@
 
 ghost use Rattle.std.specs.Duration.{as_nanos};
 ghost use Rattle.std.specs.Prelude.{◌≡◌, IsNone, IfOk, false, vec_len};
-ghost use Rattle.daide_sockets.specs.Times.{IsAfter, is_past, is_time_over};
+ghost use Rattle.daide_sockets.specs.Times.{IsAfter, IsStallEnd, StallsNext, is_past, is_time_over};
 
 use daide_buffered_io::pool::Pool;
 use daide_buffered_io::readiness::Readiness;
@@ -35,8 +35,7 @@ pub struct Flags {
     pub due: Cell<Option<Instant>>,
     /// The moment at which the idle timeout of the peer expires, unless it sends something before; `None` for never.
     pub(crate) silent_from: Cell<Option<Instant>>,
-    /// The moment at which the stall timeout of the peer expires, unless it accepts a byte before. `None` if no byte is
-    /// queued for it, or for never.
+    /// A copy of the moment at which the stall timeout of the socket's peer expires. It ends a wait.
     pub(crate) stalls_at: Cell<Option<Instant>>,
 }
 
@@ -103,6 +102,39 @@ pub(crate) fn after(now: Option<Instant>, duration: Duration) -> Option<Instant>
     }
 }
 
+/// Returns the moment at which the stall timeout expires if bytes are queued from this reading of the clock on. Returns
+/// `None` for never.
+fn stall_end(now: Option<Instant>, time: Option<Duration>) -> Option<Instant>
+    ensures { IsStallEnd now time result }
+{
+    match time {
+        None => None,
+        Some(time) => after(now, time),
+    }
+}
+
+/// Returns the moment at which the stall timeout expires after a write that leaves bytes queued. The timeout starts
+/// again if the peer took a byte, or if no byte was queued before.
+pub(crate) fn stalls_next(
+    time: Option<Duration>,
+    now: Option<Instant>,
+    before: Option<Instant>,
+    took: bool,
+) -> Option<Instant>
+    ensures { StallsNext time now before took result }
+{
+    match before {
+        None => stall_end(now, time),
+        Some(moment) => {
+            if took {
+                stall_end(now, time)
+            } else {
+                Some(moment)
+            }
+        }
+    }
+}
+
 /// Returns the earlier of two moments; one or both may be missing.
 fn earlier(one: Option<Instant>, other: Option<Instant>) -> Option<Instant> {
     match (one, other) {
@@ -155,16 +187,6 @@ impl Flags {
         self.due.set(None);
         self.silent_from.set(None);
         self.stalls_at.set(None);
-    }
-
-    /// Records a write: whether it accepted a byte, whether bytes are still queued, and when the stall timeout expires
-    /// if none is accepted from now on. The timeout starts at the last accepted byte, or when the first one is queued.
-    pub(crate) fn note_written(&self, took: bool, waits: bool, stalls_at: Option<Instant>) {
-        if !waits {
-            self.stalls_at.set(None);
-        } else if took || self.stalls_at.get().is_none() {
-            self.stalls_at.set(stalls_at);
-        }
     }
 
     /// Sets the flag of a read or a write that may succeed. Clears neither flag.

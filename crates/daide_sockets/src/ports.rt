@@ -5,16 +5,18 @@
 //! contracts state the bytes that these returned and accepted. A connection of the operating system records nothing, so
 //! for it the contracts state only the results of its reads and writes.
 
-ghost use Rattle.std.specs.Prelude.{◌≡◌, ◌≢◌, ◌<◌, IsNone, IfSome, [], min, length, take, true, false};
+ghost use Rattle.std.specs.Prelude.{◌≡◌, ◌≢◌, ◌<◌, nat_lt, IsNone, IfSome, None, [], min, length, take, true, false};
 ghost use Rattle.daide_protocol.specs.Ports.{TurnBegins, Clock as Popped, IsPullWithin, IsPutWithin, pulled_len};
-ghost use Rattle.daide_buffered_io.specs.Buffers.{Passes, ReadsNothing, IsBufferedPull};
+ghost use Rattle.daide_buffered_io.specs.Buffers.{Passes, ReadsNothing, IsBufferedPull, IsFlushed};
 ghost use Rattle.daide_buffered_io.specs.declared.readiness.Readiness.{Readiness};
 ghost use Rattle.daide_buffered_io.specs.Streams.{Transfers};
 ghost use Rattle.daide_buffered_io.specs.Taking.{bytes_taken, taken_len};
+ghost use Rattle.daide_sockets.specs.Lingering.{IsWriting, IsWritingOver};
 ghost use Rattle.daide_sockets.specs.Pairing.{IsFresh};
+ghost use Rattle.daide_sockets.specs.Times.{StallsNext, has_stalled};
 
 use crate::connection::Connection;
-use crate::poller::{Flags, Poller, Registration, is_past};
+use crate::poller::{Flags, Poller, Registration, is_past, stalls_next};
 use crate::timed::Timed;
 use daide_buffered_io::buffered::Buffered;
 use daide_buffered_io::duplex::Duplex;
@@ -43,6 +45,9 @@ pub struct Socket<'w, S: Drop = Connection> {
     clock: &'w Cell<Option<Instant>>,
     /// The stall timeout of its peer; `None` if there is none.
     stall_time: Option<Duration>,
+    /// The moment at which the stall timeout expires, unless its peer takes a byte before. `None` if no byte is queued
+    /// for it, or for never. Its row has a copy.
+    stalls_at: Option<Instant>,
     /// Its expired timeouts.
     timed: Timed,
     /// Whether it accepted bytes since its turn began, so that more may follow.
@@ -86,6 +91,7 @@ impl<'w, S: Drop> Socket<'w, S> {
             pool: poller.pool(),
             clock: poller.now(),
             stall_time: None,
+            stalls_at: None,
             timed: Timed::NONE,
             is_gathering: false,
             gave: false,
@@ -104,6 +110,7 @@ impl<'w, S: Drop> Socket<'w, S> {
             pool,
             clock,
             stall_time,
+            stalls_at,
             timed,
             is_gathering,
             gave,
@@ -115,6 +122,7 @@ impl<'w, S: Drop> Socket<'w, S> {
             pool,
             clock,
             stall_time,
+            stalls_at,
             timed,
             is_gathering,
             gave,
@@ -129,6 +137,15 @@ impl<'w, S: Drop> Socket<'w, S> {
         self.stall_time = time;
     }
 
+    /// Starts the stall timeout of its peer again, with this time; `None` for never.
+    pub(crate) fn restart_stall(&mut self, time: Option<Duration>)
+        ensures { self.new ≡ record self.old { stall_time = time; stalls_at = None } }
+    {
+        self.stall_time = time;
+        self.stalls_at = None;
+        self.registration.flags.stalls_at.set(None);
+    }
+
     /// Returns the stream itself.
     pub fn connection(&self) -> &S
         ensures { result.now ≡ self.now.stream.stream }
@@ -138,48 +155,58 @@ impl<'w, S: Drop> Socket<'w, S> {
 }
 
 impl<S: Duplex + Drop> Socket<'_, S> {
-    /// Returns the moment at which the stall timeout expires, if the peer accepts no byte from now on; `None` for
-    /// never.
-    fn stalls_at(&self) -> Option<Instant> {
-        self.clock.get()?.checked_add(self.stall_time?)
+    /// Records a write at this reading of the clock: whether it took a byte, and whether bytes are still queued.
+    fn note_written(&mut self, now: Option<Instant>, took: bool, is_waiting: bool)
+        ensures time { is_waiting ≡ true → StallsNext self.old.stall_time now self.old.stalls_at took self.new.stalls_at }
+        ensures none { is_waiting ≡ false → self.new.stalls_at ≡ None }
+        ensures stream { self.new.stream ≡ self.old.stream }
+        ensures rest { self.new ≡ record self.old { stalls_at = self.new.stalls_at } }
+    {
+        self.stalls_at = if is_waiting {
+            stalls_next(self.stall_time, now, self.stalls_at, took)
+        } else {
+            None
+        };
+        self.registration.flags.stalls_at.set(self.stalls_at);
     }
 
-    /// Records a write. `before` counts the bytes buffered before it and those put by it; a byte was accepted if fewer
-    /// are buffered now.
-    fn note_written(&self, before: usize, waits: bool) {
-        let took = self.stream.behind_len() < before;
-        self.registration
-            .flags
-            .note_written(took, waits, self.stalls_at());
-    }
-
-    /// Gives up writing to a peer that took no byte for too long while bytes waited for it. It moves no byte.
+    /// Gives up writing to a peer whose stall timeout is over at this reading of the clock, and leaves the socket as it
+    /// is otherwise. It moves no byte.
     ///
     /// `patient`: if no time is set, it does nothing.
     ///
     /// `stalled`: from then on each put fails.
     ///
-    /// Not said: that it happens after `stall_seconds`. `tests/program` shows it for a bot and a server, and that no
-    /// such peer holds a run open.
+    /// `gives_up`: it gives up if and only if the moment is past: `stall_seconds` after the last byte that the peer
+    /// took, or after the first byte was queued.
+    ///
+    /// Not said: that the reading is the present time. `tests/program` shows for a bot and a server that it comes in
+    /// time, and that no such peer holds a run open.
     #[tactic(auto, using(daide_buffered_io::proofs::BufferLemmas::same_passes))]
-    pub(crate) fn give_up_stalled(&mut self)
+    pub(crate) fn give_up_stalled(&mut self, now: Option<Instant>)
         ensures passes { Passes S.to_give S.taken self.old.stream [] [] self.new.stream }
         ensures unread { ReadsNothing S.to_give self.old.stream self.new.stream }
         ensures stalled { self.new.timed.is_stalled ≡ true → self.old.timed.is_stalled ≡ false →
             self.new.stream.has_failed ≡ true }
+        ensures gives_up { has_stalled self.old.stall_time now self.old.stalls_at ≡ true →
+            self.new.stream ≡ record self.old.stream { has_failed = true } }
+        ensures waits { has_stalled self.old.stall_time now self.old.stalls_at ≡ false →
+            (self.new.stream ≡ self.old.stream) × (self.new.stalls_at ≡ self.old.stalls_at)
+            × (self.new.timed ≡ self.old.timed) }
+        ensures stall_time { self.new.stall_time ≡ self.old.stall_time }
         ensures patient { IsNone self.old.stall_time → self.new.timed ≡ self.old.timed }
         ensures silent { self.new.timed.is_silent ≡ self.old.timed.is_silent }
         ensures ends { self.new.timed.ends_stalled ≡ self.old.timed.ends_stalled }
         ensures gathering { self.new.is_gathering ≡ self.old.is_gathering }
     {
-        let flags = self.registration.flags;
         if self.stall_time.is_none() {
             return;
         }
-        if !is_past(self.clock.get(), flags.stalls_at.get()) {
+        if !is_past(now, self.stalls_at) {
             return;
         }
-        flags.stalls_at.set(None);
+        self.stalls_at = None;
+        self.registration.flags.stalls_at.set(None);
         self.stream.give_up();
         self.timed.is_stalled = true;
     }
@@ -235,19 +262,29 @@ impl<S: Duplex + Drop> Socket<'_, S> {
                 if count > 0 {
                     self.is_gathering = true;
                 }
-                let waits = count < bytes.len() || self.stream.is_behind();
-                self.note_written(held.saturating_add(count), waits);
+                let took = self.stream.behind_len() < held.saturating_add(count);
+                let is_waiting = count < bytes.len() || self.stream.is_behind();
+                self.note_written(self.clock.get(), took, is_waiting);
             }
-            Put::Failed => flags.stalls_at.set(None),
+            Put::Failed => self.note_written(None, false, false),
         }
         put
     }
 
-    /// Writes buffered bytes, as many as the connection accepts.
+    /// Writes all buffered bytes to the connection once, unless a write failed before, and keeps those that it doesn't
+    /// take. The stall timeout starts again at this reading of the clock if the peer took a byte.
     #[tactic(auto, using(daide_buffered_io::proofs::BufferLemmas::same_passes))]
-    pub fn flush(&mut self)
+    pub(crate) fn flush_at(&mut self, now: Option<Instant>)
         ensures passes { Passes S.to_give S.taken self.old.stream [] [] self.new.stream }
         ensures unread { ReadsNothing S.to_give self.old.stream self.new.stream }
+        ensures written { IsWriting self.old.stream → (known still : Readiness)
+            × IsFlushed S.calls known self.old.stream still self.new.stream }
+        ensures nothing { IsWritingOver self.old.stream →
+            (self.new.stream ≡ self.old.stream) × (self.new.stalls_at ≡ self.old.stalls_at) }
+        ensures waits { IsWriting self.old.stream → IsWriting self.new.stream →
+            StallsNext self.old.stall_time now self.old.stalls_at
+            (nat_lt (length self.new.stream.write_buffer) (length self.old.stream.write_buffer)) self.new.stalls_at }
+        ensures stall_time { self.new.stall_time ≡ self.old.stall_time }
         ensures timed { self.new.timed ≡ self.old.timed }
         ensures gathering { self.new.is_gathering ≡ self.old.is_gathering }
     {
@@ -259,7 +296,19 @@ impl<S: Duplex + Drop> Socket<'_, S> {
         let mut readiness = flags.readiness.get();
         self.stream.flush(self.pool, &mut readiness);
         flags.readiness.set(readiness);
-        self.note_written(held, self.stream.is_behind());
+        let took = self.stream.behind_len() < held;
+        let is_waiting = self.stream.is_behind();
+        self.note_written(now, took, is_waiting);
+    }
+
+    /// Writes buffered bytes, as many as the connection accepts.
+    pub fn flush(&mut self)
+        ensures passes { Passes S.to_give S.taken self.old.stream [] [] self.new.stream }
+        ensures unread { ReadsNothing S.to_give self.old.stream self.new.stream }
+        ensures timed { self.new.timed ≡ self.old.timed }
+        ensures gathering { self.new.is_gathering ≡ self.old.is_gathering }
+    {
+        self.flush_at(self.clock.get());
     }
 
     /// Writes buffered bytes, unless the session may still put more: an answer to bytes that it pulled, some parts of
@@ -332,7 +381,7 @@ impl<S: Duplex + Drop> Socket<'_, S> {
         ensures gathering { self.new.is_gathering ≡ false }
     {
         self.is_gathering = false;
-        self.give_up_stalled();
+        self.give_up_stalled(self.clock.get());
         self.flush_late(held);
     }
 }

@@ -5,7 +5,7 @@ ghost use Rattle.daide_sockets.specs.Times.{IsSeconds, IsIdleTime};
 ghost use Rattle.daide_protocol.specs.Ports.{TurnBegins};
 ghost use Rattle.daide_protocol.specs.System.{BeginsTurn};
 ghost use Rattle.daide_buffered_io.specs.Streams.{Transfers};
-ghost use Rattle.daide_sockets.specs.Lingering.{ClosingsGoOn, GoOnFor};
+ghost use Rattle.daide_sockets.specs.Lingering.{ClosingsGoOn, GoOnFor, no_closing};
 ghost use Rattle.daide_sockets.specs.Pairing.{FirstArrivalEvolves, Transits, Closes};
 
 use crate::admission::{Acceptor, PendingConnection, Unreached};
@@ -93,7 +93,8 @@ impl<'w, R: Clock + Net, E: Write + Drop> Sockets<'w, R, E> {
         errors: E,
     ) -> Option<Sockets<'w, R, E>>
         ensures none_came { IfSome result (λ sockets. (sockets.acceptor.came ≡ 0) × (sockets.is_verbose ≡ false)) }
-        ensures none_held { IfSome result (λ sockets. (sockets.arrivals.items ≡ []) × (sockets.closings ≡ [])) }
+        ensures none_held { IfSome result (λ sockets. (sockets.arrivals.items ≡ [])
+            × (sockets.closings ≡ no_closing sockets.stall_time)) }
         ensures im_time { IfSome result (λ sockets. IsSeconds settings.now.im_seconds sockets.im_time) }
         ensures idle_time { IfSome result (λ sockets. IsIdleTime settings.now.idle_seconds sockets.idle_time) }
         ensures stall_time { IfSome result (λ sockets. IsIdleTime settings.now.stall_seconds sockets.stall_time
@@ -105,7 +106,8 @@ impl<'w, R: Clock + Net, E: Write + Drop> Sockets<'w, R, E> {
         let Ok(arrivals) = Vec::with_capacity(alloc, settings.max_sessions) else {
             return None;
         };
-        let Ok(closings) = Closings::new(alloc) else {
+        let stall_time = idle_time_of(settings.stall_seconds);
+        let Ok(closings) = Closings::new(alloc, stall_time) else {
             return None;
         };
         Some(Sockets {
@@ -115,7 +117,7 @@ impl<'w, R: Clock + Net, E: Write + Drop> Sockets<'w, R, E> {
             servers,
             im_time: Duration::from_secs(u64::from(settings.im_seconds)),
             idle_time: idle_time_of(settings.idle_seconds),
-            stall_time: idle_time_of(settings.stall_seconds),
+            stall_time,
             stall_seconds: settings.stall_seconds,
             connect_time,
             arrivals,
@@ -144,8 +146,8 @@ impl<'w, R: Clock + Net, E: Write + Drop> Sockets<'w, R, E> {
 
     /// Ends the session of a bot whose server was unreachable, and starts the close of its socket.
     fn let_go(&mut self, left: Unreached<'w>)
-        ensures closes { Closes ⟦<Connection as Duplex>⟧.to_give ⟦<Connection as Duplex>⟧.taken self.old.closings
-            left.entry.bot.stream self.new.closings }
+        ensures closes { Closes ⟦<Connection as Duplex>⟧.to_give ⟦<Connection as Duplex>⟧.taken
+            ⟦<Connection as Duplex>⟧.calls self.old.closings left.entry.bot.stream self.new.closings }
         ensures came { self.new.acceptor.came ≡ self.old.acceptor.came }
         ensures arrivals { self.new.arrivals.items ≡ self.old.arrivals.items }
     {
@@ -158,6 +160,7 @@ impl<'w, R: Clock + Net, E: Write + Drop> Sockets<'w, R, E> {
     fn look_at_first(&mut self) -> Connect<SocketPorts<'w, &'w R>>
         requires { 0 < length self.old.arrivals.items }
         ensures { FirstArrivalEvolves ⟦<Connection as Duplex>⟧.to_give ⟦<Connection as Duplex>⟧.taken
+            ⟦<Connection as Duplex>⟧.calls
             (λ ports. record { number = ports.number; bot = ports.bot.stream; server = ports.server.stream })
             (record { came = self.old.acceptor.came; arrivals = self.old.arrivals.items; closing = self.old.closings })
             result (record { came = self.new.acceptor.came; arrivals = self.new.arrivals.items; closing = self.new.closings }) }
@@ -198,7 +201,7 @@ impl<'w, R: Clock + Net, E: Write + Drop> Sockets<'w, R, E> {
     pub fn finish(&mut self)
         ensures closing { (rounds : ℕ) × GoOnFor ⟦<Connection as Duplex>⟧.to_give ⟦<Connection as Duplex>⟧.taken
             ⟦<Connection as Duplex>⟧.calls rounds self.old.closings self.new.closings
-            × ((self.new.closings ≡ []) ⊎ (rounds ≡ u64.MAX)) }
+            × ((self.new.closings.streams ≡ []) ⊎ (rounds ≡ u64.MAX)) }
         ensures came { self.new.acceptor.came ≡ self.old.acceptor.came }
         ensures arrivals { self.new.arrivals.items ≡ self.old.arrivals.items }
     {

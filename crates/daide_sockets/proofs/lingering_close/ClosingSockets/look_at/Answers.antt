@@ -1,6 +1,6 @@
 use Rattle.std.proofs.Common.{ap, length, arith, refl}
 use Rattle.daide_sockets.proofs.LingeringLemmas.{lingers_here, leaves_here}
-use Rattle.daide_sockets.proofs.lingering_close.Closings.look_at.Goals as goal
+use Rattle.daide_sockets.proofs.lingering_close.ClosingSockets.look_at.Goals as goal
 
 pub returns-then-lingers : goal.returns-then-lingers
 returns-then-lingers g c =

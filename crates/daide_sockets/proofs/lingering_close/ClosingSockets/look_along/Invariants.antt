@@ -1,5 +1,5 @@
 use Rattle.daide_sockets.specs.Lingering.{LooksAlong}
-use Rattle.daide_sockets.proofs.lingering_close.Closings.look_along.Given as goal
+use Rattle.daide_sockets.proofs.lingering_close.ClosingSockets.look_along.Given as goal
 
 -- the streams checked so far
 abbrev pub invariant-loop-place : goal.invariant-loop-place

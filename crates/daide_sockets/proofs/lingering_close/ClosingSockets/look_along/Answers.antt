@@ -1,6 +1,6 @@
 use Rattle.std.proofs.Common.{arith}
 use Rattle.daide_sockets.proofs.LingeringLemmas.{none_looked_at, next_inside, next_looked}
-use Rattle.daide_sockets.proofs.lingering_close.Closings.look_along.Goals as goal
+use Rattle.daide_sockets.proofs.lingering_close.ClosingSockets.look_along.Goals as goal
 
 pub loop-place-init : goal.loop-place-init
 loop-place-init g c =
