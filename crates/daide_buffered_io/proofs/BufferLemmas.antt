@@ -6,8 +6,8 @@ use Rattle.std.proofs.lemmas.List.{drop-take, drop-drop, drop-append-le, take_at
 use Rattle.std.proofs.lemmas.Slice.{between_is}
 use Rattle.std.proofs.KnownBytes.{Consumes-nil, Consumes-trans, Appends-nil, Appends-trans}
 use Rattle.std.specs.Io.KnownBytes.{Consumes, Keeps, Appends}
-use Rattle.daide_protocol.specs.declared.ports.Put.{Put}
-use Rattle.daide_protocol.specs.declared.ports.Put.TheVariants.{Took, Failed}
+use Rattle.daide_io.specs.declared.ports.Put.{Put}
+use Rattle.daide_io.specs.declared.ports.Put.TheVariants.{Took, Failed}
 use Rattle.daide_buffered_io.specs.Buffers.{Buffer, Passes, ReadsNothing, WritesNothing}
 use Rattle.daide_buffered_io.specs.Taking.{IsTaken, taken_len, bytes_taken}
 

@@ -1,10 +1,10 @@
 -- A stream with a read buffer and a write buffer. (own)
 use Rattle.std.specs.Prelude.{◌≡◌, ◌≤◌, ℕ, Bool, true, false, List, [], ◌++◌, drop, Option, Some, None}
 use Rattle.std.specs.Io.KnownBytes.{Consumes, Appends}
-use Rattle.daide_protocol.specs.declared.ports.Pull.{Pull}
-use Rattle.daide_protocol.specs.declared.ports.Pull.TheVariants.{Got, Idle, Ended}
+use Rattle.daide_io.specs.declared.ports.Pull.{Pull}
+use Rattle.daide_io.specs.declared.ports.Pull.TheVariants.{Got, Idle, Ended}
 use Rattle.daide_buffered_io.specs.declared.readiness.Readiness.{Readiness}
-use Rattle.daide_protocol.specs.declared.ports.Put.{Put}
+use Rattle.daide_io.specs.declared.ports.Put.{Put}
 use Rattle.daide_buffered_io.specs.Calls.{StreamCall, IsPull, IsPut}
 use Rattle.daide_buffered_io.specs.Taking.{taken_len, has_put_failed}
 

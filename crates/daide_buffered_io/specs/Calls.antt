@@ -5,11 +5,11 @@ use Rattle.std.specs.IoError.{error_kind}
 use Rattle.std.specs.declared.io.Error.{Error}
 use Rattle.std.specs.declared.io.ErrorKind.{ErrorKind}
 use Rattle.std.specs.declared.io.ErrorKind.TheVariants as Kinds
-use Rattle.daide_protocol.specs.Ports.{AppendsTo}
-use Rattle.daide_protocol.specs.declared.ports.Pull.{Pull}
-use Rattle.daide_protocol.specs.declared.ports.Pull.TheVariants as Pulls
-use Rattle.daide_protocol.specs.declared.ports.Put.{Put}
-use Rattle.daide_protocol.specs.declared.ports.Put.TheVariants as Puts
+use Rattle.daide_io.specs.Ports.{AppendsTo}
+use Rattle.daide_io.specs.declared.ports.Pull.{Pull}
+use Rattle.daide_io.specs.declared.ports.Pull.TheVariants as Pulls
+use Rattle.daide_io.specs.declared.ports.Put.{Put}
+use Rattle.daide_io.specs.declared.ports.Put.TheVariants as Puts
 use Rattle.daide_buffered_io.specs.declared.outcome.IoResult.{IoResult}
 use Rattle.daide_buffered_io.specs.declared.readiness.Readiness.{Readiness}
 use Rattle.daide_buffered_io.specs.declared.outcome.IoResult.TheVariants.{Moved, Interrupted, NotNow, Failed}

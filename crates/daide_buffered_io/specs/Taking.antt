@@ -1,8 +1,8 @@
 -- The bytes of a put that a stream accepted. (own)
 use Rattle.std.specs.Prelude.{ℕ, Bool, true, false, List, take, Option}
 use Rattle.std.specs.Io.KnownBytes.{Appends, Keeps}
-use Rattle.daide_protocol.specs.declared.ports.Put.{Put}
-use Rattle.daide_protocol.specs.declared.ports.Put.TheVariants.{Took, Failed}
+use Rattle.daide_io.specs.declared.ports.Put.{Put}
+use Rattle.daide_io.specs.declared.ports.Put.TheVariants.{Took, Failed}
 
 -- a put that returned `Took n` wrote exactly the first `n` bytes; a put that failed wrote none
 abbrev pub IsTaken : Option (List ℕ) → List ℕ → Put → Option (List ℕ) → Type 0

@@ -6,7 +6,7 @@
 //! and written without buffers.
 
 ghost use Rattle.std.specs.Prelude.{◌≡◌, ◌<◌, ◌≤◌, ◌++◌, [], ◌∷◌, true, false, min, length, take, IfSome};
-ghost use Rattle.daide_protocol.specs.Ports.{AppendsTo, IsPullWithin, IsPutWithin, pulled_len};
+ghost use Rattle.daide_io.specs.Ports.{AppendsTo, IsPullWithin, IsPutWithin, pulled_len};
 ghost use Rattle.daide_buffered_io.specs.Buffers.{Passes, ReadsNothing, WritesNothing, IsBufferedPull, IsFlushed, buffered_bytes};
 ghost use Rattle.daide_buffered_io.specs.Calls.{IsStopped, WritingEnded};
 ghost use Rattle.daide_buffered_io.specs.Taking.{bytes_taken};
@@ -16,7 +16,7 @@ use crate::duplex::Duplex;
 use crate::io_buffer::{IoBuffer, MOST_HELD};
 use crate::pool::Pool;
 use crate::readiness::Readiness;
-use daide_protocol::ports::{Pull, Put};
+use daide_io::ports::{Pull, Put};
 use std::marker::Model;
 
 /// A stream with its read buffer (`read_buffer`) and its write buffer (`write_buffer`), each `None` while it is empty.

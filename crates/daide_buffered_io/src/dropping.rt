@@ -1,7 +1,7 @@
 //! Draining: bytes that are read from a closing stream and discarded.
 
 ghost use Rattle.std.specs.Prelude.{◌≡◌, ◌+◌, ◌<◌, ◌≤◌, ℕ, List, [], min, length, true};
-ghost use Rattle.daide_protocol.specs.declared.ports.Pull.{Pull};
+ghost use Rattle.daide_io.specs.declared.ports.Pull.{Pull};
 ghost use Rattle.daide_buffered_io.specs.Buffers.{Passes, WritesNothing, IsBufferedPull, drop_size};
 ghost use Rattle.daide_buffered_io.specs.Calls.{is_last_piece};
 
@@ -9,7 +9,7 @@ use crate::buffered::Buffered;
 use crate::duplex::Duplex;
 use crate::pool::Pool;
 use crate::readiness::Readiness;
-use daide_protocol::ports::Pull;
+use daide_io::ports::Pull;
 use std::marker::Model;
 
 /// The most bytes that one call discards.

@@ -2,7 +2,7 @@
 
 ghost use Rattle.std.specs.Prelude.{◌≡◌, ◌≤◌, ◌++◌, [], min, length, take, drop, IfOk};
 ghost use Rattle.std.specs.Io.KnownBytes.{Consumes};
-ghost use Rattle.daide_protocol.specs.Ports.{pulled_len};
+ghost use Rattle.daide_io.specs.Ports.{pulled_len};
 ghost use Rattle.daide_buffered_io.specs.Buffers.{all_room};
 ghost use Rattle.daide_buffered_io.specs.Calls.{IsPull, IsPut};
 ghost use Rattle.daide_buffered_io.specs.Taking.{IsTaken, taken_len};
@@ -10,7 +10,7 @@ ghost use Rattle.daide_buffered_io.specs.Taking.{IsTaken, taken_len};
 use crate::calls::{pull_from, put_to};
 use crate::duplex::Duplex;
 use crate::readiness::Readiness;
-use daide_protocol::ports::{Pull, Put};
+use daide_io::ports::{Pull, Put};
 use std::alloc::{AllocError, Global};
 use std::marker::Model;
 

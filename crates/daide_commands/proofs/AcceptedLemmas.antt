@@ -1,8 +1,8 @@
 -- The sockets count each accept.
 use Rattle.std.proofs.Common.{◌≡◌, ℕ, ◌+◌, true, false, List, [], ◌∷◌, Option, ap, arith}
-use Rattle.daide_protocol.specs.System.{SystemCall, Begins, BeginsTurn, Accepts, Connects, Retires, Notifies, Waits}
-use Rattle.daide_protocol.specs.System.{TransitsBy}
-use Rattle.daide_protocol.specs.declared.system.Connect.TheVariants.{Ready, Failed, Pending}
+use Rattle.daide_io.specs.System.{SystemCall, Begins, BeginsTurn, Accepts, Connects, Retires, Notifies, Waits}
+use Rattle.daide_io.specs.System.{TransitsBy}
+use Rattle.daide_io.specs.declared.system.Connect.TheVariants.{Ready, Failed, Pending}
 use Rattle.daide_event_loop.specs.Served.{sum_over_calls, comes}
 use Rattle.daide_buffered_io.specs.Calls.{StreamCall}
 use Rattle.daide_sockets.specs.Pairing.{Paired, RunSockets, Transits}

@@ -2,15 +2,15 @@
 use Rattle.std.proofs.Common.{◌≡◌, ℕ, List, [], ◌∷◌, Option, Some, None, refl, ap, subst, sym}
 use Rattle.std.specs.Prelude.{Contains}
 use Rattle.daide_protocol.specs.Wires.{SessionView}
-use Rattle.daide_protocol.specs.Ports.{PortCall, TurnBegins, Clock, Pulled, Offered, EvolvesBy}
-use Rattle.daide_protocol.specs.declared.ports.Pull.{Pull}
-use Rattle.daide_protocol.specs.declared.ports.Put.{Put}
+use Rattle.daide_io.specs.Ports.{PortCall, TurnBegins, Clock, Pulled, Offered, EvolvesBy}
+use Rattle.daide_io.specs.declared.ports.Pull.{Pull}
+use Rattle.daide_io.specs.declared.ports.Put.{Put}
 use Rattle.daide_settings.specs.declared.settings.Settings.{Settings}
-use Rattle.daide_protocol.specs.declared.system.Connect.TheVariants.{Ready}
+use Rattle.daide_io.specs.declared.system.Connect.TheVariants.{Ready}
 use Rattle.daide_event_loop.specs.QuotaPorts.{QuotaPortsView, Meters, EvolvesWhile, IsSpentAnswer}
 use Rattle.daide_event_loop.specs.Serving.{fresh}
 use Rattle.daide_event_loop.specs.Served.{IsServed, run_limits}
-use Rattle.daide_protocol.specs.System.{SystemCall, Connects}
+use Rattle.daide_io.specs.System.{SystemCall, Connects}
 use Rattle.daide_buffered_io.specs.Buffers.{Buffer}
 use Rattle.daide_buffered_io.specs.Streams.{Transfers}
 use Rattle.daide_buffered_io.proofs.StreamLemmas.{still_moves}

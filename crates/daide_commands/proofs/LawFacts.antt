@@ -4,11 +4,11 @@ use Rattle.std.specs.Prelude.{Contains}
 use Rattle.std.specs.Io.KnownBytes.{Consumes}
 use Rattle.daide_frame.specs.declared.side.Side.TheVariants.{Bot}
 use Rattle.daide_protocol.specs.Machine.{Limits}
-use Rattle.daide_protocol.specs.Ports.{PortCall, Pulled, EvolvesBy}
-use Rattle.daide_protocol.specs.System.{Begins, Accepts, Connects, TransitsBy}
+use Rattle.daide_io.specs.Ports.{PortCall, Pulled, EvolvesBy}
+use Rattle.daide_io.specs.System.{Begins, Accepts, Connects, TransitsBy}
 use Rattle.daide_protocol.specs.Wires.{SessionView}
-use Rattle.daide_protocol.specs.declared.ports.Pull.TheVariants.{Got}
-use Rattle.daide_protocol.specs.declared.system.Connect.TheVariants.{Ready}
+use Rattle.daide_io.specs.declared.ports.Pull.TheVariants.{Got}
+use Rattle.daide_io.specs.declared.system.Connect.TheVariants.{Ready}
 use Rattle.daide_driver.specs.Headline.{IsBoundedAndExact}
 use Rattle.daide_settings.specs.declared.settings.Settings.{Settings}
 use Rattle.daide_event_loop.specs.QuotaPorts.{QuotaPortsView}

@@ -2,8 +2,8 @@
 use Rattle.std.proofs.Common.{◌≡◌, ℕ, List, [], ◌∷◌, Option, Result, Ok, Err, refl, inl, inr, ap}
 use Rattle.std.specs.Result.{OnOk, IfErr}
 use Rattle.std.specs.declared.time.Duration.{Duration}
-use Rattle.daide_protocol.specs.Ports.{PortCall}
-use Rattle.daide_protocol.specs.System.{SystemCall, TransitsBy}
+use Rattle.daide_io.specs.Ports.{PortCall}
+use Rattle.daide_io.specs.System.{SystemCall, TransitsBy}
 use Rattle.daide_settings.specs.declared.settings.Settings.{Settings}
 use Rattle.daide_event_loop.specs.declared.serving.ServeFault.{ServeFault}
 use Rattle.daide_event_loop.specs.Served.{IsWholeRun}

@@ -9,12 +9,12 @@ use Rattle.daide_protocol.specs.Heard.{bytes_from}
 use Rattle.daide_protocol.specs.Machine.{Limits}
 use Rattle.daide_protocol.specs.Wires.{SessionView, same_side, sent_bytes, queued}
 use Rattle.daide_driver.specs.Headline.{IsBoundedAndExact, untouched}
-use Rattle.daide_protocol.specs.Ports.{PortCall, TurnBegins, Clock, Pulled, Offered, EvolvesBy, event_of}
-use Rattle.daide_protocol.specs.Ports.{events_of, took}
+use Rattle.daide_io.specs.Ports.{PortCall, TurnBegins, Clock, Pulled, Offered, EvolvesBy, event_of}
+use Rattle.daide_io.specs.Ports.{events_of, took}
 use Rattle.daide_driver.specs.Record.{Moved}
-use Rattle.daide_protocol.specs.Ports.{taken}
-use Rattle.daide_protocol.specs.declared.ports.Pull.TheVariants.{Got, Idle, Ended}
-use Rattle.daide_protocol.specs.declared.ports.Put.TheVariants.{Took, Failed}
+use Rattle.daide_io.specs.Ports.{taken}
+use Rattle.daide_io.specs.declared.ports.Pull.TheVariants.{Got, Idle, Ended}
+use Rattle.daide_io.specs.declared.ports.Put.TheVariants.{Took, Failed}
 use Rattle.daide_buffered_io.specs.Buffers.{Buffer, Passes}
 use Rattle.daide_buffered_io.specs.Streams.{stream_of, gave, given, Transfers}
 use Rattle.daide_commands.specs.Exchanged.{Exchanges}

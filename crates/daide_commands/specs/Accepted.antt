@@ -1,6 +1,6 @@
 -- The number of bots accepted, by the sockets of a run and by its trace of system calls. (own)
 use Rattle.std.specs.Prelude.{◌≡◌, ℕ, ◌+◌, List, Option}
-use Rattle.daide_protocol.specs.System.{SystemCall, TransitsBy}
+use Rattle.daide_io.specs.System.{SystemCall, TransitsBy}
 use Rattle.daide_event_loop.specs.Served.{sum_over_calls, comes}
 use Rattle.daide_buffered_io.specs.Calls.{StreamCall}
 use Rattle.daide_sockets.specs.Pairing.{Paired, RunSockets, Transits}

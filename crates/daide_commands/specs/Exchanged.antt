@@ -4,10 +4,10 @@ use Rattle.std.specs.Io.KnownBytes.{Consumes, Appends}
 use Rattle.daide_frame.specs.declared.side.Side.{Side}
 use Rattle.daide_protocol.specs.Heard.{bytes_from}
 use Rattle.daide_protocol.specs.Machine.{Effect, Limits, Runs, initial_state}
-use Rattle.daide_protocol.specs.Ports.{PortCall, EvolvesBy, events_of, taken, has_failed}
-use Rattle.daide_protocol.specs.System.{SystemCall, Connects}
+use Rattle.daide_io.specs.Ports.{PortCall, EvolvesBy, events_of, taken, has_failed}
+use Rattle.daide_io.specs.System.{SystemCall, Connects}
 use Rattle.daide_protocol.specs.Wires.{SessionView, sent_to, sent_bytes, is_closed}
-use Rattle.daide_protocol.specs.declared.system.Connect.TheVariants.{Ready}
+use Rattle.daide_io.specs.declared.system.Connect.TheVariants.{Ready}
 use Rattle.daide_driver.specs.Headline.{IsBoundedAndExact}
 use Rattle.daide_settings.specs.declared.settings.Settings.{Settings}
 use Rattle.daide_event_loop.specs.QuotaPorts.{QuotaPortsView}

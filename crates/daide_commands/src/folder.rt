@@ -9,9 +9,10 @@ ghost use Rattle.daide_log.specs.RecordText.{head_text, head_count};
 ghost use Rattle.daide_words.specs.Words.{words_of};
 ghost use Rattle.daide_commands.specs.Folder.{path_in};
 
+use daide_io::Ports;
 use daide_log::record::MOST_LINES;
 use daide_log::{Record, RecordEnd, Recording};
-use daide_protocol::{Config, Ports};
+use daide_protocol::Config;
 use daide_settings::Settings;
 use daide_words::Words;
 use std::alloc::{AllocError, Global};

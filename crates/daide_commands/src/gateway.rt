@@ -1,7 +1,7 @@
 //! The gateway at the addresses of its settings.
 
 ghost use Rattle.std.specs.Prelude.{◌≡◌, List, IfErr, OnOk};
-ghost use Rattle.daide_protocol.specs.System.{SystemCall, TransitsBy};
+ghost use Rattle.daide_io.specs.System.{SystemCall, TransitsBy};
 ghost use Rattle.daide_event_loop.specs.Served.{IsWholeRun};
 ghost use Rattle.daide_event_loop.specs.Serving.{IsServeCause, IsOfSettings, GivesUp};
 ghost use Rattle.daide_commands.specs.Gateway.{IsBeforeServing, fault_by, Announces};
@@ -9,8 +9,8 @@ ghost use Rattle.daide_log.specs.Recording.{HasFailed};
 
 use daide_event_loop::{ServeFault, serve};
 use daide_frame::Memory;
+use daide_io::{Ports, System};
 use daide_log::Sink;
-use daide_protocol::{Ports, System};
 use daide_settings::Settings;
 use daide_sockets::bound_sockets::{BindError, BoundSockets, bind_sockets};
 use std::net::Net;

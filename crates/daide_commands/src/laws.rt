@@ -5,7 +5,7 @@ ghost use Rattle.daide_commands.specs.Exchanged.{SessionsExchange, ServedSession
 ghost use Rattle.daide_commands.specs.Accepted.{BotsAreCounted};
 
 use daide_buffered_io::duplex::Duplex;
-use daide_protocol::Ports;
+use daide_io::Ports;
 use daide_sockets::ports::SocketPorts;
 use std::rt::Clock;
 

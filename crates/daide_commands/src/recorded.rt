@@ -7,8 +7,8 @@ ghost use Rattle.daide_sockets.specs.Pairing.{Transits};
 
 use crate::folder::{Folder, SessionFile, end};
 use daide_buffered_io::duplex::Duplex;
+use daide_io::{Connect, Notice, SessionEnd, System};
 use daide_log::Recording;
-use daide_protocol::{Connect, Notice, SessionEnd, System};
 use daide_sockets::connection::Connection;
 use daide_sockets::ports::SocketPorts;
 use daide_sockets::system::Sockets;

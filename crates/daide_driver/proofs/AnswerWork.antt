@@ -8,8 +8,8 @@ use Rattle.daide_protocol.specs.Heard.{bytes_from}
 use Rattle.daide_protocol.specs.Wires.{SessionView, same_side}
 use Rattle.daide_session.specs.Work.{IsPaidBy}
 use Rattle.daide_session.proofs.WorkLemmas.{paid_then}
-use Rattle.daide_protocol.specs.declared.ports.Pull.TheVariants.{Got}
-use Rattle.daide_protocol.specs.Ports.{PortCall, Clock, Pulled, events_of}
+use Rattle.daide_io.specs.declared.ports.Pull.TheVariants.{Got}
+use Rattle.daide_io.specs.Ports.{PortCall, Clock, Pulled, events_of}
 use Rattle.daide_driver.specs.Record.{came, Works}
 
 -- ---- one port call after another

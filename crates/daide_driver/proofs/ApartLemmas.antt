@@ -4,7 +4,7 @@ use Rattle.std.proofs.Common.{◌<◌, subst, set, ◌∙◌, arith}
 use Rattle.std.specs.Prelude.{slice_get, remove, unwrap_or}
 use Rattle.daide_protocol.specs.Machine.{Limits}
 use Rattle.daide_protocol.specs.Wires.{SessionView, IsNew, is_closed}
-use Rattle.daide_protocol.specs.Ports.{PortCall, TurnBegins, EvolvesBy}
+use Rattle.daide_io.specs.Ports.{PortCall, TurnBegins, EvolvesBy}
 use Rattle.daide_session.specs.Bounds.{IsWithinBounds}
 use Rattle.daide_driver.specs.Record.{RefinesRun, EvolveTogether}
 use Rattle.daide_driver.specs.Turn.{Then}

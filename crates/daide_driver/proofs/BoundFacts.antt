@@ -9,11 +9,11 @@ use Rattle.daide_protocol.specs.Machine.{Limits}
 use Rattle.daide_protocol.specs.Wires.{SessionView, holding, room_of}
 use Rattle.daide_protocol.specs.declared.config.Config.{Config}
 use Rattle.daide_driver.specs.declared.hub.HubError.TheVariants as Errors
-use Rattle.daide_protocol.specs.declared.ports.Pull.TheVariants.{Got}
+use Rattle.daide_io.specs.declared.ports.Pull.TheVariants.{Got}
 use Rattle.daide_protocol.specs.Config.{config_fault}
 use Rattle.daide_protocol.specs.Config.{limits_of}
 use Rattle.daide_session.specs.Bounds.{IsWithinBounds}
-use Rattle.daide_protocol.specs.Ports.{PortCall, Pulled}
+use Rattle.daide_io.specs.Ports.{PortCall, Pulled}
 use Rattle.daide_driver.specs.Turn.{FillsRoom, turn_steps}
 use Rattle.daide_driver.specs.Headline.{IsBoundedAndExact}
 use Rattle.daide_driver.specs.Hub.{IsHubSize, IsHubCause, session_bound}

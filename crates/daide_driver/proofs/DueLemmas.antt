@@ -9,11 +9,11 @@ use Rattle.daide_protocol.specs.Events.{Event, other}
 use Rattle.daide_protocol.specs.Machine.{Sent}
 use Rattle.daide_protocol.specs.Wires.{SessionView, queued, sent_to, sent_bytes, front_of}
 use Rattle.daide_protocol.proofs.WireLemmas.{same_self, sent_bytes-append}
-use Rattle.daide_protocol.specs.declared.ports.Pull.{Pull}
-use Rattle.daide_protocol.specs.declared.ports.Pull.TheVariants.{Got, Idle, Ended}
-use Rattle.daide_protocol.specs.declared.ports.Put.{Put}
-use Rattle.daide_protocol.specs.declared.ports.Put.TheVariants.{Took, Failed}
-use Rattle.daide_protocol.specs.Ports.{PortCall, Clock, Offered, took, taken, IsPutWithin}
+use Rattle.daide_io.specs.declared.ports.Pull.{Pull}
+use Rattle.daide_io.specs.declared.ports.Pull.TheVariants.{Got, Idle, Ended}
+use Rattle.daide_io.specs.declared.ports.Put.{Put}
+use Rattle.daide_io.specs.declared.ports.Put.TheVariants.{Took, Failed}
+use Rattle.daide_io.specs.Ports.{PortCall, Clock, Offered, took, taken, IsPutWithin}
 use Rattle.daide_driver.specs.Turn.{Then, AdvancesByEvents, Hears, AsksClock, Hands, Puts, Gets}
 use Rattle.daide_driver.specs.Turn.{Pulls, Turn}
 use Rattle.daide_driver.specs.Due.{AreTurns, TakesSome, EachTakesSome, EachTurnTakesSome, taken_in}

@@ -18,11 +18,11 @@ use Rattle.daide_protocol.proofs.WireLemmas.{same_self}
 use Rattle.daide_channels.specs.Receiver.{parts_by}
 use Rattle.daide_channels.specs.Fronts.{AreFresh, ArePartsOf, KeepsFront}
 use Rattle.daide_channels.proofs.PartsLemmas.{below}
-use Rattle.daide_protocol.specs.declared.ports.Pull.{Pull}
-use Rattle.daide_protocol.specs.declared.ports.Pull.TheVariants.{Got, Idle, Ended}
-use Rattle.daide_protocol.specs.declared.ports.Put.{Put}
-use Rattle.daide_protocol.specs.declared.ports.Put.TheVariants.{Took, Failed}
-use Rattle.daide_protocol.specs.Ports.{PortCall, Offered, taken}
+use Rattle.daide_io.specs.declared.ports.Pull.{Pull}
+use Rattle.daide_io.specs.declared.ports.Pull.TheVariants.{Got, Idle, Ended}
+use Rattle.daide_io.specs.declared.ports.Put.{Put}
+use Rattle.daide_io.specs.declared.ports.Put.TheVariants.{Took, Failed}
+use Rattle.daide_io.specs.Ports.{PortCall, Offered, taken}
 use Rattle.daide_driver.specs.Turn.{Then, Hears, AsksClock, Hands, Puts, Gets, Pulls, Turn}
 use Rattle.daide_driver.specs.Due.{AreTurns, TakesAll, EachTakesAll, EachTurnTakesAll, taken_in}
 use Rattle.daide_driver.proofs.DueLemmas.{own_taken, taken-append}

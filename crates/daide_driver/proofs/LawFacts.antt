@@ -5,8 +5,8 @@ use Rattle.std.specs.Prelude.{slice_get}
 use Rattle.daide_frame.specs.declared.side.Side.TheVariants.{Bot, Server}
 use Rattle.daide_protocol.specs.Machine.{Limits}
 use Rattle.daide_protocol.specs.Wires.{SessionView, queued, first_len, sent_bytes, parts_of}
-use Rattle.daide_protocol.specs.declared.ports.Pull.TheVariants.{Got}
-use Rattle.daide_protocol.specs.Ports.{PortCall, TurnBegins, Clock, Pulled, EvolvesBy}
+use Rattle.daide_io.specs.declared.ports.Pull.TheVariants.{Got}
+use Rattle.daide_io.specs.Ports.{PortCall, TurnBegins, Clock, Pulled, EvolvesBy}
 use Rattle.daide_channels.specs.Fronts.{AreFresh}
 use Rattle.daide_driver.specs.Due.{AreTurns, DueBytesGo, EachTurnTakesAll, EachTurnTakesSome, FramesGo, taken_in}
 use Rattle.daide_driver.specs.Headline.{Headline, IsReachable, untouched}

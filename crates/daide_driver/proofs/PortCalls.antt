@@ -16,9 +16,9 @@ use Rattle.daide_protocol.specs.Wires.{Refines, Lost, Wrote, IsFrontOf}
 use Rattle.daide_protocol.proofs.WireLemmas.{sent_bytes-append}
 use Rattle.daide_session.proofs.SessionFronts.{apart}
 use Rattle.daide_session.proofs.WorkLemmas.{paid_same}
-use Rattle.daide_protocol.specs.declared.ports.Pull.TheVariants.{Got, Idle, Ended}
-use Rattle.daide_protocol.specs.declared.ports.Put.TheVariants.{Took, Failed}
-use Rattle.daide_protocol.specs.Ports.{TurnBegins, Clock, Pulled, Offered, taken, has_failed}
+use Rattle.daide_io.specs.declared.ports.Pull.TheVariants.{Got, Idle, Ended}
+use Rattle.daide_io.specs.declared.ports.Put.TheVariants.{Took, Failed}
+use Rattle.daide_io.specs.Ports.{TurnBegins, Clock, Pulled, Offered, taken, has_failed}
 use Rattle.daide_driver.specs.Record.{Moved, RefinesRun, Works}
 
 goes_wire : (a : SessionView) (es : List Event) (note : Note) (b : SessionView) (g : Refines a es note b) (side : Side) →

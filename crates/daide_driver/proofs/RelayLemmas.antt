@@ -2,7 +2,7 @@
 use Rattle.std.proofs.Common.{◌≡◌, ℕ, zero, suc, ◌+◌, false, List, [], refl}
 use Rattle.std.proofs.Common.{sym, subst, add-one}
 use Rattle.daide_protocol.specs.Wires.{SessionView, is_closed}
-use Rattle.daide_protocol.specs.Ports.{PortCall}
+use Rattle.daide_io.specs.Ports.{PortCall}
 use Rattle.daide_driver.specs.Record.{RefinesRun, EvolveTogether}
 use Rattle.daide_driver.specs.Turn.{Then}
 use Rattle.daide_driver.specs.Headline.{WholeTurn}

@@ -7,7 +7,7 @@ use Rattle.daide_frame.specs.declared.side.Side.TheVariants.{Bot, Server}
 use Rattle.daide_reader.specs.Reading.{IsRaised}
 use Rattle.daide_protocol.specs.Machine.{Limits, Sent, SessionState, is_over}
 use Rattle.daide_protocol.specs.Wires.{SessionView, IsNew, holding, queued, sent_bytes, is_closed, no_frame}
-use Rattle.daide_protocol.specs.Ports.{PortCall, has_failed}
+use Rattle.daide_io.specs.Ports.{PortCall, has_failed}
 use Rattle.daide_driver.specs.Record.{Moved, RefinesRun, Works, came}
 use Rattle.daide_driver.specs.Turn.{Then}
 use Rattle.daide_session.specs.Work.{unspent}

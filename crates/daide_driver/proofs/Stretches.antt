@@ -10,9 +10,9 @@ use Rattle.daide_protocol.proofs.OneRun.{one_run, runs_join}
 use Rattle.daide_protocol.proofs.PieceRuns.{over_stays}
 use Rattle.daide_protocol.proofs.SummaryLemmas.{tallied_then}
 use Rattle.daide_protocol.proofs.WireLemmas.{sent_to-append, sent_bytes-append}
-use Rattle.daide_protocol.specs.Ports.{PortCall, event_of, events_of, took, taken, put_fails, has_failed}
+use Rattle.daide_io.specs.Ports.{PortCall, event_of, events_of, took, taken, put_fails, has_failed}
 use Rattle.daide_driver.specs.Record.{Moved, RefinesRun}
-use Rattle.daide_protocol.specs.Ports.{EvolvesBy, AppendsTo}
+use Rattle.daide_io.specs.Ports.{EvolvesBy, AppendsTo}
 use Rattle.daide_driver.specs.Record.{EvolveTogether}
 use Rattle.daide_driver.specs.Turn.{Then}
 use Rattle.daide_session.proofs.WorkLemmas.{paid_same}

@@ -6,11 +6,11 @@ use Rattle.daide_frame.specs.declared.side.Side.{Side}
 use Rattle.daide_frame.specs.declared.side.Side.TheVariants.{Bot, Server}
 use Rattle.daide_protocol.specs.Wires.{SessionView, queued, front_of, first_len, room_of, IsFrontOf}
 use Rattle.daide_protocol.specs.Machine.{Sent}
-use Rattle.daide_protocol.specs.declared.ports.Pull.{Pull}
-use Rattle.daide_protocol.specs.declared.ports.Pull.TheVariants.{Got, Idle, Ended}
-use Rattle.daide_protocol.specs.declared.ports.Put.{Put}
-use Rattle.daide_protocol.specs.declared.ports.Put.TheVariants.{Took, Failed}
-use Rattle.daide_protocol.specs.Ports.{PortCall, Clock, Pulled, Offered, IsPutWithin, pulled_len}
+use Rattle.daide_io.specs.declared.ports.Pull.{Pull}
+use Rattle.daide_io.specs.declared.ports.Pull.TheVariants.{Got, Idle, Ended}
+use Rattle.daide_io.specs.declared.ports.Put.{Put}
+use Rattle.daide_io.specs.declared.ports.Put.TheVariants.{Took, Failed}
+use Rattle.daide_io.specs.Ports.{PortCall, Clock, Pulled, Offered, IsPutWithin, pulled_len}
 use Rattle.daide_driver.specs.Record.{RefinesRun, Works}
 use Rattle.daide_driver.specs.Record.{Working}
 use Rattle.std.specs.Prelude.{min}

@@ -4,8 +4,8 @@ use Rattle.std.specs.Prelude.{◌≡◌, ℕ, ◌<◌, ◌≤◌, min, true, Lis
 use Rattle.daide_frame.specs.declared.side.Side.{Side}
 use Rattle.daide_protocol.specs.Wires.{SessionView, queued, same_side, sent_bytes, first_len, parts_of}
 use Rattle.daide_channels.specs.Fronts.{AreFresh}
-use Rattle.daide_protocol.specs.declared.ports.Put.TheVariants.{Took, Failed}
-use Rattle.daide_protocol.specs.Ports.{PortCall, TurnBegins, Clock, Pulled, Offered, taken}
+use Rattle.daide_io.specs.declared.ports.Put.TheVariants.{Took, Failed}
+use Rattle.daide_io.specs.Ports.{PortCall, TurnBegins, Clock, Pulled, Offered, taken}
 use Rattle.daide_driver.specs.Turn.{Turn}
 
 -- turns in a row, each with its own trace

@@ -9,7 +9,7 @@ use Rattle.daide_protocol.specs.Machine.{Limits, initial_state}
 use Rattle.daide_protocol.specs.Summary.{nothing_counted}
 use Rattle.daide_protocol.specs.Wires.{SessionView, Holding, holding, sent_to, sent_bytes, is_closed}
 use Rattle.daide_session.specs.Bounds.{IsWithinBounds}
-use Rattle.daide_protocol.specs.Ports.{PortCall, taken, has_failed}
+use Rattle.daide_io.specs.Ports.{PortCall, taken, has_failed}
 use Rattle.daide_driver.specs.Record.{RefinesRun, came}
 use Rattle.daide_driver.specs.Turn.{Turn}
 

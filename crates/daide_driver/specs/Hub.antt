@@ -15,7 +15,7 @@ use Rattle.daide_driver.specs.declared.hub.HubError.TheVariants as Errors
 use Rattle.daide_protocol.specs.Bounds.{most_sessions}
 use Rattle.daide_protocol.specs.Config.{config_fault}
 use Rattle.daide_protocol.specs.Config.{limits_with}
-use Rattle.daide_protocol.specs.Ports.{PortCall, TurnBegins}
+use Rattle.daide_io.specs.Ports.{PortCall, TurnBegins}
 use Rattle.daide_driver.specs.Record.{EvolveTogether}
 use Rattle.daide_driver.specs.Turn.{AsksAtMost, turn_steps}
 use Rattle.daide_driver.specs.Headline.{WholeTurn}

@@ -3,7 +3,7 @@ use Rattle.std.specs.Prelude.{◌≡◌, ℕ, zero, suc, ◌<◌, true, List, []
 use Rattle.std.specs.Prelude.{slice_get, remove}
 use Rattle.daide_protocol.specs.Machine.{Limits}
 use Rattle.daide_protocol.specs.Wires.{SessionView, IsNew, is_closed}
-use Rattle.daide_protocol.specs.Ports.{PortCall, EvolvesBy}
+use Rattle.daide_io.specs.Ports.{PortCall, EvolvesBy}
 use Rattle.daide_driver.specs.Record.{EvolveTogether}
 use Rattle.daide_driver.specs.Headline.{IsReachable, Headline}
 use Rattle.daide_driver.specs.Hub.{HubView, AddsSession, Removes, Changes, IsBegun, IsTurned}

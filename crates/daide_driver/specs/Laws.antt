@@ -2,7 +2,7 @@
 use Rattle.std.specs.Prelude.{List, [], ◌++◌}
 use Rattle.daide_protocol.specs.Machine.{Limits}
 use Rattle.daide_protocol.specs.Wires.{SessionView, IsNew}
-use Rattle.daide_protocol.specs.Ports.{PortCall}
+use Rattle.daide_io.specs.Ports.{PortCall}
 use Rattle.daide_driver.specs.Record.{RefinesRun, EvolveTogether}
 use Rattle.daide_driver.specs.Headline.{IsReachable, Headline}
 

@@ -3,7 +3,7 @@ use Rattle.std.specs.Prelude.{◌≡◌, ℕ, Bool, true, false, List, [], ◌++
 use Rattle.daide_frame.specs.declared.side.Side.{Side}
 use Rattle.daide_protocol.specs.Heard.{bytes_from}
 use Rattle.daide_protocol.specs.Machine.{Effect, Runs, is_over}
-use Rattle.daide_protocol.specs.Ports.{PortCall, EvolvesBy, events_of, taken, has_failed}
+use Rattle.daide_io.specs.Ports.{PortCall, EvolvesBy, events_of, taken, has_failed}
 use Rattle.daide_protocol.specs.Summary.{tallied}
 use Rattle.daide_protocol.specs.Wires.{SessionView, queued, sent_to, sent_bytes}
 use Rattle.daide_session.specs.Work.{IsPaidBy}

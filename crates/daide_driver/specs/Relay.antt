@@ -1,7 +1,7 @@
 -- The effect of `relay`: turns of a session while it is not closed, at most a given number.
 use Rattle.std.specs.Prelude.{◌≡◌, ℕ, zero, suc, ◌≤◌, Bool, true, false, List, [], ◌++◌}
 use Rattle.daide_protocol.specs.Wires.{SessionView, is_closed}
-use Rattle.daide_protocol.specs.Ports.{PortCall}
+use Rattle.daide_io.specs.Ports.{PortCall}
 use Rattle.daide_driver.specs.Record.{RefinesRun}
 use Rattle.daide_driver.specs.Headline.{Headline, WholeTurn}
 use Rattle.daide_driver.specs.declared.relaying.RelayEnd.{RelayEnd}

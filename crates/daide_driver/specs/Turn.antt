@@ -8,12 +8,12 @@ use Rattle.daide_protocol.specs.declared.note.Note.{Note}
 use Rattle.daide_protocol.specs.Events.{Event, Ends, ImTimerExpired, bytes_come, other}
 use Rattle.daide_protocol.specs.Wires.{SessionView, queued, first_len, front_of, holding, room_of, IsFrontOf}
 use Rattle.daide_protocol.specs.Wires.{Refines, Lost, Wrote, parts_of, parts_after}
-use Rattle.daide_protocol.specs.declared.ports.Pull.{Pull}
-use Rattle.daide_protocol.specs.declared.ports.Pull.TheVariants.{Got, Idle, Ended}
-use Rattle.daide_protocol.specs.declared.ports.Put.{Put}
-use Rattle.daide_protocol.specs.declared.ports.Put.TheVariants.{Took, Failed}
+use Rattle.daide_io.specs.declared.ports.Pull.{Pull}
+use Rattle.daide_io.specs.declared.ports.Pull.TheVariants.{Got, Idle, Ended}
+use Rattle.daide_io.specs.declared.ports.Put.{Put}
+use Rattle.daide_io.specs.declared.ports.Put.TheVariants.{Took, Failed}
 use Rattle.daide_channels.specs.Fronts.{KeepsFront, AreFresh}
-use Rattle.daide_protocol.specs.Ports.{PortCall, Clock, Pulled, Offered, pulled_len, IsPutWithin}
+use Rattle.daide_io.specs.Ports.{PortCall, Clock, Pulled, Offered, pulled_len, IsPutWithin}
 
 -- the most bytes that a turn reads from a side (own)
 abbrev pub most_pulled : ℕ

@@ -15,10 +15,10 @@ ghost use Rattle.daide_driver.specs.Hub.{IsReportedOf, with_ports, weight_at, se
 
 use crate::turn_io::{BUFFER, turn_through};
 use daide_frame::memory::Memory;
+use daide_io::ports::Ports;
 use daide_protocol::bounds::MAX_SESSIONS;
 use daide_protocol::config::{Config, ConfigError};
 use daide_protocol::ending::Ending;
-use daide_protocol::ports::Ports;
 use daide_protocol::summary::Summary;
 use daide_session::session::Session;
 use daide_words::words::Words;

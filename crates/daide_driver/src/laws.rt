@@ -5,7 +5,7 @@ ghost use Rattle.daide_driver.specs.HubRuns.{SessionsAreApart, PortsComeBackApar
 ghost use Rattle.daide_driver.specs.HubRuns.{OpenedSessionsAreReachable};
 ghost use Rattle.daide_driver.specs.Due.{DueBytesGo, FramesGo};
 
-use daide_protocol::ports::Ports;
+use daide_io::ports::Ports;
 
 /// What ports returned in two consecutive calls moves a session as if they had returned it in one call.
 pub fn relays_join()

@@ -7,7 +7,7 @@ ghost use Rattle.daide_driver.specs.Record.{EvolveTogether};
 ghost use Rattle.daide_driver.specs.Relay.{MakesTurns, WholeRelay, is_spent};
 
 use crate::turn_io::turn;
-use daide_protocol::ports::Ports;
+use daide_io::ports::Ports;
 use daide_session::session::Session;
 use std::alloc::Allocator;
 

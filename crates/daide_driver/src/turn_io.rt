@@ -15,7 +15,7 @@ ghost use Rattle.daide_driver.specs.Turn.{AsksClock, Puts, Pulls, AsksAtMost, mo
 ghost use Rattle.daide_driver.specs.Headline.{WholeTurn};
 
 use daide_frame::side::Side;
-use daide_protocol::ports::{Ports, Pull, Put};
+use daide_io::ports::{Ports, Pull, Put};
 use daide_session::session::Session;
 use std::alloc::Allocator;
 

@@ -5,9 +5,9 @@ use Rattle.std.specs.Prelude.{IfSome, All, slice_get}
 use Rattle.std.proofs.lemmas.List.{length-set}
 use Rattle.std.proofs.lemmas.List.Elements.{All-nil, All-cons}
 use Rattle.daide_protocol.specs.Wires.{SessionView}
-use Rattle.daide_protocol.specs.Ports.{PortCall, TurnBegins}
-use Rattle.daide_protocol.specs.System.{SystemCall, Begins, BeginsTurn, Accepts, Connects, Retires, Notifies, Waits}
-use Rattle.daide_protocol.specs.System.{TransitsBy}
+use Rattle.daide_io.specs.Ports.{PortCall, TurnBegins}
+use Rattle.daide_io.specs.System.{SystemCall, Begins, BeginsTurn, Accepts, Connects, Retires, Notifies, Waits}
+use Rattle.daide_io.specs.System.{TransitsBy}
 use Rattle.daide_driver.specs.Hub.{HubView, with_ports, with_ports_at, Changes, IsTurned}
 use Rattle.daide_event_loop.specs.QuotaPorts.{QuotaPortsView, Meters, beginning, beginning_where}
 use Rattle.daide_event_loop.specs.Serving.{OpensTurn, TakesTurn, TurnsBelow}

@@ -7,12 +7,12 @@ use Rattle.daide_frame.specs.declared.side.Side.{Side}
 use Rattle.daide_frame.specs.declared.side.Side.TheVariants.{Bot, Server}
 use Rattle.daide_protocol.specs.declared.ending.Ending.{Ending}
 use Rattle.daide_protocol.specs.declared.ending.Ending.TheVariants as Endings
-use Rattle.daide_protocol.specs.declared.system.Cause.TheVariants as Causes
-use Rattle.daide_protocol.specs.declared.ports.Pull.TheVariants.{Got, Idle, Ended}
-use Rattle.daide_protocol.specs.declared.ports.Put.TheVariants.{Took, Failed}
+use Rattle.daide_io.specs.declared.system.Cause.TheVariants as Causes
+use Rattle.daide_io.specs.declared.ports.Pull.TheVariants.{Got, Idle, Ended}
+use Rattle.daide_io.specs.declared.ports.Put.TheVariants.{Took, Failed}
 use Rattle.daide_protocol.specs.Events.{Event, Ends, Loses}
 use Rattle.daide_protocol.specs.Machine.{SessionState, Effect, Limits, Successor, Runs, Transition, is_over}
-use Rattle.daide_protocol.specs.Ports.{PortCall, TurnBegins, Clock, Pulled, Offered, EvolvesBy, events_of}
+use Rattle.daide_io.specs.Ports.{PortCall, TurnBegins, Clock, Pulled, Offered, EvolvesBy, events_of}
 use Rattle.daide_protocol.specs.Wires.{SessionView, same_side, front_of, room_of}
 use Rattle.daide_protocol.proofs.EndingLemmas.{runs_reported}
 use Rattle.daide_protocol.proofs.OneRun.{one_run}

@@ -4,12 +4,12 @@ use Rattle.std.proofs.Common.{subst, arith}
 use Rattle.std.specs.Prelude.{◌==◌, is_none}
 use Rattle.daide_protocol.specs.Wires.{SessionView, is_closed}
 use Rattle.daide_driver.specs.Hub.{HubView}
-use Rattle.daide_protocol.specs.declared.system.Connect.{Connect}
-use Rattle.daide_protocol.specs.declared.system.Connect.TheVariants.{Ready, Failed, Pending}
-use Rattle.daide_protocol.specs.declared.system.Notice.TheVariants.{CannotReach}
+use Rattle.daide_io.specs.declared.system.Connect.{Connect}
+use Rattle.daide_io.specs.declared.system.Connect.TheVariants.{Ready, Failed, Pending}
+use Rattle.daide_io.specs.declared.system.Notice.TheVariants.{CannotReach}
 use Rattle.daide_event_loop.specs.declared.admission_counters.AdmissionCounters.{AdmissionCounters}
 use Rattle.daide_event_loop.specs.QuotaPorts.{QuotaPortsView}
-use Rattle.daide_protocol.specs.System.{SystemCall, Begins, Accepts, Connects, Retires, Notifies, Waits}
+use Rattle.daide_io.specs.System.{SystemCall, Begins, Accepts, Connects, Retires, Notifies, Waits}
 use Rattle.daide_event_loop.specs.Serving.{arrived, come, AdmitsWhere, MeetsWhere, MeetsBy, last_words, retirement_where}
 use Rattle.daide_event_loop.specs.Serving.{end_of, retirement, retirements, wait_where}
 use Rattle.daide_event_loop.specs.Served.{comes, connects, unreached, sum_over_calls}

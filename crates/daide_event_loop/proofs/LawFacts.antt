@@ -2,8 +2,8 @@
 use Rattle.std.proofs.Common.{◌≡◌, ℕ, ◌+◌, true, false, List, [], ◌∷◌, length, refl, ◌∙◌, ap, arith}
 use Rattle.std.specs.Prelude.{is_none}
 use Rattle.daide_protocol.specs.Wires.{SessionView}
-use Rattle.daide_protocol.specs.Ports.{PortCall, TurnBegins, Clock, EvolvesBy}
-use Rattle.daide_protocol.specs.System.{SystemCall}
+use Rattle.daide_io.specs.Ports.{PortCall, TurnBegins, Clock, EvolvesBy}
+use Rattle.daide_io.specs.System.{SystemCall}
 use Rattle.daide_settings.specs.declared.settings.Settings.{Settings}
 use Rattle.daide_driver.specs.Hub.{IsBegun, IsTurned}
 use Rattle.daide_event_loop.specs.QuotaPorts.{QuotaPortsView, Meters, progress_by}

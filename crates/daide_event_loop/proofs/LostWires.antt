@@ -15,14 +15,14 @@ use Rattle.daide_protocol.specs.declared.ending.Ending.{Ending}
 use Rattle.daide_protocol.specs.declared.ending.Ending.TheVariants as Endings
 use Rattle.daide_protocol.specs.declared.phase.Phase.{Phase}
 use Rattle.daide_protocol.specs.declared.phase.Phase.TheVariants.{WaitIm, WaitRm, Open, Over}
-use Rattle.daide_protocol.specs.declared.ports.Pull.TheVariants.{Got, Idle, Ended}
-use Rattle.daide_protocol.specs.declared.ports.Put.TheVariants.{Took, Failed}
+use Rattle.daide_io.specs.declared.ports.Pull.TheVariants.{Got, Idle, Ended}
+use Rattle.daide_io.specs.declared.ports.Put.TheVariants.{Took, Failed}
 use Rattle.daide_protocol.specs.Events.{Event, Comes, Ends, Loses, ImTimerExpired, bytes_come}
 use Rattle.daide_protocol.specs.Machine.{SessionState, Effect, Limits, Successor, Runs, Sent, coming, with_pending, is_over}
 use Rattle.daide_protocol.specs.Machine.{header_outcome, untimely, answered, im_answered, item_outcome, items_outcome, im_timer_expired}
 use Rattle.daide_protocol.specs.Machine.{event_outcome}
-use Rattle.daide_protocol.specs.Ports.{PortCall, TurnBegins, Clock, Pulled, Offered, events_of}
-use Rattle.daide_protocol.specs.Ports.{has_failed, taken}
+use Rattle.daide_io.specs.Ports.{PortCall, TurnBegins, Clock, Pulled, Offered, events_of}
+use Rattle.daide_io.specs.Ports.{has_failed, taken}
 use Rattle.daide_protocol.specs.Wires.{SessionView, same_side, queued, sent_bytes, sent_to, IsFrontOf}
 use Rattle.daide_driver.specs.Headline.{IsReachable, untouched}
 use Rattle.daide_driver.specs.Record.{Moved}

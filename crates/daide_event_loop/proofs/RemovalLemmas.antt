@@ -8,8 +8,8 @@ use Rattle.daide_protocol.specs.declared.ending.Ending.{Ending}
 use Rattle.daide_protocol.specs.declared.summary.Summary.{Summary}
 use Rattle.daide_driver.specs.Hub.{HubView, with_places, Removes, IsReportedOf}
 use Rattle.daide_event_loop.specs.QuotaPorts.{QuotaPortsView}
-use Rattle.daide_protocol.specs.declared.system.SessionEnd.{SessionEnd}
-use Rattle.daide_protocol.specs.System.{SystemCall, Retires, TransitsBy}
+use Rattle.daide_io.specs.declared.system.SessionEnd.{SessionEnd}
+use Rattle.daide_io.specs.System.{SystemCall, Retires, TransitsBy}
 use Rattle.daide_event_loop.specs.Serving.{end_by}
 use Rattle.daide_event_loop.specs.Serving.{last_words, parting, retirement, retirement_where, retirements, remaining}
 use Rattle.daide_event_loop.specs.Serving.{RemovesClosed, is_progress, any_progress}

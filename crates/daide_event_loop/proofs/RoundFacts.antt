@@ -12,16 +12,16 @@ use Rattle.daide_protocol.specs.declared.phase.Phase.{Phase}
 use Rattle.daide_protocol.specs.declared.phase.Phase.TheVariants.{Open, Over}
 use Rattle.daide_protocol.specs.Machine.{Limits, Sent, fm_bytes, in_phase, initial_state, with_ending}
 use Rattle.daide_protocol.specs.Wires.{SessionView, sent_bytes}
-use Rattle.daide_protocol.specs.declared.ports.Pull.TheVariants.{Got, Idle, Ended}
-use Rattle.daide_protocol.specs.declared.ports.Put.TheVariants.{Took, Failed}
+use Rattle.daide_io.specs.declared.ports.Pull.TheVariants.{Got, Idle, Ended}
+use Rattle.daide_io.specs.declared.ports.Put.TheVariants.{Took, Failed}
 use Rattle.daide_driver.specs.Headline.{nothing_held}
-use Rattle.daide_protocol.specs.Ports.{TurnBegins, Clock, Pulled, Offered}
-use Rattle.daide_protocol.specs.declared.system.Notice.TheVariants.{TurnsSpent}
-use Rattle.daide_protocol.specs.declared.system.Cause.TheVariants as Causes
+use Rattle.daide_io.specs.Ports.{TurnBegins, Clock, Pulled, Offered}
+use Rattle.daide_io.specs.declared.system.Notice.TheVariants.{TurnsSpent}
+use Rattle.daide_io.specs.declared.system.Cause.TheVariants as Causes
 use Rattle.daide_event_loop.specs.QuotaPorts.{QuotaPortsView, left_after, progress_after, progress_by, reported_after, beginning}
 use Rattle.daide_event_loop.specs.Served.{turns_in, while_left}
 use Rattle.daide_event_loop.specs.Serving.{cause_by, retirements, remaining}
-use Rattle.daide_protocol.specs.System.{BeginsTurn, Retires, Notifies}
+use Rattle.daide_io.specs.System.{BeginsTurn, Retires, Notifies}
 
 -- ---- progress
 

@@ -14,7 +14,7 @@ use Rattle.daide_protocol.specs.declared.ending.Ending.{Ending}
 use Rattle.daide_protocol.proofs.EndingLemmas.{runs_reported}
 use Rattle.daide_protocol.specs.Machine.{Limits, is_over}
 use Rattle.daide_protocol.specs.Wires.{SessionView, IsNew, is_closed}
-use Rattle.daide_protocol.specs.Ports.{PortCall, TurnBegins, EvolvesBy, events_of}
+use Rattle.daide_io.specs.Ports.{PortCall, TurnBegins, EvolvesBy, events_of}
 use Rattle.daide_driver.specs.Headline.{untouched, IsReachable, IsBoundedAndExact}
 use Rattle.daide_driver.specs.Hub.{HubView, IsHubSize, IsBegun, IsTurned, Changes}
 use Rattle.daide_protocol.specs.Config.{config_fault}
@@ -23,12 +23,12 @@ use Rattle.daide_driver.proofs.Stretches.{transition_then, relays_append}
 use Rattle.daide_driver.proofs.Standing.{new_stands}
 use Rattle.daide_driver.proofs.HubLemmas.{closed_over}
 use Rattle.daide_settings.specs.declared.settings.Settings.{Settings}
-use Rattle.daide_protocol.specs.declared.system.Connect.{Connect}
-use Rattle.daide_protocol.specs.declared.system.Connect.TheVariants.{Ready, Failed, Pending}
-use Rattle.daide_protocol.specs.declared.system.Notice.TheVariants.{CannotReach, TurnsSpent}
+use Rattle.daide_io.specs.declared.system.Connect.{Connect}
+use Rattle.daide_io.specs.declared.system.Connect.TheVariants.{Ready, Failed, Pending}
+use Rattle.daide_io.specs.declared.system.Notice.TheVariants.{CannotReach, TurnsSpent}
 use Rattle.daide_event_loop.specs.declared.admission_counters.AdmissionCounters.{AdmissionCounters}
 use Rattle.daide_event_loop.specs.QuotaPorts.{QuotaPortsView, Meters, progress_by}
-use Rattle.daide_protocol.specs.System.{SystemCall, Begins, BeginsTurn, Accepts, Connects, Retires, Notifies, Waits}
+use Rattle.daide_io.specs.System.{SystemCall, Begins, BeginsTurn, Accepts, Connects, Retires, Notifies, Waits}
 use Rattle.daide_event_loop.specs.Serving.{ServiceView, fresh, initial_service, may_accept, come, AdmitsWhere, MeetsWhere, OpensTurn}
 use Rattle.daide_event_loop.specs.Serving.{TurnsBelow, TurnsAll, last_words, retirement, retirement_where, retirements, remaining, parting}
 use Rattle.daide_event_loop.specs.Serving.{cause_by, end_of}

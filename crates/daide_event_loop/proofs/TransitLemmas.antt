@@ -1,6 +1,6 @@
 -- System calls, one after another.
 use Rattle.std.proofs.Common.{List, [], ◌∷◌, ◌++◌, subst}
-use Rattle.daide_protocol.specs.System.{SystemCall, TransitsBy}
+use Rattle.daide_io.specs.System.{SystemCall, TransitsBy}
 
 module _ {P S : Type 0} (transition : S → SystemCall P → S → Type 0) where
   pub transits_then : (xs ys : List (SystemCall P)) (a b c : S) → TransitsBy transition a xs b →

@@ -6,16 +6,16 @@ use Rattle.daide_protocol.specs.Machine.{Limits, SessionState, Effect, Runs}
 use Rattle.daide_protocol.specs.Wires.{SessionView, is_closed}
 use Rattle.daide_words.specs.Words.{words_of}
 use Rattle.daide_protocol.specs.Config.{config_fault, limits_with}
-use Rattle.daide_protocol.specs.Ports.{PortCall, TurnBegins, Clock, Pulled, Offered, EvolvesBy, events_of}
+use Rattle.daide_io.specs.Ports.{PortCall, TurnBegins, Clock, Pulled, Offered, EvolvesBy, events_of}
 use Rattle.daide_driver.specs.Headline.{untouched, IsBoundedAndExact}
 use Rattle.daide_driver.specs.Hub.{IsBegun, IsTurned, IsHubSize}
 use Rattle.daide_settings.specs.declared.settings.Settings.{Settings}
-use Rattle.daide_protocol.specs.declared.system.Connect.TheVariants.{Ready, Failed, Pending}
-use Rattle.daide_protocol.specs.declared.system.Cause.{Cause}
-use Rattle.daide_protocol.specs.declared.system.Cause.TheVariants as Causes
-use Rattle.daide_protocol.specs.declared.system.SessionEnd.{SessionEnd}
+use Rattle.daide_io.specs.declared.system.Connect.TheVariants.{Ready, Failed, Pending}
+use Rattle.daide_io.specs.declared.system.Cause.{Cause}
+use Rattle.daide_io.specs.declared.system.Cause.TheVariants as Causes
+use Rattle.daide_io.specs.declared.system.SessionEnd.{SessionEnd}
 use Rattle.daide_event_loop.specs.QuotaPorts.{QuotaPortsView, Meters, progress_by}
-use Rattle.daide_protocol.specs.System.{SystemCall, Begins, BeginsTurn, Accepts, Connects, Retires, Notifies, Waits}
+use Rattle.daide_io.specs.System.{SystemCall, Begins, BeginsTurn, Accepts, Connects, Retires, Notifies, Waits}
 use Rattle.daide_event_loop.specs.Serving.{ServiceView, fresh, initial_service, Rounds, Serves}
 
 -- the limits of a run's sessions

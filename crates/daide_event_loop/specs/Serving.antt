@@ -12,20 +12,20 @@ use Rattle.daide_driver.specs.declared.hub.HubError.TheVariants as HubErrors
 use Rattle.daide_words.specs.Words.{words_of}
 use Rattle.daide_protocol.specs.Config.{config_fault, limits_with}
 use Rattle.daide_driver.specs.Hub.{IsHubSize}
-use Rattle.daide_protocol.specs.Ports.{PortCall}
+use Rattle.daide_io.specs.Ports.{PortCall}
 use Rattle.daide_driver.specs.Hub.{HubView, with_places, AddsSession, Changes, IsBegun, IsTurned, IsHubCause}
 use Rattle.daide_settings.specs.declared.settings.Settings.{Settings}
 use Rattle.daide_event_loop.specs.declared.serving.ServeFault.{ServeFault}
 use Rattle.daide_event_loop.specs.declared.serving.ServeFault.TheVariants as Faults
 use Rattle.daide_event_loop.specs.declared.admission_counters.AdmissionCounters.{AdmissionCounters}
-use Rattle.daide_protocol.specs.declared.system.Connect.{Connect}
-use Rattle.daide_protocol.specs.declared.system.Connect.TheVariants.{Ready, Failed, Pending}
-use Rattle.daide_protocol.specs.declared.system.Notice.TheVariants.{CannotReach, TurnsSpent}
-use Rattle.daide_protocol.specs.declared.system.Cause.{Cause}
-use Rattle.daide_protocol.specs.declared.system.Cause.TheVariants as Causes
-use Rattle.daide_protocol.specs.declared.system.SessionEnd.{SessionEnd}
+use Rattle.daide_io.specs.declared.system.Connect.{Connect}
+use Rattle.daide_io.specs.declared.system.Connect.TheVariants.{Ready, Failed, Pending}
+use Rattle.daide_io.specs.declared.system.Notice.TheVariants.{CannotReach, TurnsSpent}
+use Rattle.daide_io.specs.declared.system.Cause.{Cause}
+use Rattle.daide_io.specs.declared.system.Cause.TheVariants as Causes
+use Rattle.daide_io.specs.declared.system.SessionEnd.{SessionEnd}
 use Rattle.daide_event_loop.specs.QuotaPorts.{QuotaPortsView, Meters, beginning}
-use Rattle.daide_protocol.specs.System.{SystemCall, Begins, BeginsTurn, Accepts, Connects, Retires, Notifies, Waits}
+use Rattle.daide_io.specs.System.{SystemCall, Begins, BeginsTurn, Accepts, Connects, Retires, Notifies, Waits}
 
 -- the state of a run: the sessions, and the counters
 pub record ServiceView (P : Type 0) : Type 0 where

@@ -2,7 +2,7 @@
 
 ghost use Rattle.daide_event_loop.specs.Served.{SessionsAreServed, MovesAreAnswered, TurnsAreCounted};
 
-use daide_protocol::ports::Ports;
+use daide_io::ports::Ports;
 
 /// After any rounds of a run from its opening, each session, held or taken out, began with ports that a connect
 /// returned. By all that these ports returned since, it is bounded and exact (`IsSessionOfRun`). Each session that was

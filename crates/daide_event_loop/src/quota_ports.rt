@@ -1,13 +1,13 @@
 //! Ports with a quota of turns, which record whether their last turn made progress.
 
 ghost use Rattle.std.specs.Prelude.{◌≡◌, false, Some, None, is_none};
-ghost use Rattle.daide_protocol.specs.Ports.{TurnBegins};
-ghost use Rattle.daide_protocol.specs.System.{TransitsBy};
+ghost use Rattle.daide_io.specs.Ports.{TurnBegins};
+ghost use Rattle.daide_io.specs.System.{TransitsBy};
 
 use daide_frame::side::Side;
+use daide_io::ports::{Ports, Pull, Put};
+use daide_io::system::System;
 use daide_protocol::ending::Ending;
-use daide_protocol::ports::{Ports, Pull, Put};
-use daide_protocol::system::System;
 use std::marker::Model;
 
 /// Ports with a quota of turns. If more turns begin than the quota has, the inner ports are not called any more. From

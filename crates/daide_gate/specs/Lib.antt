@@ -1,7 +1,7 @@
 -- the modules that the contracts of the exported names use
 pub use Rattle.daide_protocol.specs.Config
 pub use Rattle.daide_protocol.specs.Wires
-pub use Rattle.daide_protocol.specs.Ports
+pub use Rattle.daide_io.specs.Ports
 pub use Rattle.daide_session.specs.Session
 pub use Rattle.daide_driver.specs.Record
 pub use Rattle.daide_driver.specs.Turn
@@ -18,6 +18,6 @@ pub use Rattle.daide_show.specs.Groups
 pub use Rattle.daide_settings.specs.WordSettings
 pub use Rattle.daide_settings.specs.Settings
 pub use Rattle.daide_settings.specs.Given
-pub use Rattle.daide_protocol.specs.System
+pub use Rattle.daide_io.specs.System
 pub use Rattle.daide_event_loop.specs.QuotaPorts
 pub use Rattle.daide_event_loop.specs.Serving

@@ -25,10 +25,8 @@ pub use daide_reader::{Reader, Verdict};
 pub use daide_driver::{
     AddFault, Hub, HubError, RelayEnd, Removed, hub, relay, relaying, turn, turn_io,
 };
-pub use daide_protocol::{
-    Cause, Config, ConfigError, Connect, Deed, Ending, Note, Notice, Phase, Ports, Pull, Put,
-    SessionEnd, Summary, System, ports, system,
-};
+pub use daide_io::{Cause, Connect, Notice, Ports, Pull, Put, SessionEnd, System, ports, system};
+pub use daide_protocol::{Config, ConfigError, Deed, Ending, Note, Phase, Summary};
 pub use daide_session::{Session, SessionError};
 
 // The event loop, and the commands on their inputs.

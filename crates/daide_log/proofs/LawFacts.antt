@@ -5,7 +5,7 @@ use Rattle.daide_protocol.specs.declared.summary.Summary.{Summary}
 use Rattle.daide_protocol.specs.declared.config.Config.{Config}
 use Rattle.daide_protocol.specs.Config.{limits_with}
 use Rattle.daide_protocol.specs.Machine.{initial_state}
-use Rattle.daide_protocol.specs.Ports.{PortCall, Clock, EvolvesBy}
+use Rattle.daide_io.specs.Ports.{PortCall, Clock, EvolvesBy}
 use Rattle.daide_protocol.specs.Summary.{nothing_counted}
 use Rattle.daide_log_lines.specs.declared.fault.LogFault.TheVariants.{BadLine}
 use Rattle.daide_log.specs.declared.record.RecordEnd.{RecordEnd}

@@ -23,9 +23,9 @@ use Rattle.daide_protocol.specs.Machine.{SessionState, Effect, Successor, Transi
 use Rattle.daide_protocol.proofs.OneRun.{one_run}
 use Rattle.daide_protocol.proofs.PieceRuns.{over_stays}
 use Rattle.daide_reader.specs.declared.verdict.Verdict.{Verdict}
-use Rattle.daide_protocol.specs.declared.ports.Pull.TheVariants.{Got, Idle, Ended}
-use Rattle.daide_protocol.specs.declared.ports.Put.TheVariants.{Took, Failed}
-use Rattle.daide_protocol.specs.Ports.{PortCall, TurnBegins, Clock, Pulled, Offered, event_of, events_of}
+use Rattle.daide_io.specs.declared.ports.Pull.TheVariants.{Got, Idle, Ended}
+use Rattle.daide_io.specs.declared.ports.Put.TheVariants.{Took, Failed}
+use Rattle.daide_io.specs.Ports.{PortCall, TurnBegins, Clock, Pulled, Offered, event_of, events_of}
 use Rattle.daide_log_lines.specs.LogLine.{most_lines}
 use Rattle.daide_log_lines.specs.LogLine.{LogEvent, Received, EndOf, ImTimerLine}
 use Rattle.daide_log_lines.specs.MatchLine.{Of}

@@ -5,7 +5,7 @@ use Rattle.std.specs.List.{AllByRecursion}
 use Rattle.std.specs.Io.KnownBytes.{Keeps, Appends}
 use Rattle.daide_words.specs.declared.word.Word.{Word}
 use Rattle.daide_protocol.specs.declared.config.Config.{Config}
-use Rattle.daide_protocol.specs.Ports.{PortCall, EvolvesBy}
+use Rattle.daide_io.specs.Ports.{PortCall, EvolvesBy}
 use Rattle.daide_log_lines.specs.LogLine.{LogEvent, most_lines}
 use Rattle.daide_log.specs.declared.record.RecordEnd.{RecordEnd}
 use Rattle.daide_log.specs.declared.record.RecordEnd.TheVariants.{Whole, Failed, Full}

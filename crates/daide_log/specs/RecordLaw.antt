@@ -10,7 +10,7 @@ use Rattle.daide_protocol.specs.declared.config.Config.{Config}
 use Rattle.daide_protocol.specs.declared.note.Note.{Note}
 use Rattle.daide_protocol.specs.Config.{config_fault, limits_with}
 use Rattle.daide_protocol.specs.Machine.{SessionState, Effect, Runs, initial_state}
-use Rattle.daide_protocol.specs.Ports.{PortCall, TurnBegins, Clock, Pulled, Offered, event_of, events_of, EvolvesBy}
+use Rattle.daide_io.specs.Ports.{PortCall, TurnBegins, Clock, Pulled, Offered, event_of, events_of, EvolvesBy}
 use Rattle.daide_log_lines.specs.LogLine.{most_lines}
 use Rattle.daide_log.specs.declared.heading.Version.TheVariants.{Match}
 use Rattle.daide_log.specs.declared.record.RecordEnd.TheVariants.{Whole, Failed, Full}

@@ -12,9 +12,9 @@ use Rattle.daide_words.specs.declared.operand.Operand.{Operand}
 use Rattle.daide_words.specs.declared.operand.Operand.TheVariants as operands
 use Rattle.daide_words.specs.declared.word.Word.{Word}
 use Rattle.daide_protocol.specs.declared.config.Config.{Config}
-use Rattle.daide_protocol.specs.declared.ports.Pull.TheVariants.{Got, Idle, Ended}
-use Rattle.daide_protocol.specs.declared.ports.Put.TheVariants.{Took, Failed}
-use Rattle.daide_protocol.specs.Ports.{PortCall, TurnBegins, Clock, Pulled, Offered}
+use Rattle.daide_io.specs.declared.ports.Pull.TheVariants.{Got, Idle, Ended}
+use Rattle.daide_io.specs.declared.ports.Put.TheVariants.{Took, Failed}
+use Rattle.daide_io.specs.Ports.{PortCall, TurnBegins, Clock, Pulled, Offered}
 use Rattle.daide_log_lines.specs.LogLine.{LogEvent, Received, EndOf, ImTimerLine, Silence}
 use Rattle.daide_log.specs.Report.{name_of_side}
 

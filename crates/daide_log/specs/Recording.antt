@@ -2,7 +2,7 @@
 use Rattle.std.specs.Prelude.{◌≡◌, ⊤, ℕ, ◌+◌, ◌-◌, ◌<◌, ◌≤◌, min, List, length, Option, Some, None}
 use Rattle.std.specs.Io.KnownBytes.{Appends, Keeps}
 use Rattle.hex.specs.Hex.{IsBytes}
-use Rattle.daide_protocol.specs.Ports.{PortCall, TurnBegins, Clock, Pulled, Offered}
+use Rattle.daide_io.specs.Ports.{PortCall, TurnBegins, Clock, Pulled, Offered}
 use Rattle.daide_log_lines.specs.LogLine.{LogEvent, most_lines, longest_line, longest_piece}
 use Rattle.daide_log_lines.specs.Output.{page_size}
 use Rattle.daide_log.specs.declared.record.RecordEnd.{RecordEnd}

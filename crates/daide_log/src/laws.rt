@@ -10,7 +10,7 @@ ghost use Rattle.daide_log.specs.RecordLaw.{RecordsAreReported, PortsAreRecorded
 ghost use Rattle.daide_log.specs.Recording.{HasFailed};
 
 use crate::sink::Sink;
-use daide_protocol::ports::Ports;
+use daide_io::ports::Ports;
 
 /// The report of a match says of each session what the session's own log reports, without the session's number. The own
 /// log is the log of version 1 with the same limits, in which `#` replaces every other session's line. Its last line

@@ -1,16 +1,16 @@
 //! Ports that record their calls.
 
 ghost use Rattle.std.specs.Prelude.{◌≡◌};
-ghost use Rattle.daide_protocol.specs.Ports.{TurnBegins};
-ghost use Rattle.daide_protocol.specs.System.{BeginsTurn};
+ghost use Rattle.daide_io.specs.Ports.{TurnBegins};
+ghost use Rattle.daide_io.specs.System.{BeginsTurn};
 ghost use Rattle.std.specs.Io.KnownBytes.{Keeps};
 
 use crate::record::{Record, RecordEnd};
 use crate::sink::Sink;
 use daide_frame::Side;
+use daide_io::ports::{Ports, Pull, Put};
+use daide_io::system::System;
 use daide_log_lines::event_line::MOST;
-use daide_protocol::ports::{Ports, Pull, Put};
-use daide_protocol::system::System;
 use std::marker::Model;
 
 /// Ports that record what they return to a session: bytes received, ends, the IM timer, and a failed wire as the end of

@@ -15,5 +15,3 @@ pub mod Ended
 pub mod Passing
 pub mod Harm
 pub mod Laws
-pub mod Ports
-pub mod System

@@ -8,7 +8,7 @@ use daide_buffered_io::dropping::Dropping;
 use daide_buffered_io::duplex::Duplex;
 use daide_buffered_io::pool::Pool;
 use daide_buffered_io::readiness::Readiness;
-use daide_protocol::ports::{Pull, Put};
+use daide_io::ports::{Pull, Put};
 use daide_test_support::rows::{holds, same};
 use std::alloc::Global;
 use std::io;

@@ -3,7 +3,7 @@
 use crate::doors::any_port;
 use crate::wires::{STEP, Steps, Wire, WirePorts, hurries, row_for, socket_over, table, two_rows};
 use daide_buffered_io::readiness::Readiness;
-use daide_protocol::ports::Ports;
+use daide_io::ports::Ports;
 use daide_sockets::TcpListener;
 use daide_sockets::poller::{Flags, Poller};
 use daide_sockets::ports::SocketPorts;

@@ -10,7 +10,7 @@ use crate::wires::Step::{Idles, Puts, Turns};
 use daide_buffered_io::duplex::Duplex;
 use daide_buffered_io::readiness::Readiness;
 use daide_frame::side::Side;
-use daide_protocol::ports::{Ports, Pull, Put};
+use daide_io::ports::{Ports, Pull, Put};
 use daide_sockets::poller::{Flags, Poller, Registration};
 use daide_sockets::ports::{Socket, SocketPorts};
 use daide_sockets::{Interest, TcpListener};

@@ -1,6 +1,6 @@
 -- The ports that a scene's system got back. (own)
 use Rattle.std.specs.Prelude.{◌≡◌, ◌⊎◌, List, [], ◌∷◌, ◌++◌}
-use Rattle.daide_protocol.specs.System.{SystemCall, Begins, BeginsTurn, Accepts, Connects, Retires, Notifies, Waits}
+use Rattle.daide_io.specs.System.{SystemCall, Begins, BeginsTurn, Accepts, Connects, Retires, Notifies, Waits}
 
 -- Retired ports are appended, or dropped if memory is refused. No other call changes the ports that are kept.
 abbrev pub KeepsRetired : {P : Type 0} → List P → SystemCall P → List P → Type 0

@@ -8,7 +8,7 @@ use crate::relays::{NEVER, sent};
 use crate::script::WIDEST;
 use daide_driver::relaying::{RelayEnd, relay};
 use daide_frame::side::Side::{self, Bot, Server};
-use daide_protocol::ports::{Ports, Pull, Put};
+use daide_io::ports::{Ports, Pull, Put};
 use daide_session::session::Session;
 use daide_test_support::memory_ports::{MemoryPorts, Script, ScriptedRead};
 use daide_test_support::rows::holds;

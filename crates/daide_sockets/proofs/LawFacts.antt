@@ -1,7 +1,7 @@
 -- The law of `laws`, used once at two calls. The fact takes only the law, so that a weaker law does not check.
 use Rattle.std.proofs.Common.{◌≡◌, ℕ, ◌+◌, ◌≤◌, List, [], ◌∷◌, Option, ap, arith}
-use Rattle.daide_protocol.specs.System.{Connects, TransitsBy}
-use Rattle.daide_protocol.specs.declared.system.Connect.TheVariants.{Ready}
+use Rattle.daide_io.specs.System.{Connects, TransitsBy}
+use Rattle.daide_io.specs.declared.system.Connect.TheVariants.{Ready}
 use Rattle.daide_buffered_io.specs.Calls.{StreamCall}
 use Rattle.daide_sockets.specs.Pairing.{Paired, RunSockets, Transits}
 use Rattle.daide_sockets.specs.PairedOnce.{SessionsComeOnce, is_same}

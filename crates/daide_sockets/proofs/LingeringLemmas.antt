@@ -8,8 +8,8 @@ use Rattle.std.proofs.lemmas.List.{length-append, length-take-le}
 use Rattle.std.proofs.Math.Seq.{set-append_seam}
 use Rattle.std.proofs.lemmas.Option.{slice_get_read}
 use Rattle.std.specs.declared.time.Instant.{Instant}
-use Rattle.daide_protocol.specs.declared.ports.Pull.{Pull}
-use Rattle.daide_protocol.specs.declared.ports.Pull.TheVariants.{Got}
+use Rattle.daide_io.specs.declared.ports.Pull.{Pull}
+use Rattle.daide_io.specs.declared.ports.Pull.TheVariants.{Got}
 use Rattle.daide_buffered_io.specs.declared.readiness.Readiness.{Readiness}
 use Rattle.daide_buffered_io.specs.Buffers.{Buffer, Passes, WritesNothing, IsBufferedPull, IsFlushed}
 use Rattle.daide_buffered_io.specs.Calls.{StreamCall, is_last_piece}

@@ -3,8 +3,8 @@ use Rattle.std.specs.Prelude.{ℕ, if◌then◌else◌}
 use Rattle.daide_frame.specs.declared.side.Side.{Side}
 use Rattle.daide_frame.specs.declared.side.Side.TheVariants.{Bot, Server}
 use Rattle.daide_protocol.specs.declared.ending.Ending.TheVariants.{Ended, Lost, Final, Error, Fault}
-use Rattle.daide_protocol.specs.declared.system.Cause.{Cause}
-use Rattle.daide_protocol.specs.declared.system.Cause.TheVariants as Causes
+use Rattle.daide_io.specs.declared.system.Cause.{Cause}
+use Rattle.daide_io.specs.declared.system.Cause.TheVariants as Causes
 use Rattle.daide_sockets.specs.declared.session_notice.Why.{Why}
 use Rattle.daide_sockets.specs.declared.session_notice.Why.TheVariants as Whys
 use Rattle.daide_sockets.specs.declared.timed.Timed.{Timed}

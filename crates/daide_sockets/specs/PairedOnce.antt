@@ -1,8 +1,8 @@
 -- Each session gets its ports once. (own)
 use Rattle.std.specs.Prelude.{◌≡◌, ◌≤◌, ℕ, ◌+◌, nat_eq, List, [], ◌∷◌, Option, if◌then◌else◌}
-use Rattle.daide_protocol.specs.System.{SystemCall, Begins, BeginsTurn, Accepts, Connects, Retires, Notifies, Waits}
-use Rattle.daide_protocol.specs.System.{TransitsBy}
-use Rattle.daide_protocol.specs.declared.system.Connect.TheVariants.{Ready, Failed, Pending}
+use Rattle.daide_io.specs.System.{SystemCall, Begins, BeginsTurn, Accepts, Connects, Retires, Notifies, Waits}
+use Rattle.daide_io.specs.System.{TransitsBy}
+use Rattle.daide_io.specs.declared.system.Connect.TheVariants.{Ready, Failed, Pending}
 use Rattle.daide_buffered_io.specs.Calls.{StreamCall}
 use Rattle.daide_sockets.specs.Pairing.{Paired, RunSockets, Transits}
 

@@ -6,8 +6,8 @@
 
 ghost use Rattle.std.specs.Prelude.{◌≡◌, ◌⊎◌, ℕ, ◌+◌, ◌<◌, ◌≤◌, List, Option, [], ◌∷◌, ◌++◌, length, min, remove, true, false};
 ghost use Rattle.std.specs.Prelude.{IfOk};
-ghost use Rattle.daide_protocol.specs.declared.ports.Pull.{Pull};
-ghost use Rattle.daide_protocol.specs.Ports.{AppendsTo};
+ghost use Rattle.daide_io.specs.declared.ports.Pull.{Pull};
+ghost use Rattle.daide_io.specs.Ports.{AppendsTo};
 ghost use Rattle.daide_buffered_io.specs.Buffers.{Passes, ReadsNothing, WritesNothing};
 ghost use Rattle.daide_buffered_io.specs.Calls.{StreamCall, WritingEnded};
 ghost use Rattle.daide_sockets.specs.Lingering.{ClosingStream, ClosingList, begins_closing, no_closing, TriesWriting, WritesOut};

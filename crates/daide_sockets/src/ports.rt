@@ -6,7 +6,7 @@
 //! for it the contracts state only the results of its reads and writes.
 
 ghost use Rattle.std.specs.Prelude.{◌≡◌, ◌≢◌, ◌<◌, nat_lt, IsNone, IfSome, None, [], min, length, take, true, false};
-ghost use Rattle.daide_protocol.specs.Ports.{TurnBegins, Clock as Popped, IsPullWithin, IsPutWithin, pulled_len};
+ghost use Rattle.daide_io.specs.Ports.{TurnBegins, Clock as Popped, IsPullWithin, IsPutWithin, pulled_len};
 ghost use Rattle.daide_buffered_io.specs.Buffers.{Passes, ReadsNothing, IsBufferedPull, IsFlushed};
 ghost use Rattle.daide_buffered_io.specs.declared.readiness.Readiness.{Readiness};
 ghost use Rattle.daide_buffered_io.specs.Streams.{Transfers};
@@ -22,7 +22,7 @@ use daide_buffered_io::buffered::Buffered;
 use daide_buffered_io::duplex::Duplex;
 use daide_buffered_io::pool::Pool;
 use daide_frame::side::Side;
-use daide_protocol::ports::{Ports, Pull, Put};
+use daide_io::ports::{Ports, Pull, Put};
 use mio::Interest;
 use mio::net::TcpStream;
 use std::cell::Cell;

@@ -2,8 +2,8 @@
 
 ghost use Rattle.std.specs.Prelude.{◌≡◌, ◌⊎◌, ℕ, ◌+◌, ◌*◌, ◌^◌, ◌<◌, IfSome, None, false, [], length};
 ghost use Rattle.daide_sockets.specs.Times.{IsSeconds, IsIdleTime};
-ghost use Rattle.daide_protocol.specs.Ports.{TurnBegins};
-ghost use Rattle.daide_protocol.specs.System.{BeginsTurn};
+ghost use Rattle.daide_io.specs.Ports.{TurnBegins};
+ghost use Rattle.daide_io.specs.System.{BeginsTurn};
 ghost use Rattle.daide_buffered_io.specs.Streams.{Transfers};
 ghost use Rattle.daide_sockets.specs.Lingering.{ClosingsGoOn, GoOnFor, no_closing};
 ghost use Rattle.daide_sockets.specs.Pairing.{FirstArrivalEvolves, Transits, Closes};
@@ -15,7 +15,7 @@ use crate::poller::Poller;
 use crate::ports::SocketPorts;
 use crate::session_notice::SessionNotice;
 use daide_buffered_io::duplex::Duplex;
-use daide_protocol::system::{Connect, Notice, SessionEnd, System};
+use daide_io::system::{Connect, Notice, SessionEnd, System};
 use daide_settings::Settings;
 use mio::net::TcpListener;
 use std::alloc::Global;

@@ -4,7 +4,7 @@ use Rattle.std.specs.Prelude.{Option, Some, None, Result, Ok, Err, IfOk, IfSome,
 use Rattle.std.proofs.lemmas.List.{map-append}
 use Rattle.daide_test_support.specs.declared.memory_ports.Call.{Call}
 use Rattle.daide_test_support.specs.MemoryPorts.{answer_stored, answers_stored}
-use Rattle.daide_protocol.specs.Ports.{PortCall, AppendsTo}
+use Rattle.daide_io.specs.Ports.{PortCall, AppendsTo}
 
 -- a call was appended to the record, or there is no record any more
 pub tells : {A E : Type 0} (old calls after : Option (Vec (Call A) A)) (call : Result (Call A) E)

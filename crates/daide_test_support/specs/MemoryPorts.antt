@@ -3,7 +3,7 @@ use Rattle.std.specs.Prelude.{List, map, Option, Some, None}
 use Rattle.std.specs.Prelude.{Vec}
 use Rattle.daide_test_support.specs.declared.memory_ports.Call.{Call}
 use Rattle.daide_test_support.specs.declared.memory_ports.Call.TheVariants as Calls
-use Rattle.daide_protocol.specs.Ports.{PortCall, TurnBegins, Clock, Pulled, Offered}
+use Rattle.daide_io.specs.Ports.{PortCall, TurnBegins, Clock, Pulled, Offered}
 
 -- a stored call as a port call
 abbrev pub answer_stored : {A : Type 0} → Call A → PortCall

@@ -4,12 +4,12 @@
 //! then on.
 
 ghost use Rattle.std.specs.Prelude.{◌≡◌, [], ◌∷◌, ◌++◌, ◌≤◌, length, Some, Ok, IfSome, Option, Vec, map, option_map};
-ghost use Rattle.daide_protocol.specs.Ports.{AppendsTo, TurnBegins, IsPullWithin, IsPutWithin, pulled_len};
+ghost use Rattle.daide_io.specs.Ports.{AppendsTo, TurnBegins, IsPullWithin, IsPutWithin, pulled_len};
 ghost use Rattle.daide_test_support.specs.MemoryPorts.{answer_stored, answers_stored};
 ghost use Rattle.daide_test_support.specs.declared.memory_ports.Call.{Call};
 
 use daide_frame::side::Side;
-use daide_protocol::ports::{Ports, Pull, Put};
+use daide_io::ports::{Ports, Pull, Put};
 use std::alloc::{AllocError, Allocator, Global};
 
 /// The result of one pull from a side.
@@ -197,7 +197,7 @@ impl<'a, A: Allocator + Copy> MemoryPorts<'a, A> {
 
 impl<'a, A: Allocator + Copy> Ports for MemoryPorts<'a, A> {
     ghost use Rattle.std.specs.Prelude.{[], ◌∷◌};
-    ghost use Rattle.daide_protocol.specs.Ports.{AppendsTo};
+    ghost use Rattle.daide_io.specs.Ports.{AppendsTo};
     ghost use Rattle.daide_test_support.specs.MemoryPorts.{answers_stored};
 
     ghost transition = { λ old answer new. AppendsTo (answers_stored old.calls) (answer ∷ []) (answers_stored new.calls) };

@@ -1,6 +1,6 @@
 use Rattle.std.proofs.Common.{◌≡◌, ◌∙◌, ◌<◌, ℕ, ap, inl, inr, length, rules, sym}
 use Rattle.daide_buffered_io.specs.Calls.{after_read, pull_of}
-use Rattle.daide_protocol.specs.declared.ports.Pull.TheVariants.{Ended}
+use Rattle.daide_io.specs.declared.ports.Pull.TheVariants.{Ended}
 use Rattle.daide_buffered_io.proofs.CallLemmas.{some_room, no_room, got_is, idle_is, idle_pull, made_pull}
 use Rattle.daide_buffered_io.proofs.calls.pull_from.Goals as goal
 use Rattle.daide_buffered_io.proofs.calls.pull_from.Goals.{then-is_empty-via-then-is_empty}

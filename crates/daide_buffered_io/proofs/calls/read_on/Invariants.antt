@@ -1,7 +1,7 @@
 -- Loop invariant: all reads so far were interrupted and moved no byte, and the buffer keeps its length.
 use Rattle.std.proofs.Common.{◌≡◌, length, replicate}
 use Rattle.std.specs.Io.KnownBytes.{Keeps}
-use Rattle.daide_protocol.specs.Ports.{AppendsTo}
+use Rattle.daide_io.specs.Ports.{AppendsTo}
 use Rattle.daide_buffered_io.specs.Calls.{Read}
 use Rattle.daide_buffered_io.specs.declared.outcome.IoResult.TheVariants.{Interrupted}
 use Rattle.daide_buffered_io.proofs.calls.read_on.Given as goal

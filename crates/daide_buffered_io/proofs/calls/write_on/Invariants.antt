@@ -1,7 +1,7 @@
 -- Loop invariant: all writes so far were interrupted and moved no byte.
 use Rattle.std.proofs.Common.{◌≡◌, replicate}
 use Rattle.std.specs.Io.KnownBytes.{Keeps}
-use Rattle.daide_protocol.specs.Ports.{AppendsTo}
+use Rattle.daide_io.specs.Ports.{AppendsTo}
 use Rattle.daide_buffered_io.specs.Calls.{Written}
 use Rattle.daide_buffered_io.specs.declared.outcome.IoResult.TheVariants.{Interrupted}
 use Rattle.daide_buffered_io.proofs.calls.write_on.Given as goal

@@ -2,8 +2,8 @@ use Rattle.std.proofs.Common.{◌≡◌, [], ◌∷◌, length, take, refl, rule
 use Rattle.daide_protocol.specs.declared.note.Note.TheVariants as Note
 use Rattle.daide_protocol.specs.Events.{Ends, bytes_come, other}
 use Rattle.daide_protocol.proofs.LimitsKept.{runs_limits}
-use Rattle.daide_protocol.specs.declared.ports.Pull.TheVariants.{Got, Idle, Ended}
-use Rattle.daide_protocol.specs.Ports.{Pulled}
+use Rattle.daide_io.specs.declared.ports.Pull.TheVariants.{Got, Idle, Ended}
+use Rattle.daide_io.specs.Ports.{Pulled}
 use Rattle.daide_driver.specs.Record.{Working}
 use Rattle.daide_driver.specs.Turn.{Pulls}
 use Rattle.daide_driver.proofs.Stretches.{carries_one}

@@ -3,8 +3,8 @@ use Rattle.daide_protocol.specs.Events.{Loses}
 use Rattle.daide_protocol.specs.Machine.{SessionState}
 use Rattle.daide_protocol.specs.Wires.{queued}
 use Rattle.daide_protocol.proofs.LimitsKept.{runs_limits}
-use Rattle.daide_protocol.specs.declared.ports.Put.TheVariants.{Took, Failed}
-use Rattle.daide_protocol.specs.Ports.{Offered}
+use Rattle.daide_io.specs.declared.ports.Put.TheVariants.{Took, Failed}
+use Rattle.daide_io.specs.Ports.{Offered}
 use Rattle.daide_driver.specs.Record.{Working}
 use Rattle.daide_driver.specs.Turn.{Puts}
 use Rattle.daide_driver.proofs.Stretches.{carries_nothing, carries_one}

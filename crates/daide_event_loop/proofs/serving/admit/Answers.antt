@@ -1,5 +1,5 @@
 use Rattle.std.proofs.Common.{Bool, true, false, [], ◌∷◌, refl, sym, ◌∙◌, subst}
-use Rattle.daide_protocol.specs.System.{Accepts}
+use Rattle.daide_io.specs.System.{Accepts}
 use Rattle.daide_event_loop.specs.Serving.{AdmitsWhere, come}
 use Rattle.daide_event_loop.proofs.serving.admit.Goals as goal
 

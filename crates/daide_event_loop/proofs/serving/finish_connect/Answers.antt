@@ -1,7 +1,7 @@
 use Rattle.std.proofs.Common.{◌∷◌, [], refl, subst}
-use Rattle.daide_protocol.specs.declared.system.Connect.TheVariants.{Ready, Failed, Pending}
-use Rattle.daide_protocol.specs.declared.system.Notice.TheVariants.{CannotReach}
-use Rattle.daide_protocol.specs.System.{Connects, Notifies}
+use Rattle.daide_io.specs.declared.system.Connect.TheVariants.{Ready, Failed, Pending}
+use Rattle.daide_io.specs.declared.system.Notice.TheVariants.{CannotReach}
+use Rattle.daide_io.specs.System.{Connects, Notifies}
 use Rattle.daide_driver.specs.Hub.{AddsSession}
 use Rattle.daide_event_loop.specs.QuotaPorts.{QuotaPortsView}
 use Rattle.daide_event_loop.proofs.ServingLemmas.{not_none}

@@ -1,6 +1,6 @@
 use Rattle.std.proofs.Common.{◌≤◌, List, [], refl, inr, sym, ◌∙◌, subst, arith, rules}
 use Rattle.daide_event_loop.specs.declared.serving.ServeFault.{ServeFault}
-use Rattle.daide_protocol.specs.System.{SystemCall, TransitsBy}
+use Rattle.daide_io.specs.System.{SystemCall, TransitsBy}
 use Rattle.daide_event_loop.specs.Serving.{ServiceView, GivesUp, IsServeCause, initial_service}
 use Rattle.daide_event_loop.proofs.ServingLemmas.{Ran, no_rounds, another_round, at_fault, at_memory, not_begun, opening_cause, runs_out}
 use Rattle.daide_event_loop.proofs.ServedLemmas.{body_refused, whole_run}

@@ -1,6 +1,6 @@
 use Rattle.std.proofs.Common.{rules, length, inl, inr, refl, ◌≡◌, [], ◌++◌, ℕ, List, take, ap, sym, ◌∙◌, append-nil}
-use Rattle.daide_protocol.specs.Ports.{pulled_len}
-use Rattle.daide_protocol.specs.declared.ports.Pull.TheVariants.{Got, Idle, Ended}
+use Rattle.daide_io.specs.Ports.{pulled_len}
+use Rattle.daide_io.specs.declared.ports.Pull.TheVariants.{Got, Idle, Ended}
 use Rattle.daide_buffered_io.specs.Buffers.{Buffer, buffered_bytes}
 use Rattle.daide_buffered_io.proofs.BufferLemmas.{of_view, ahead_passes, none_passes}
 use Rattle.daide_buffered_io.proofs.CallLemmas.{own_pull, more_pull, short}

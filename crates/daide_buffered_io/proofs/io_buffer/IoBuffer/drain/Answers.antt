@@ -1,5 +1,5 @@
 use Rattle.std.proofs.Common.{ℕ, List, subst, arith}
-use Rattle.daide_protocol.specs.declared.ports.Put.TheVariants.{Took, Failed}
+use Rattle.daide_io.specs.declared.ports.Put.TheVariants.{Took, Failed}
 use Rattle.daide_buffered_io.specs.Calls.{IsPut}
 use Rattle.daide_buffered_io.proofs.CallLemmas.{whole_put}
 use Rattle.daide_buffered_io.proofs.io_buffer.IoBuffer.drain.Goals as goal

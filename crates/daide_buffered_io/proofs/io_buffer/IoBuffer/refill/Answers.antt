@@ -1,7 +1,7 @@
 use Rattle.std.proofs.Common.{◌≡◌, ◌∙◌, ℕ, List, ap, sym, subst, take, length, rules, ◌≤◌}
 use Rattle.std.proofs.lemmas.List.{places, with_items_is, length-take-le}
 use Rattle.std.specs.Io.KnownBytes.{Consumes}
-use Rattle.daide_protocol.specs.declared.ports.Pull.TheVariants.{Got}
+use Rattle.daide_io.specs.declared.ports.Pull.TheVariants.{Got}
 use Rattle.daide_buffered_io.specs.Calls.{IsPull}
 use Rattle.daide_buffered_io.proofs.CallLemmas.{filled, nothing_pulled}
 use Rattle.daide_buffered_io.proofs.io_buffer.IoBuffer.refill.Goals as goal

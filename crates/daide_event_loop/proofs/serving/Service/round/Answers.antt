@@ -1,7 +1,7 @@
 use Rattle.std.proofs.Common.{ℕ, List, [], ◌∷◌, ◌++◌, Result, Ok, Err, refl, ap, ◌∙◌, subst, arith}
 use Rattle.std.specs.Prelude.{◌||◌, OnErr}
-use Rattle.daide_protocol.specs.declared.system.Connect.TheVariants.{Ready}
-use Rattle.daide_protocol.specs.System.{SystemCall, Begins, Connects, TransitsBy}
+use Rattle.daide_io.specs.declared.system.Connect.TheVariants.{Ready}
+use Rattle.daide_io.specs.System.{SystemCall, Begins, Connects, TransitsBy}
 use Rattle.daide_event_loop.specs.Serving.{ServiceView, Admits, BreaksOff, Round, wait_where, may_accept}
 use Rattle.daide_event_loop.proofs.ServingLemmas.{waits_alike}
 use Rattle.daide_event_loop.proofs.TransitLemmas.{transits_then}

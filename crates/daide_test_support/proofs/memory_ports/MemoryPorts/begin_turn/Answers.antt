@@ -1,5 +1,5 @@
 use Rattle.std.proofs.Common.{refl}
-use Rattle.daide_protocol.specs.Ports.{TurnBegins}
+use Rattle.daide_io.specs.Ports.{TurnBegins}
 use Rattle.daide_test_support.proofs.StoredLemmas.{tells}
 use Rattle.daide_test_support.proofs.memory_ports.MemoryPorts.begin_turn.Goals as goal
 

@@ -1,5 +1,5 @@
 use Rattle.std.proofs.Common.{◌==◌, refl}
-use Rattle.daide_protocol.specs.Ports.{Clock}
+use Rattle.daide_io.specs.Ports.{Clock}
 use Rattle.daide_test_support.proofs.StoredLemmas.{tells}
 use Rattle.daide_test_support.proofs.memory_ports.MemoryPortsPorts.clock_popped.Goals as goal
 

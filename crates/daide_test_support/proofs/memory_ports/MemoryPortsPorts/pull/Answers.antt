@@ -1,5 +1,5 @@
 use Rattle.std.proofs.Common.{◌≡◌, length, take, ap, ◌∙◌, rules}
-use Rattle.daide_protocol.specs.Ports.{Pulled, pulled_len}
+use Rattle.daide_io.specs.Ports.{Pulled, pulled_len}
 use Rattle.daide_test_support.proofs.StoredLemmas.{copied, tells}
 use Rattle.daide_test_support.proofs.memory_ports.MemoryPortsPorts.pull.Goals.{in-Bot, in-Server}
 use Rattle.daide_test_support.proofs.memory_ports.MemoryPortsPorts.pull.Goals as goal

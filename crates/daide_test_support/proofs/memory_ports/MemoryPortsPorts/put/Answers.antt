@@ -1,5 +1,5 @@
 use Rattle.std.proofs.Common.{◌≡◌, ap, ◌∙◌, rules}
-use Rattle.daide_protocol.specs.Ports.{Offered}
+use Rattle.daide_io.specs.Ports.{Offered}
 use Rattle.daide_test_support.proofs.StoredLemmas.{copied, tells}
 use Rattle.daide_test_support.proofs.memory_ports.MemoryPortsPorts.put.Goals.{in-Bot, in-Server}
 use Rattle.daide_test_support.proofs.memory_ports.MemoryPortsPorts.put.Goals as goal

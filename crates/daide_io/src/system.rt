@@ -7,13 +7,13 @@
 //!                                  `-Failed-> CannotReach is logged, and the run goes on
 //! ```
 
-ghost use Rattle.daide_protocol.specs.Ports.{TurnBegins};
-ghost use Rattle.daide_protocol.specs.System.{SystemCall, Begins, BeginsTurn, Accepts, Connects, Retires, Notifies};
-ghost use Rattle.daide_protocol.specs.System.{Waits};
+ghost use Rattle.daide_io.specs.Ports.{TurnBegins};
+ghost use Rattle.daide_io.specs.System.{SystemCall, Begins, BeginsTurn, Accepts, Connects, Retires, Notifies};
+ghost use Rattle.daide_io.specs.System.{Waits};
 
-use crate::ending::Ending;
 use crate::ports::Ports;
-use crate::summary::Summary;
+use daide_protocol::ending::Ending;
+use daide_protocol::summary::Summary;
 use thiserror::Error;
 
 /// The result for the pending connects to the server.

@@ -1,8 +1,8 @@
 -- The calls of the loop over sessions on its system, and their effect on the system.
 use Rattle.std.specs.Prelude.{◌≡◌, Bool, List, [], ◌∷◌}
-use Rattle.daide_protocol.specs.declared.system.Connect.{Connect}
-use Rattle.daide_protocol.specs.declared.system.Notice.{Notice}
-use Rattle.daide_protocol.specs.declared.system.SessionEnd.{SessionEnd}
+use Rattle.daide_io.specs.declared.system.Connect.{Connect}
+use Rattle.daide_io.specs.declared.system.Notice.{Notice}
+use Rattle.daide_io.specs.declared.system.SessionEnd.{SessionEnd}
 
 -- One call with its result: the beginning of a round; the beginning of a turn, with the ports of its session before and
 -- after; whether a bot arrived; the result of a connect; ports that were retired, with how their session ended; a line

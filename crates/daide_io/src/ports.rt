@@ -1,8 +1,8 @@
 //! The two wires and the clock, as a turn calls them.
 
 ghost use Rattle.std.specs.Prelude.{length, take};
-ghost use Rattle.daide_protocol.specs.Ports.{PortCall, Clock, Pulled, Offered, IsPullWithin, IsPutWithin};
-ghost use Rattle.daide_protocol.specs.Ports.{pulled_len};
+ghost use Rattle.daide_io.specs.Ports.{PortCall, Clock, Pulled, Offered, IsPullWithin, IsPutWithin};
+ghost use Rattle.daide_io.specs.Ports.{pulled_len};
 
 use daide_frame::side::Side;
 

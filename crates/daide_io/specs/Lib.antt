@@ -1,0 +1,2 @@
+pub mod Ports
+pub mod System
