@@ -3,10 +3,10 @@
 
     bench/draw.py
 
-Each file there gives the picture of its name. `layers`, `session-machine` and `message` are diagrams, `proofs` has a
-bar a crate, of parts that add up; any other file is a table of figures, of which bars are drawn, so a new one needs
-no code. Lines that begin with `#` are the picture's title and where its figures come from. The same data give the
-same bytes. The pictures go by the reader's choice of light or dark.
+Each file there is drawn as the picture of its name. `layers`, `session-machine` and `message` are diagrams. `proofs`
+has one stacked bar per crate. Any other file is a table of figures and is drawn as bars, so a new one needs no code.
+Lines that begin with `#` contain the picture's title and the source of its figures. The same data give the same bytes.
+The pictures follow the reader's light or dark colour scheme.
 """
 
 import csv
@@ -17,7 +17,7 @@ from xml.sax.saxutils import escape
 HERE = pathlib.Path(__file__).resolve().parent
 WIDTH = 800
 
-# Every shape and text has one of these classes; the second column is for dark pages.
+# Every shape and text has one of these classes. The second column is for light pages, the third for dark ones.
 COLOURS = [
     (".page{fill:%s}", "#ffffff", "#0d1117"),
     (".ink{fill:%s}", "#1f2328", "#e6edf3"),
@@ -36,7 +36,7 @@ SERIES = ("first", "second", "third", "fourth")
 
 
 class Picture:
-    """The parts of one SVG file, from its title down."""
+    """The parts of one SVG file, from the title at the top downwards."""
 
     def __init__(self, notes):
         self.parts, self.height = [], 0
@@ -48,35 +48,35 @@ class Picture:
         self.top = 54 + 17 * len(lines) + 8
 
     def reach(self, y):
-        """Makes the picture high enough for this place."""
+        """Extends the picture's height to include this y."""
         self.height = max(self.height, y)
 
     def text(self, x, y, words, kind="ink", size=13, **more):
-        """A line of text; `anchor`, `weight` and `family` are as SVG's."""
+        """Adds a line of text. `anchor`, `weight` and `family` give SVG its `text-anchor` and so on."""
         names = {"anchor": "text-anchor", "weight": "font-weight", "family": "font-family"}
         given = "".join(f' {names[key]}="{value}"' for key, value in more.items())
         self.parts.append(f'<text class="{kind}" x="{x:g}" y="{y:g}" font-size="{size}"{given}>{escape(words)}</text>')
         self.reach(y + 8)
 
     def box(self, x, y, width, height, kind):
-        """A box with round corners."""
+        """Adds a box with round corners."""
         self.parts.append(
             f'<rect class="{kind}" x="{x:g}" y="{y:g}" width="{width:g}" height="{height:g}" rx="5"/>')
         self.reach(y + height + 8)
 
     def bar(self, x, y, width, height, kind):
-        """A bar of a plot."""
+        """Adds a bar of a plot."""
         self.parts.append(f'<rect class="{kind}" x="{x:g}" y="{y:g}" width="{width:.1f}" height="{height:g}"/>')
         self.reach(y + height + 8)
 
     def arrow(self, *points):
-        """A line through these points, with a tip at its end."""
+        """Adds a line through these points, with an arrowhead at its end."""
         told = " ".join(f"{x:g},{y:g}" for x, y in points)
         self.parts.append(f'<polyline class="axis" points="{told}" stroke-width="1.5" marker-end="url(#tip)"/>')
         self.reach(max(y for _, y in points) + 8)
 
     def whole(self):
-        """The text of the file."""
+        """Returns the text of the file."""
         light = "".join(rule % first for rule, first, _ in COLOURS)
         dark = "".join(rule % second for rule, _, second in COLOURS)
         height = round(self.height + 12)
@@ -92,7 +92,7 @@ class Picture:
 
 
 def read(path):
-    """The notes of a file by their names, its columns, and its rows."""
+    """Returns the notes of a file by their names, its columns, and its rows."""
     lines = path.read_text(encoding="utf-8").splitlines()
     notes = dict(line[2:].split(": ", 1) for line in lines if line.startswith("#"))
     columns, *rows = csv.reader(line for line in lines if not line.startswith("#"))
@@ -100,7 +100,7 @@ def read(path):
 
 
 def bars(notes, columns, rows):
-    """A group of bars for each row, a bar for each column behind the first."""
+    """Draws a group of bars for each row, with a bar for each column after the first."""
     picture = Picture(notes)
     names, y = columns[1:], picture.top + 8
     longest = max(float(figure) for row in rows for figure in row[1:])
@@ -124,7 +124,7 @@ def bars(notes, columns, rows):
 
 
 def proofs(notes, columns, rows):
-    """A bar for each crate, its parts one behind the other, with their sum; a part that is left out is 0."""
+    """Draws a stacked bar for each crate, with the sum of its parts. An empty part counts as 0."""
     picture = Picture(notes)
     parts = [(row[0], [float(figure or 0) for figure in row[1:]]) for row in rows]
     longest = max(sum(figures) for _, figures in parts)
@@ -150,7 +150,7 @@ def proofs(notes, columns, rows):
 
 
 def layers(notes, _columns, rows):
-    """The crates in rows, each above all that it uses, and below them what is trusted."""
+    """Draws the crates in rows, each above the crates that it uses, and the trusted parts below them."""
     uses = {}
     for line in (HERE.parent / "crates.txt").read_text(encoding="utf-8").splitlines():
         if line and not line.startswith("#"):
@@ -158,7 +158,7 @@ def layers(notes, _columns, rows):
             uses[name] = used.split()
 
     def row_of(name):
-        """How many rows stand below a crate."""
+        """Returns the number of rows below a crate's row."""
         return 1 + max((row_of(used) for used in uses[name] if used in uses), default=-1)
 
     told = [name for name, _, _ in rows] + notes["left out"].split()
@@ -185,7 +185,7 @@ def layers(notes, _columns, rows):
 
 
 def legend(picture, y):
-    """What the shades of the layers stand for."""
+    """Draws the legend for the fills of the layers."""
     told = [("proved", 40, "proved: what each call does"), ("tested", 270, "proved in part, the rest by tests"),
             ("trusted", 530, "trusted")]
     for kind, x, words in told:
@@ -194,7 +194,7 @@ def legend(picture, y):
 
 
 def session_machine(notes, _columns, rows):
-    """The phases from left to right, and the last one below them."""
+    """Draws the phases from left to right, and the last phase below them."""
     picture = Picture(notes)
     top, places = picture.top + 44, {"WaitIm": 110, "WaitRm": 400, "Open": 690}
     below = top + 150
@@ -223,7 +223,7 @@ def session_machine(notes, _columns, rows):
 
 
 def message(notes, _columns, rows):
-    """The stages from top to bottom, each with its example."""
+    """Draws the stages from top to bottom, each with its example."""
     picture = Picture(notes)
     y = picture.top + 6
     for place, (crate, what, example) in enumerate(rows):

@@ -1,12 +1,13 @@
 #!/usr/bin/env python3
-"""Makes other inputs of the messages of traffic.py, for the measurements of README.md.
+"""Converts the messages of traffic.py to other inputs, for the measurements of README.md.
 
-    frames.py frames TRAFFIC    the messages as frames, one behind the other
-    frames.py log TRAFFIC       a log for `daide-gate check`: the frames behind an opening, on lines of 2,048 digits
-    frames.py orders            the longest frame that holds orders alone, in hexadecimal digits, for `daide-gate show`
-    frames.py gof               the longest frame, each of whose tokens is GOF
-    frames.py alike N           messages of orders alone, each of N tokens or a few less, in the form of traffic.py;
-                                how many messages and tokens they are goes to standard error, 32,760 tokens or more
+    frames.py frames TRAFFIC    the messages as frames, one after the other
+    frames.py log TRAFFIC       a log for `daide-gate check`: an opening and the frames, on lines of 2,048 digits
+    frames.py orders            a frame with as many orders as fit, in hexadecimal digits, for `daide-gate show`
+    frames.py gof               the longest frame, each of whose tokens is GOF, in hexadecimal digits
+    frames.py alike N           messages that contain only orders, each of N tokens or a few less, with 32,760 tokens
+                                or more in all, in the format of traffic.py; the numbers of messages and of tokens are
+                                written to standard error
 """
 import sys
 
@@ -49,7 +50,7 @@ def write_log(path):
 
 
 def orders(source, most):
-    """SUB and as many orders as there is room for in so many tokens."""
+    """Returns SUB and as many orders as fit into `most` tokens."""
     tokens = [traffic.NAMES["SUB"]]
     while True:
         order = [source.code(word) for word in f"( {source.order()} )".split()]

@@ -1,13 +1,21 @@
 #!/usr/bin/env python3
-"""Measures a gateway at work over loopback, beside socat and haproxy in the same run:
+"""Measures a gateway at work over loopback, and socat and haproxy in the same run:
 
     bench/run_load.py PROGRAM [--before PROGRAM] [calls] [round-trip] [bulk] [recorded] [memory] [busy] [hostile]
 
-PROGRAM is the built program, bin/daide-gate; one named with --before is measured beside it. Without further words all
-seven are measured: calls of the system a frame; round trips; bulk at three sizes; bulk of 256 sessions at once, with a
-record of each and without; memory of idle sessions and of used ones, and the processor of 256 idle ones; calm sessions
-beside 64 and 200 busy ones, and beside as many hostile ones. socat and haproxy are measured where they are installed,
-calls where strace is, and records of PROGRAM alone. All bots and the server are played here; nothing leaves the machine.
+PROGRAM is the built program, bin/daide-gate. With --before another program is measured in the same run. Without a
+MEASURE all seven are measured:
+
+    calls         system calls per frame, if strace is installed
+    round-trip    the time of a request and its answer, also beside 100 idle sessions
+    bulk          throughput of one session in one direction, at three sizes of bodies
+    recorded      throughput of 256 sessions at once, with and without a record of each, of PROGRAM alone
+    memory        memory of idle and of used sessions, and the processor time of 256 idle ones
+    busy          round trips of three sessions beside 64 and 200 that send longest bodies without end
+    hostile       round trips of three sessions beside 64 and 200 hostile connections
+
+round-trip and bulk also measure socat and haproxy, if they are installed. This program plays all bots and the server;
+nothing leaves the machine.
 """
 
 import argparse
@@ -36,13 +44,13 @@ def frame(body):
 
 
 def name_message(size):
-    """NME ( 'aaa..' ) ( 'a' ): a message of the grammar with a body of so many bytes."""
+    """Returns NME ( 'aaa..' ) ( 'a' ), a message of the grammar with a body of `size` bytes."""
     letters = (size - 12) // 2
     return bytes.fromhex("480c4000") + b"\x4b\x61" * letters + bytes.fromhex("400140004b614001")
 
 
 def yes_message(size):
-    """YES ( NME ( 'aaa..' ) ( 'a' ) ), which a server may send: so many bytes."""
+    """Returns YES ( NME ( 'aaa..' ) ( 'a' ) ), a message of `size` bytes that a server may send."""
     return bytes.fromhex("481c4000") + name_message(size - 6) + bytes.fromhex("4001")
 
 
@@ -78,7 +86,7 @@ def heard(stream, size):
 
 
 class Between:
-    """What stands between bots and a server: a process that listens for bots, and the listener of the server."""
+    """What connects bots to a server: a process that listens for bots, and the listener of the server."""
 
     def __init__(self):
         self.listener, self.server = listening()
@@ -89,7 +97,7 @@ class Between:
         self.process = subprocess.Popen(words, stderr=subprocess.DEVNULL, **streams)
 
     def written(self, name, text):
-        """The path of a new file in the folder."""
+        """Writes a new file in the folder. Returns its path."""
         path = os.path.join(self.folder.name, name)
         with open(path, "w", encoding="ascii") as file:
             file.write(text)
@@ -107,7 +115,7 @@ class Between:
         self.folder.cleanup()
 
     def session(self):
-        """A session past its IM and RM: the bot's end and the server's."""
+        """Opens a session and exchanges IM and RM. Returns the bot's socket and the server's."""
         bot = connected(self.port)
         server, _ = self.listener.accept()
         server.setsockopt(socket.IPPROTO_TCP, socket.TCP_NODELAY, 1)
@@ -122,13 +130,13 @@ class Between:
             return int(stat.read().split()[0]) / 1e9
 
     def resident(self):
-        """Resident memory in kilobytes."""
+        """Returns the resident memory in kilobytes."""
         with open(f"/proc/{self.process.pid}/status", encoding="ascii") as status:
             return next(int(line.split()[1]) for line in status if line.startswith("VmRSS"))
 
 
 class Gateway(Between):
-    """A gateway, perhaps under a program that watches it, and perhaps with a record of each session."""
+    """A gateway, optionally started by a tracing program, and optionally with a record of each session."""
 
     def __init__(self, program, watcher=(), is_recorded=False):
         super().__init__()
@@ -143,7 +151,7 @@ class Gateway(Between):
 
 
 class Socat(Between):
-    """A plain copy, with a process for each connection."""
+    """A relay that copies bytes, with a process for each connection."""
 
     def __init__(self):
         super().__init__()
@@ -153,7 +161,7 @@ class Socat(Between):
 
 
 class Haproxy(Between):
-    """A plain copy, by one process with one thread."""
+    """A relay that copies bytes, in one process with one thread."""
 
     def __init__(self):
         super().__init__()
@@ -167,7 +175,7 @@ class Haproxy(Between):
 
 
 def contenders(programs):
-    """What is measured by turns: by name, how each is begun."""
+    """Returns what is measured in turn: by its name, a function that starts it."""
     found = {name: (lambda program=program: Gateway(program)) for name, program in programs.items()}
     for name, kind in (("socat", Socat), ("haproxy", Haproxy)):
         if shutil.which(name):
@@ -176,7 +184,7 @@ def contenders(programs):
 
 
 def round_trip(bot, server):
-    """Milliseconds from a bot's request to the server's answer."""
+    """Returns the milliseconds from a bot's request until it has the server's answer."""
     began = time.perf_counter()
     bot.sendall(OBS)
     heard(server, len(OBS))
@@ -186,7 +194,7 @@ def round_trip(bot, server):
 
 
 def direct_round_trip(times):
-    """The same with no gateway between."""
+    """Measures round trips with no gateway between."""
     listener, port = listening()
     bot = connected(port)
     server, _ = listener.accept()
@@ -207,7 +215,7 @@ def tell_times(name, found):
 
 
 def medians(programs, measure, runs=5):
-    """By name, the median of each figure of so many runs, each of which measures all by turns."""
+    """Returns, by name, the median of each figure over `runs` runs. Each run measures all contenders in turn."""
     found = {name: [] for name in contenders(programs)}
     for _ in range(runs):
         for name, begin in contenders(programs).items():
@@ -217,7 +225,7 @@ def medians(programs, measure, runs=5):
 
 
 def tell_beside(name, found, unit, first="socat"):
-    """A line for each, with its share of the first's figure."""
+    """Prints a line for each contender, with its first figure relative to that of `first`."""
     base = found.get(first, next(iter(found.values())))
     for key, figures in found.items():
         told = " / ".join(f"{figure:.4g}" for figure in figures)
@@ -252,7 +260,7 @@ def measure_round_trip(programs):
 
 
 def measure_calls(programs):
-    """Calls of the system for a frame that a side sends, in a lone session: what 2,000 trips of two frames take."""
+    """Counts the system calls per frame in a lone session, over 2,000 round trips of two frames each."""
     if not shutil.which("strace"):
         print("calls: strace is not installed", flush=True)
         return
@@ -274,7 +282,7 @@ def measure_calls(programs):
 
 
 def transfer(bot, server, message, size):
-    """Megabytes a second of so many bytes of messages, sent by a process of its own."""
+    """Returns the megabytes per second at which about `size` bytes of messages arrive. A child process sends them."""
     piece = message * max(1, (1 << 18) // len(message))
     pieces = max(1, size // len(piece))
     buffer = bytearray(1 << 18)
@@ -304,7 +312,7 @@ def measure_bulk(programs):
 
 
 def send_to_all(bots, piece, size):
-    """Sends so many bytes to each of these, as each takes them."""
+    """Sends `size` bytes over each of these sockets, whenever one is writable."""
     selector = selectors.DefaultSelector()
     for bot in bots:
         bot.setblocking(False)
@@ -318,7 +326,7 @@ def send_to_all(bots, piece, size):
 
 
 def transfer_at_once(between, message, size):
-    """Megabytes a second that 256 sessions pass on together, so many bytes each."""
+    """Returns the megabytes per second that 256 sessions relay in all, with about `size` bytes each."""
     held = [between.session() for _ in range(256)]
     size -= size % len(message)
     sender = os.fork()
@@ -386,7 +394,7 @@ def measure_memory(programs):
 
 
 def hostile_bytes(kind):
-    """What a hostile bot says first, and then without end; and whether it reads."""
+    """Returns the bytes that a hostile bot sends first, those that it then repeats, and whether it reads."""
     too_deep = frame(b"\x40\x00" * 32763)
     longest = frame(name_message(65526))
     return {
@@ -400,7 +408,7 @@ def hostile_bytes(kind):
 
 
 class Hostile:
-    """One hostile connection, which is opened anew where it ends."""
+    """One hostile connection, which is opened again if it ends."""
 
     def __init__(self, kind, port, selector):
         self.first, self.then, self.reads = hostile_bytes(kind)
@@ -435,7 +443,7 @@ class Hostile:
             self.end()
 
     def tick(self):
-        """Once a second a slow one says a byte; one that ended comes again."""
+        """Opens the connection again if it has ended. If it is slow, sends one byte."""
         if self.stream is None:
             if time.monotonic() >= self.resumes:
                 self.open()
@@ -446,7 +454,7 @@ class Hostile:
 
 
 def attack(port, count, kinds):
-    """So many connections of these kinds by turns, until it is killed."""
+    """Runs `count` connections of these kinds in turn, until the process is killed."""
     selector = selectors.DefaultSelector()
     hostile = [Hostile(kinds[i % len(kinds)], port, selector) for i in range(count)]
     ticked = ended = time.monotonic()
@@ -467,7 +475,7 @@ def attack(port, count, kinds):
 
 
 def serve_all(listener):
-    """A server that answers each IM with RM and drops all else, until it is killed."""
+    """Answers each IM with RM and drops all other bytes, until the process is killed."""
     selector = selectors.DefaultSelector()
     listener.setblocking(False)
     selector.register(listener, selectors.EVENT_READ)
@@ -497,7 +505,7 @@ def serve_all(listener):
 
 
 def keep_to(processor, process=0):
-    """Keeps a process, else this one, to the processor of that number, where there are four."""
+    """Pins a process, by default this one, to the processor of that number, if there are four."""
     usable = sorted(PROCESSORS)
     if len(usable) >= 4:
         os.sched_setaffinity(process, {usable[processor]})
@@ -505,7 +513,7 @@ def keep_to(processor, process=0):
 
 @contextlib.contextmanager
 def beside(processor, act, *words):
-    """A process that does this while the body runs, on a processor of its own."""
+    """Runs `act` in a child process, pinned to this processor, while the body runs."""
     child = os.fork()
     if child == 0:
         try:
@@ -530,7 +538,7 @@ def good_times(good, seconds):
 
 
 def measure_beside(programs, name, count, kinds):
-    """Three good sessions alone, beside so many others, and afterwards."""
+    """Measures three good sessions alone and beside `count` others, and the memory before, meanwhile and after."""
     for key, program in programs.items():
         with Gateway(program) as gateway:
             keep_to(0, gateway.process.pid)

@@ -3,9 +3,10 @@
 
     traffic.py TOKENS SEED > FILE
 
-Each message is a byte for its side (0 the client, 1 the server), two for the length of its body, and the body. One
-message in thirty is wrong: a token of it was changed, left out, or written twice. The names of tokens are read from
-the repository's own table.
+Each message is a byte for its side (0 the client, 1 the server), two bytes for the length of its body, high byte first,
+and the body. On average one message in thirty is wrong: one of its tokens is changed, left out, or written twice. The
+names of tokens are read from the repository's own table. The numbers of messages and of tokens are written to standard
+error.
 """
 import pathlib
 import random
@@ -13,7 +14,7 @@ import re
 import sys
 
 TABLE = pathlib.Path(__file__).resolve().parent / "../crates/daide_token/specs/Names.antt"
-# the table has the names of codes that count upwards by one in one text
+# A row of the table has a first code, and in one text the names of the codes from there upwards.
 ROWS = re.findall(r'from 0x([0-9A-F]{4}) \(codes "([A-Z ]+)"\)', TABLE.read_text())
 NAMED = {name: int(first, 16) + place for first, names in ROWS for place, name in enumerate(names.split())}
 NAMES = {"(": 0x4000, ")": 0x4001} | NAMED
@@ -29,7 +30,7 @@ COASTAL, WORDS = ["BUL", "SPA", "STP"], of_category(0x48, 0x4A)
 
 
 class Traffic:
-    """One seed's messages, as the names of their tokens."""
+    """The messages of one seed, built from the names of their tokens."""
 
     def __init__(self, seed):
         self.random = random.Random(seed)

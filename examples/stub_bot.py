@@ -1,10 +1,10 @@
 #!/usr/bin/env python3
-"""Plays bots that observe a game: each says IM and OBS, prints what it gets, and says FM once all have been answered.
+"""Plays bots that observe a game. Each sends IM and OBS, prints the answer, and sends FM once all have an answer.
 
     python3 examples/stub_bot.py [--port PORT] [--bots N] [--bracket N] [--word N]
 
-Bot N of --bracket says `GOF (`, whose bracket never closes, and bot N of --word `OBS GOF`, a word too many. The bots
-wait until somebody listens at the port of 127.0.0.1.
+Bot N of --bracket sends `GOF (`, whose bracket never closes. Bot N of --word sends `OBS GOF`, which has a word too
+many. The bots connect to the port at 127.0.0.1, and retry for ten minutes while nothing listens there.
 """
 
 import argparse
@@ -17,7 +17,7 @@ from stub_frames import DM, FM, IM, INITIAL, RM, frame, heard, message, text_of
 
 
 def connected(port):
-    """A connection, as soon as somebody listens; for ten minutes at most."""
+    """Connects as soon as a program listens, and gives up after ten minutes."""
     for _ in range(3000):
         with contextlib.suppress(ConnectionRefusedError):
             return socket.create_connection(("127.0.0.1", port), timeout=60)
@@ -26,7 +26,7 @@ def connected(port):
 
 
 def opened(port):
-    """A connection past its first two frames, IM and RM."""
+    """Opens a connection and exchanges its first two frames, IM and RM."""
     stream = connected(port)
     stream.sendall(frame(IM, INITIAL))
     if heard(stream)[0] != RM:
@@ -35,14 +35,14 @@ def opened(port):
 
 
 def asked(stream, text):
-    """What is answered to a message."""
+    """Sends a message. Returns the text of the answer."""
     stream.sendall(message(text))
     kind, body = heard(stream)
     return text_of(body) if kind == DM else "no message"
 
 
 def main():
-    """Lets all bots in, asks for each of them in turn, and ends all."""
+    """Connects all bots, sends each bot's message in turn, and ends all connections."""
     words = argparse.ArgumentParser(description="Stubs of bots that observe a game.")
     words.add_argument("--port", type=int, default=16713)
     words.add_argument("--bots", type=int, default=7)

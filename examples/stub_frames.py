@@ -1,4 +1,4 @@
-"""What the stub bot and the stub server share: frames of DAIDE, and the few tokens that they say."""
+"""Frames of DAIDE and the few tokens that the stub bot and the stub server use."""
 
 IM, RM, DM, FM, EM = range(5)
 INITIAL = bytes.fromhex("0001da10")
@@ -9,23 +9,23 @@ NAMES = {code: name for name, code in CODES.items()}
 
 
 def frame(kind, body=b""):
-    """A frame of this kind: four bytes that name it and the length of its body, then the body."""
+    """Returns a frame: four bytes with its kind and the length of its body, high byte first, then the body."""
     return bytes([kind, 0]) + len(body).to_bytes(2, "big") + body
 
 
 def message(text):
-    """The frame of a message whose tokens are these words."""
+    """Returns the frame of a message whose tokens are these words."""
     return frame(DM, b"".join(CODES[word].to_bytes(2, "big") for word in text.split()))
 
 
 def text_of(body):
-    """The tokens of a message as words, and those without a name here as four digits."""
+    """Returns the tokens of a message as words, and those without a name here as `#` and four digits."""
     codes = [int.from_bytes(body[at : at + 2], "big") for at in range(0, len(body), 2)]
     return " ".join(NAMES.get(code, f"#{code:04x}") for code in codes)
 
 
 def exactly(stream, size):
-    """So many bytes of a connection, or fewer where it ends before."""
+    """Returns the next `size` bytes of a connection, or fewer if it ends before."""
     found = b""
     while len(found) < size and (more := stream.recv(size - len(found))):
         found += more
@@ -33,7 +33,7 @@ def exactly(stream, size):
 
 
 def heard(stream):
-    """The next frame of a connection as its kind and its body; no kind once the connection has ended."""
+    """Returns the next frame's kind and body, or None as the kind once the connection has ended."""
     head = exactly(stream, 4)
     if len(head) < 4:
         return None, b""

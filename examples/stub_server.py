@@ -1,9 +1,9 @@
 #!/usr/bin/env python3
-"""Stands in for a DAIDE server: it answers a bot's IM with RM and OBS with YES ( OBS ), and prints each message.
+"""Plays a DAIDE server. It answers a bot's IM with RM and OBS with YES ( OBS ), and prints each message.
 
     python3 examples/stub_server.py [--port PORT] [--sessions N]
 
-It listens at 127.0.0.1, and ends once so many sessions have ended, each of them a connection.
+It listens at 127.0.0.1, and exits once N sessions have ended. Each connection is a session.
 """
 
 import argparse
@@ -14,7 +14,7 @@ from stub_frames import DM, FM, IM, RM, frame, heard, message, text_of
 
 
 def serve(number, stream, ends):
-    """Plays one session to its end, and adds its last frame's kind to the ends."""
+    """Plays one session to its end, and appends its last frame's kind to `ends`."""
     kind, body = heard(stream)
     while kind in (IM, DM):
         if kind == IM:
@@ -29,7 +29,7 @@ def serve(number, stream, ends):
 
 
 def play(number, stream, ends):
-    """Plays one session; a connection that breaks has no last frame."""
+    """Plays one session. If the connection breaks, appends None to `ends`."""
     try:
         serve(number, stream, ends)
     except OSError:
@@ -37,7 +37,7 @@ def play(number, stream, ends):
 
 
 def main():
-    """Listens, gives each connection a thread, and counts how the sessions ended."""
+    """Listens, starts a thread for each connection, and prints how many sessions ended and how many of them with FM."""
     words = argparse.ArgumentParser(description="A stub of a DAIDE server.")
     words.add_argument("--port", type=int, default=16714)
     words.add_argument("--sessions", type=int, default=7)

@@ -93,7 +93,11 @@ def run_refusing(program, room, words, growth):
 def play(program, room, words, wanted):
     """Refuses each allocation of a run in turn. Nothing is printed and the lack of memory is reported, or the run does
     without that allocation and has the expected output. Ends at the first run without a refusal, which has the expected
-    output."""
+    output.
+
+    A run does without the memory that `collect` reserves before it adds an element that does not fit. If the
+    reservation is refused, `collect` requests the memory again as it adds the element. gdb found two callers and no
+    others: `words` of the program, for its arguments, and `digits_of` of `daide_show`, for the digits of an input."""
     fatal = 0
     for growth in range(1, MOST_GROWTHS):
         seen, was_refused = run_refusing(program, room, words, growth)

@@ -1,5 +1,5 @@
-/* Preloaded to a program, refuses the growth of memory whose number is in REFUSED, counted from 1, and writes a byte to the
-   descriptor in REFUSED_TO when it does. It needs no headers. */
+/* A library to preload into a program. It refuses the allocation whose number is in REFUSED, counted from 1, and then
+   writes a byte to the descriptor in REFUSED_TO. It needs no headers. */
 
 extern void *__libc_malloc(unsigned long size);
 extern void *__libc_realloc(void *old, unsigned long size);
