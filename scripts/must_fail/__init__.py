@@ -1,0 +1,1 @@
+"""The edits that the prover must refuse: what each says of itself, what the prover reports, and many tried at once."""

@@ -1,0 +1,140 @@
+"""What an edit says of itself: what is wrong with it, and the place and the clause that refuse it."""
+
+import re
+from dataclasses import dataclass
+
+from .sources import CRATES, Sources, all_functions, contract_of, functions_in, functions_of
+
+FOLDERS = ("must-fail", "more-edits")
+
+# What a function owes beside its clauses.
+OWN = ("invariant", "loop", "overflow", "bounds")
+
+LINE = re.compile(
+    r"Refused by: (?:law )?(?P<place>(?:proofs|specs)/[\w/]+|\w+(?:::\w+)?)"
+    r"(?:: (?P<clause>requires (?:\w+ )?of \w+|[\w-]+))?(?:, (?P<remark>.+))?\."
+)
+
+
+@dataclass(frozen=True)
+class Claim:
+    """What an edit says refuses it, or what does: the clause is empty if it has no label, None if it isn't known."""
+
+    place: str
+    clause: str | None
+
+    def __str__(self):
+        return f"{self.place}: {self.clause}" if self.clause else self.place
+
+
+class Fault(Exception):
+    """Why an edit is not as it should be."""
+
+
+def is_file(place):
+    """Whether a place is a file of definitions or proofs."""
+    return place.startswith(("proofs/", "specs/"))
+
+
+def is_same_place(said, seen):
+    """Whether a place is the one that was seen, whose owner may have the name of a trait after it."""
+    owner, _, name = said.rpartition("::")
+    seen_owner, _, seen_name = seen.rpartition("::")
+    return name == seen_name and seen_owner.startswith(owner)
+
+
+def declared_in(text):
+    """The words that lines of a file of definitions or proofs begin with, among them all that it declares."""
+    return {found[1] for line in text.splitlines() if (found := re.match(r"([\w-]+)\s", line))}
+
+
+def need_label(labels, label, what):
+    """The label is one of these."""
+    if label not in labels:
+        known = ", ".join(sorted(each for each in set(labels) if each)) or "none"
+        has_not = f"{what} has no clause '{label}'; its labels" if label else f"names no clause of {what}"
+        raise Fault(f"{has_not}: {known}")
+
+
+class Edit:
+    """An edit: its file, what it says, and the texts of the files that it changes."""
+
+    def __init__(self, path):
+        self.path, self.crate = path, path.parent.parent.name
+        self.sources = Sources(self.crate)
+        lines = path.read_text(encoding="utf-8").splitlines()
+        if len(lines) < 2 or not re.fullmatch(r"Wrong: .+\.", lines[0]):
+            raise Fault("its first line is not 'Wrong: ..'")
+        found = LINE.fullmatch(lines[1])
+        if not found:
+            raise Fault(f"its second line has another form: {lines[1]}")
+        self.claim = Claim(found["place"], found["clause"] or "")
+        self.apply(lines[2:])
+
+    @property
+    def texts(self):
+        """The edited texts, by the names of their files."""
+        return self.sources.texts
+
+    def apply(self, lines):
+        """Changes the texts: each file exists, and has each old text once."""
+        name = old = None
+        for line in lines:
+            kind, _, rest = line.partition(": ")
+            if kind == "file":
+                name = rest
+                self.texts.setdefault(name, self.read(name))
+            elif kind == "old":
+                old = rest
+                if self.texts[name].count(old) != 1:
+                    raise Fault(f"this text is in its file {self.texts[name].count(old)} times: {old.strip()}")
+            elif kind == "new" or line == "new:":
+                self.texts[name] = self.texts[name].replace(old, rest)
+            else:
+                raise Fault(f"a line is not read: {line}")
+        if old is None:
+            raise Fault("it changes nothing")
+
+    def read(self, name):
+        """The text of a file of the crate."""
+        if not (self.sources.folder / name).is_file():
+            raise Fault(f"there is no file {name}")
+        return self.sources.read(name)
+
+    def functions(self):
+        """The functions of the crate, and those that the edit adds."""
+        changed = [each for name, text in self.texts.items() if name.startswith("src/") for each in functions_in(text)]
+        return functions_of(self.crate) + changed
+
+    def check(self):
+        """What its claim names exists."""
+        (self.check_file if is_file(self.claim.place) else self.check_function)()
+
+    def check_function(self):
+        """The function exists, and has the clause, or calls what requires it."""
+        place, clause = self.claim.place, self.claim.clause
+        owner, _, name = place.rpartition("::")
+        found = [each for each in self.functions() if each.name == name and owner in ("", each.owner)]
+        if not found:
+            raise Fault(f"{self.crate} has no function {place}")
+        if called := re.fullmatch(r"requires (?:(\w+) )?of (\w+)", clause):
+            labels = [label for each in all_functions().get(called[2], []) for label in each.requires]
+            need_label(labels, called[1] or "", f"what {called[2]} requires")
+        elif clause not in OWN:
+            need_label([label for each in found for label in contract_of(each, clause)], clause, place)
+
+    def check_file(self):
+        """The file exists, and has the declaration."""
+        path = self.sources.folder / f"{self.claim.place}.antt"
+        if not path.is_file():
+            raise Fault(f"{self.crate} has no file {self.claim.place}.antt")
+        if self.claim.clause and self.claim.clause not in declared_in(path.read_text(encoding="utf-8")):
+            raise Fault(f"{self.claim.place}.antt has no '{self.claim.clause}'")
+
+    def __str__(self):
+        return f"{self.crate}/{self.path.name}"
+
+
+def edits_of(crate, folders=FOLDERS):
+    """The files of a crate's edits in these folders."""
+    return sorted(path for folder in folders for path in (CRATES / crate / folder).glob("*.edit"))

@@ -1,0 +1,58 @@
+"""The verdict of a check on each edit that it tried."""
+
+import re
+
+from .claims import is_file
+from .messages import is_met, refusals_in
+from .sources import Sources
+
+# An error of the front end, before anything is proved.
+COMPILER = re.compile(r"(?:\./)?((?:src|specs|proofs)/[\w/+]+\.\w+):(\d+):\d+: error\b(?!: `)")
+
+
+def is_refused(edit, refusals, targets):
+    """Whether one of these is of the place and the clause that the edit names, and of a target, if there are any."""
+    return any(
+        is_met(edit.claim, each.claim)
+        and each.claim.clause is not None
+        and not each.is_lost
+        and (targets is None or each.function and (each.file, each.function.first) in targets)
+        for each in refusals
+    )
+
+
+def sorted_out(texts, outcome, tried):
+    """The edits of a round that are refused as they say, and the others."""
+    refusals = refusals_in(Sources(tried[0][0].crate, texts), outcome.lines) if outcome.is_read else []
+    refused = [edit for edit, targets in tried if is_refused(edit, refusals, targets)]
+    return refused, [edit for edit, _ in tried if edit not in refused]
+
+
+def blamed(texts, outcome, tried):
+    """The edits of a round in whose functions the front end reports an error."""
+    sources, found = Sources(tried[0][0].crate, texts), set()
+    for line in outcome.lines:
+        if (at := COMPILER.match(line)) and at[1].startswith("src/"):
+            function = sources.function_at(at[1], int(at[2]))
+            found.add((at[1], function.first if function else 0))
+    return [edit for edit, targets in tried if targets & found]
+
+
+def verdict_of(edit, outcome):
+    """The verdict of a check on its only edit: None if it is refused as it says, else how it is not."""
+    if outcome.status == 0:
+        return "not refused"
+    bad = next((line for line in outcome.lines if COMPILER.match(line)), "")
+    if bad and not (outcome.is_read and bad.startswith(("proofs/", "./proofs/"))):
+        return f"not tried: it is not read: {bad[:200]}"
+    refusals = refusals_in(edit.sources, outcome.lines)
+    if is_refused(edit, refusals, None):
+        return None
+    if not refusals:
+        last = next((line for line in reversed(outcome.lines) if not line.startswith("rt: ")), "")
+        return f"not tried: its check ended with status {outcome.status}: {last[:200]}"
+    first = refusals[0]
+    if first.is_lost:
+        return f"refused by {first.claim}, but only since a proof names what it took away"
+    unknown = "" if first.claim.clause is not None or is_file(first.claim.place) else ", whose clause is not known"
+    return f"refused by {first.claim}{unknown}, not by {edit.claim}"
