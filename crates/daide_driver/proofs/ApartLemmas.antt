@@ -15,7 +15,8 @@ use Rattle.daide_driver.specs.HubRuns.{OwnCall, TurnStarts, TurnRuns, Life, fres
 use Rattle.daide_driver.specs.HubRuns.{lives_after_all, lives_of, OwnStep, CallsAlone, turns_of, BeginsAs, WentAlone}
 use Rattle.daide_driver.specs.HubRuns.{AreApart}
 use Rattle.daide_driver.proofs.PortCalls.{turn_begins}
-use Rattle.daide_driver.proofs.Stretches.{transition_then, carries_then, carries_weaker, relays_append, relays_nil}
+use Rattle.daide_io.proofs.TraceLemmas.{transition_then}
+use Rattle.daide_driver.proofs.Stretches.{carries_then, carries_weaker, relays_append, relays_nil}
 use Rattle.daide_driver.proofs.Standing.{headline_of, headlines_join, new_stands}
 
 -- `Some` is injective

@@ -25,7 +25,7 @@ work_of_a_turn : turn_steps ≡ 1032
 work_of_a_turn = refl
 
 -- at most 64 frames are queued for both wires, beside the bounds of each direction
-frames_that_wait : (g : SessionView) → IsWithinBounds g → length g.to_bot + length g.to_server ≤ 64
+frames_that_wait : (g : SessionView) → IsWithinBounds g → length g.wires.bot + length g.wires.server ≤ 64
 frames_that_wait g bounds = bounds.further
 
 -- with this much room, the one pull uses a buffer of this many bytes

@@ -153,7 +153,7 @@ module _ {X : Type 0} (seen : X → SessionView) (config : Config) (words : List
 -- the greatest weight of one session, whatever it received
 pub weight_small : (g : SessionView) → ((side : Side) → IsKeptSmall g.state.limits.cap (holding g side)) →
     ((side : Side) → (holding g side).entries ≤ 8 * g.state.limits.max_depth + 16) →
-    (length g.to_bot ≤ 3) × (length g.to_server ≤ 3) → weight_of g ≤ session_bound g.state.limits
+    (length g.wires.bot ≤ 3) × (length g.wires.server ≤ 3) → weight_of g ≤ session_bound g.state.limits
 unfolding weight_of
 weight_small g kept entries three =
     let bot = (kept Bot).bytes in
@@ -194,7 +194,7 @@ pub place_small : {X : Type 0} (seen : X → SessionView) (config : Config) (wor
     (items : List X) (i : ℕ) (x : X) → IsHubSession seen config words max capacity items → i < length items → x ≡ get_or items i x →
     ((side : Side) → IsKeptSmall (seen x).state.limits.cap (holding (seen x) side)) →
     ((side : Side) → (holding (seen x) side).entries ≤ 8 * (seen x).state.limits.max_depth + 16) →
-    (length (seen x).to_bot ≤ 3) × (length (seen x).to_server ≤ 3) →
+    (length (seen x).wires.bot ≤ 3) × (length (seen x).wires.server ≤ 3) →
     weight_of (seen x) ≤ session_bound (limits_with config words)
 place_small {X} seen config words max capacity items i x h lt read kept entries three =
     let same : (seen x).state.limits ≡ limits_with config words =

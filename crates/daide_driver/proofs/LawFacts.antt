@@ -4,7 +4,7 @@ use Rattle.std.proofs.Common.{◌≡◌, ℕ, ◌+◌, ◌<◌, ◌≤◌, min, 
 use Rattle.std.specs.Prelude.{slice_get}
 use Rattle.daide_frame.specs.declared.side.Side.TheVariants.{Bot, Server}
 use Rattle.daide_protocol.specs.Machine.{Limits}
-use Rattle.daide_protocol.specs.Wires.{SessionView, queued, first_len, sent_bytes, parts_of}
+use Rattle.daide_protocol.specs.Wires.{SessionView, queued, first_len, sent_bytes, parts_of, holding}
 use Rattle.daide_io.specs.declared.ports.Pull.TheVariants.{Got}
 use Rattle.daide_io.specs.Ports.{PortCall, TurnBegins, Clock, Pulled, EvolvesBy}
 use Rattle.daide_channels.specs.Fronts.{AreFresh}
@@ -16,6 +16,8 @@ use Rattle.daide_driver.specs.HubRuns.{with_call, SessionsAreApart, PortsComeBac
 use Rattle.daide_driver.specs.HubRuns.{WentAlone}
 use Rattle.daide_driver.specs.Laws.{HeadlinesJoin, NewSessionsAreReachable, RelaysJoin}
 use Rattle.daide_driver.specs.Record.{EvolveTogether, RefinesRun}
+use Rattle.daide_frame.proofs.PerSideLemmas.{on_both}
+use Rattle.daide_frame.specs.declared.side.Side.{Side}
 
 -- ---- relays
 
@@ -29,11 +31,10 @@ joined law a b c bytes first second =
 opens : NewSessionsAreReachable → (limits : Limits) → IsReachable limits [] (untouched limits)
 opens law limits = law limits (untouched limits) (record {
   state = refl;
-  to_bot = refl;
-  to_server = refl;
-  held = (refl, refl);
-  unasked = (refl, refl);
-  unlooked = (refl, refl);
+  quiet = on_both (λ (side : Side). queued (untouched limits) side ≡ []) refl refl;
+  held = on_both (λ (side : Side). (holding (untouched limits) side).held ≡ []) refl refl;
+  unasked = on_both (λ (side : Side). (holding (untouched limits) side).total ≡ 0) refl refl;
+  unlooked = on_both (λ (side : Side). (holding (untouched limits) side).looked_at ≡ 0) refl refl;
   uncounted = refl;
 })
 

@@ -9,7 +9,8 @@ use Rattle.std.proofs.lemmas.Bool.Decides.{leb_tells}
 use Rattle.daide_frame.specs.declared.side.Side.{Side}
 use Rattle.daide_frame.specs.declared.side.Side.TheVariants.{Bot, Server}
 use Rattle.daide_protocol.specs.declared.note.Note.{Note}
-use Rattle.daide_protocol.specs.Events.{Event, Ends, ImTimerExpired, bytes_come, other}
+use Rattle.daide_frame.specs.Side.{other}
+use Rattle.daide_protocol.specs.Events.{Event, Ends, ImTimerExpired, bytes_come}
 use Rattle.daide_protocol.specs.Machine.{Sent, Effect, Runs, is_over}
 use Rattle.daide_protocol.specs.Wires.{SessionView, queued, sent_to, sent_bytes, without}
 use Rattle.daide_protocol.specs.Wires.{Refines, Lost, Wrote, IsFrontOf}

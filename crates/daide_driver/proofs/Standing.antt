@@ -31,9 +31,9 @@ all_three false b c e = absurd (cc)
 
 closed_wire : (g : SessionView) → is_closed g ≡ true → (side : Side) → queued g side ≡ []
 closed_wire g e Bot =
-    none_of g.to_bot (all_three (is_over g.state.phase) (no_frame g.to_bot) (no_frame g.to_server) e).0
+    none_of g.wires.bot (all_three (is_over g.state.phase) (no_frame g.wires.bot) (no_frame g.wires.server) e).0
 closed_wire g e Server =
-    none_of g.to_server (all_three (is_over g.state.phase) (no_frame g.to_bot) (no_frame g.to_server) e).1
+    none_of g.wires.server (all_three (is_over g.state.phase) (no_frame g.wires.bot) (no_frame g.wires.server) e).1
 
 nothing_waited : (limits : Limits) (side : Side) → sent_bytes (queued (untouched limits) side) ≡ []
 nothing_waited limits Bot = refl
@@ -86,7 +86,7 @@ pub new_stands : (limits : Limits) (g : SessionView) → IsNew limits g → IsRe
 new_stands limits g n = record {
   effects = [];
   run = (refl, n.state);
-  wires = λ side. wire side n.to_bot n.to_server;
+  wires = λ side. ap (λ (x : List ℕ). x ++ []) (nothing_waited limits side) ∙ sym (ap sent_bytes (n.quiet side));
   counts = n.uncounted;
   work = work;
 }
@@ -95,13 +95,8 @@ new_stands limits g n = record {
     limits_set = ap (λ (s : SessionState). s.limits) n.state
 
     work : Works (untouched limits) [] g
-    work Bot = paid_idle Bot (untouched limits) g limits_set n.unasked.0 (inr n.held.0)
-    work Server = paid_idle Server (untouched limits) g limits_set n.unasked.1 (inr n.held.1)
-
-    wire : (side : Side) → g.to_bot ≡ [] → g.to_server ≡ [] →
-        ◌≡◌ {A = List ℕ} (sent_bytes (queued (untouched limits) side) ++ []) (sent_bytes (queued g side))
-    wire Bot e f = sym (ap sent_bytes e)
-    wire Server e f = sym (ap sent_bytes f)
+    work Bot = paid_idle Bot (untouched limits) g limits_set (n.unasked Bot) (inr (n.held Bot))
+    work Server = paid_idle Server (untouched limits) g limits_set (n.unasked Server) (inr (n.held Server))
 
 -- the whole effect of a turn's trace
 pub one_turn : (a : SessionView) (xs : List PortCall) (b : SessionView) → IsWithinBounds b → WorkingTurn a xs b →

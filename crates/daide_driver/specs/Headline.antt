@@ -4,6 +4,7 @@
 -- the grammar's answers.
 use Rattle.std.specs.Prelude.{◌≡◌, ◌*◌, true, false, List, [], ◌++◌}
 use Rattle.daide_frame.specs.declared.side.Side.{Side}
+use Rattle.daide_frame.specs.PerSide.{both}
 use Rattle.daide_reader.specs.Reading.{IsRaised}
 use Rattle.daide_protocol.specs.Machine.{Limits, initial_state}
 use Rattle.daide_protocol.specs.Summary.{nothing_counted}
@@ -23,12 +24,9 @@ nothing_held = record { held = []; entries = 0; total = 0; total_before = 0; loo
 abbrev pub untouched : Limits → SessionView
 untouched limits = record {
   state = initial_state limits;
-  to_bot = [];
-  to_server = [];
-  bot_parts = [];
-  server_parts = [];
-  bot = nothing_held;
-  server = nothing_held;
+  wires = both [] [];
+  parts = both [] [];
+  sides = both nothing_held nothing_held;
   summary = nothing_counted;
 }
 

@@ -7,7 +7,7 @@
 ghost use Rattle.std.specs.Prelude.{◌≡◌, ℕ, ◌+◌, ◌*◌, ◌<◌, ◌≤◌, min, length};
 ghost use Rattle.daide_frame.specs.declared.side.Side.{Side};
 ghost use Rattle.daide_reader.specs.Reading.{IsRaised};
-ghost use Rattle.daide_protocol.specs.Events.{other};
+ghost use Rattle.daide_frame.specs.Side.{other};
 ghost use Rattle.daide_protocol.specs.Wires.{holding, room_of, AsksNothing};
 ghost use Rattle.daide_protocol.specs.Weight.{weight_of, weight_bound};
 ghost use Rattle.daide_driver.specs.Record.{EvolveTogether, Working};

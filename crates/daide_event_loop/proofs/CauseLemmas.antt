@@ -13,14 +13,15 @@ use Rattle.daide_io.specs.declared.ports.Put.TheVariants.{Took, Failed}
 use Rattle.daide_protocol.specs.Events.{Event, Ends, Loses}
 use Rattle.daide_protocol.specs.Machine.{SessionState, Effect, Limits, Successor, Runs, Transition, is_over}
 use Rattle.daide_io.specs.Ports.{PortCall, TurnBegins, Clock, Pulled, Offered, EvolvesBy, events_of}
-use Rattle.daide_protocol.specs.Wires.{SessionView, same_side, front_of, room_of}
+use Rattle.daide_frame.specs.Side.{same_side}
+use Rattle.daide_protocol.specs.Wires.{SessionView, front_of, room_of}
 use Rattle.daide_protocol.proofs.EndingLemmas.{runs_reported}
 use Rattle.daide_protocol.proofs.OneRun.{one_run}
 use Rattle.daide_protocol.proofs.PieceRuns.{over_stays}
 use Rattle.daide_driver.specs.Headline.{IsReachable, untouched}
 use Rattle.daide_driver.specs.Hub.{IsBegun, IsTurned}
 use Rattle.daide_driver.specs.Turn.{Then, Hears, Puts, Pulls, Turn}
-use Rattle.daide_driver.proofs.Stretches.{transition_then}
+use Rattle.daide_io.proofs.TraceLemmas.{transition_then}
 use Rattle.daide_event_loop.specs.QuotaPorts.{QuotaPortsView, Meters, EvolvesWhile, IsSpentAnswer, one_less, reported_where}
 use Rattle.daide_event_loop.specs.Served.{while_left, cause_of, turns_in}
 use Rattle.daide_event_loop.specs.Serving.{fresh, is_reported, cause_by}

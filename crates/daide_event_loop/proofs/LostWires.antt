@@ -23,7 +23,8 @@ use Rattle.daide_protocol.specs.Machine.{header_outcome, untimely, answered, im_
 use Rattle.daide_protocol.specs.Machine.{event_outcome}
 use Rattle.daide_io.specs.Ports.{PortCall, TurnBegins, Clock, Pulled, Offered, events_of}
 use Rattle.daide_io.specs.Ports.{has_failed, taken}
-use Rattle.daide_protocol.specs.Wires.{SessionView, same_side, queued, sent_bytes, sent_to, IsFrontOf}
+use Rattle.daide_frame.specs.Side.{same_side}
+use Rattle.daide_protocol.specs.Wires.{SessionView, queued, sent_bytes, sent_to, IsFrontOf}
 use Rattle.daide_driver.specs.Headline.{IsReachable, untouched}
 use Rattle.daide_driver.specs.Record.{Moved}
 

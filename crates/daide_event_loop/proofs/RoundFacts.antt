@@ -5,6 +5,7 @@ use Rattle.std.specs.List.{range_with_len}
 use Rattle.daide_frame.specs.declared.side.Side.{Side}
 use Rattle.daide_frame.specs.declared.side.Side.TheVariants.{Bot, Server}
 use Rattle.daide_frame.specs.declared.code.Code.TheVariants.{SecondRm}
+use Rattle.daide_frame.specs.PerSide.{both}
 use Rattle.daide_protocol.specs.declared.ending.Ending.{Ending}
 use Rattle.daide_protocol.specs.declared.ending.Ending.TheVariants.{Ended, Lost, Final, Fault}
 use Rattle.daide_protocol.specs.declared.summary.Summary.{Summary}
@@ -89,12 +90,9 @@ counts n = record { relayed = n; prn = n + 1; huh = n + 2; faults = n + 3 }
 abbrev session : Limits → Phase → Option Ending → ℕ → List Sent → SessionView
 session limits phase ending n to_bot = record {
   state = with_ending ending (in_phase phase (initial_state limits).level (initial_state limits));
-  to_bot = to_bot;
-  to_server = [];
-  bot_parts = sent_bytes to_bot ∷ [];
-  server_parts = [];
-  bot = nothing_held;
-  server = nothing_held;
+  wires = both to_bot [];
+  parts = both (sent_bytes to_bot ∷ []) [];
+  sides = both nothing_held nothing_held;
   summary = counts n;
 }
 

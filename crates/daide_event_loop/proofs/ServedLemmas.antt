@@ -19,7 +19,8 @@ use Rattle.daide_driver.specs.Headline.{untouched, IsReachable, IsBoundedAndExac
 use Rattle.daide_driver.specs.Hub.{HubView, IsHubSize, IsBegun, IsTurned, Changes}
 use Rattle.daide_protocol.specs.Config.{config_fault}
 use Rattle.daide_driver.proofs.PortCalls.{turn_begins}
-use Rattle.daide_driver.proofs.Stretches.{transition_then, relays_append}
+use Rattle.daide_io.proofs.TraceLemmas.{transition_then}
+use Rattle.daide_driver.proofs.Stretches.{relays_append}
 use Rattle.daide_driver.proofs.Standing.{new_stands}
 use Rattle.daide_driver.proofs.HubLemmas.{closed_over}
 use Rattle.daide_settings.specs.declared.settings.Settings.{Settings}

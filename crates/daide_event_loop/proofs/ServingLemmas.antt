@@ -6,7 +6,7 @@ use Rattle.std.specs.Result.{IsErrAnd}
 use Rattle.std.proofs.Math.Dec.{eqb-suc-zero}
 use Rattle.daide_protocol.specs.Wires.{SessionView}
 use Rattle.daide_io.specs.Ports.{PortCall}
-use Rattle.daide_driver.proofs.Stretches.{or_assoc}
+use Rattle.daide_io.proofs.TraceLemmas.{or_assoc}
 use Rattle.daide_event_loop.specs.QuotaPorts.{QuotaPortsView}
 use Rattle.daide_io.specs.System.{SystemCall, TransitsBy}
 use Rattle.daide_settings.specs.declared.settings.Settings.{Settings}

@@ -6,7 +6,8 @@ use Rattle.std.specs.List.{list_any}
 use Rattle.daide_protocol.specs.declared.ending.Ending.{Ending}
 use Rattle.daide_protocol.specs.declared.ending.Ending.TheVariants.{Ended, Lost}
 use Rattle.daide_protocol.specs.declared.summary.Summary.{Summary}
-use Rattle.daide_protocol.specs.Wires.{SessionView, is_closed, same_side}
+use Rattle.daide_frame.specs.Side.{same_side}
+use Rattle.daide_protocol.specs.Wires.{SessionView, is_closed}
 use Rattle.daide_driver.specs.declared.hub.HubError.{HubError}
 use Rattle.daide_driver.specs.declared.hub.HubError.TheVariants as HubErrors
 use Rattle.daide_words.specs.Words.{words_of}

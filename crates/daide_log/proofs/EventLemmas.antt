@@ -87,7 +87,7 @@ all_idle P items i new idle h k d less = go k (cases_eq k i) less
 pub new_is_ready : (config : Config) (words : List Word) (session : SessionView) → IsNew (limits_with config words) session →
     config_fault config ≡ Ok tt → IsReady config words session
 new_is_ready config words session new right = record {
-  idle = record { bot = new.to_bot; server = new.to_server };
+  idle = record { bot = new.quiet Bot; server = new.quiet Server };
   under = record { limits = ap (λ (s : SessionState). s.limits) new.state; accepted = right };
 }
 

@@ -9,7 +9,8 @@ use Rattle.daide_frame.specs.declared.side.Side.TheVariants.{Bot, Server}
 use Rattle.daide_frame.specs.Frames.{missing}
 use Rattle.daide_protocol.specs.declared.note.Note.{Note}
 use Rattle.daide_protocol.specs.declared.note.Note.TheVariants as Notes
-use Rattle.daide_protocol.specs.Events.{Event, Ends, ImTimerExpired, bytes_come, other}
+use Rattle.daide_frame.specs.Side.{other}
+use Rattle.daide_protocol.specs.Events.{Event, Ends, ImTimerExpired, bytes_come}
 use Rattle.daide_protocol.specs.Machine.{SessionState, Effect, Successor, Sent, Runs, coming, fm_to, is_over, event_outcome}
 use Rattle.daide_protocol.specs.Wires.{SessionView, Refines, ReceivesBytes, Holding, HoldsTheSame, holding, sent_to, queued}
 use Rattle.daide_protocol.specs.Wires.{room_of, is_awaited}

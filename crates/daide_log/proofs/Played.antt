@@ -8,6 +8,7 @@ use Rattle.std.proofs.lemmas.Bool.Decides.{eqb_tells}
 use Rattle.std.proofs.lemmas.List.{map-append}
 use Rattle.std.proofs.lemmas.Option.{same_Some}
 use Rattle.daide_frame.specs.declared.side.Side.{Side}
+use Rattle.daide_frame.specs.PerSide.{both}
 use Rattle.daide_grammar.specs.declared.level.Level.TheVariants.{L0}
 use Rattle.daide_grammar.specs.Words.{Words}
 use Rattle.daide_reader.specs.declared.verdict.Verdict.{Verdict}
@@ -32,8 +33,7 @@ state_at limits phase = record {
   phase = phase;
   level = L0;
   ending = None;
-  bot = record { pending = []; noted = L0 };
-  server = record { pending = []; noted = L0 };
+  sides = both (record { pending = []; noted = L0 }) (record { pending = []; noted = L0 });
 }
 
 -- ---- a run

@@ -31,7 +31,7 @@ use Rattle.daide_protocol.specs.Answers.{answer_body}
 use Rattle.daide_protocol.specs.Events.{Event, Comes, Ends, Loses, ImTimerExpired}
 use Rattle.daide_protocol.specs.Machine.{SessionState, Effect, Question, Transition, coming, question, side2_of}
 use Rattle.daide_protocol.specs.Summary.{count_note}
-use Rattle.daide_protocol.specs.Wires.{same_side}
+use Rattle.daide_frame.specs.Side.{same_side}
 use Rattle.daide_log.specs.declared.explained.Explained.{Explained}
 use Rattle.daide_log.specs.declared.heading.Version.{Version}
 use Rattle.daide_log.specs.declared.heading.Version.TheVariants.{Single, Match}

@@ -25,8 +25,8 @@ use Rattle.daide_log.specs.Report.{move_line, texts_of, counted_over}
 
 -- no frame is queued for either side
 pub record IsIdle (g : SessionView) : Type 0 where
-  pub bot : g.to_bot ≡ []
-  pub server : g.to_server ≡ []
+  pub bot : g.wires.bot ≡ []
+  pub server : g.wires.server ≡ []
 
 -- there is at most one move, and this is its note
 abbrev pub IsOneEffect : List Effect → Note → Type 0

@@ -11,7 +11,8 @@ use Rattle.daide_frame.specs.Frames.{FrameEvent, Begun, Whole, Wrong, last_items
 use Rattle.daide_reader.specs.declared.verdict.Verdict.{Verdict}
 use Rattle.daide_protocol.specs.declared.phase.Phase.{Phase}
 use Rattle.daide_protocol.specs.declared.phase.Phase.TheVariants.{WaitIm, WaitRm, Open, Over}
-use Rattle.daide_protocol.specs.Events.{Event, Comes, Ends, Loses, ImTimerExpired, other}
+use Rattle.daide_frame.specs.Side.{other, same_side}
+use Rattle.daide_protocol.specs.Events.{Event, Comes, Ends, Loses, ImTimerExpired}
 use Rattle.daide_protocol.specs.Machine.{Coming, SessionState, Effect, Successor, Transition}
 use Rattle.daide_protocol.specs.Machine.{with_coming, with_pending, is_over, untimely, header_outcome}
 use Rattle.daide_protocol.specs.Machine.{answered}
@@ -20,7 +21,6 @@ use Rattle.daide_protocol.specs.Machine.{question}
 use Rattle.daide_protocol.specs.Machine.{end}
 use Rattle.daide_protocol.specs.declared.ending.Ending.{Ending}
 use Rattle.daide_protocol.specs.declared.ending.Ending.TheVariants.{Ended, Lost}
-use Rattle.daide_protocol.specs.Wires.{same_side}
 
 -- ---- events other than a side's bytes
 
@@ -146,15 +146,15 @@ event_commutes Bot s c (Comes Server x) v e = go (is_over s.phase) refl
     go : (b : Bool) → is_over s.phase ≡ b →
         event_outcome (with_coming s Bot c) (Comes Server x) v ≡ put Bot c (event_outcome s (Comes Server x) v)
     go true o = rw o refl
-    go false o = rw o (byte_commutes Bot s c (s.server.pending ++ x ∷ [])
-        (last_items s.limits.cap (s.server.pending ++ x ∷ [])) v)
+    go false o = rw o (byte_commutes Bot s c (s.sides.server.pending ++ x ∷ [])
+        (last_items s.limits.cap (s.sides.server.pending ++ x ∷ [])) v)
 event_commutes Server s c (Comes Bot x) v e = go (is_over s.phase) refl
   where
     go : (b : Bool) → is_over s.phase ≡ b →
         event_outcome (with_coming s Server c) (Comes Bot x) v ≡ put Server c (event_outcome s (Comes Bot x) v)
     go true o = rw o refl
-    go false o = rw o (byte_commutes Server s c (s.bot.pending ++ x ∷ [])
-        (last_items s.limits.cap (s.bot.pending ++ x ∷ [])) v)
+    go false o = rw o (byte_commutes Server s c (s.sides.bot.pending ++ x ∷ [])
+        (last_items s.limits.cap (s.sides.bot.pending ++ x ∷ [])) v)
 event_commutes side s c (Ends from) v e = ends_commute side s c (Ended from) from (is_over s.phase) refl
 event_commutes side s c (Loses from) v e = ends_commute side s c (Lost from) from (is_over s.phase) refl
 event_commutes Bot s c ImTimerExpired v e = timer_commutes Bot s c s.phase

@@ -20,7 +20,8 @@ use Rattle.daide_protocol.specs.declared.phase.Phase.{Phase}
 use Rattle.daide_protocol.specs.declared.phase.Phase.TheVariants.{WaitIm, WaitRm, Open, Over}
 use Rattle.daide_protocol.specs.declared.summary.Summary.{Summary}
 use Rattle.daide_protocol.specs.Answers.{answer_body, answer_bytes, answer_head}
-use Rattle.daide_protocol.specs.Events.{Event, Comes, Ends, Loses, ImTimerExpired, other}
+use Rattle.daide_frame.specs.Side.{other}
+use Rattle.daide_protocol.specs.Events.{Event, Comes, Ends, Loses, ImTimerExpired}
 use Rattle.daide_protocol.specs.Machine.{SessionState, Sent, Effect, Successor, Runs, coming, with_pending, is_over, em_to}
 use Rattle.daide_protocol.specs.Machine.{fm_to, deed_of, destination, is_sent, reply_to, header_outcome, untimely}
 use Rattle.daide_protocol.specs.Machine.{answered, im_answered, item_outcome, items_outcome, im_timer_expired, event_outcome}

@@ -21,7 +21,7 @@ use Rattle.daide_protocol.specs.Machine.{Limits, SessionState, Effect, Successor
 use Rattle.daide_protocol.specs.Machine.{coming, with_pending, with_noted, is_over, untimely, answered, im_answered}
 use Rattle.daide_protocol.specs.Machine.{frame_outcome, items_outcome, reply_to, asked_by, question_of, event_outcome, im_timer_expired}
 use Rattle.daide_protocol.specs.Machine.{initial_state, header_outcome, question}
-use Rattle.daide_protocol.specs.Wires.{same_side}
+use Rattle.daide_frame.specs.Side.{same_side}
 use Rattle.daide_protocol.specs.Heard.{bytes_from, heard_at, items_heard}
 use Rattle.daide_protocol.specs.Fates.{EventCause, Frame, End, Came, checked_frame, frame_cause, fault_or}
 use Rattle.daide_protocol.specs.Fates.{items_cause, cause_at, timeout_in, came_in_phase, came_in}

@@ -19,7 +19,8 @@ use Rattle.daide_reader.specs.declared.verdict.Verdict.TheVariants.{Relay, Prn, 
 use Rattle.daide_protocol.specs.declared.note.Note.{Note}
 use Rattle.daide_protocol.specs.declared.note.Note.TheVariants as Notes
 use Rattle.daide_protocol.specs.declared.ending.Ending.TheVariants as Endings
-use Rattle.daide_protocol.specs.Events.{Event, Comes, Ends, Loses, ImTimerExpired, other}
+use Rattle.daide_frame.specs.Side.{other}
+use Rattle.daide_protocol.specs.Events.{Event, Comes, Ends, Loses, ImTimerExpired}
 use Rattle.daide_protocol.specs.Machine.{Coming, Limits, SessionState, Sent, Effect, Successor, Question, Transition, Runs}
 use Rattle.daide_protocol.specs.Machine.{coming, with_coming, with_pending, with_noted, is_over, untimely}
 use Rattle.daide_protocol.specs.Machine.{answered}
@@ -417,12 +418,12 @@ early_too_bot t n items v (early_begun head rest) o = go (untimely t.phase Bot h
         )
 
 short_too_bot : (s : SessionState) (n : Level) (x : ℕ) (effects : List Effect) (m : SessionState) →
-    Transition s (Comes Bot x) effects m → is_over s.phase ≡ false → length s.bot.pending < 4 →
+    Transition s (Comes Bot x) effects m → is_over s.phase ≡ false → length s.sides.bot.pending < 4 →
     StepsToo Bot s n (Comes Bot x) effects m
 short_too_bot s n x effects m t o short = by_length (cases_lt (length b) 4)
   where
     b : List ℕ
-    b = s.bot.pending ++ x ∷ []
+    b = s.sides.bot.pending ++ x ∷ []
 
     came : items_outcome (with_pending s Bot b) Bot (last_items s.limits.cap b) t.verdict
         ≡ record { state = m; effects = effects }
@@ -431,8 +432,8 @@ short_too_bot s n x effects m t o short = by_length (cases_lt (length b) 4)
     right : IsCorrectVerdict s.limits.words s.limits.max_depth (asked_by s Bot (last_items s.limits.cap b)) t.verdict
     right = let r = t.right in let k = rw o at r in k
 
-    longer : length b ≡ length s.bot.pending + 1
-    longer = length-append s.bot.pending (x ∷ [])
+    longer : length b ≡ length s.sides.bot.pending + 1
+    longer = length-append s.sides.bot.pending (x ∷ [])
 
     by_length : (length b < 4) ⊎ (4 ≤ length b) → StepsToo Bot s n (Comes Bot x) effects m
     by_length (inl few) =
@@ -445,7 +446,7 @@ short_too_bot s n x effects m t o short = by_length (cases_lt (length b) 4)
             right = rw (o, none) (let h = rw none at right in h);
             outcome = rw (o, none) (ap (put_noted Bot n) quiet_one);
           },
-          λ p l. absurd (omega (arith, ap (λ (q : Successor). length q.state.bot.pending) quiet_one, few, l)),
+          λ p l. absurd (omega (arith, ap (λ (q : Successor). length q.state.sides.bot.pending) quiet_one, few, l)),
         )
     by_length (inr many) =
         let four : length b ≡ 4 = omega (arith, longer, short, many) in
@@ -456,7 +457,7 @@ short_too_bot s n x effects m t o short = by_length (cases_lt (length b) 4)
           record {
             verdict = t.verdict;
             right = rw o (subst (λ (q : Option Question). IsCorrectVerdict s.limits.words s.limits.max_depth q t.verdict)
-                (early_asks Bot s.bot.noted n s.level (untimely s.phase Bot) (last_items s.limits.cap b) early) right);
+                (early_asks Bot s.sides.bot.noted n s.level (untimely s.phase Bot) (last_items s.limits.cap b) early) right);
             outcome = rw o (e.1 ∙ ap (put_noted Bot e.0) came);
           },
           subst (λ (q : Successor). MayDiffer Bot q.state e.0) came e.2,
@@ -509,12 +510,12 @@ early_too_server t n items v (early_begun head rest) o = go (untimely t.phase Se
         )
 
 short_too_server : (s : SessionState) (n : Level) (x : ℕ) (effects : List Effect) (m : SessionState) →
-    Transition s (Comes Server x) effects m → is_over s.phase ≡ false → length s.server.pending < 4 →
+    Transition s (Comes Server x) effects m → is_over s.phase ≡ false → length s.sides.server.pending < 4 →
     StepsToo Server s n (Comes Server x) effects m
 short_too_server s n x effects m t o short = by_length (cases_lt (length b) 4)
   where
     b : List ℕ
-    b = s.server.pending ++ x ∷ []
+    b = s.sides.server.pending ++ x ∷ []
 
     came : items_outcome (with_pending s Server b) Server (last_items s.limits.cap b) t.verdict
         ≡ record { state = m; effects = effects }
@@ -523,8 +524,8 @@ short_too_server s n x effects m t o short = by_length (cases_lt (length b) 4)
     right : IsCorrectVerdict s.limits.words s.limits.max_depth (asked_by s Server (last_items s.limits.cap b)) t.verdict
     right = let r = t.right in let k = rw o at r in k
 
-    longer : length b ≡ length s.server.pending + 1
-    longer = length-append s.server.pending (x ∷ [])
+    longer : length b ≡ length s.sides.server.pending + 1
+    longer = length-append s.sides.server.pending (x ∷ [])
 
     by_length : (length b < 4) ⊎ (4 ≤ length b) → StepsToo Server s n (Comes Server x) effects m
     by_length (inl few) =
@@ -537,7 +538,7 @@ short_too_server s n x effects m t o short = by_length (cases_lt (length b) 4)
             right = rw (o, none) (let h = rw none at right in h);
             outcome = rw (o, none) (ap (put_noted Server n) quiet_one);
           },
-          λ p l. absurd (omega (arith, ap (λ (q : Successor). length q.state.server.pending) quiet_one, few, l)),
+          λ p l. absurd (omega (arith, ap (λ (q : Successor). length q.state.sides.server.pending) quiet_one, few, l)),
         )
     by_length (inr many) =
         let four : length b ≡ 4 = omega (arith, longer, short, many) in
@@ -548,7 +549,7 @@ short_too_server s n x effects m t o short = by_length (cases_lt (length b) 4)
           record {
             verdict = t.verdict;
             right = rw o (subst (λ (q : Option Question). IsCorrectVerdict s.limits.words s.limits.max_depth q t.verdict)
-                (early_asks Server s.server.noted n s.level (untimely s.phase Server)
+                (early_asks Server s.sides.server.noted n s.level (untimely s.phase Server)
                 (last_items s.limits.cap b) early) right);
             outcome = rw o (e.1 ∙ ap (put_noted Server e.0) came);
           },
@@ -559,12 +560,12 @@ short_too_server s n x effects m t o short = by_length (cases_lt (length b) 4)
 too : (side : Side) (s : SessionState) (n : Level) (e : Event) (effects : List Effect) (m : SessionState) →
     Transition s e effects m → is_over s.phase ≡ false → MayDiffer side s n → StepsToo side s n e effects m
 too Bot s n (Comes Bot x) effects m t o may =
-    elim (cases_lt (length s.bot.pending) 4) [
+    elim (cases_lt (length s.sides.bot.pending) 4) [
       | inl few ↦ short_too_bot s n x effects m t o few
       | inr many ↦ long_too Bot s n (Comes Bot x) effects m t (may o many)
     ]
 too Server s n (Comes Server x) effects m t o may =
-    elim (cases_lt (length s.server.pending) 4) [
+    elim (cases_lt (length s.sides.server.pending) 4) [
       | inl few ↦ short_too_server s n x effects m t o few
       | inr many ↦ long_too Server s n (Comes Server x) effects m t (may o many)
     ]

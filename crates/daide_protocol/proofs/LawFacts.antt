@@ -175,7 +175,7 @@ im_heard law effects new run going =
 -- after three bytes of it more are missing
 waited_for : EachSideIsWaitedFor → (effects : List Effect) (new : SessionState) →
     Runs (initial_state usual) (bytes_come Bot (take 3 im)) effects new → is_over new.phase ≡ false →
-    0 < missing new.limits.cap new.bot.pending
+    0 < missing new.limits.cap new.sides.bot.pending
 waited_for law effects new = law Bot usual (bytes_come Bot (take 3 im)) effects new
 
 -- ---- fates

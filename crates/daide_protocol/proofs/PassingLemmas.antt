@@ -32,10 +32,11 @@ use Rattle.daide_protocol.specs.declared.phase.Phase.{Phase}
 use Rattle.daide_protocol.specs.declared.phase.Phase.TheVariants.{WaitIm, WaitRm, Open, Over}
 use Rattle.daide_protocol.specs.Bounds.{longest_body}
 use Rattle.daide_protocol.specs.Answers.{answer_body, answer_bytes}
-use Rattle.daide_protocol.specs.Events.{Event, Comes, Ends, Loses, ImTimerExpired, other}
+use Rattle.daide_frame.specs.Side.{other, same_side}
+use Rattle.daide_protocol.specs.Events.{Event, Comes, Ends, Loses, ImTimerExpired}
 use Rattle.daide_protocol.specs.Machine.{Limits, SessionState, Sent, Effect, Runs, coming, is_over, untimely, is_dm}
 use Rattle.daide_protocol.specs.Machine.{may_reach, fm_bytes, em_bytes, fm_to, em_to, side2_of, initial_state}
-use Rattle.daide_protocol.specs.Wires.{same_side, frames_to, sent_to}
+use Rattle.daide_protocol.specs.Wires.{frames_to, sent_to}
 use Rattle.daide_protocol.specs.Fates.{EventCause, Frame, Fault, End, Timeout, Came, checked_frame, frame_cause, fault_or}
 use Rattle.daide_protocol.specs.Fates.{items_cause, cause_at, timeout_in, came_in_phase, came_in, passed_on, given_back}
 use Rattle.daide_protocol.specs.Fates.{IsMessageFate, is_passed_on, is_answered_prn, is_answered_huh, IsFrameFate}

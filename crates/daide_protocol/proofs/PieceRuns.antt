@@ -104,8 +104,8 @@ later_fed : (s : SessionState) (side : Side) (x : ℕ) (piece : List ℕ) → is
     fed (with_pending s side (with_byte s side x)).limits.cap
     (coming (with_pending s side (with_byte s side x)) side).pending piece
     ≡ (coming (with_pending s side (with_byte s side x)) side).pending ++ piece
-later_fed s Bot x piece n e = (let h = rw n at e in h) ∙ sym (append_assoc s.bot.pending (x ∷ []) piece)
-later_fed s Server x piece n e = (let h = rw n at e in h) ∙ sym (append_assoc s.server.pending (x ∷ []) piece)
+later_fed s Bot x piece n e = (let h = rw n at e in h) ∙ sym (append_assoc s.sides.bot.pending (x ∷ []) piece)
+later_fed s Server x piece n e = (let h = rw n at e in h) ∙ sym (append_assoc s.sides.server.pending (x ∷ []) piece)
 
 quiet_step : (s : SessionState) (side : Side) (x : ℕ) → is_over s.phase ≡ false → items_at s side x ≡ [] →
     Transition s (Comes side x) [] (with_pending s side (with_byte s side x))

@@ -346,10 +346,10 @@ unfolding last_items first_items parse_head is_alien
 asked_of_the_server = (refl, refl, refl, refl, refl, refl, refl, refl)
 
 -- the server's header records the level for the server, and the bot's for the bot
-noted_at_the_header : ((after open_at_30 Server (0x02 ∷ 0x00 ∷ 0x00 ∷ 0x02 ∷ [])).state.server.noted ≡ L30)
-    × ((after open_at_30 Server (0x02 ∷ 0x00 ∷ 0x00 ∷ 0x02 ∷ [])).state.bot ≡ open_at_30.bot)
-    × ((after open_at_30 Bot (0x02 ∷ 0x00 ∷ 0x00 ∷ 0x02 ∷ [])).state.bot.noted ≡ L30)
-    × ((after open_at_30 Bot (0x02 ∷ 0x00 ∷ 0x00 ∷ 0x02 ∷ [])).state.server ≡ open_at_30.server)
+noted_at_the_header : ((after open_at_30 Server (0x02 ∷ 0x00 ∷ 0x00 ∷ 0x02 ∷ [])).state.sides.server.noted ≡ L30)
+    × ((after open_at_30 Server (0x02 ∷ 0x00 ∷ 0x00 ∷ 0x02 ∷ [])).state.sides.bot ≡ open_at_30.sides.bot)
+    × ((after open_at_30 Bot (0x02 ∷ 0x00 ∷ 0x00 ∷ 0x02 ∷ [])).state.sides.bot.noted ≡ L30)
+    × ((after open_at_30 Bot (0x02 ∷ 0x00 ∷ 0x00 ∷ 0x02 ∷ [])).state.sides.server ≡ open_at_30.sides.server)
 unfolding last_items first_items parse_head is_alien
 noted_at_the_header = (refl, refl, refl, refl)
 

@@ -20,10 +20,10 @@ use Rattle.daide_reader.specs.Verdict.{HasVerdict}
 use Rattle.daide_protocol.specs.declared.phase.Phase.{Phase}
 use Rattle.daide_protocol.specs.declared.phase.Phase.TheVariants.{WaitIm, WaitRm, Open, Over}
 use Rattle.daide_protocol.specs.Answers.{answer_bytes}
-use Rattle.daide_protocol.specs.Events.{Event, Comes, Ends, Loses, ImTimerExpired, other}
+use Rattle.daide_frame.specs.Side.{other, same_side}
+use Rattle.daide_protocol.specs.Events.{Event, Comes, Ends, Loses, ImTimerExpired}
 use Rattle.daide_protocol.specs.Machine.{Limits, SessionState, Sent, Effect, Runs, coming, is_over, untimely, em_to}
 use Rattle.daide_protocol.specs.Machine.{fm_to, may_reach, side2_of, initial_state}
-use Rattle.daide_protocol.specs.Wires.{same_side}
 use Rattle.daide_protocol.specs.Heard.{bytes_from}
 
 -- ---- the inputs

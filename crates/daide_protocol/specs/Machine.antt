@@ -13,6 +13,7 @@ use Rattle.daide_frame.specs.declared.code.Code.{Code}
 use Rattle.daide_frame.specs.declared.code.Code.TheVariants.{ImTimeout, ImNotFirst, SecondIm, ImFromServer}
 use Rattle.daide_frame.specs.declared.code.Code.TheVariants.{UnknownMessage, DmBeforeRm, RmNotFirst, SecondRm}
 use Rattle.daide_frame.specs.declared.code.Code.TheVariants.{RmFromClient}
+use Rattle.daide_frame.specs.PerSide.{PerSide, at, both, put}
 use Rattle.daide_frame.specs.Code.{code_number}
 use Rattle.daide_frame.specs.Head.{is_im}
 use Rattle.daide_frame.specs.InitialMessage.{im_of}
@@ -34,7 +35,8 @@ use Rattle.daide_protocol.specs.declared.note.Note.{Note}
 use Rattle.daide_protocol.specs.declared.note.Note.TheVariants as Notes
 use Rattle.daide_protocol.specs.declared.ending.Ending.{Ending}
 use Rattle.daide_protocol.specs.declared.ending.Ending.TheVariants as Endings
-use Rattle.daide_protocol.specs.Events.{Event, Comes, Ends, Loses, ImTimerExpired, other}
+use Rattle.daide_frame.specs.Side.{other}
+use Rattle.daide_protocol.specs.Events.{Event, Comes, Ends, Loses, ImTimerExpired}
 use Rattle.daide_protocol.specs.Answers.{answer_bytes}
 use Rattle.daide_protocol.specs.HloLevel.{level_reported}
 
@@ -61,29 +63,18 @@ pub record SessionState : Type 0 where
   pub level : Level
   -- the event that ended the session: none before the phase Over, and that event from then on
   pub ending : Option Ending
-  pub bot : Coming
-  pub server : Coming
+  pub sides : PerSide Coming
 
 abbrev pub coming : SessionState → Side → Coming
-coming state Bot = state.bot
-coming state Server = state.server
+coming state side = at state.sides side
 
 abbrev pub with_coming : SessionState → Side → Coming → SessionState
-with_coming state Bot c = record {
+with_coming state side c = record {
   limits = state.limits;
   phase = state.phase;
   level = state.level;
   ending = state.ending;
-  bot = c;
-  server = state.server;
-}
-with_coming state Server c = record {
-  limits = state.limits;
-  phase = state.phase;
-  level = state.level;
-  ending = state.ending;
-  bot = state.bot;
-  server = c;
+  sides = put state.sides side c;
 }
 
 -- the state with other bytes since the last whole frame
@@ -100,8 +91,7 @@ in_phase phase level state = record {
   phase = phase;
   level = level;
   ending = state.ending;
-  bot = state.bot;
-  server = state.server;
+  sides = state.sides;
 }
 
 abbrev pub with_ending : Option Ending → SessionState → SessionState
@@ -110,8 +100,7 @@ with_ending ending state = record {
   phase = state.phase;
   level = state.level;
   ending = ending;
-  bot = state.bot;
-  server = state.server;
+  sides = state.sides;
 }
 
 -- the state after this ending
@@ -131,8 +120,7 @@ initial_state limits = record {
   phase = WaitIm;
   level = L0;
   ending = None;
-  bot = record { pending = []; noted = L0 };
-  server = record { pending = []; noted = L0 };
+  sides = both (record { pending = []; noted = L0 }) (record { pending = []; noted = L0 });
 }
 
 -- ---- the frames that are sent

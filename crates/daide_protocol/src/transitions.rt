@@ -2,7 +2,6 @@
 //! and what a frame changes. Each function has the rows of its table in `specs/Machine`, in their order.
 
 ghost use Rattle.std.specs.Prelude.{◌≡◌, ℕ, List};
-ghost use Rattle.daide_protocol.specs.Events.{other as opposite};
 ghost use Rattle.daide_protocol.specs.HloLevel.{lvl_scan_of};
 ghost use Rattle.daide_protocol.specs.Machine.{untimely as untimely_code, may_reach as may_reach_side};
 ghost use Rattle.daide_protocol.specs.Machine.{is_sent as is_sent_to, destination as destination_of, deed_of as deed_by};
@@ -14,19 +13,10 @@ use crate::ending::Ending;
 use crate::hlo::{LvlScan, level_reported};
 use crate::note::Deed;
 use crate::phase::Phase;
+use daide_frame::side::other;
 use daide_frame::{Code, Kind, Side};
 use daide_grammar::{Level, Side2};
 use daide_reader::Verdict;
-
-/// Returns the opposite side.
-pub fn other(side: Side) -> Side
-    ensures { result ≡ opposite side }
-{
-    match side {
-        Side::Bot => Side::Server,
-        Side::Server => Side::Bot,
-    }
-}
 
 /// Returns whose grammar judges a side's messages: to the bot the gateway is the server, and to the server the client.
 pub fn side2_of(side: Side) -> Side2

@@ -23,7 +23,7 @@ use Rattle.daide_reader.proofs.ReadingLemmas.{raised_none}
 use Rattle.daide_reader.specs.Reading.{IsRaised}
 use Rattle.daide_protocol.specs.declared.note.Note.{Note}
 use Rattle.daide_protocol.specs.declared.note.Note.TheVariants as Notes
-use Rattle.daide_protocol.specs.Events.{other}
+use Rattle.daide_frame.specs.Side.{other}
 use Rattle.daide_protocol.specs.Machine.{Sent, Effect, Successor, SessionState, Coming, with_noted}
 use Rattle.daide_protocol.specs.Machine.{is_over, is_dm, is_sent, level_after, phase_after, in_phase, with_pending}
 use Rattle.daide_protocol.specs.Machine.{untimely, frame_outcome, answered, im_answered, with_ending, ending_after}
@@ -37,7 +37,7 @@ use Rattle.daide_protocol.specs.Wires.{SessionView, Holding, queued, holding, se
 use Rattle.daide_protocol.specs.Weight.{tokens_held}
 use Rattle.daide_protocol.specs.Wires.{is_dm_head, frames_to}
 use Rattle.daide_session.specs.declared.protocol_state.ProtocolState.{ProtocolState}
-use Rattle.daide_channels.specs.PerSide.{PerSide, at}
+use Rattle.daide_frame.specs.PerSide.{PerSide, at}
 use Rattle.daide_channels.specs.Receiver.{ReaderLimits}
 use Rattle.daide_channels.specs.Channels.{Channels, ReceiveState, IsAnswered, IsCleared, Keeps, pending, posted}
 use Rattle.daide_session.specs.Session.{state_of, view_of}
@@ -299,15 +299,6 @@ dropped_whole t u s side head body phase ending live unsent tied head_is now by 
     total = rw (holding_at u later side, holding_at t s side) cleared.total
 
 -- ---- the frame events of a step
-
-pub reported_empty : (head : Head) (body : List ℕ) → length body ≡ head.len → head.len ≡ 0 →
-    items_of_step Bodied (Some head) body ≡ Begun head ∷ Whole head [] ∷ []
-reported_empty head [] e z = refl
-reported_empty head (x ∷ body) e z = absurd (omega (arith, e, z))
-
-pub no_body : (head : Head) (body : List ℕ) → length body ≡ head.len → head.len ≡ 0 → body ≡ []
-no_body head [] e z = refl
-no_body head (x ∷ body) e z = absurd (omega (arith, e, z))
 
 pub no_code : (code : Option Code) → Notes.Nothing ≡ note_by code → code ≡ None
 no_code None e = refl

@@ -26,9 +26,9 @@ use Rattle.daide_words.specs.declared.word.Word.{Word}
 use Rattle.daide_protocol.specs.declared.phase.Phase.{Phase}
 use Rattle.daide_protocol.specs.Bounds.{longest_body}
 use Rattle.daide_protocol.specs.Answers.{answer_bytes}
-use Rattle.daide_protocol.specs.Events.{other}
+use Rattle.daide_frame.specs.Side.{other, same_side}
 use Rattle.daide_protocol.specs.Machine.{Limits, Sent, Effect, initial_state, reply_to}
-use Rattle.daide_protocol.specs.Wires.{same_side, sent_to, sent_bytes}
+use Rattle.daide_protocol.specs.Wires.{sent_to, sent_bytes}
 use Rattle.daide_protocol.specs.Heard.{bytes_from}
 use Rattle.daide_protocol.specs.Fates.{EventCause, Frame, Fault, End, Timeout, Came, came_in, whole_frame_from, frames_among}
 use Rattle.daide_protocol.specs.Fates.{frames_from, IsJudged, IsMessageFate, is_passed_on, is_answered_prn}

@@ -16,7 +16,8 @@ use Rattle.daide_grammar.specs.Level.{level_number}
 use Rattle.daide_grammar.specs.Depth.{depth_of}
 use Rattle.daide_reader.specs.declared.verdict.Verdict.{Verdict}
 use Rattle.daide_reader.specs.declared.verdict.Verdict.TheVariants.{Relay}
-use Rattle.daide_protocol.specs.Events.{Event, other}
+use Rattle.daide_frame.specs.Side.{other}
+use Rattle.daide_protocol.specs.Events.{Event}
 use Rattle.daide_protocol.specs.Machine.{Limits, SessionState, Sent, Effect, Runs, initial_state, reply_to}
 use Rattle.daide_protocol.specs.Wires.{sent_to}
 use Rattle.daide_protocol.specs.declared.phase.Phase.{Phase}

@@ -127,9 +127,9 @@ IsNoted header noted level = (head : Head) → header ≡ Some head → noted �
 
 pub record Ready (s : SessionState) : Type 0 where
   calm : IsCalm s.phase s.level
-  bot : IsTimely s.phase Bot (head_in s.limits.cap s.bot.pending)
-  server : IsTimely s.phase Server (head_in s.limits.cap s.server.pending)
-  noted : IsNoted (head_in s.limits.cap s.server.pending) s.server.noted s.level
+  bot : IsTimely s.phase Bot (head_in s.limits.cap s.sides.bot.pending)
+  server : IsTimely s.phase Server (head_in s.limits.cap s.sides.server.pending)
+  noted : IsNoted (head_in s.limits.cap s.sides.server.pending) s.sides.server.noted s.level
 
 no_head : (cap : ℕ) → head_in cap [] ≡ None
 no_head cap = head_in-short cap [] (omega arith)
@@ -224,8 +224,8 @@ made kind len = record { kind = kind; len = len }
 -- of the bot, whose IM comes first
 bot_frame : (phase : Phase) (t : SessionState) (noted : Level) (kind : Kind) (len : ℕ) (body : List ℕ) (v : Verdict) →
     t.phase ≡ phase → is_over phase ≡ false → untimely phase Bot kind ≡ None → IsCalm phase t.level →
-    IsTimely phase Server (head_in t.limits.cap t.server.pending) →
-    IsNoted (head_in t.limits.cap t.server.pending) t.server.noted t.level →
+    IsTimely phase Server (head_in t.limits.cap t.sides.server.pending) →
+    IsNoted (head_in t.limits.cap t.sides.server.pending) t.sides.server.noted t.level →
     Follows t.limits t.level (one t.phase (frame_cause Bot noted (made kind len) body))
     (frame_outcome t Bot (made kind len) body v)
 bot_frame WaitIm t noted Im len body v e o u c s n = checked (im_of body)
@@ -262,7 +262,7 @@ bot_frame phase t noted Dm len body v e o u c s n = record {
     record {
       calm = subst (λ (p : Phase). IsCalm p t.level) (sym e) c;
       bot = none_timely t.limits.cap t.phase Bot;
-      server = subst (λ (p : Phase). IsTimely p Server (head_in t.limits.cap t.server.pending)) (sym e) s;
+      server = subst (λ (p : Phase). IsTimely p Server (head_in t.limits.cap t.sides.server.pending)) (sym e) s;
       noted = n;
     },
   );
@@ -275,7 +275,7 @@ bot_frame phase t noted Em len body v e o u c s n =
 -- of the server
 server_frame : (phase : Phase) (t : SessionState) (noted : Level) (kind : Kind) (len : ℕ) (body : List ℕ)
     (v : Verdict) → t.phase ≡ phase → is_over phase ≡ false → untimely phase Server kind ≡ None →
-    IsCalm phase t.level → IsTimely phase Bot (head_in t.limits.cap t.bot.pending) → noted ≡ t.level →
+    IsCalm phase t.level → IsTimely phase Bot (head_in t.limits.cap t.sides.bot.pending) → noted ≡ t.level →
     IsCorrectVerdict t.limits.words t.limits.max_depth (question_of Server noted (made kind len) body) v →
     Follows t.limits t.level (one t.phase (frame_cause Server noted (made kind len) body))
     (frame_outcome t Server (made kind len) body v)
@@ -293,7 +293,7 @@ server_frame WaitRm t noted Rm len body v e o u c b n r = record {
       calm = tt;
       bot = λ head h. and_then head.kind (b head h);
       server = none_timely t.limits.cap Open Server;
-      noted = none_noted t.limits.cap t.server.noted L0;
+      noted = none_noted t.limits.cap t.sides.server.noted L0;
     },
   );
 }
@@ -314,9 +314,9 @@ server_frame Open t noted Dm len body v e o u c b n r =
         refl,
         record {
           calm = subst (λ (p : Phase). IsCalm p after) (sym e) tt;
-          bot = subst (λ (p : Phase). IsTimely p Bot (head_in t.limits.cap t.bot.pending)) (sym e) b;
+          bot = subst (λ (p : Phase). IsTimely p Bot (head_in t.limits.cap t.sides.bot.pending)) (sym e) b;
           server = none_timely t.limits.cap t.phase Server;
-          noted = none_noted t.limits.cap t.server.noted after;
+          noted = none_noted t.limits.cap t.sides.server.noted after;
         },
       );
     }
@@ -352,9 +352,9 @@ now_timely phase side header head a e other_head b =
     subst (λ (h : Head). untimely phase side h.kind ≡ None) (same_head header head other_head a b) e
 
 bot_items : (s : SessionState) (bytes : List ℕ) (items : List FrameEvent) (v : Verdict) → is_over s.phase ≡ false → Ready s →
-    Turn (head_in s.limits.cap s.bot.pending) (head_in s.limits.cap bytes) items →
+    Turn (head_in s.limits.cap s.sides.bot.pending) (head_in s.limits.cap bytes) items →
     Follows s.limits s.level
-    (came_in_phase s.phase (items_cause Bot s.bot.noted s.level (untimely s.phase Bot) items))
+    (came_in_phase s.phase (items_cause Bot s.sides.bot.noted s.level (untimely s.phase Bot) items))
     (items_outcome (with_pending s Bot bytes) Bot items v)
 bot_items s bytes items v o h (quiet e) = record {
   next = s.level;
@@ -406,18 +406,18 @@ bot_items s bytes items v o h (at_once head) = rw o (go (untimely s.phase Bot he
         (bot_frame s.phase (with_noted t Bot s.level) s.level head.kind head.len [] v refl o e h.calm h.server h.noted)
     go (Some code) e = over_follows s.limits s.level _ _ refl (s.level, refl, (refl, refl))
 bot_items s bytes items v o h (ended head body b) =
-    alone s.limits s.level (one s.phase (frame_cause Bot s.bot.noted head body)) (with_pending s Bot bytes) Bot head body
+    alone s.limits s.level (one s.phase (frame_cause Bot s.sides.bot.noted head body)) (with_pending s Bot bytes) Bot head body
     v o
-    (bot_frame s.phase (with_pending s Bot bytes) s.bot.noted head.kind head.len body v refl o (h.bot head b) h.calm
+    (bot_frame s.phase (with_pending s Bot bytes) s.sides.bot.noted head.kind head.len body v refl o (h.bot head b) h.calm
     h.server h.noted)
 bot_items s bytes items v o h (wrong code) =
     rw o (over_follows s.limits s.level _ _ refl (s.level, refl, (refl, refl)))
 
 server_items : (s : SessionState) (bytes : List ℕ) (items : List FrameEvent) (v : Verdict) → is_over s.phase ≡ false →
-    Ready s → Turn (head_in s.limits.cap s.server.pending) (head_in s.limits.cap bytes) items →
+    Ready s → Turn (head_in s.limits.cap s.sides.server.pending) (head_in s.limits.cap bytes) items →
     IsCorrectVerdict s.limits.words s.limits.max_depth (asked_by s Server items) v →
     Follows s.limits s.level
-    (came_in_phase s.phase (items_cause Server s.server.noted s.level (untimely s.phase Server) items))
+    (came_in_phase s.phase (items_cause Server s.sides.server.noted s.level (untimely s.phase Server) items))
     (items_outcome (with_pending s Server bytes) Server items v)
 server_items s bytes items v o h (quiet e) r = record {
   next = s.level;
@@ -471,9 +471,9 @@ server_items s bytes items v o h (at_once head) r = rw o (go (untimely s.phase S
         (let q = rw e at r in q))
     go (Some code) e = over_follows s.limits s.level _ _ refl (s.level, refl, (refl, refl))
 server_items s bytes items v o h (ended head body b) r =
-    alone s.limits s.level (one s.phase (frame_cause Server s.server.noted head body)) (with_pending s Server bytes)
+    alone s.limits s.level (one s.phase (frame_cause Server s.sides.server.noted head body)) (with_pending s Server bytes)
     Server head body v o
-    (server_frame s.phase (with_pending s Server bytes) s.server.noted head.kind head.len body v refl o (h.server head b)
+    (server_frame s.phase (with_pending s Server bytes) s.sides.server.noted head.kind head.len body v refl o (h.server head b)
     h.calm h.bot (h.noted head b) r)
 server_items s bytes items v o h (wrong code) r =
     rw o (over_follows s.limits s.level _ _ refl (s.level, refl, (refl, refl)))
@@ -491,11 +491,11 @@ event_follows : (s : SessionState) (event : Event) (v : Verdict) → is_over s.p
     IsCorrectVerdict s.limits.words s.limits.max_depth (question s event) v →
     Follows s.limits s.level (came_in_phase s.phase (cause_at s event)) (event_outcome s event v)
 event_follows s (Comes Bot x) v o h r =
-    let bytes = s.bot.pending ++ x ∷ [] in
-    rw o (bot_items s bytes (last_items s.limits.cap bytes) v o h (turn s.limits.cap s.bot.pending x))
+    let bytes = s.sides.bot.pending ++ x ∷ [] in
+    rw o (bot_items s bytes (last_items s.limits.cap bytes) v o h (turn s.limits.cap s.sides.bot.pending x))
 event_follows s (Comes Server x) v o h r =
-    let bytes = s.server.pending ++ x ∷ [] in
-    rw o (server_items s bytes (last_items s.limits.cap bytes) v o h (turn s.limits.cap s.server.pending x)
+    let bytes = s.sides.server.pending ++ x ∷ [] in
+    rw o (server_items s bytes (last_items s.limits.cap bytes) v o h (turn s.limits.cap s.sides.server.pending x)
     (let q = rw o at r in q))
 event_follows s (Ends side) v o h r =
     rw o (over_follows s.limits s.level _ _ refl (s.level, refl, (refl, refl)))

@@ -24,7 +24,8 @@ use Rattle.daide_protocol.specs.Bounds.{longest_body}
 use Rattle.daide_protocol.specs.Answers.{answer_bytes}
 use Rattle.daide_protocol.specs.Machine.{Limits, Sent, Effect, initial_state, is_dm, level_after, reply_to}
 use Rattle.daide_protocol.specs.Machine.{side2_of}
-use Rattle.daide_protocol.specs.Wires.{same_side, frames_to, sent_to}
+use Rattle.daide_frame.specs.Side.{same_side}
+use Rattle.daide_protocol.specs.Wires.{frames_to, sent_to}
 use Rattle.daide_protocol.specs.Fates.{EventCause, Frame, Fault, End, Timeout, Came, came_in, frames_from, IsJudged, IsFate}
 use Rattle.daide_protocol.specs.Fates.{HaveFates}
 use Rattle.daide_protocol.specs.Passing.{IsFrame, HasCome, IsWithinPrn, IsWithinHuh, MayBeSent, no_message, passed}

@@ -15,7 +15,8 @@ use Rattle.daide_protocol.specs.Events.{Event, Comes, Ends, Loses, ImTimerExpire
 use Rattle.daide_protocol.specs.Machine.{Sent, Effect, Successor, SessionState, Transition, Runs, coming, with_pending, is_over}
 use Rattle.daide_protocol.specs.Machine.{header_outcome, untimely, answered, im_answered, destination, is_sent}
 use Rattle.daide_protocol.specs.Machine.{reply_to, item_outcome, items_outcome, im_timer_expired, event_outcome}
-use Rattle.daide_protocol.specs.Wires.{same_side, sent_to}
+use Rattle.daide_frame.specs.Side.{same_side}
+use Rattle.daide_protocol.specs.Wires.{sent_to}
 use Rattle.daide_protocol.proofs.WireLemmas.{sent_to-append}
 use Rattle.daide_protocol.proofs.FramesHeard.{not_both, over_for_good, ended, lost}
 use Rattle.daide_channels.specs.Channels.{is_final_frame, has_final_frame}

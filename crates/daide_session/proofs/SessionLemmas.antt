@@ -15,10 +15,11 @@ use Rattle.daide_reader.specs.declared.verdict.Verdict.TheVariants.{Relay}
 use Rattle.daide_protocol.specs.declared.note.Note.{Note}
 use Rattle.daide_protocol.specs.declared.note.Note.TheVariants as Notes
 use Rattle.daide_protocol.specs.declared.phase.Phase.TheVariants.{WaitIm}
-use Rattle.daide_protocol.specs.Events.{Event, ImTimerExpired, other}
+use Rattle.daide_frame.specs.Side.{other}
+use Rattle.daide_protocol.specs.Events.{Event, ImTimerExpired}
 use Rattle.daide_protocol.specs.Machine.{Sent, Successor, SessionState, Question, Runs, IsCorrectVerdict, question, coming}
 use Rattle.daide_protocol.specs.Machine.{is_over, fault, im_timer_expired, event_outcome, initial_state}
-use Rattle.daide_protocol.specs.Wires.{SessionView, queued, sent_to, note_of, without, IsNew, Refines, Wrote}
+use Rattle.daide_protocol.specs.Wires.{SessionView, queued, sent_to, note_of, without, IsNew, Refines, Wrote, Holding, holding}
 use Rattle.daide_protocol.proofs.FramesHeard.{not_both, over_for_good, run_waits}
 use Rattle.daide_protocol.proofs.EndingLemmas.{IsTold, runs_reported}
 use Rattle.daide_protocol.specs.declared.ending.Ending.{Ending}
@@ -29,12 +30,13 @@ use Rattle.daide_protocol.specs.declared.config.Config.{Config}
 use Rattle.daide_words.specs.declared.word.Word.{Word}
 use Rattle.daide_words.specs.Word.{grammar_words}
 use Rattle.daide_channels.specs.Receiver.{ReaderLimits}
-use Rattle.daide_channels.specs.Channels.{Channels, IsQuiet, is_final_frame, has_final_frame}
+use Rattle.daide_channels.specs.Channels.{Channels, IsQuiet, is_final_frame, has_final_frame, side_holding}
 use Rattle.daide_protocol.specs.Config.{limits_with}
 use Rattle.daide_session.specs.Session.{IsConsistentSession, state_of, view_of, Dropped}
 use Rattle.daide_session.specs.FrameEvents.{Emits, stopped}
 use Rattle.daide_session.proofs.EmitsLemmas.{waiting_at}
 use Rattle.daide_session.proofs.OpenRuns.{run_sends, has_final_frame-append}
+use Rattle.daide_session.proofs.FrameEventsLemmas.{holding_at}
 
 -- ---- one event
 
@@ -188,13 +190,15 @@ new_of config words t level counts q e none = record {
         max_depth = config.max_depth;
         words = grammar_words words;
       })) e;
-  to_bot = q.queued Bot;
-  to_server = q.queued Server;
-  held = (q.held Bot, q.held Server);
-  unasked = (q.unasked Bot, q.unasked Server);
-  unlooked = (q.unlooked Bot, q.unlooked Server);
+  quiet = q.queued;
+  held = λ side. ap (λ (h : Holding). h.held) (seen side) ∙ q.held side;
+  unasked = λ side. ap (λ (h : Holding). h.total) (seen side) ∙ q.unasked side;
+  unlooked = λ side. ap (λ (h : Holding). h.looked_at) (seen side) ∙ q.unlooked side;
   uncounted = none;
 }
+  where
+    seen : (side : Side) → holding (view_of t (new_protocol level counts)) side ≡ side_holding t side
+    seen side = holding_at t (new_protocol level counts) side
 
 pub standing_new : (cap : ℕ) (rules : ReaderLimits) (t : Channels) (level : Level) (counts : Summary) → IsQuiet cap rules t →
     IsConsistentSession (view_of t (new_protocol level counts))

@@ -8,7 +8,7 @@ ghost use Rattle.daide_frame.specs.declared.cutter.Step.TheVariants.{Headed, Bod
 ghost use Rattle.daide_frame.specs.Frames.{Begun, Whole, head_in, items_of_step, IsWholeBody};
 ghost use Rattle.daide_protocol.specs.Machine.{untimely as untimely_code, is_over as is_over_phase};
 ghost use Rattle.daide_protocol.specs.Wires.{is_awaited};
-ghost use Rattle.daide_channels.specs.PerSide.{at};
+ghost use Rattle.daide_frame.specs.PerSide.{at};
 ghost use Rattle.daide_channels.specs.Fronts.{KeepsFronts};
 ghost use Rattle.daide_channels.specs.Channels.{pending, side_holding, has_final_frame};
 ghost use Rattle.daide_session.specs.Session.{view_of};
@@ -20,11 +20,11 @@ use daide_frame::code::Code;
 use daide_frame::cutter::Step;
 use daide_frame::head::{Head, Kind};
 use daide_frame::initial_message::check_im;
-use daide_frame::side::Side;
+use daide_frame::side::{Side, other};
 use daide_grammar::level::Level;
 use daide_protocol::note::{Deed, Note};
 use daide_protocol::transitions::{
-    deed_of, ending_after, is_sent, level_after, other, phase_after, untimely,
+    deed_of, ending_after, is_sent, level_after, phase_after, untimely,
 };
 use std::alloc::Allocator;
 

@@ -8,10 +8,10 @@ ghost use Rattle.daide_grammar.specs.declared.level.Level.TheVariants.{L0};
 ghost use Rattle.daide_protocol.specs.declared.ending.Ending.TheVariants as Endings;
 ghost use Rattle.daide_protocol.specs.declared.phase.Phase.TheVariants.{Over};
 ghost use Rattle.daide_protocol.specs.declared.note.Note.TheVariants as Notes;
-ghost use Rattle.daide_protocol.specs.Events.{other as other_side};
+ghost use Rattle.daide_frame.specs.Side.{other as other_side};
 ghost use Rattle.daide_protocol.specs.Machine.{fault, fm_to, is_over as is_over_phase};
 ghost use Rattle.daide_protocol.specs.Wires.{frames_to};
-ghost use Rattle.daide_channels.specs.PerSide.{at};
+ghost use Rattle.daide_frame.specs.PerSide.{at};
 ghost use Rattle.daide_channels.specs.Channels.{has_final_frame};
 ghost use Rattle.daide_channels.specs.Fronts.{KeepsFronts};
 ghost use Rattle.daide_session.specs.Session.{state_of, view_of, IsConsistentSession};
@@ -19,13 +19,13 @@ ghost use Rattle.daide_session.specs.FrameEvents.{Emits, KeepsSides, stopped};
 
 use daide_channels::channels::Channels;
 use daide_frame::code::Code;
-use daide_frame::side::Side;
+use daide_frame::side::{Side, other};
 use daide_grammar::level::Level;
 use daide_protocol::ending::Ending;
 use daide_protocol::note::Note;
 use daide_protocol::phase::Phase;
 use daide_protocol::summary::Summary;
-use daide_protocol::transitions::{may_reach, other};
+use daide_protocol::transitions::may_reach;
 use std::alloc::Allocator;
 
 /// The phase of a session, its level of press, the highest level that an HLO may set, the event that ended it, and its

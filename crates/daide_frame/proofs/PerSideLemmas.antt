@@ -2,8 +2,8 @@
 use Rattle.std.proofs.Common.{◌≡◌, refl, ap, ◌∙◌}
 use Rattle.daide_frame.specs.declared.side.Side.{Side}
 use Rattle.daide_frame.specs.declared.side.Side.TheVariants.{Bot, Server}
-use Rattle.daide_protocol.specs.Events.{other}
-use Rattle.daide_channels.specs.PerSide.{PerSide, at, put}
+use Rattle.daide_frame.specs.Side.{other}
+use Rattle.daide_frame.specs.PerSide.{PerSide, at, put}
 
 pub at_put : {A : Type 0} (b : PerSide A) (side : Side) (x : A) → at (put b side x) side ≡ x
 at_put b Bot x = refl
@@ -32,3 +32,8 @@ put_each P b Server x here there Server = here
 pub both_same : {A : Type 0} (a b : PerSide A) → a.bot ≡ b.bot → a.server ≡ b.server → a ≡ b
 both_same {A = A} a b e h =
     ap (λ (x : A). record { bot = x; server = a.server }) e ∙ ap (λ (x : A). record { bot = b.bot; server = x }) h
+
+-- a statement that holds for both sides holds for each side
+pub on_both : (P : Side → Type 0) → P Bot → P Server → (side : Side) → P side
+on_both P bot server Bot = bot
+on_both P bot server Server = server

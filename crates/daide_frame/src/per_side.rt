@@ -2,10 +2,10 @@
 
 ghost use Rattle.std.specs.Prelude.{◌≡◌};
 ghost use Rattle.std.specs.Borrow.{sem};
-ghost use Rattle.daide_channels.specs.PerSide.{at, both};
-ghost use Rattle.daide_channels.specs.Lends.{LendsSide};
+ghost use Rattle.daide_frame.specs.PerSide.{at, both};
+ghost use Rattle.daide_frame.specs.Lends.{LendsSide};
 
-use daide_frame::side::Side;
+use crate::side::Side;
 use std::marker::Model;
 
 /// One value for each side, or for the wire to each side.
@@ -16,7 +16,7 @@ pub struct PerSide<T> {
 }
 
 impl<T> Model for PerSide<T> {
-    ghost use Rattle.daide_channels.specs.PerSide.{PerSide, both};
+    ghost use Rattle.daide_frame.specs.PerSide.{PerSide, both};
 
     ghost Value = { PerSide T };
 
