@@ -183,7 +183,7 @@ fn put_reported(side: Side, reported: Note, line: &mut Page)
         Note::Frame(head, deed) => put_frame(head, deed, line),
         Note::Fault(code) => {
             put(b"fault ", line);
-            put(code.digits().as_bytes(), line);
+            put(&code.digits(), line);
             line.push(b'\n');
         }
     }

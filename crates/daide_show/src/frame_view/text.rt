@@ -120,8 +120,9 @@ fn write_verdict<A: Allocator + Copy>(
 pub(super) fn write_fault<A: Allocator>(code: Code, text: &mut Vec<u8, A>) -> io::Result<bool>
     ensures { IfOk result (λ relayed. WritesShown text.old.items text.new.items relayed (fault_shown code)) }
 {
-    let digits = code.digits();
-    writeln!(text, "fault {digits}")?;
+    text.write_all(b"fault ")?;
+    text.write_all(&code.digits())?;
+    text.write_all(b"\n")?;
     Ok(false)
 }
 
