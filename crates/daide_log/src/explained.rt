@@ -8,7 +8,6 @@ ghost use Rattle.daide_words.specs.Word.{grammar_words};
 ghost use Rattle.daide_words.specs.declared.word.Word.{Word};
 ghost use Rattle.daide_words.specs.Words.{words_of};
 ghost use Rattle.daide_reader.specs.Verdict.{HasVerdict, IsPlaceIn};
-ghost use Rattle.daide_protocol.specs.Answers.{answer_body};
 ghost use Rattle.daide_log_lines.specs.Output.{IsSameWriter, all_of};
 ghost use Rattle.daide_log_lines.specs.Reader.{silent};
 ghost use Rattle.daide_log.specs.Explained.{explained, is_remark, with_line_feed, message_text, pair, pairs, token_line, bytes_line, fault_lines};
@@ -32,7 +31,7 @@ use crate::record_text::DIGITS;
 use crate::report::Part;
 use crate::report_builder::ReportBuilder;
 use crate::style::Style;
-use daide_explain::{Rules, write_explained};
+use daide_explain::{Rules, answer_of, write_explained};
 use daide_frame::{Code, Head, Kind, Side};
 use daide_log_lines::LogFault;
 use daide_log_lines::block::Block;
@@ -41,14 +40,13 @@ use daide_log_lines::output::Output;
 use daide_log_lines::page::Page;
 use daide_log_lines::reader::LogReader;
 use daide_log_lines::text::Text;
-use daide_protocol::answers::{CLOSE_WORD, ERR_WORD, HUH_OPEN, PRN_OPEN};
 use daide_protocol::transitions::side2_of;
 use daide_protocol::{Deed, Note, Summary};
 use daide_reader::Verdict;
 use daide_session::{Ending, Session};
 use daide_token::write_text_with;
 use daide_words::Words;
-use std::alloc::{AllocError, Allocator};
+use std::alloc::Allocator;
 use std::io;
 use std::io::{Read, Write};
 
@@ -76,56 +74,6 @@ fn write_tokens<B: Allocator>(words: &Words, tokens: &[u8], text: &mut Vec<u8, B
 {
     write_text_with(words.names(), tokens, text)?;
     text.write_all(b"\n")
-}
-
-/// Returns a copy of a message that is relayed.
-fn answer_relay<B: Allocator>(alloc: B, body: &[u8]) -> Result<Vec<u8, B>, AllocError>
-    requires { length body.now % 2 ≡ 0 }
-    ensures even { IfOk result (λ answer. length answer.items % 2 ≡ 0) }
-    ensures body { IfOk result (λ answer. answer.items ≡ answer_body body.now Verdict.Relay) }
-{
-    let parts: [&[u8]; 1] = [body];
-    parts.concat(alloc)
-}
-
-/// Returns the answer to a message that is not paired.
-fn answer_prn<B: Allocator>(alloc: B, body: &[u8]) -> Result<Vec<u8, B>, AllocError>
-    requires { length body.now % 2 ≡ 0 }
-    ensures even { IfOk result (λ answer. length answer.items % 2 ≡ 0) }
-    ensures body { IfOk result (λ answer. answer.items ≡ answer_body body.now Verdict.Prn) }
-{
-    let parts: [&[u8]; 3] = [&PRN_OPEN, body, &CLOSE_WORD];
-    parts.concat(alloc)
-}
-
-/// Returns the answer to a message with an error place.
-fn answer_huh<B: Allocator>(alloc: B, place: u16, body: &[u8]) -> Result<Vec<u8, B>, AllocError>
-    requires even { length body.now % 2 ≡ 0 }
-    requires within { 2 * place ≤ length body.now }
-    ensures even { IfOk result (λ answer. length answer.items % 2 ≡ 0) }
-    ensures body { IfOk result (λ answer. answer.items ≡ answer_body body.now (Verdict.Huh place)) }
-{
-    let (before, after) = body.split_at(2 * place as usize);
-    let parts: [&[u8]; 5] = [&HUH_OPEN, before, &ERR_WORD, after, &CLOSE_WORD];
-    parts.concat(alloc)
-}
-
-/// Returns the body of the answer to a message.
-fn answer_of<B: Allocator>(
-    alloc: B,
-    verdict: Verdict,
-    body: &[u8],
-) -> Result<Vec<u8, B>, AllocError>
-    requires even { length body.now % 2 ≡ 0 }
-    requires within { IsPlaceIn body.now verdict }
-    ensures even { IfOk result (λ answer. length answer.items % 2 ≡ 0) }
-    ensures body { IfOk result (λ answer. answer.items ≡ answer_body body.now verdict) }
-{
-    match verdict {
-        Verdict::Relay => answer_relay(alloc, body),
-        Verdict::Prn => answer_prn(alloc, body),
-        Verdict::Huh(place) => answer_huh(alloc, place, body),
-    }
 }
 
 /// Writes the text of a refused message, its level, its answer and the reason.

@@ -1,7 +1,6 @@
 use Rattle.std.proofs.Common.{◌≡◌, ◌%◌, ℕ, List, length, subst, sym}
-use Rattle.daide_show.proofs.AnswerParts.{prn_of_parts, even_prn}
-use Rattle.daide_show.proofs.Outcomes.{if_ok-more}
-use Rattle.daide_show.proofs.frame_view.text.answer_prn.Goals as goal
+use Rattle.daide_explain.proofs.AnswerParts.{if_ok-more, prn_of_parts, even_prn}
+use Rattle.daide_explain.proofs.answer.answer_prn.Goals as goal
 
 pub returns-clause-body : goal.returns-clause-body
 returns-clause-body g c =

@@ -1,6 +1,6 @@
 use Rattle.std.proofs.Common.{◌≡◌, ◌%◌, ℕ, List, length, subst, sym}
-use Rattle.daide_log.proofs.AnswerParts.{if_ok-more, relay_of_parts}
-use Rattle.daide_log.proofs.explained.answer_relay.Goals as goal
+use Rattle.daide_explain.proofs.AnswerParts.{if_ok-more, relay_of_parts}
+use Rattle.daide_explain.proofs.answer.answer_relay.Goals as goal
 
 pub returns-clause-body : goal.returns-clause-body
 returns-clause-body g c =
