@@ -8,6 +8,7 @@ use Rattle.std.proofs.lemmas.List.{get_or-set_same, get_or-set_other}
 use Rattle.std.proofs.lemmas.List.{length-map, map-set, map-append, replicate_more}
 use Rattle.std.proofs.lemmas.Option.{slice_get-map, slice_get_read}
 use Rattle.std.specs.Io.KnownBytes.{Keeps, Appends}
+use Rattle.daide_frame.specs.declared.side.Side.TheVariants.{Bot, Server}
 use Rattle.daide_protocol.specs.Machine.{Limits, SessionState, initial_state}
 use Rattle.daide_protocol.specs.Wires.{SessionView, IsNew}
 use Rattle.daide_log.specs.declared.heading.Version.{Version}
@@ -68,21 +69,6 @@ refused_late form (Ok x) answer e h =
     subst (λ (r : Result Unit LogFault). IfErr r (IsLateFault form)) (sym e) tt
 refused_late form (Err f) answer e h =
     subst (λ (r : Result Unit LogFault). IfErr r (IsLateFault form)) (sym e) (late_of form f h)
-
--- a property of all sessions, after one of them moved
-pub all_idle : (P : SessionView → Type 0) (items : List SessionView) (i : ℕ) (new : SessionView) → All P items → P new →
-    All P (set items i new)
-all_idle P items i new idle h k d less = go k (cases_eq k i) less
-  where
-    size : length (set items i new) ≡ length items
-    size = length-set items i new
-
-    go : (k : ℕ) → (k ≡ i) ⊎ (k ≡ i → ⊥) → k < length (set items i new) → P (get_or (set items i new) k d)
-    go k (inl e) less =
-        let fits : i < length items = omega (arith, size, less, e) in
-        subst P (sym (ap (λ (j : ℕ). get_or (set items i new) j d) e ∙ get_or-set_same items i new d fits)) h
-    go k (inr other) less =
-        subst P (sym (get_or-set_other items i k new d other)) (idle k d (omega (arith, size, less)))
 
 pub new_is_ready : (config : Config) (words : List Word) (session : SessionView) → IsNew (limits_with config words) session →
     config_fault config ≡ Ok tt → IsReady config words session

@@ -183,12 +183,6 @@ pub counted_over-append : {E : Type 0} → (count : E → Summary → Summary) (
 counted_over-append count [] b s = refl
 counted_over-append count (entry ∷ a) b s = counted_over-append count a b (count entry s)
 
-pub lines_of-append : (a b : List ReportEntry) → lines_of (a ++ b) ≡ lines_of a ++ lines_of b
-lines_of-append a b = texts_of-append (λ (e : ReportEntry). move_line e.source e.side e.reported) a b
-
-pub counted_all-append : (a b : List ReportEntry) (s : Summary) → counted_all (a ++ b) s ≡ counted_all b (counted_all a s)
-counted_all-append a b s = counted_over-append (λ (e : ReportEntry) (before : Summary). count_note e.reported before) a b s
-
 pub appends_more : (a b c : Option (List ℕ)) (x y : List ℕ) → Appends a b x → Appends b c y → Appends a c (x ++ y)
 appends_more None b c x y h k = tt
 appends_more (Some p) None c x y h k = absurd h

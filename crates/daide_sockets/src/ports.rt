@@ -495,7 +495,7 @@ fn put_or_flush_peer<S: Duplex + Drop>(
 }
 
 /// The connections of a session, as its ports. Each side's socket gave exactly the bytes that a result says it gave,
-/// and took exactly those that it says it took (`transition`, `RunsWithOneEffect`). Of the other side nothing is read,
+/// and took exactly those that it says it took (`transition`, `Transfers`). Of the other side nothing is read,
 /// and only bytes that were held for it are written. A call of the clock leaves both sides unchanged.
 ///
 /// What is held for a side is flushed after 32 turns, and once a pull of the other side or a put finds nothing to do.
