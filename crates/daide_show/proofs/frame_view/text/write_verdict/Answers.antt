@@ -21,12 +21,12 @@ returns g c =
           subst (λ (v : Verdict). (text ≡ old ++ verdict_lines words v body) × (false ≡ is_relay v)) (sym w.in-Prn.is)
           (answered words Prn body old c.match-verdict.text.items sent text refl
           (rw w.text-is w.in_ok-write_all-in-Prn.ensures.bytes)
-          (answer ∙ ap (answer_body body) w.in-Prn.is) c.in_ok-write_tokens.ensures)
+          (answer ∙ ap (answer_body body) (w.verdict-is ∙ w.in-Prn.is)) c.in_ok-write_tokens.ensures)
       | in-Huh+in_ok-writeln-in-Huh w ↦
           subst (λ (v : Verdict). (text ≡ old ++ verdict_lines words v body) × (false ≡ is_relay v)) (sym w.in-Huh.is)
           (answered words (Huh w.in-Huh.place) body old c.match-verdict.text.items sent text refl
           (rw w.text-is w.in_ok-writeln-in-Huh.ensures.bytes)
-          (answer ∙ ap (answer_body body) w.in-Huh.is) c.in_ok-write_tokens.ensures)
+          (answer ∙ ap (answer_body body) w.verdict-is) c.in_ok-write_tokens.ensures)
     ]
 
 pub write_tokens-requires : goal.write_tokens-requires
