@@ -157,10 +157,11 @@ class Stops(Act):
     """The program is stopped, so that all that is sent from now on is there when it goes on."""
 
     def play(self, stage):
+        if stage.run.is_stopped():
+            return True
         stage.run.process.send_signal(signal.SIGSTOP)
-        while not stage.run.is_stopped():
-            time.sleep(0.001)
-        return True
+        stage.awaits_moment(time.monotonic() + 0.001)
+        return False
 
 
 @dataclass(frozen=True)
