@@ -8,7 +8,9 @@ from dataclasses import dataclass
 from acts import (
     Bot, Comes, Empties, Ends, FinishesConnect, Hears, HearsEnd, MeetsNobody, Passes, Pours, Says, Server, Vanishes,
 )
-from frames import FM, IM, ITS_ERR, ITS_PRN, OBS, OBS_FM, OBS_GOF, RM, UNCLOSED, YES
+from frames import (
+    EM_01, EM_08, EM_0C, FM, IM, ITS_ERR, ITS_PRN, OBS, OBS_FM, OBS_GOF, RM, UNCLOSED, UNKNOWN, YES,
+)
 from gateway import (
     GETS_PRN, HEARS_THE_END, IS_NOT_RESET, NOBODY_SERVES, ONE_FLOODS, STAYS_SILENT, UNREACHED, joins, opens,
 )
@@ -160,6 +162,53 @@ daide-gate: session 1 ended: FM of server; relayed 5 prn 0 huh 0 faults 0
 
 KEEPS_AS_THEY_CAME = ((IM + OBS, RM + YES + FM), (IM + UNCLOSED + FM, RM))
 
+# The frame that ends a session or is its fault, who sends it, what both sides receive, and the line's cause and counts.
+ENDINGS = [
+    (Bot, FM, b"", FM, "FM of bot; relayed 3 prn 0 huh 0 faults 0"),
+    (Server, FM, FM, b"", "FM of server; relayed 3 prn 0 huh 0 faults 0"),
+    (Bot, EM_08, b"", EM_08, "EM of bot; relayed 3 prn 0 huh 0 faults 0"),
+    (Server, EM_08, EM_08, b"", "EM of server; relayed 3 prn 0 huh 0 faults 0"),
+    (Bot, UNKNOWN[:4], EM_08, FM, "fault 08 of bot; relayed 2 prn 0 huh 0 faults 1"),
+    (Server, RM, FM, EM_0C, "fault 0C of server; relayed 2 prn 0 huh 0 faults 1"),
+]
+
+# The session after them, whose bot sends no IM.
+LAST = len(ENDINGS)
+
+# One session after another, each with another end.
+END_IN_EACH_WAY = [
+    *(
+        act
+        for number, (who, said, bot, server, _) in enumerate(ENDINGS)
+        for act in (
+            *joins(),
+            *opens(number),
+            Says(who(number), said),
+            Hears(Bot(number), bot),
+            Hears(Server(number), server),
+            HearsEnd(Bot(number)),
+            HearsEnd(Server(number)),
+        )
+    ),
+    *joins(),
+    Hears(Bot(LAST), EM_01),
+    HearsEnd(Bot(LAST)),
+    HearsEnd(Server(LAST)),
+]
+
+ENDS = [*(row[-1] for row in ENDINGS), "no IM in time; relayed 0 prn 0 huh 0 faults 1"]
+
+TELLS_EACH_END = "".join(
+    f"daide-gate: session {number} began: bot at 127.0.0.1:{{{number - 1}}}\n"
+    f"daide-gate: session {number} ended: {end}\n"
+    for number, end in enumerate(ENDS, 1)
+)
+
+KEEPS_EACH_END = (
+    *((IM + said, RM) if who is Bot else (IM, RM + said) for who, said, *_ in ENDINGS),
+    (b"", b""),
+)
+
 SPENT = "daide-gate: turns spent\n"
 
 TELLS_SPENT = """\
@@ -218,6 +267,10 @@ SCENES = [
     Recorded(
         "records_are_numbered_as_bots_came", ARE_JOINED_IN_ANOTHER_ORDER, "sessions = 2", TELLS_AS_THEY_CAME,
         server=full_listener, verbose=True, recorded=2, kept=KEEPS_AS_THEY_CAME,
+    ),
+    Recorded(
+        "each_cause_of_an_end_is_told", END_IN_EACH_WAY, f"sessions = {LAST + 1}\nim_seconds = 1", TELLS_EACH_END,
+        verbose=True, recorded=LAST + 1, kept=KEEPS_EACH_END,
     ),
     Recorded(
         "spent_turns_of_a_recorded_session_are_told", HEARS_THE_END, "turns = 1", SPENT, recorded=1,
