@@ -3,6 +3,7 @@
 An act is played repeatedly until it is done. It fails once it can no longer succeed.
 """
 
+import os
 import resource
 import select
 import selectors
@@ -291,9 +292,9 @@ class HearsEndAlone(Act):
     def play(self, stage):
         peer = stage.peer(self.who)
         peer.listen()
-        fault = peer.fault or peer.stream.getsockopt(socket.SOL_SOCKET, socket.SO_ERROR)
-        if fault:
-            raise Wrong(f"saw {fault}, wanted the end alone")
+        error = peer.stream.getsockopt(socket.SOL_SOCKET, socket.SO_ERROR)
+        if peer.fault or error:
+            raise Wrong(f"saw {peer.fault or os.strerror(error)}, wanted the end alone")
         return HearsEnd(self.who).play(stage)
 
 
