@@ -1,8 +1,8 @@
 """Scenes of the gateway at work, as lists of acts. The expected bytes are worked out from docs/PROTOCOL.md."""
 
 from acts import (
-    Bot, Comes, Ends, FinishesConnect, Flooded, Floods, Hears, HearsEnd, HearsEndAlone, Leave, MeetsNobody, Pours,
-    Rests, Says, Server,
+    Bot, Comes, Ends, FinishesConnect, Flooded, Floods, Hears, HearsEnd, HearsEndAlone, Leave, MeetsNobody, Passes,
+    Pours, Rests, Says, Server,
 )
 from frames import (
     EM_01, EM_08, FM, HLO_20, IM, IM_FM, ITS_HUH, ITS_PRN, OBS, OBS_FM, RM, UNCLOSED, UNKNOWN, XYZ, XYZ_OF_SERVER,
@@ -194,7 +194,8 @@ STAYS_SILENT = [
     HearsEnd(Server(0)),
 ]
 
-HEARS_THE_END = [*joins(), HearsEnd(Bot(0)), HearsEnd(Server(0))]
+# The first turn of the session finds nothing. It has no other for the bot's IM.
+HEARS_THE_END = [*joins(), Passes(100), Says(Bot(0), IM), HearsEnd(Bot(0)), HearsEnd(Server(0))]
 
 # A bot that sends its IM and ends its session at once, and a server that accepts the connection after the run has
 # ended.
