@@ -16,7 +16,8 @@ use Rattle.daide_session.specs.Bounds.{IsWithinBounds}
 use Rattle.daide_io.specs.Ports.{PortCall, Pulled}
 use Rattle.daide_driver.specs.Turn.{FillsRoom, turn_steps}
 use Rattle.daide_driver.specs.Headline.{IsBoundedAndExact}
-use Rattle.daide_driver.specs.Hub.{IsHubSize, IsHubCause, session_bound}
+use Rattle.daide_protocol.specs.Bounds.{IsSessionCount}
+use Rattle.daide_driver.specs.Hub.{IsHubCause, session_bound}
 
 -- ---- bounds
 
@@ -68,7 +69,7 @@ narrowest_bound = refl
 -- ---- hubs
 
 -- a hub is for 1 to 256 sessions; 0 and more than 256 are refused
-hub_sizes : IsHubSize 1 × IsHubSize 255 × IsHubSize 256 × (IsHubSize 0 → ⊥) × (IsHubSize 257 → ⊥)
+hub_sizes : IsSessionCount 1 × IsSessionCount 255 × IsSessionCount 256 × (IsSessionCount 0 → ⊥) × (IsSessionCount 257 → ⊥)
 hub_sizes = (
   (omega arith, omega arith),
   (omega arith, omega arith),

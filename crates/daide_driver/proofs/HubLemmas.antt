@@ -20,21 +20,9 @@ use Rattle.daide_protocol.specs.declared.config.ConfigError.TheVariants as Error
 use Rattle.daide_protocol.specs.Config.{config_fault, is_level, is_body, is_depth}
 use Rattle.daide_protocol.specs.Weight.{IsKeptSmall}
 use Rattle.daide_protocol.specs.Config.{limits_with}
-use Rattle.daide_session.specs.Session.{IsCause}
-use Rattle.daide_session.specs.declared.session.SessionError.{SessionError}
-use Rattle.daide_session.specs.declared.session.SessionError.TheVariants as SessionErrors
 use Rattle.daide_driver.specs.Hub.{HubView, IsHubSession, with_places, session_bound}
 use Rattle.std.proofs.lemmas.Bool.{leb-true}
 use Rattle.std.proofs.Math.Nat.{add-mul}
-
--- ---- memory
-
--- with right limits there is one reason why no session is created
-pub body_refused : (Refuses : ℕ → Type 0) (config : Config) (error : SessionError) → config_fault config ≡ Ok tt →
-    IsCause Refuses config error → Refuses config.max_body
-body_refused Refuses config (SessionErrors.Config fault) right cause =
-    let e : Err fault ≡ Ok tt = sym cause ∙ right in absurd (cc)
-body_refused Refuses config SessionErrors.Memory right cause = cause.1
 
 -- ---- places
 
@@ -130,7 +118,6 @@ module _ {X : Type 0} (seen : X → SessionView) (config : Config) (words : List
       let old : Limited x =
       subst (λ (z : X). Limited z) (sym read) (All-get_or (λ (z : X). Limited z) items i x lt h.same_limits) in
       record {
-        checked = h.checked;
         size = h.size;
         fits = let fits = h.fits in omega (arith, fits, length-set items i y);
         room = h.room;
@@ -141,7 +128,6 @@ module _ {X : Type 0} (seen : X → SessionView) (config : Config) (words : List
   pub hosting_added : (capacity : ℕ) (items : List X) (x : X) → length items < max → IsNew (limits_with config words) (seen x) →
       IsHubSession seen config words max capacity items → IsHubSession seen config words max capacity (items ++ x ∷ [])
   hosting_added capacity items x lt new h = record {
-    checked = h.checked;
     size = h.size;
     fits = omega (arith, lt, length-append items (x ∷ []));
     room = h.room;

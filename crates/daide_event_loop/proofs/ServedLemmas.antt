@@ -16,8 +16,7 @@ use Rattle.daide_protocol.specs.Machine.{Limits, is_over}
 use Rattle.daide_protocol.specs.Wires.{SessionView, IsNew, is_closed}
 use Rattle.daide_io.specs.Ports.{PortCall, TurnBegins, EvolvesBy, events_of}
 use Rattle.daide_driver.specs.Headline.{untouched, IsReachable, IsBoundedAndExact}
-use Rattle.daide_driver.specs.Hub.{HubView, IsHubSize, IsBegun, IsTurned, Changes}
-use Rattle.daide_protocol.specs.Config.{config_fault}
+use Rattle.daide_driver.specs.Hub.{HubView, IsBegun, IsTurned, Changes}
 use Rattle.daide_driver.proofs.PortCalls.{turn_begins}
 use Rattle.daide_io.proofs.TraceLemmas.{transition_then}
 use Rattle.daide_driver.proofs.Stretches.{relays_append}
@@ -591,10 +590,9 @@ module _ {P : Type 0} (port_transition : P → PortCall → P → Type 0) (setti
   all_there false none count accepted sessions connecting a b e = absurd (cc)
 
   -- rounds until all were served are a whole run
-  pub whole_run : (config_fault settings.config ≡ Ok tt) × IsHubSize settings.max_sessions →
-      (n : ℕ) (answers : List (SystemCall P)) (end : ServiceView P) →
+  pub whole_run : (n : ℕ) (answers : List (SystemCall P)) (end : ServiceView P) →
       Rounds port_transition n (initial_service settings) answers end → is_done end ≡ true → IsWholeRun port_transition settings answers
-  whole_run accepted n answers end rounds done =
+  whole_run n answers end rounds done =
       let kept = rounds_serve n answers end rounds in
       let empty = nobody_left (end.counters.accepted == end.counters.sessions) (end.counters.connecting == 0)
       (length end.hub.places) done in
@@ -607,7 +605,6 @@ module _ {P : Type 0} (port_transition : P → PortCall → P → Type 0) (setti
       let all = there.0 in
       let none = there.1 in
       record {
-        accepted = accepted;
         serves = (n, end, rounds, done);
         each = kept.gone;
         none_lost = omega (arith, balance, empty);

@@ -15,7 +15,6 @@ use Rattle.daide_event_loop.specs.declared.serving.ServeFault.TheVariants as Fau
 use Rattle.daide_event_loop.specs.Serving.{ServiceView, any_moved, wait_where, Round, Rounds, is_done, initial_service}
 use Rattle.daide_event_loop.specs.Serving.{BreaksOff, GivesUp}
 use Rattle.daide_event_loop.proofs.TransitLemmas.{transits_then}
-use Rattle.daide_event_loop.specs.Serving.{IsOpeningCause, IsServeCause}
 
 pub not_none : (n : ℕ) → (n ≡ 0 → ⊥) → (n == 0) ≡ false
 not_none zero h = absurd (h refl)
@@ -85,29 +84,6 @@ module _ {P S : Type 0} (Refuses : ℕ → Type 0) (port_transition : P → Port
       asked = refl;
     }),
   )
-
-module _ {P : Type 0} (Refuses : ℕ → Type 0) (port_transition : P → PortCall → P → Type 0) (settings : Settings) where
-  -- a run that did not begin made no system call
-  pub not_begun : (fault : ServeFault) → IsOpeningCause Refuses settings fault →
-      GivesUp Refuses port_transition settings fault []
-  not_begun (Faults.Config wrong) cause = refl
-  not_begun Faults.Sessions cause = refl
-  not_begun Faults.Memory cause = inl (refl, cause.2)
-  not_begun Faults.RoundsSpent cause = absurd cause
-
--- the reason for not beginning is the reason for giving up
-pub opening_cause : (Refuses : ℕ → Type 0) (settings : Settings) (fault : ServeFault) →
-    IsOpeningCause Refuses settings fault → IsServeCause Refuses settings fault
-opening_cause Refuses settings (Faults.Config wrong) cause = cause
-opening_cause Refuses settings Faults.Sessions cause = cause
-opening_cause Refuses settings Faults.Memory cause = ((cause.0, cause.1), inl cause.2)
-opening_cause Refuses settings Faults.RoundsSpent cause = absurd cause
-
--- a property of a fault holds at an error that is this fault
-pub at_fault : {A : Type 0} (r : Result A ServeFault) (fault : ServeFault) (Holds : ServeFault → Type 0) →
-    IsErrAnd r (λ told. told ≡ fault) → Holds fault → IfErr r Holds
-at_fault (Ok x) fault Holds told h = tt
-at_fault (Err other) fault Holds told h = subst Holds (sym told) h
 
 -- a property of `Memory` holds if this is the only fault
 pub at_memory : {A : Type 0} (r : Result A ServeFault) (fault : ServeFault) (Holds : ServeFault → Type 0) →

@@ -5,10 +5,10 @@ use Rattle.daide_protocol.specs.declared.ending.Ending.{Ending}
 use Rattle.daide_protocol.specs.Machine.{Limits, SessionState, Effect, Runs}
 use Rattle.daide_protocol.specs.Wires.{SessionView, is_closed}
 use Rattle.daide_words.specs.Words.{words_of}
-use Rattle.daide_protocol.specs.Config.{config_fault, limits_with}
+use Rattle.daide_protocol.specs.Config.{limits_with}
 use Rattle.daide_io.specs.Ports.{PortCall, TurnBegins, Clock, Pulled, Offered, EvolvesBy, events_of}
 use Rattle.daide_driver.specs.Headline.{untouched, IsBoundedAndExact}
-use Rattle.daide_driver.specs.Hub.{IsBegun, IsTurned, IsHubSize}
+use Rattle.daide_driver.specs.Hub.{IsBegun, IsTurned}
 use Rattle.daide_settings.specs.declared.settings.Settings.{Settings}
 use Rattle.daide_io.specs.declared.system.Connect.TheVariants.{Ready, Failed, Pending}
 use Rattle.daide_io.specs.declared.system.Cause.{Cause}
@@ -132,13 +132,12 @@ SessionsAreServed {P} transition = (settings : Settings) (n : ℕ) (answers : Li
     × (run.counters.accepted ≡ sum_over_calls comes answers)
     × (sum_over_calls comes answers ≡ run.counters.connecting + sum_over_calls connects answers + sum_over_calls unreached answers)
 
--- A whole run of settings with accepted limits: rounds until all bots were served and no session is left. So each
+-- A whole run of settings: rounds until all bots were served and no session is left. So each
 -- completed connect was a session, which was served, and retired as a closed one. By all its port calls it is bounded
 -- and exact, and none is lost. As many bots were accepted as the settings say; for each, ports were retired or the
 -- server was unreachable.
 pub record IsWholeRun {P : Type 0} (transition : P → PortCall → P → Type 0) (settings : Settings)
     (answers : List (SystemCall P)) : Type 0 where
-  pub accepted : (config_fault settings.config ≡ Ok tt) × IsHubSize settings.max_sessions
   pub serves : Serves transition settings answers
   pub each : All (RetiresClosed transition settings answers) answers
   pub none_lost : sum_over_calls connects answers ≡ sum_over_calls retires answers

@@ -8,13 +8,10 @@ use Rattle.daide_protocol.specs.declared.ending.Ending.TheVariants.{Ended, Lost}
 use Rattle.daide_protocol.specs.declared.summary.Summary.{Summary}
 use Rattle.daide_frame.specs.Side.{same_side}
 use Rattle.daide_protocol.specs.Wires.{SessionView, is_closed}
-use Rattle.daide_driver.specs.declared.hub.HubError.{HubError}
-use Rattle.daide_driver.specs.declared.hub.HubError.TheVariants as HubErrors
 use Rattle.daide_words.specs.Words.{words_of}
-use Rattle.daide_protocol.specs.Config.{config_fault, limits_with}
-use Rattle.daide_driver.specs.Hub.{IsHubSize}
+use Rattle.daide_protocol.specs.Config.{limits_with}
 use Rattle.daide_io.specs.Ports.{PortCall}
-use Rattle.daide_driver.specs.Hub.{HubView, with_places, AddsSession, Changes, IsBegun, IsTurned, IsHubCause}
+use Rattle.daide_driver.specs.Hub.{HubView, with_places, AddsSession, Changes, IsBegun, IsTurned}
 use Rattle.daide_settings.specs.declared.settings.Settings.{Settings}
 use Rattle.daide_event_loop.specs.declared.serving.ServeFault.{ServeFault}
 use Rattle.daide_event_loop.specs.declared.serving.ServeFault.TheVariants as Faults
@@ -304,51 +301,18 @@ pub record RunsLong {P : Type 0} (transition : P → PortCall → P → Type 0) 
   pub all : n + 1 ≡ 18446744073709551616
   pub rounds : Rounds transition n (initial_service settings) answers end
 
--- The trace of a run that ends with this fault, before all its bots were served. With wrong settings there is no system
--- call. `Memory` has two causes, each a refusal of the allocator, by its relation `Refuses`. Either the places were
--- refused, without a system call; or a body was refused, in a round that is broken off. `RoundsSpent` needs all rounds
--- to be made.
+-- The trace of a run that ends with this fault, before all its bots were served. `Memory` has two causes, each a
+-- refusal of the allocator, by its relation `Refuses`. Either the places were refused, without a system call; or a body
+-- was refused, in a round that is broken off. `RoundsSpent` needs all rounds to be made.
 abbrev pub GivesUp : {P : Type 0} → (ℕ → Type 0) → (P → PortCall → P → Type 0) → Settings → ServeFault →
     List (SystemCall P) → Type 0
-GivesUp Refuses transition settings (Faults.Config fault) answers = answers ≡ []
-GivesUp Refuses transition settings Faults.Sessions answers = answers ≡ []
 GivesUp Refuses transition settings Faults.Memory answers =
     ((answers ≡ []) × Refuses settings.max_sessions) ⊎ RunsOut Refuses transition settings answers
 GivesUp Refuses transition settings Faults.RoundsSpent answers = RunsLong transition settings answers
 
 -- ---- refusals
 
--- an error of the hub as a fault of the run
-abbrev pub fault_of : HubError → ServeFault
-fault_of (HubErrors.Config fault) = Faults.Config fault
-fault_of HubErrors.Sessions = Faults.Sessions
-fault_of HubErrors.Memory = Faults.Memory
-
--- why a run did not begin: the limits first, then the number of sessions, then the memory of the places
-abbrev pub IsOpeningCause : (ℕ → Type 0) → Settings → ServeFault → Type 0
-IsOpeningCause Refuses settings (Faults.Config fault) =
-    IsHubCause Refuses settings.config settings.max_sessions (HubErrors.Config fault)
-IsOpeningCause Refuses settings Faults.Sessions =
-    IsHubCause Refuses settings.config settings.max_sessions HubErrors.Sessions
-IsOpeningCause Refuses settings Faults.Memory = IsHubCause Refuses settings.config settings.max_sessions HubErrors.Memory
-IsOpeningCause Refuses settings Faults.RoundsSpent = ⊥
-
--- the limits and the number of sessions are right
-abbrev pub AreAccepted : Settings → Type 0
-AreAccepted settings = (config_fault settings.config ≡ Ok tt) × IsHubSize settings.max_sessions
-
--- Why a run gave up: as above, or the allocator later refused a body. Memory is requested, and rounds are made, only if
--- the settings are right.
+-- why a run gave up: the allocator refused the places, or later a body; or all rounds were made
 abbrev pub IsServeCause : (ℕ → Type 0) → Settings → ServeFault → Type 0
-IsServeCause Refuses settings (Faults.Config fault) = IsOpeningCause Refuses settings (Faults.Config fault)
-IsServeCause Refuses settings Faults.Sessions = IsOpeningCause Refuses settings Faults.Sessions
-IsServeCause Refuses settings Faults.Memory =
-    AreAccepted settings × (Refuses settings.max_sessions ⊎ Refuses settings.config.max_body)
-IsServeCause Refuses settings Faults.RoundsSpent = AreAccepted settings
-
--- a fault of the settings, returned before the first system call
-abbrev pub IsOfSettings : ServeFault → Type 0
-IsOfSettings (Faults.Config fault) = Unit {0}
-IsOfSettings Faults.Sessions = Unit {0}
-IsOfSettings Faults.Memory = ⊥
-IsOfSettings Faults.RoundsSpent = ⊥
+IsServeCause Refuses settings Faults.Memory = Refuses settings.max_sessions ⊎ Refuses settings.config.max_body
+IsServeCause Refuses settings Faults.RoundsSpent = Unit {0}

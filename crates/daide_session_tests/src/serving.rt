@@ -11,7 +11,6 @@ use daide_frame::side::Side::{Bot, Server};
 use daide_gate::serving::{ServeFault, serve};
 use daide_gate::settings::{Settings, read_settings};
 use daide_gate::system::{Cause, Connect, Notice, SessionEnd, System};
-use daide_protocol::config::ConfigError;
 use daide_protocol::ending::Ending;
 use daide_test_support::memory_ports::{Acceptance, MemoryPorts, Script, ScriptedRead};
 use daide_test_support::rows::{holds, same};
@@ -188,11 +187,11 @@ type Limits = (usize, u32, u64);
 /// Returns settings with these limits.
 fn settings(alloc: Global, limits: Limits) -> Result<Settings, Fail> {
     let (max_sessions, sessions, turns) = limits;
-    let mut settings = read_settings(alloc, "listen = \"a\"\nserver = \"b\"\nmax_body = 512\n")?;
-    settings.max_sessions = max_sessions;
-    settings.sessions = sessions;
-    settings.turns = turns;
-    Ok(settings)
+    let text = format!(in alloc;
+        "listen = \"a\"\nserver = \"b\"\nmax_body = 512
+        max_sessions = {max_sessions}\nsessions = {sessions}\nturns = {turns}\n"
+    )?;
+    Ok(read_settings(alloc, text.as_str())?)
 }
 
 /// A scene | its limits | the calls of the system.
@@ -518,22 +517,6 @@ fn want_of_memory_ends_a_run(rt: HostRuntime) -> Result<(), Fail> {
         try_within(rt.alloc(), 32 * step, &settings, &mut seen)?;
     }
     seen.assert_all()
-}
-
-/// Checks the fault of a run with these settings, and that it makes no call of the system.
-fn assert_fault(alloc: Global, settings: &Settings, want: ServeFault) -> Result<(), Fail> {
-    let mut stage = Harness::new(alloc, ENDING);
-    let fault = serve(alloc, settings, &mut stage).err();
-    same(&fault, &Some(want), &"the fault")?;
-    holds(stage.events.is_empty(), "nobody was asked")
-}
-
-#[test]
-fn faults_of_a_run_before_anybody_is_asked(rt: HostRuntime) -> Result<(), Fail> {
-    let mut wrong = settings(rt.alloc(), (0, 1, 9))?;
-    assert_fault(rt.alloc(), &wrong, ServeFault::Sessions)?;
-    wrong.config.max_depth = 255;
-    assert_fault(rt.alloc(), &wrong, ServeFault::Config(ConfigError::Depth))
 }
 
 /// Checks the text of a fault or a notice.
