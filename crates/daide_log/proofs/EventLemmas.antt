@@ -34,6 +34,7 @@ use Rattle.daide_log.specs.Log.{Playing, event_in, source_in}
 use Rattle.daide_log_lines.specs.Reader.{Reader}
 use Rattle.daide_log_lines.specs.Lines.{IsFound, is_end_of_log, is_last_line}
 use Rattle.daide_protocol.specs.Summary.{IsMoreBy}
+use Rattle.daide_protocol.proofs.GrowthLemmas.{no_more, more_by, more_then}
 use Rattle.daide_log.specs.Reporting.{IsReady, IsQuietWith, IsCauseIn, IsLateFault, ReportsEvents, fault_of_unreported}
 use Rattle.daide_log.specs.Progress.{StartsReport, IsFaultOf, IsFaultAfter, IsFinished, Reported, IsPlaying, Judges, states_of}
 use Rattle.daide_log_lines.proofs.PageLemmas.{appends_and_keeps, keeps_appends}
@@ -201,7 +202,7 @@ module _ {Answer : Type 0} (form : ReportForm Answer) where
     ready = ready;
     size = refl;
     few = subst (IsMoreBy (1024 * number) nothing_counted) (sym e)
-        (record { relayed = omega arith; prn = omega arith; huh = omega arith; faults = omega arith });
+        (no_more (1024 * number) nothing_counted);
     fits = fits;
     playing = λ origin before h.
         record { reported = []; has_read = h.0; counts = e; written = keeps_appends before a h.1 };
@@ -209,7 +210,9 @@ module _ {Answer : Type 0} (form : ReportForm Answer) where
 
   more_few : (n : ℕ) (s t : Summary) → IsMoreBy (1024 * n) nothing_counted s → IsMoreBy 1024 s t →
       IsMoreBy (1024 * (n + 1)) nothing_counted t
-  more_few n s t h k = record { relayed = omega arith; prn = omega arith; huh = omega arith; faults = omega arith }
+  more_few n s t h k =
+      more_by (1024 * n + 1024) (1024 * (n + 1)) nothing_counted t (more_then (1024 * n) 1024 nothing_counted s t h k)
+      (omega arith)
 
   -- the counts so far, with the entries of one more line
   more_counts : (reported more : List form.Entry) (s t : Summary) → s ≡ counted_over form.counted reported nothing_counted → t ≡ counted_over form.counted more s →

@@ -4,6 +4,7 @@ pub mod SomeRun
 pub mod WireLemmas
 pub mod FramesHeard
 pub mod SummaryLemmas
+pub mod GrowthLemmas
 pub mod EndingLemmas
 pub mod CountLemmas
 pub mod CallLemmas
