@@ -90,7 +90,7 @@ impl<'w, R: AllocGlobal + Clock + Net + Files, E: Write + Drop> System<
         self.sockets.tell(notice);
     }
 
-    fn wait(&mut self, accepts: bool) {
-        self.sockets.wait(accepts);
+    fn wait(&mut self) {
+        self.sockets.wait();
     }
 }

@@ -26,7 +26,7 @@ module _ {P : Type 0} where
   OnlyBegin (Connects connect ∷ answers) = ⊥
   OnlyBegin (Retires ports end ∷ answers) = ⊥
   OnlyBegin (Notifies notice ∷ answers) = ⊥
-  OnlyBegin (Waits more ∷ answers) = ⊥
+  OnlyBegin (Waits ∷ answers) = ⊥
 
   only_append : (xs ys : List (SystemCall P)) → OnlyBegin xs → OnlyBegin ys → OnlyBegin (xs ++ ys)
   only_append [] ys h k = k
@@ -36,7 +36,7 @@ module _ {P : Type 0} where
   only_append (Connects connect ∷ xs) ys h k = absurd h
   only_append (Retires ports end ∷ xs) ys h k = absurd h
   only_append (Notifies notice ∷ xs) ys h k = absurd h
-  only_append (Waits more ∷ xs) ys h k = absurd h
+  only_append (Waits ∷ xs) ys h k = absurd h
 
   -- so they add nothing to any other count
   pub none_counted : (count : SystemCall P → ℕ) (xs : List (SystemCall P)) →
@@ -51,7 +51,7 @@ module _ {P : Type 0} where
   none_counted count (Connects connect ∷ xs) none h = absurd h
   none_counted count (Retires ports end ∷ xs) none h = absurd h
   none_counted count (Notifies notice ∷ xs) none h = absurd h
-  none_counted count (Waits more ∷ xs) none h = absurd h
+  none_counted count (Waits ∷ xs) none h = absurd h
 
   pub all_begin : (Q : SystemCall P → Type 0) (xs : List (SystemCall P)) →
       ((before after : P) → Q (BeginsTurn before after)) → OnlyBegin xs → All Q xs
@@ -63,7 +63,7 @@ module _ {P : Type 0} where
   all_begin Q (Connects connect ∷ xs) each h = absurd h
   all_begin Q (Retires ports end ∷ xs) each h = absurd h
   all_begin Q (Notifies notice ∷ xs) each h = absurd h
-  all_begin Q (Waits more ∷ xs) each h = absurd h
+  all_begin Q (Waits ∷ xs) each h = absurd h
 
   one_begins : (left : Option ℕ) (before after : P) → OnlyBegin (beginning_where left before after)
   one_begins None before after = tt

@@ -157,7 +157,7 @@ module _ {P : Type 0} where
   pub removal_counts : (places : List (SessionView × QuotaPortsView P)) (counters : AdmissionCounters) → Counts (retirements places) counters counters
   removal_counts places counters = silent_counts (retirements places) counters (silent_farewells places)
 
-  pub wait_counts : (made_progress more : Bool) (counters : AdmissionCounters) → Counts (wait_where made_progress more) counters counters
-  wait_counts true more counters = silent_counts [] counters nothing_said
-  wait_counts false more counters =
-      silent_counts (Waits more ∷ []) counters (record { came = refl; joined = refl; failed = refl })
+  pub wait_counts : (made_progress : Bool) (counters : AdmissionCounters) → Counts (wait_where made_progress) counters counters
+  wait_counts true counters = silent_counts [] counters nothing_said
+  wait_counts false counters =
+      silent_counts (Waits ∷ []) counters (record { came = refl; joined = refl; failed = refl })

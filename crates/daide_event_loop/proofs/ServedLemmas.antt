@@ -162,9 +162,9 @@ module _ {P : Type 0} where
             omega (arith, rest, same)),
       )
 
-  wait_passes : (made_progress more : Bool) → Passes (wait_where made_progress more) 0 0
-  wait_passes true more = record { came = refl; went = refl }
-  wait_passes false more = record { came = refl; went = refl }
+  wait_passes : (made_progress : Bool) → Passes (wait_where made_progress) 0 0
+  wait_passes true = record { came = refl; went = refl }
+  wait_passes false = record { came = refl; went = refl }
 
 module _ {P : Type 0} (port_transition : P → PortCall → P → Type 0) (settings : Settings) where
   -- ---- a longer trace
@@ -187,7 +187,7 @@ module _ {P : Type 0} (port_transition : P → PortCall → P → Type 0) (setti
   gone_later xs ys (Accepts came) h = tt
   gone_later xs ys (Connects connect) h = tt
   gone_later xs ys (Notifies notice) h = tt
-  gone_later xs ys (Waits more) h = tt
+  gone_later xs ys Waits h = tt
 
   -- ---- turns
 
@@ -450,9 +450,9 @@ module _ {P : Type 0} (port_transition : P → PortCall → P → Type 0) (setti
         All-append Gone (retirements places) (retirement place) (all_parted places (All-tail Served place places h))
         (parted (is_closed place.0) place refl (All-head Served place places h))
 
-    waited : (made_progress more : Bool) → All Gone (wait_where made_progress more)
-    waited true more = All-nil Gone
-    waited false more = All-cons Gone (Waits more) [] tt (All-nil Gone)
+    waited : (made_progress : Bool) → All Gone (wait_where made_progress)
+    waited true = All-nil Gone
+    waited false = All-cons Gone Waits [] tt (All-nil Gone)
 
   -- ---- rounds
 
@@ -469,8 +469,7 @@ module _ {P : Type 0} (port_transition : P → PortCall → P → Type 0) (setti
       Counts ys old.counters new.counters
   round_counts ys old new r =
       let made_progress = any_progress r.admission || any_progress r.meeting || any_moved r.turned.places || any_progress r.removal in
-      let more = may_accept new.counters (length new.hub.places) in
-      let last = wait_where {P = P} made_progress more in
+      let last = wait_where {P = P} made_progress in
       let removes : Counts r.removal new.counters new.counters =
       subst (λ (l : List (SystemCall P)). Counts l new.counters new.counters) (sym r.removes.0)
       (removal_counts r.turned.places new.counters) in
@@ -484,15 +483,14 @@ module _ {P : Type 0} (port_transition : P → PortCall → P → Type 0) (setti
       (meeting_counts (r.came.connecting == 0) old.hub r.came r.meeting r.connected new.counters refl r.finishes))
       (turns_count r.beginnings new.counters (turns_only port_transition (length r.connected.places) r.connected r.beginnings r.turned r.turns)))
       removes)
-      (wait_counts made_progress more new.counters))
+      (wait_counts made_progress new.counters))
 
   round_serves : (xs ys : List (SystemCall P)) (old new : ServiceView P) → Keeps xs old → Round port_transition old ys new →
       Keeps (xs ++ ys) new
   round_serves xs ys old new h r =
       let all = xs ++ ys in
       let made_progress = any_progress r.admission || any_progress r.meeting || any_moved r.turned.places || any_progress r.removal in
-      let more = may_accept new.counters (length new.hub.places) in
-      let last = wait_where {P = P} made_progress more in
+      let last = wait_where {P = P} made_progress in
       let come = admitted all (may_accept old.counters (length old.hub.places)) old.counters r.admission r.came r.admits in
       let still_held : All (Held all) old.hub.places =
       All-weaker (Served xs) (Held all) (λ now s. still all now (later IsBoundedAndExact xs ys now s.0, s.1))
@@ -526,7 +524,7 @@ module _ {P : Type 0} (port_transition : P → PortCall → P → Type 0) (setti
             connected.gone) (all_begin (Gone all) r.beginnings (λ before after. tt) only))
             (All-same (Gone all) r.removal (retirements r.turned.places) r.removes.0
             (all_parted all r.turned.places turned.0)))
-            (waited all made_progress more)));
+            (waited all made_progress)));
         balance =
             let finishes = meeting_passes (r.came.connecting == 0) old.hub r.came r.meeting r.connected new.counters r.finishes in
             let leaves = removal_passes r.turned.places in
@@ -542,7 +540,7 @@ module _ {P : Type 0} (port_transition : P → PortCall → P → Type 0) (setti
             (admission_passes (may_accept old.counters (length old.hub.places)) old.counters r.admission r.came r.admits)) finishes.1)
             (turns_pass r.beginnings only))
             (passes_as r.removal (retirements r.turned.places) 0 leaves.0 r.removes.0 leaves.1))
-            (wait_passes made_progress more)) in
+            (wait_passes made_progress)) in
             let came = passes.came in
             let went = passes.went in
             let held = finishes.2 in

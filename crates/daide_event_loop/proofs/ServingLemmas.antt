@@ -37,9 +37,9 @@ any_more (x ∷ xs) (suc i) m lt h =
 
 -- ---- rounds
 
-pub waits_alike : {P : Type 0} (a b c d e p q r s t : Bool) → a ≡ p → b ≡ q → c ≡ r → d ≡ s → e ≡ t →
-    wait_where {P = P} (a || b || c || d) e ≡ wait_where (p || q || r || s) t
-waits_alike a b c d e p q r s t h i j k l = rw (h, i, j, k, l) refl
+pub waits_alike : {P : Type 0} (a b c d p q r s : Bool) → a ≡ p → b ≡ q → c ≡ r → d ≡ s →
+    wait_where {P = P} (a || b || c || d) ≡ wait_where (p || q || r || s)
+waits_alike a b c d p q r s h i j k = rw (h, i, j, k) refl
 
 module _ {P S : Type 0} (port_transition : P → PortCall → P → Type 0) (transition : S → SystemCall P → S → Type 0) where
   -- the first n rounds, with their trace of system calls

@@ -72,7 +72,7 @@ RetiresClosed transition settings answers (BeginsTurn before after) = Unit {0}
 RetiresClosed transition settings answers (Accepts came) = Unit {0}
 RetiresClosed transition settings answers (Connects connect) = Unit {0}
 RetiresClosed transition settings answers (Notifies notice) = Unit {0}
-RetiresClosed transition settings answers (Waits more) = Unit {0}
+RetiresClosed transition settings answers Waits = Unit {0}
 
 -- the number of ports that a call delivered, and the number that it retired
 abbrev pub connects : {P : Type 0} → SystemCall P → ℕ
@@ -84,7 +84,7 @@ connects (BeginsTurn before after) = 0
 connects (Accepts came) = 0
 connects (Retires ports end) = 0
 connects (Notifies notice) = 0
-connects (Waits more) = 0
+connects Waits = 0
 
 abbrev pub retires : {P : Type 0} → SystemCall P → ℕ
 retires (Retires ports end) = 1
@@ -93,7 +93,7 @@ retires (BeginsTurn before after) = 0
 retires (Accepts came) = 0
 retires (Connects connect) = 0
 retires (Notifies notice) = 0
-retires (Waits more) = 0
+retires Waits = 0
 
 -- the number of bots that a call accepted, and the number whose server could not be reached
 abbrev pub comes : {P : Type 0} → SystemCall P → ℕ
@@ -104,7 +104,7 @@ comes (BeginsTurn before after) = 0
 comes (Connects connect) = 0
 comes (Retires ports end) = 0
 comes (Notifies notice) = 0
-comes (Waits more) = 0
+comes Waits = 0
 
 abbrev pub unreached : {P : Type 0} → SystemCall P → ℕ
 unreached (Connects Failed) = 1
@@ -115,7 +115,7 @@ unreached (BeginsTurn before after) = 0
 unreached (Accepts came) = 0
 unreached (Retires ports end) = 0
 unreached (Notifies notice) = 0
-unreached (Waits more) = 0
+unreached Waits = 0
 
 abbrev pub sum_over_calls : {P : Type 0} → (SystemCall P → ℕ) → List (SystemCall P) → ℕ
 sum_over_calls count [] = 0

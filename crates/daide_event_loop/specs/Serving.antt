@@ -195,15 +195,15 @@ is_progress (Connects Failed) = true
 is_progress (Connects Pending) = false
 is_progress (Retires ports end) = true
 is_progress (Notifies notice) = true
-is_progress (Waits more) = false
+is_progress Waits = false
 
 abbrev pub any_progress : {P : Type 0} → List (SystemCall P) → Bool
 any_progress answers = list_any is_progress answers
 
 -- one wait if no progress was made
-abbrev pub wait_where : {P : Type 0} → Bool → Bool → List (SystemCall P)
-wait_where true more = []
-wait_where false more = Waits more ∷ []
+abbrev pub wait_where : {P : Type 0} → Bool → List (SystemCall P)
+wait_where true = []
+wait_where false = Waits ∷ []
 
 -- The system begins a round. At most one bot is accepted, and at most one connect completes or fails. Each session has
 -- a turn, which the system begins. Closed sessions are removed. There is one wait, exactly if no progress was made.
@@ -224,7 +224,6 @@ pub record Round {P : Type 0} (transition : P → PortCall → P → Type 0) (ol
   pub within : IsWithinQuotas new.hub new.counters
   pub asked : answers ≡ Begins ∷ admission ++ meeting ++ beginnings ++ removal ++ wait_where
       (any_progress admission || any_progress meeting || any_moved turned.places || any_progress removal)
-      (may_accept new.counters (length new.hub.places))
 
 -- ---- a run
 

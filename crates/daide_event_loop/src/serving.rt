@@ -221,11 +221,11 @@ fn remove_closed<P: Ports, A: Allocator + Copy, S: System<P>>(
 }
 
 /// Waits if no progress was made.
-fn rest<P: Ports, S: System<P>>(made_progress: bool, more: bool, system: &mut S)
-    ensures { TransitsBy S.transition system.old (wait_where made_progress more) system.new }
+fn rest<P: Ports, S: System<P>>(made_progress: bool, system: &mut S)
+    ensures { TransitsBy S.transition system.old (wait_where made_progress) system.new }
 {
     if !made_progress {
-        system.wait(more);
+        system.wait();
     }
 }
 
@@ -283,8 +283,7 @@ impl<P: Ports, A: Memory + Copy> Service<P, A> {
         turn_all(&mut self.hub, system);
         let made_progress = has_moved(&self.hub);
         let removed = remove_closed(&mut self.hub, system);
-        let more = self.counters.accepts(self.hub.count());
-        rest::<P, S>(came | connected | made_progress | removed, more, system);
+        rest::<P, S>(came | connected | made_progress | removed, system);
         Ok(())
     }
 }

@@ -14,7 +14,7 @@ pub data SystemCall (P : Type 0) : Type 0 where
   Connects : (connect : Connect P) → SystemCall P
   Retires : (ports : P) → (end : SessionEnd) → SystemCall P
   Notifies : (notice : Notice) → SystemCall P
-  Waits : (accepts : Bool) → SystemCall P
+  Waits : SystemCall P
 
 -- The system went from old to new by these calls; `transition` is the effect of one call with its result.
 abbrev pub TransitsBy : {P S : Type 0} → (S → SystemCall P → S → Type 0) → S → List (SystemCall P) → S → Type 0

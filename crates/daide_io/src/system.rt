@@ -96,8 +96,8 @@ pub trait System<P: Ports> {
     fn tell(&mut self, notice: Notice)
         ensures { transition self.old (Notifies notice) self.new };
 
-    /// Waits until something may have changed: a wire that was idle or full, a pending connect, or the IM timer of a
-    /// session; and for a new bot if `accepts`. It may return earlier.
-    fn wait(&mut self, accepts: bool)
-        ensures { transition self.old (Waits accepts) self.new };
+    /// Waits until something may have changed: a wire that was idle or full, a pending connect, a new bot, or the IM
+    /// timer of a session. It may return earlier.
+    fn wait(&mut self)
+        ensures { transition self.old Waits self.new };
 }

@@ -95,7 +95,7 @@ fn first_ports<'w>(
                 return Some(ports);
             }
         }
-        system.wait(true);
+        system.wait();
     }
     None
 }
@@ -234,7 +234,7 @@ fn is_under_way(system: &mut Sockets<'_, HostRuntime, &mut Vec<u8>>, flags: &Fla
             flags.note(false, true);
             return matches!(system.connected(), Connect::Pending);
         }
-        system.wait(true);
+        system.wait();
     }
     false
 }

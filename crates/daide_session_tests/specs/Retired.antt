@@ -10,4 +10,4 @@ KeepsRetired old (BeginsTurn before after) new = new ≡ old
 KeepsRetired old (Accepts came) new = new ≡ old
 KeepsRetired old (Connects connect) new = new ≡ old
 KeepsRetired old (Notifies notice) new = new ≡ old
-KeepsRetired old (Waits accepts) new = new ≡ old
+KeepsRetired old Waits new = new ≡ old

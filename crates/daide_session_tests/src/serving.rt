@@ -39,7 +39,7 @@ enum Event {
     Pending,
     Retired,
     ParsedEvent(Notice),
-    Waited(bool),
+    Waited,
 }
 
 /// The script of a run. After the last accept each further one returns a bot; after the last fate each connect
@@ -151,8 +151,8 @@ impl System<MemoryPorts<'static>> for Harness {
         self.note(Event::ParsedEvent(notice));
     }
 
-    fn wait(&mut self, accepts: bool) {
-        self.note(Event::Waited(accepts));
+    fn wait(&mut self) {
+        self.note(Event::Waited);
     }
 }
 
@@ -207,13 +207,13 @@ const RUNS: &[(Scene, Limits, &[Event])] = &[
         &[
             Event::Begun,
             Event::NoneCame,
-            Event::Waited(true),
+            Event::Waited,
             Event::Begun,
             Event::Came,
             Event::Pending,
             Event::Begun,
             Event::Pending,
-            Event::Waited(false),
+            Event::Waited,
             Event::Begun,
             Event::Ready,
             Event::TurnBegun,
@@ -274,7 +274,7 @@ const RUNS: &[(Scene, Limits, &[Event])] = &[
             Event::Pending,
             Event::Begun,
             Event::Pending,
-            Event::Waited(false),
+            Event::Waited,
             Event::Begun,
             Event::Failed,
             Event::ParsedEvent(Notice::CannotReach),
@@ -326,10 +326,10 @@ const RUNS: &[(Scene, Limits, &[Event])] = &[
             Event::TurnBegun,
             Event::Begun,
             Event::TurnBegun,
-            Event::Waited(false),
+            Event::Waited,
             Event::Begun,
             Event::TurnBegun,
-            Event::Waited(false),
+            Event::Waited,
             Event::Begun,
             Event::ParsedEvent(Notice::TurnsSpent),
             Event::Retired,
@@ -373,7 +373,7 @@ const SPENT: &[Event] = &[
     Event::TurnBegun,
     Event::Begun,
     Event::TurnBegun,
-    Event::Waited(false),
+    Event::Waited,
     Event::Begun,
     Event::Begun,
     Event::ParsedEvent(Notice::TurnsSpent),

@@ -99,7 +99,7 @@ module _ {S : Type 0} (n : ℕ) where
         omega (arith, a, c)
     one (Retires ports end) old new h = let e = kept old new h.1 h.2 in omega (arith, e)
     one (Notifies notice) old new h = let e : left new ≡ left old = ap left h in omega (arith, e)
-    one (Waits more) old new h = let e : left new ≡ left old = ap left h in omega (arith, e)
+    one Waits old new h = let e : left new ≡ left old = ap left h in omega (arith, e)
 
     handed_first : (answer : SystemCall P) (answers : List (SystemCall P)) →
         handed pair n (answer ∷ answers) ≡ handed pair n (answer ∷ []) + handed pair n answers
@@ -111,7 +111,7 @@ module _ {S : Type 0} (n : ℕ) where
     handed_first (Connects Pending) answers = omega (arith)
     handed_first (Retires ports end) answers = omega (arith)
     handed_first (Notifies notice) answers = omega (arith)
-    handed_first (Waits more) answers = omega (arith)
+    handed_first Waits answers = omega (arith)
 
     all : (answers : List (SystemCall P)) (old new : RunSockets S) →
         TransitsBy (Transits to_give taken calls pair) old answers new → handed pair n answers ≤ left old

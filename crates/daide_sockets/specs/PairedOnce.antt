@@ -21,7 +21,7 @@ handed pair n (BeginsTurn before after ∷ answers) = handed pair n answers
 handed pair n (Accepts came ∷ answers) = handed pair n answers
 handed pair n (Retires ports end ∷ answers) = handed pair n answers
 handed pair n (Notifies notice ∷ answers) = handed pair n answers
-handed pair n (Waits more ∷ answers) = handed pair n answers
+handed pair n (Waits ∷ answers) = handed pair n answers
 
 -- Sockets of a run with no bot yet: by any trace of system calls, no session gets its ports twice.
 abbrev pub SessionsComeOnce : (P : Type 0) → {S : Type 0} → (S → Option (List ℕ)) → (S → Option (List ℕ)) →

@@ -147,4 +147,4 @@ Transits to_give taken calls pair old (Connects Pending) new =
 Transits to_give taken calls pair old (Retires ports end) new = ClosesBoth to_give taken calls old.closing (pair ports) new.closing
     × (new.came ≡ old.came) × (new.arrivals ≡ old.arrivals)
 Transits to_give taken calls pair old (Notifies notice) new = new ≡ old
-Transits to_give taken calls pair old (Waits more) new = new ≡ old
+Transits to_give taken calls pair old Waits new = new ≡ old

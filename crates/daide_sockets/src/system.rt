@@ -290,7 +290,7 @@ impl<'w, R: Clock + Net, E: Write + Drop> System<SocketPorts<'w, &'w R>> for Soc
         let _ = writeln!(self.errors, "daide-gate: {notice}");
     }
 
-    fn wait(&mut self, _accepts: bool) {
+    fn wait(&mut self) {
         self.rest();
     }
 }
