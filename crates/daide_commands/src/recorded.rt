@@ -1,11 +1,10 @@
 //! A run that records each session in a folder: the system of its sockets, with a record around the ports of each
 //! session. A run without records uses the sockets' own system, and nothing of this.
 
-ghost use Rattle.std.specs.Prelude.{◌≡◌, ◌⊎◌, ℕ, []};
-ghost use Rattle.daide_sockets.specs.Lingering.{GoOnFor};
 ghost use Rattle.daide_sockets.specs.Pairing.{Transits};
 
 use crate::folder::{Folder, SessionFile, end};
+use crate::running::Finish;
 use daide_buffered_io::duplex::Duplex;
 use daide_io::{Connect, Notice, SessionEnd, System};
 use daide_log::Recording;
@@ -23,13 +22,9 @@ pub(crate) struct RecordedSockets<'w, 'f, R: AllocGlobal + Clock + Net + Files, 
     pub folder: &'f Folder<'f, R>,
 }
 
-impl<R: AllocGlobal + Clock + Net + Files, E: Write + Drop> RecordedSockets<'_, '_, R, E> {
-    /// Waits until the last sockets are closed. The closing sockets are advanced by rounds.
-    pub(crate) fn finish(&mut self)
-        ensures { (rounds : ℕ) × GoOnFor ⟦<Connection as Duplex>⟧.to_give ⟦<Connection as Duplex>⟧.taken
-            ⟦<Connection as Duplex>⟧.calls rounds self.old.sockets.closings self.new.sockets.closings
-            × ((self.new.sockets.closings.streams ≡ []) ⊎ (rounds ≡ u64.MAX)) }
-    {
+impl<R: AllocGlobal + Clock + Net + Files, E: Write + Drop> Finish
+    for RecordedSockets<'_, '_, R, E> {
+    fn finish(&mut self) {
         self.sockets.finish();
     }
 }

@@ -2,7 +2,7 @@
 
 ghost use Rattle.std.specs.Prelude.{◌≡◌, ◌≤◌, None, [], IfOk, IfErr, OnOk, IfSome, IsOkAnd, string_bytes};
 ghost use Rattle.daide_log.specs.Recording.{HasFailed};
-ghost use Rattle.daide_commands.specs.Running.{RunEnds, TextRuns, FileRuns, IsOfText, ending_by};
+ghost use Rattle.daide_commands.specs.Running.{RunEnds, RunsOn, TextRuns, FileRuns, IsOfText, ending_by};
 ghost use Rattle.daide_commands.specs.Gateway.{Announces};
 ghost use Rattle.daide_words.specs.Words.{words_of};
 
@@ -14,14 +14,15 @@ use crate::recorded::RecordedSockets;
 use crate::text::{SettingsTextFault, read_text};
 use daide_buffered_io::duplex::Duplex;
 use daide_event_loop::ServeFault;
-use daide_io::Ports;
+use daide_io::{Ports, System};
 use daide_log::{Recording, Sink};
 use daide_settings::{Settings, SettingsError, read_settings};
 use daide_sockets::bound_sockets::{BoundSockets, sockets_on};
 use daide_sockets::connection::Connection;
 use daide_sockets::ports::SocketPorts;
+use daide_sockets::system::Sockets;
 use daide_words::Words;
-use std::alloc::Allocator;
+use std::alloc::{Allocator, Global};
 use std::io::{Read, Write};
 use std::net::Net;
 use std::rt::{Clock, Files};
@@ -86,6 +87,18 @@ pub(crate) fn words_at<R: AllocGlobal + Files>(
     }
 }
 
+/// The system of a run, which can end: it waits until its last sockets are closed.
+pub(crate) trait Finish {
+    /// Waits until the last sockets are closed.
+    fn finish(&mut self);
+}
+
+impl<R: Clock + Net, E: Write + Drop> Finish for Sockets<'_, R, E> {
+    fn finish(&mut self) {
+        Sockets::finish(self);
+    }
+}
+
 /// Returns the result of a run from the result of its loop.
 fn ending_of(served: Result<(), ServeFault>) -> Result<(), RunFault>
     ensures { result ≡ ending_by served }
@@ -96,8 +109,22 @@ fn ending_of(served: Result<(), ServeFault>) -> Result<(), RunFault>
     }
 }
 
-/// Serves over sockets at the addresses of the settings, and waits until the last sockets are closed. Logs its sessions
-/// if it `is_verbose`.
+/// Serves on a system, and waits until the last sockets are closed.
+fn run_on<P: Ports, S: System<P> + Finish, O: Sink>(
+    alloc: Global,
+    settings: &Settings,
+    system: &mut S,
+    output: &mut O,
+) -> Result<(), RunFault>
+    ensures { RunsOn S.transition P.transition settings.now (HasFailed O.Fails) (O.contents output.old)
+        (O.contents output.new) system.old result }
+{
+    let served = serve_on(alloc, settings, system, output);
+    system.finish();
+    ending_of(served)
+}
+
+/// Serves over sockets at the addresses of the settings. Logs its sessions if it `is_verbose`.
 fn serve_sockets<R: AllocGlobal + Clock + Net, O: Sink, E: Write>(
     rt: &R,
     settings: &Settings,
@@ -116,13 +143,11 @@ fn serve_sockets<R: AllocGlobal + Clock + Net, O: Sink, E: Write>(
         poller,
     } = bind(rt, settings).map_err(RunFault::Gateway)?;
     let at = (listener, servers.as_slice(), &poller);
-    let Some(mut system) = sockets_on(rt, settings, at, errors) else {
+    let Some(mut sockets) = sockets_on(rt, settings, at, errors) else {
         return Err(RunFault::Memory);
     };
-    system.set_verbose(is_verbose);
-    let served = serve_on(rt.alloc(), settings, &mut system, output);
-    system.finish();
-    ending_of(served)
+    sockets.set_verbose(is_verbose);
+    run_on(rt.alloc(), settings, &mut sockets, output)
 }
 
 /// Serves with the settings of a text: binds, opens the sockets, serves on them (`serve_on`), and finishes closing. If
@@ -182,14 +207,12 @@ fn serve_recorded<'r, R: AllocGlobal + Files + Clock + Net, O: Sink, E: Write>(
         poller,
     } = bind(rt, settings).map_err(RunFault::Gateway)?;
     let at = (listener, servers.as_slice(), &poller);
-    let Some(mut sockets) = sockets_on(rt, settings, at, &mut *errors) else {
+    let Some(mut sockets) = sockets_on(rt, settings, at, errors) else {
         return Err(RunFault::Memory);
     };
     sockets.set_verbose(is_verbose);
     let mut system = RecordedSockets { sockets, folder };
-    let served = serve_on(rt.alloc(), settings, &mut system, output);
-    system.finish();
-    ending_of(served)
+    run_on(rt.alloc(), settings, &mut system, output)
 }
 
 /// Serves with the settings of a file, and keeps a record of each session in a folder.
