@@ -2,7 +2,7 @@
 use Rattle.std.specs.Prelude.{◌≡◌, ℕ, ◌+◌, ◌*◌, ◌<◌, ◌≤◌, ◌⊎◌, true, List, [], ◌∷◌, ◌++◌, length}
 use Rattle.std.specs.Prelude.{Option, Some, None, Ok, Err, slice_get, slice_set, remove, All}
 use Rattle.daide_words.specs.declared.word.Word.{Word}
-use Rattle.daide_protocol.specs.Machine.{Limits}
+use Rattle.daide_protocol.specs.Machine.{Limits, ending_in}
 use Rattle.daide_protocol.specs.Wires.{SessionView, IsNew, is_closed}
 use Rattle.daide_protocol.specs.Weight.{weight_of, weight_bound}
 use Rattle.daide_protocol.specs.declared.config.Config.{Config}
@@ -81,7 +81,7 @@ Removes old i ports new =
 
 -- the report of a removed session: its counted moves, and the event that ended it
 abbrev pub IsReportedOf : SessionView → Summary → Ending → Type 0
-IsReportedOf session summary ending = (summary ≡ session.summary) × (session.state.ending ≡ Some ending)
+IsReportedOf session summary ending = (summary ≡ session.summary) × (ending_in session.state.phase ≡ Some ending)
 
 -- The session and the ports at this place went from one pair to another, by a call of this kind; every other place is
 -- unchanged.

@@ -11,8 +11,8 @@ use Rattle.std.proofs.lemmas.Option.{slice_get_within, get_or_from_slice_get}
 use Rattle.std.proofs.Math.Dec.{eqb-suc-zero}
 use Rattle.std.proofs.Math.Seq.{take-suc-set}
 use Rattle.daide_protocol.specs.declared.ending.Ending.{Ending}
-use Rattle.daide_protocol.proofs.EndingLemmas.{runs_reported}
-use Rattle.daide_protocol.specs.Machine.{Limits, is_over}
+use Rattle.daide_protocol.proofs.EndingLemmas.{ending_known}
+use Rattle.daide_protocol.specs.Machine.{Limits, is_over, ending_in}
 use Rattle.daide_protocol.specs.Wires.{SessionView, IsNew, is_closed}
 use Rattle.daide_io.specs.Ports.{PortCall, TurnBegins, EvolvesBy, events_of}
 use Rattle.daide_driver.specs.Headline.{untouched, IsReachable, IsBoundedAndExact}
@@ -427,10 +427,9 @@ module _ {P : Type 0} (port_transition : P → PortCall → P → Type 0) (setti
         IsEndOf (run_limits settings) settings.turns h.0.history place.0 (end_of place)
     ended place closed h =
         let stands = h.0.stands.sends in
-        let told = runs_reported (untouched (run_limits settings)).state (events_of h.0.history) stands.effects
-        place.0.state stands.run refl in
+        let told = ending_known place.0.state.phase in
         let over = closed_over (is_over place.0.state.phase) _ closed in
-        let own = some_ending place.0.state.ending (told ∙ over) in (
+        let own = some_ending (ending_in place.0.state.phase) (told ∙ over) in (
           h.1.effects,
           h.1.state,
           h.1.run,

@@ -2,7 +2,7 @@
 use Rattle.std.specs.Prelude.{◌≡◌, ℕ, zero, suc, ◌+◌, nat_lt, true, false, List, [], ◌∷◌, length}
 use Rattle.std.specs.Prelude.{Option, Some, None, is_none, Ok, Contains, All}
 use Rattle.daide_protocol.specs.declared.ending.Ending.{Ending}
-use Rattle.daide_protocol.specs.Machine.{Limits, SessionState, Effect, Runs}
+use Rattle.daide_protocol.specs.Machine.{Limits, SessionState, Effect, Runs, ending_in}
 use Rattle.daide_protocol.specs.Wires.{SessionView, is_closed}
 use Rattle.daide_words.specs.Words.{words_of}
 use Rattle.daide_protocol.specs.Config.{config_fault, limits_with}
@@ -57,7 +57,7 @@ cause_of None = Causes.TurnsSpent
 abbrev pub IsEndOf : Limits → ℕ → List PortCall → SessionView → SessionEnd → Type 0
 IsEndOf limits turns history session end =
     (effects : List Effect) × (state : SessionState)
-    × Runs (untouched limits).state (events_of (while_left turns history)) effects state × (end.cause ≡ cause_of state.ending)
+    × Runs (untouched limits).state (events_of (while_left turns history)) effects state × (end.cause ≡ cause_of (ending_in state.phase))
     × (end.summary ≡ session.summary)
 
 -- retired ports are those of a closed session that was served, and the reported end is that of this session

@@ -27,6 +27,7 @@ use Rattle.daide_io.specs.declared.system.Cause.TheVariants as Causes
 use Rattle.daide_io.specs.declared.system.SessionEnd.{SessionEnd}
 use Rattle.daide_event_loop.specs.QuotaPorts.{QuotaPortsView, Meters, beginning}
 use Rattle.daide_io.specs.System.{SystemCall, Begins, BeginsTurn, Accepts, Connects, Retires, Notifies, Waits}
+use Rattle.daide_protocol.specs.Machine.{ending_in}
 
 -- the state of a run: the sessions, and the counters
 pub record ServiceView (P : Type 0) : Type 0 where
@@ -160,7 +161,7 @@ end_by told ending summary = record { cause = cause_by told ending; summary = su
 
 -- the end of a session, with its counted moves
 abbrev pub end_of : {P : Type 0} → SessionView × QuotaPortsView P → SessionEnd
-end_of place = end_by place.1.first_synthetic_end place.0.state.ending place.0.summary
+end_of place = end_by place.1.first_synthetic_end (ending_in place.0.state.phase) place.0.summary
 
 -- spent turns are reported, if so, and then the ports are retired with the end of their session
 abbrev pub parting : {P : Type 0} → QuotaPortsView P → SessionEnd → List (SystemCall P)

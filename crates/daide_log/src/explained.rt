@@ -17,7 +17,7 @@ ghost use Rattle.daide_log.specs.Explained.{part_of as spec_part_of, unfinished_
 ghost use Rattle.daide_log.specs.Explaining.{part_by, part_with, HasPut};
 ghost use Rattle.daide_frame.specs.Frames.{announced_by};
 ghost use Rattle.daide_protocol.specs.Bounds.{longest_body, most_sessions};
-ghost use Rattle.daide_protocol.specs.Machine.{coming, is_dm, side2_of};
+ghost use Rattle.daide_protocol.specs.Machine.{coming, is_dm, side2_of, ending_in};
 ghost use Rattle.daide_protocol.specs.declared.config.Config.{Config};
 ghost use Rattle.daide_protocol.specs.Wires.{holding, is_awaited, queued};
 ghost use Rattle.daide_log.specs.Explaining.{IsRuled, IsRightFate, IsRightlyReported, AreLinesBy};
@@ -382,7 +382,7 @@ fn part_in(header: usize, body: usize, at_fault: bool, announced: usize) -> Opti
 fn part_of<A: Allocator>(session: &Session<A>, side: Side) -> Option<Part>
     requires { is_awaited (queued session.now) side ≡ false }
     ensures { (number : Option ℕ) → part_with number side result ≡ spec_part_of number side session.now.state.limits.cap
-        (is_at_fault side session.now.state.ending) (coming session.now.state side).pending }
+        (is_at_fault side (ending_in session.now.state.phase)) (coming session.now.state side).pending }
 {
     let header = session.header(side);
     let body = session.body(side);
@@ -400,7 +400,7 @@ fn put_unfinished<A: Allocator, W: Write>(
 ) -> Result<u32, Unreported>
     requires { is_awaited (queued session.now) side ≡ false }
     ensures text { IfOk result (λ count. HasPut (spec_part_of number side session.now.state.limits.cap
-        (is_at_fault side session.now.state.ending) (coming session.now.state side).pending) count
+        (is_at_fault side (ending_in session.now.state.phase)) (coming session.now.state side).pending) count
         (all_of W.contents output.old) (all_of W.contents output.new)) }
     ensures few { IfOk result (λ count. count ≤ 1) }
     ensures same_writer { IsSameWriter output.old output.new }

@@ -9,8 +9,8 @@ use Rattle.daide_frame.specs.Head.{is_im}
 use Rattle.daide_frame.specs.InitialMessage.{im_of}
 use Rattle.daide_frame.specs.Frames.{FrameEvent, Begun, Whole, Wrong, last_items}
 use Rattle.daide_reader.specs.declared.verdict.Verdict.{Verdict}
-use Rattle.daide_protocol.specs.declared.phase.Phase.{Phase}
-use Rattle.daide_protocol.specs.declared.phase.Phase.TheVariants.{WaitIm, WaitRm, Open, Over}
+use Rattle.daide_protocol.specs.declared.phase.SessionPhase.{SessionPhase}
+use Rattle.daide_protocol.specs.declared.phase.SessionPhase.TheVariants.{WaitIm, WaitRm, Open, Over}
 use Rattle.daide_frame.specs.Side.{other, same_side}
 use Rattle.daide_protocol.specs.Events.{Event, Comes, Ends, Loses, ImTimerExpired}
 use Rattle.daide_protocol.specs.Machine.{Coming, SessionState, Effect, Successor, Transition}
@@ -114,13 +114,13 @@ byte_commutes side s c bytes items v =
     ap (λ (t : SessionState). items_outcome t (other side) items v) (bytes_commute side s c bytes)
     ∙ items_commute side (with_pending s (other side) bytes) c items v
 
-timer_commutes : (side : Side) (s : SessionState) (c : Coming) (phase : Phase) →
+timer_commutes : (side : Side) (s : SessionState) (c : Coming) (phase : SessionPhase) →
     im_timer_expired phase (with_coming s side c) ≡ put side c (im_timer_expired phase s)
 timer_commutes Bot s c WaitIm = refl
 timer_commutes Server s c WaitIm = refl
 timer_commutes side s c WaitRm = refl
-timer_commutes side s c Open = refl
-timer_commutes side s c Over = refl
+timer_commutes side s c (Open level) = refl
+timer_commutes side s c (Over ending) = refl
 
 end_commutes : (side from : Side) (ending : Ending) (s : SessionState) (c : Coming) →
     end (with_coming s side c) ending from ≡ put side c (end s ending from)

@@ -1,3 +1,4 @@
+pub mod PhaseLemmas
 pub mod PieceRuns
 pub mod OneRun
 pub mod SomeRun

@@ -16,10 +16,11 @@ use Rattle.daide_protocol.specs.declared.phase.Phase.TheVariants.{Open, Over}
 use Rattle.daide_protocol.specs.declared.note.Deed.TheVariants as Deeds
 use Rattle.daide_protocol.specs.declared.note.Note.TheVariants as Notes
 use Rattle.daide_protocol.specs.Summary.{nothing_counted}
-use Rattle.daide_protocol.specs.Machine.{Limits, Sent, fm_bytes, in_phase, initial_state, with_pending}
+use Rattle.daide_protocol.specs.Machine.{Limits, Sent, fm_bytes, initial_state, with_pending}
 use Rattle.daide_protocol.specs.Wires.{SessionView, Holding, queued, room_of, is_awaited, is_closed, without, first_len}
 use Rattle.daide_protocol.specs.Wires.{sent_bytes, held_after, grown, counts_from, asked_at_most, looked_at_most}
 use Rattle.daide_protocol.specs.Weight.{weight_of, weight_bound, steps_bound, IsKeptSmall}
+use Rattle.daide_protocol.proofs.SomeRun.{in_phase}
 
 -- ---- sessions with these values
 

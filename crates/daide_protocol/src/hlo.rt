@@ -153,8 +153,8 @@ impl HloScan {
     /// Looks at the tokens of a body from the token `from` on, each once; those before it were looked at before. An odd
     /// byte at the end waits for its other half. The first token decides whether the message is an HLO.
     ///
-    /// `found`: what is found is that of all tokens so far (`lvl_scan_of`); from it `level_reported` and `level_after`
-    /// compute the level.
+    /// `found`: what is found is that of all tokens so far (`lvl_scan_of`); from it `level_reported` computes the
+    /// level.
     ///
     /// `looked_at`: each token that is looked at is counted, modulo 2^64.
     #[inline(always)]

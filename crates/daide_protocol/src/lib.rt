@@ -25,5 +25,5 @@ pub use bounds::{MAX_BODY, MAX_DEPTH, MAX_SESSIONS, MIN_BODY, MIN_DEPTH, STACK_E
 pub use config::{Config, ConfigError};
 pub use ending::Ending;
 pub use note::{Deed, Note};
-pub use phase::Phase;
+pub use phase::{Phase, SessionPhase};
 pub use summary::Summary;

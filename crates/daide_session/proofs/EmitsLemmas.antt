@@ -8,7 +8,7 @@ use Rattle.daide_grammar.specs.declared.level.Level.TheVariants.{L0}
 use Rattle.daide_protocol.specs.declared.ending.Ending.{Ending}
 use Rattle.daide_protocol.specs.declared.ending.Ending.TheVariants as Endings
 use Rattle.daide_protocol.specs.declared.note.Note.TheVariants as Notes
-use Rattle.daide_protocol.specs.declared.phase.Phase.TheVariants.{Over}
+use Rattle.daide_protocol.specs.declared.phase.SessionPhase.TheVariants.{Over}
 use Rattle.daide_protocol.specs.declared.summary.Summary.{Summary}
 use Rattle.daide_protocol.specs.Summary.{counted_on}
 use Rattle.daide_frame.specs.Side.{other, same_side}
@@ -69,8 +69,6 @@ abbrev pub with_counts : ProtocolState → Summary → ProtocolState
 with_counts protocol summary = record {
   top_level = protocol.top_level;
   phase = protocol.phase;
-  level = protocol.level;
-  ending = protocol.ending;
   summary = summary;
 }
 
@@ -78,9 +76,7 @@ with_counts protocol summary = record {
 abbrev pub ended_by : Ending → ProtocolState → ProtocolState
 ended_by ending protocol = record {
   top_level = protocol.top_level;
-  phase = Over;
-  level = L0;
-  ending = Some ending;
+  phase = Over ending;
   summary = protocol.summary;
 }
 

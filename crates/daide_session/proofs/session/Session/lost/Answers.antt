@@ -2,7 +2,6 @@ use Rattle.std.proofs.Common.{[], ◌∷◌, ap, ◌∙◌, subst, sym}
 use Rattle.daide_frame.specs.declared.side.Side.TheVariants.{Bot, Server}
 use Rattle.daide_frame.specs.Side.{other}
 use Rattle.daide_protocol.specs.Events.{Loses}
-use Rattle.daide_protocol.proofs.EndingLemmas.{runs_reported}
 use Rattle.daide_protocol.specs.Wires.{SessionView, Lost, Holding, holding}
 use Rattle.daide_frame.specs.PerSide.{PerSide, at}
 use Rattle.daide_channels.specs.Channels.{ReceiveState}
@@ -26,8 +25,6 @@ pub invariant_of-self : goal.invariant_of-self
 invariant_of-self g c =
     let lost = done g c in
     standing_over _ lost.over
-    (runs_reported (state_of c.self.inside.channels c.self.inside.protocol) (Loses c.args.side ∷ []) lost.effects
-    (state_of c.lose.new.self c.on_peer_closed.new.protocol) lost.run c.self.invariant.ending)
 
 pub returns-clause-lost : goal.returns-clause-lost
 returns-clause-lost g c =
