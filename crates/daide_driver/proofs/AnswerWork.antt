@@ -11,7 +11,7 @@ use Rattle.daide_session.specs.Work.{IsPaidBy}
 use Rattle.daide_session.proofs.WorkLemmas.{paid_then}
 use Rattle.daide_io.specs.declared.ports.Pull.TheVariants.{Got}
 use Rattle.daide_io.specs.Ports.{PortCall, Clock, Pulled, events_of}
-use Rattle.daide_driver.specs.Record.{came, Works}
+use Rattle.daide_driver.specs.Totals.{came, Works}
 
 -- ---- one port call after another
 

@@ -15,7 +15,7 @@ use Rattle.daide_protocol.specs.Config.{limits_of}
 use Rattle.daide_session.specs.Bounds.{IsWithinBounds}
 use Rattle.daide_io.specs.Ports.{PortCall, Pulled}
 use Rattle.daide_driver.specs.Turn.{FillsRoom, turn_steps}
-use Rattle.daide_driver.specs.Headline.{IsBoundedAndExact}
+use Rattle.daide_driver.specs.Totals.{HasTotals}
 use Rattle.daide_driver.specs.Hub.{IsHubSize, IsHubCause, session_bound}
 
 -- ---- bounds
@@ -44,7 +44,7 @@ pulled_bytes = (buffer, buffer, buffer, buffer, buffer, buffer, buffer)
 
 -- over all bytes received, two look-ups a byte: eight for four bytes from the bot, and none for the server
 work_of_bytes : (limits : Limits) (g : SessionView) →
-    IsBoundedAndExact limits (Pulled Bot 4 (Got 4) (0x02 ∷ 0x00 ∷ 0x00 ∷ 0x02 ∷ []) ∷ []) g →
+    HasTotals limits (Pulled Bot 4 (Got 4) (0x02 ∷ 0x00 ∷ 0x00 ∷ 0x02 ∷ []) ∷ []) g →
     IsRaised 8 0 (holding g Bot).total × IsRaised 0 0 (holding g Server).total
 work_of_bytes limits g holds = (holds.work Bot, holds.work Server)
 

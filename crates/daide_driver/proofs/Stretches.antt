@@ -12,7 +12,8 @@ use Rattle.daide_protocol.proofs.SummaryLemmas.{tallied_then}
 use Rattle.daide_protocol.proofs.WireLemmas.{sent_to-append, sent_bytes-append}
 use Rattle.daide_io.specs.Ports.{PortCall, event_of, events_of, took, taken, put_fails, has_failed}
 use Rattle.daide_io.proofs.TraceLemmas.{events_of-append, taken-append, has_failed-append, transition_then}
-use Rattle.daide_driver.specs.Record.{Moved, RefinesRun}
+use Rattle.daide_driver.specs.Record.{Moved, DeliversOutput}
+use Rattle.daide_driver.specs.Totals.{RefinesRun}
 use Rattle.daide_io.specs.Ports.{EvolvesBy}
 use Rattle.daide_driver.specs.Record.{EvolveTogether}
 use Rattle.daide_driver.specs.Turn.{Then}
@@ -58,9 +59,9 @@ over_runs : (a b : SessionState) (es : List Event) (effects : List Effect) → i
     Runs a es effects b → (effects ≡ []) × (b ≡ a)
 over_runs a b es effects over run = one_run es a effects [] b a run (over_stays a es over)
 
-pub relays_append : (a : SessionView) (xs : List PortCall) (b : SessionView) (ys : List PortCall) (c : SessionView) →
-    RefinesRun a xs b → RefinesRun b ys c → RefinesRun a (xs ++ ys) c
-relays_append a xs b ys c h k = record {
+pub delivers_append : (a : SessionView) (xs : List PortCall) (b : SessionView) (ys : List PortCall) (c : SessionView) →
+    DeliversOutput a xs b → DeliversOutput b ys c → DeliversOutput a (xs ++ ys) c
+delivers_append a xs b ys c h k = record {
   effects = h.effects ++ k.effects;
   run = subst (λ (es : List Event). Runs a.state es (h.effects ++ k.effects) c.state) (sym (events_of-append xs ys))
       (runs_join (events_of xs) (events_of ys) a.state b.state c.state h.effects k.effects h.run k.run);
@@ -77,15 +78,20 @@ relays_append a xs b ys c h k = record {
       )
       (moved_append (has_failed side xs) (has_failed side ys) (is_over b.state.phase) (is_over c.state.phase)
       _ _ _ _ _ _ _ (h.wires side) (k.wires side) quiet);
-  counts = tallied_then h.effects k.effects a.summary b.summary c.summary h.counts k.counts;
+}
+
+pub relays_append : (a : SessionView) (xs : List PortCall) (b : SessionView) (ys : List PortCall) (c : SessionView) →
+    RefinesRun a xs b → RefinesRun b ys c → RefinesRun a (xs ++ ys) c
+unfolding delivers_append
+relays_append a xs b ys c h k = record {
+  sends = delivers_append a xs b ys c h.sends k.sends;
+  counts = tallied_then h.sends.effects k.sends.effects a.summary b.summary c.summary h.counts k.counts;
   work = works_then a xs b ys c (events_of-append xs ys) h.work k.work;
 }
 
 pub relays_nil : (a : SessionView) → RefinesRun a [] a
 relays_nil a = record {
-  effects = [];
-  run = (refl, refl);
-  wires = λ side. append-nil (sent_bytes (queued a side));
+  sends = record { effects = []; run = (refl, refl); wires = λ side. append-nil (sent_bytes (queued a side)) };
   counts = refl;
   work = λ side. paid_same side a a refl refl;
 }

@@ -18,7 +18,7 @@ use Rattle.daide_protocol.specs.Config.{limits_with}
 use Rattle.daide_io.specs.Ports.{PortCall, TurnBegins}
 use Rattle.daide_driver.specs.Record.{EvolveTogether}
 use Rattle.daide_driver.specs.Turn.{AsksAtMost, turn_steps}
-use Rattle.daide_driver.specs.Headline.{WholeTurn}
+use Rattle.daide_driver.specs.Whole.{WholeTurn}
 
 -- the state of a hub: the limits of its sessions, the maximum number of them, and at each place a session and its ports
 pub record HubView (P : Type 0) : Type 0 where

@@ -573,8 +573,8 @@ module _ {P : Type 0} (port_transition : P → PortCall → P → Type 0) (limit
           state = c.state;
           run = subst (λ (l : List PortCall). Runs (untouched limits).state (events_of l) c.effects c.state)
               (sym (spent_adds port_transition history call turns (fresh ports turns) a.1 refl answered e)) c.run;
-          cut = spent_turn limits history call a.0 b.0 t.exchange.session.delivered.effects c.state a.1.first_synthetic_end b.1.first_synthetic_end
-              stands t.exchange.session.in_order s.spent t.exchange.session.delivered.run s.first_synthetic_end c.cut;
+          cut = spent_turn limits history call a.0 b.0 t.exchange.session.delivered.sends.effects c.state a.1.first_synthetic_end b.1.first_synthetic_end
+              stands t.exchange.session.in_order s.spent t.exchange.session.delivered.sends.run s.first_synthetic_end c.cut;
           quiet = λ n k. let none = s.turns_left in absurd (cc);
         }
 

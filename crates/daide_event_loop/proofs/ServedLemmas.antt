@@ -15,7 +15,8 @@ use Rattle.daide_protocol.proofs.EndingLemmas.{ending_known}
 use Rattle.daide_protocol.specs.Machine.{Limits, is_over, ending_in}
 use Rattle.daide_protocol.specs.Wires.{SessionView, IsNew, is_closed}
 use Rattle.daide_io.specs.Ports.{PortCall, TurnBegins, EvolvesBy, events_of}
-use Rattle.daide_driver.specs.Headline.{untouched, IsReachable, IsBoundedAndExact}
+use Rattle.daide_driver.specs.Headline.{untouched}
+use Rattle.daide_driver.specs.Totals.{RefinesRun}
 use Rattle.daide_driver.specs.Hub.{HubView, IsHubSize, IsBegun, IsTurned, Changes}
 use Rattle.daide_protocol.specs.Config.{config_fault}
 use Rattle.daide_driver.proofs.PortCalls.{turn_begins}
@@ -34,7 +35,7 @@ use Rattle.daide_event_loop.specs.Serving.{ServiceView, fresh, initial_service, 
 use Rattle.daide_event_loop.specs.Serving.{TurnsBelow, TurnsAll, last_words, retirement, retirement_where, retirements, remaining, parting}
 use Rattle.daide_event_loop.specs.Serving.{cause_by, end_of}
 use Rattle.daide_event_loop.specs.Serving.{MeetsBy, wait_where, any_progress, any_moved, Round, Rounds, is_done}
-use Rattle.daide_event_loop.specs.Served.{run_limits, IsSessionOfRun, IsServed, IsEndOf, RetiresClosed, connects, retires, sum_over_calls}
+use Rattle.daide_event_loop.specs.Served.{IsServedSession, run_limits, IsSessionOfRun, IsServed, IsEndOf, RetiresClosed, connects, retires, sum_over_calls}
 use Rattle.daide_event_loop.specs.Served.{IsWholeRun}
 use Rattle.daide_event_loop.proofs.BeginningLemmas.{OnlyBegin, none_counted, all_begin, turns_only}
 use Rattle.daide_event_loop.proofs.CauseLemmas.{IsCut, cut_begins, cut_begun, cut_turn, cut_cause}
@@ -167,6 +168,10 @@ module _ {P : Type 0} where
   wait_passes true more = record { came = refl; went = refl }
   wait_passes false more = record { came = refl; went = refl }
 
+-- a session that its port calls since the opening of a run lead to, with its counts and its look-ups
+abbrev IsReached : Limits → List PortCall → SessionView → Type 0
+IsReached limits history g = RefinesRun (untouched limits) history g
+
 module _ {P : Type 0} (port_transition : P → PortCall → P → Type 0) (settings : Settings) where
   -- ---- a longer trace
 
@@ -182,7 +187,7 @@ module _ {P : Type 0} (port_transition : P → PortCall → P → Type 0) (setti
 
   gone_later : (xs ys : List (SystemCall P)) (answer : SystemCall P) → RetiresClosed port_transition settings xs answer →
       RetiresClosed port_transition settings (xs ++ ys) answer
-  gone_later xs ys (Retires ports end) h = (h.0, h.1, h.2, (later IsBoundedAndExact xs ys h.0 h.3.0, h.3.1))
+  gone_later xs ys (Retires ports end) h = (h.0, h.1, h.2, (later IsServedSession xs ys h.0 h.3.0, h.3.1))
   gone_later xs ys Begins h = tt
   gone_later xs ys (BeginsTurn before after) h = tt
   gone_later xs ys (Accepts came) h = tt
@@ -194,7 +199,7 @@ module _ {P : Type 0} (port_transition : P → PortCall → P → Type 0) (setti
 
   module _ (all : List (SystemCall P)) where
     abbrev Held : SessionView × QuotaPortsView P → Type 0
-    Held now = (h : IsSessionOfRun port_transition IsReachable settings all now)
+    Held now = (h : IsSessionOfRun port_transition IsReached settings all now)
         × IsCut port_transition (run_limits settings) settings.turns h.history now
 
     abbrev pub Served : SessionView × QuotaPortsView P → Type 0
@@ -211,7 +216,7 @@ module _ {P : Type 0} (port_transition : P → PortCall → P → Type 0) (setti
         came = h.0.came;
         history = h.0.history;
         answered = h.0.answered;
-        stands = h.0.stands.sends;
+        stands = h.0.stands.1.whole;
       },
       h.1,
     )
@@ -220,8 +225,8 @@ module _ {P : Type 0} (port_transition : P → PortCall → P → Type 0) (setti
     begun a b t h =
         let own = h.0 in
         let longer = own.history ++ TurnBegins ∷ [] in
-        let stands : IsReachable (run_limits settings) longer b.0 =
-        subst (λ (g : SessionView). IsReachable (run_limits settings) longer g) (sym t.0)
+        let stands : IsReached (run_limits settings) longer b.0 =
+        subst (λ (g : SessionView). IsReached (run_limits settings) longer g) (sym t.0)
         (relays_append (untouched (run_limits settings)) own.history a.0 (TurnBegins ∷ []) a.0 own.stands
         (turn_begins a.0)) in (
           record {
@@ -232,14 +237,18 @@ module _ {P : Type 0} (port_transition : P → PortCall → P → Type 0) (setti
                 own.answered (b.1, t.1, refl);
             stands = stands;
           },
-          cut_begun port_transition (run_limits settings) settings.turns own.history own.ports a b t own.answered own.stands stands
+          cut_begun port_transition (run_limits settings) settings.turns own.history own.ports a b t own.answered own.stands.sends
+              stands.sends
               h.1,
         )
 
     turned : (a b : SessionView × QuotaPortsView P) → IsTurned (Meters port_transition) a b → Held a → Served b
     turned a b t h =
         let own = h.0 in
-        let stands = t.exchange.session.headline (run_limits settings) own.history own.stands in (
+        let stands : IsServedSession (run_limits settings) (own.history ++ t.exchange.call) b.0 = (
+          t.exchange.session.headline (run_limits settings) own.history own.stands.sends,
+          t.exchange.session.totals (run_limits settings) own.history own.stands,
+        ) in (
           record {
             ports = own.ports;
             came = own.came;
@@ -248,8 +257,8 @@ module _ {P : Type 0} (port_transition : P → PortCall → P → Type 0) (setti
                 own.answered t.exchange.ports;
             stands = stands;
           },
-          cut_turn port_transition (run_limits settings) settings.turns own.history own.ports a b t own.answered own.stands
-              stands.sends h.1,
+          cut_turn port_transition (run_limits settings) settings.turns own.history own.ports a b t own.answered own.stands.sends
+              stands.0.sends h.1,
         )
 
     -- the places below this one had their turns
@@ -369,7 +378,7 @@ module _ {P : Type 0} (port_transition : P → PortCall → P → Type 0) (setti
             let one : answers ≡ Connects (Ready ports) ∷ [] =
             e ∙ ap (λ (l : List (SystemCall P)). Connects (Ready ports) ∷ l) m.0 in
             let stands = new_stands (run_limits settings) m.1.0 (subst (λ (l : Limits). IsNew l m.1.0) limits m.1.1) in
-            let own : IsSessionOfRun port_transition IsReachable settings all (m.1.0, fresh ports counters.turns) = record {
+            let own : IsSessionOfRun port_transition IsReached settings all (m.1.0, fresh ports counters.turns) = record {
               ports = ports;
               came = within ports (subst (λ (l : List (SystemCall P)). Contains l (Connects (Ready ports))) (sym one)
                   (0, omega arith, refl));
@@ -380,7 +389,7 @@ module _ {P : Type 0} (port_transition : P → PortCall → P → Type 0) (setti
             let place : Held (m.1.0, fresh ports counters.turns) = (
               own,
               subst (λ (n : ℕ). IsCut port_transition (run_limits settings) settings.turns [] (m.1.0, fresh ports n)) (sym turns)
-                  (cut_begins port_transition (run_limits settings) settings.turns m.1.0 ports stands),
+                  (cut_begins port_transition (run_limits settings) settings.turns m.1.0 ports stands.sends),
             ) in
             record {
               gone = All-same Gone answers (Connects (Ready ports) ∷ []) one
@@ -426,7 +435,7 @@ module _ {P : Type 0} (port_transition : P → PortCall → P → Type 0) (setti
     ended : (place : SessionView × QuotaPortsView P) → is_closed place.0 ≡ true → (h : Served place) →
         IsEndOf (run_limits settings) settings.turns h.0.history place.0 (end_of place)
     ended place closed h =
-        let stands = h.0.stands.sends in
+        let stands = h.0.stands.0.sends in
         let told = ending_known place.0.state.phase in
         let over = closed_over (is_over place.0.state.phase) _ closed in
         let own = some_ending (ending_in place.0.state.phase) (told ∙ over) in (
@@ -495,7 +504,7 @@ module _ {P : Type 0} (port_transition : P → PortCall → P → Type 0) (setti
       let last = wait_where {P = P} made_progress more in
       let come = admitted all (may_accept old.counters (length old.hub.places)) old.counters r.admission r.came r.admits in
       let still_held : All (Held all) old.hub.places =
-      All-weaker (Served xs) (Held all) (λ now s. still all now (later IsBoundedAndExact xs ys now s.0, s.1))
+      All-weaker (Served xs) (Held all) (λ now s. still all now (later IsServedSession xs ys now s.0, s.1))
       old.hub.places h.held in
       let within : (ports : P) → Contains r.meeting (Connects (Ready ports)) → Contains all (Connects (Ready ports)) =
       λ ports c. Contains-append_right xs ys (Connects (Ready ports))

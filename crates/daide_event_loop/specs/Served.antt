@@ -8,6 +8,7 @@ use Rattle.daide_words.specs.Words.{words_of}
 use Rattle.daide_protocol.specs.Config.{config_fault, limits_with}
 use Rattle.daide_io.specs.Ports.{PortCall, TurnBegins, Clock, Pulled, Offered, EvolvesBy, events_of}
 use Rattle.daide_driver.specs.Headline.{untouched, IsBoundedAndExact}
+use Rattle.daide_driver.specs.Totals.{HasTotals}
 use Rattle.daide_driver.specs.Hub.{IsBegun, IsTurned, IsHubSize}
 use Rattle.daide_settings.specs.declared.settings.Settings.{Settings}
 use Rattle.daide_io.specs.declared.system.Connect.TheVariants.{Ready, Failed, Pending}
@@ -33,10 +34,14 @@ pub record IsSessionOfRun {P : Type 0} (transition : P → PortCall → P → Ty
   pub answered : EvolvesBy (Meters transition) (fresh ports settings.turns) history now.1
   pub stands : Kind (run_limits settings) history now.0
 
--- by all its port calls it is bounded and exact
+-- it is bounded and exact, and has its totals
+abbrev pub IsServedSession : Limits → List PortCall → SessionView → Type 0
+IsServedSession limits history g = IsBoundedAndExact limits history g × HasTotals limits history g
+
+-- by all its port calls it is so
 abbrev pub IsServed : {P : Type 0} → (P → PortCall → P → Type 0) → Settings → List (SystemCall P) →
     SessionView × QuotaPortsView P → Type 0
-IsServed transition = IsSessionOfRun transition IsBoundedAndExact
+IsServed transition = IsSessionOfRun transition IsServedSession
 
 -- the port calls within the quota: those before the first turn beyond it
 abbrev pub while_left : ℕ → List PortCall → List PortCall
