@@ -8,6 +8,7 @@ use Rattle.std.proofs.lemmas.List.{get_or-set_same, get_or-set_other}
 use Rattle.std.proofs.lemmas.List.{length-map, map-set, map-append, replicate_more}
 use Rattle.std.proofs.lemmas.Option.{slice_get-map, slice_get_read}
 use Rattle.std.specs.Io.KnownBytes.{Keeps, Appends}
+use Rattle.daide_frame.specs.declared.side.Side.TheVariants.{Bot, Server}
 use Rattle.daide_protocol.specs.Machine.{Limits, SessionState, initial_state}
 use Rattle.daide_protocol.specs.Wires.{SessionView, IsNew}
 use Rattle.daide_log.specs.declared.heading.Version.{Version}
