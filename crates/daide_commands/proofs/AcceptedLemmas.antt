@@ -4,7 +4,7 @@ use Rattle.daide_io.specs.System.{SystemCall, Begins, BeginsTurn, Accepts, Conne
 use Rattle.daide_io.specs.System.{TransitsBy}
 use Rattle.daide_io.specs.declared.system.Connect.TheVariants.{Ready, Failed, Pending}
 use Rattle.daide_event_loop.specs.Served.{sum_over_calls, comes}
-use Rattle.daide_buffered_io.specs.Calls.{StreamCall}
+use Rattle.daide_io.specs.Streams.{StreamCall}
 use Rattle.daide_sockets.specs.Pairing.{Paired, RunSockets, Transits}
 
 module _ {P S : Type 0} (to_give taken : S → Option (List ℕ)) (calls : S → Option (List StreamCall)) (pair : P → Paired S) where

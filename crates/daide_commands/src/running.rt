@@ -12,9 +12,9 @@ use crate::folder::{Folder, SessionFile};
 use crate::gateway::{GatewayFault, bind, serve_on};
 use crate::recorded::RecordedSockets;
 use crate::text::{SettingsTextFault, read_text};
-use daide_buffered_io::duplex::Duplex;
 use daide_event_loop::ServeFault;
 use daide_io::Ports;
+use daide_io::duplex::Duplex;
 use daide_log::{Recording, Sink};
 use daide_settings::{Settings, SettingsError, read_settings};
 use daide_sockets::bound_sockets::{BoundSockets, sockets_on};
@@ -107,16 +107,16 @@ fn serve_sockets<R: AllocGlobal + Clock + Net, O: Sink, E: Write>(
 ) -> Result<(), RunFault>
     ensures { RunEnds ⟦<Connection as Duplex>⟧.to_give ⟦<Connection as Duplex>⟧.taken ⟦<Connection as Duplex>⟧.calls
         (λ ports. record { number = ports.number; bot = ports.bot.stream; server = ports.server.stream })
-        ⟦<SocketPorts<'static, &'static R> as Ports>⟧.transition settings.now (HasFailed O.Fails)
+        ⟦<SocketPorts<'static, Connection> as Ports>⟧.transition settings.now (HasFailed O.Fails)
         (O.contents output.old) (O.contents output.new) result }
 {
     let BoundSockets {
-        listener,
+        network,
         servers,
-        poller,
+        table,
     } = bind(rt, settings).map_err(RunFault::Gateway)?;
-    let at = (listener, servers.as_slice(), &poller);
-    let Some(mut system) = sockets_on(rt, settings, at, errors) else {
+    let ground = (network, servers.as_slice(), &table);
+    let Some(mut system) = sockets_on(rt.alloc(), settings, ground, errors) else {
         return Err(RunFault::Memory);
     };
     system.set_verbose(is_verbose);
@@ -147,7 +147,7 @@ pub fn run_text<R: AllocGlobal + Clock + Net, O: Sink, E: Write>(
 ) -> Result<(), RunFault>
     ensures runs { TextRuns ⟦<Connection as Duplex>⟧.to_give ⟦<Connection as Duplex>⟧.taken ⟦<Connection as Duplex>⟧.calls
         (λ ports. record { number = ports.number; bot = ports.bot.stream; server = ports.server.stream })
-        ⟦<SocketPorts<'static, &'static R> as Ports>⟧.transition text.now (HasFailed O.Fails)
+        ⟦<SocketPorts<'static, Connection> as Ports>⟧.transition text.now (HasFailed O.Fails)
         (O.contents output.old) (O.contents output.new) result }
     ensures untouched { IfErr result (λ fault. IsOfText fault →
         (output.new ≡ output.old) × (errors.new ≡ errors.old)) }
@@ -172,17 +172,17 @@ fn serve_recorded<'r, R: AllocGlobal + Files + Clock + Net, O: Sink, E: Write>(
           bot = ports.ports.bot.stream;
           server = ports.ports.server.stream;
         })
-        ⟦<Recording<SocketPorts<'static, &'static R>, SessionFile<R::File>> as Ports>⟧.transition settings.now
+        ⟦<Recording<SocketPorts<'static, Connection>, SessionFile<R::File>> as Ports>⟧.transition settings.now
         (HasFailed O.Fails) (O.contents output.old) (O.contents output.new) result }
 {
     let (is_verbose, folder) = kept;
     let BoundSockets {
-        listener,
+        network,
         servers,
-        poller,
+        table,
     } = bind(rt, settings).map_err(RunFault::Gateway)?;
-    let at = (listener, servers.as_slice(), &poller);
-    let Some(mut sockets) = sockets_on(rt, settings, at, &mut *errors) else {
+    let ground = (network, servers.as_slice(), &table);
+    let Some(mut sockets) = sockets_on(rt.alloc(), settings, ground, &mut *errors) else {
         return Err(RunFault::Memory);
     };
     sockets.set_verbose(is_verbose);
@@ -206,7 +206,7 @@ fn run_recorded<'r, R: AllocGlobal + Files + Clock + Net, O: Sink, E: Write>(
           bot = ports.ports.bot.stream;
           server = ports.ports.server.stream;
         })
-        ⟦<Recording<SocketPorts<'static, &'static R>, SessionFile<R::File>> as Ports>⟧.transition
+        ⟦<Recording<SocketPorts<'static, Connection>, SessionFile<R::File>> as Ports>⟧.transition
         (HasFailed O.Fails) (O.contents output.old) (O.contents output.new) result }
 {
     let (is_verbose, folder) = kept;

@@ -2,12 +2,10 @@
 //!
 //! A socket owns its stream, so the tests see only the flags of its table entry.
 
-use crate::doors::any_port;
-use crate::wires::{Steps, Wire, broken, hurries, socket_over, table, two_rows};
-use daide_sockets::TcpListener;
+use crate::wires::{StillPoller, Wire, broken, socket_over, still, table, two_rows};
 use daide_sockets::lingering_close::Closings;
-use daide_sockets::poller::{Flags, Poller};
 use daide_sockets::ports::Socket;
+use daide_sockets::table::{Flags, SocketTable};
 use daide_test_support::rows::{holds, same};
 use std::test::Fail;
 use std::time::Duration;
@@ -32,10 +30,14 @@ const CLOSES: &[Closes] = &[
 ];
 
 /// Advances the closing sockets, with the socket of this entry ready.
-fn goes_on(poller: &Poller<Steps>, closings: &mut Closings<'_, Wire>, flags: &Flags) -> Closes {
+fn goes_on(
+    poller: &mut StillPoller<'_>,
+    closings: &mut Closings<'_, Wire>,
+    flags: &Flags,
+) -> Closes {
     poller.wait();
     flags.note(true, true);
-    closings.advance(poller);
+    closings.advance(poller.table());
     (
         flags.due.get().is_some(),
         closings.is_ready(),
@@ -45,7 +47,7 @@ fn goes_on(poller: &Poller<Steps>, closings: &mut Closings<'_, Wire>, flags: &Fl
 
 /// Returns the index of the first step with another result, if there is one.
 fn wrong_step(
-    poller: &Poller<Steps>,
+    poller: &mut StillPoller<'_>,
     closings: &mut Closings<'_, Wire>,
     flags: &Flags,
     steps: &[Closes],
@@ -59,39 +61,28 @@ fn wrong_step(
 }
 
 /// Returns a socket with three bytes in its write buffer, and a deadline long past.
-fn holding<'w>(poller: &'w Poller<Steps>, wire: Wire, flags: &'w Flags) -> Socket<'w, Wire> {
-    flags.due.set(poller.after(Duration::ZERO));
+fn holding<'w>(table: &'w SocketTable, wire: Wire, flags: &'w Flags) -> Socket<'w, Wire> {
+    flags.due.set(table.after(Duration::ZERO));
     flags.note(true, true);
-    let mut socket = socket_over(poller, wire, flags);
+    let mut socket = socket_over(table, wire, flags);
     socket.put(b"abc");
     socket
 }
 
 /// Closes one socket, step by step.
-fn closes_one(rt: &HostRuntime, poller: &Poller<Steps>) -> Result<(), Fail> {
-    let (flags, _) = two_rows(rt, poller)?;
+fn closes_one(rt: &HostRuntime, table: &SocketTable) -> Result<(), Fail> {
+    let mut poller = still(rt, table)?;
+    let (flags, _) = two_rows(table)?;
     let mut closings = Closings::new(rt.alloc(), None)?;
-    closings.begin(poller, holding(poller, Wire::new(TAKES, 0), flags));
-    let wrong = wrong_step(poller, &mut closings, flags, CLOSES);
+    closings.begin(table, holding(table, Wire::new(TAKES, 0), flags));
+    let wrong = wrong_step(&mut poller, &mut closings, flags, CLOSES);
     same(&wrong, &None, &"a step")
-}
-
-/// The same in a table that never waits.
-fn closes_one_beside(
-    rt: &HostRuntime,
-    poller: &Poller<Steps>,
-    acceptor: &mut TcpListener,
-) -> Result<(), Fail> {
-    let _place = hurries(poller, acceptor)?;
-    closes_one(rt, poller)
 }
 
 /// A closing socket writes its write buffer, and then gives its peer's end one second. It has no deadline before that.
 #[test]
 fn closing_socket_writes_what_it_holds(rt: HostRuntime) -> Result<(), Fail> {
-    let mut acceptor = TcpListener::bind(&rt, any_port())?;
-    let poller = table(&rt)?;
-    closes_one_beside(&rt, &poller, &mut acceptor)
+    closes_one(&rt, &table(&rt)?)
 }
 
 /// The bytes that writes of the first of two sockets accept: all, after the second is closed.
@@ -100,7 +91,7 @@ const LATE: &[usize] = &[0, 0, 0, 0, 0, 3];
 /// Returns whether only the second of two sockets is closed after four steps, and whether the first has a deadline a
 /// step later.
 fn closes_second(
-    poller: &Poller<Steps>,
+    poller: &mut StillPoller<'_>,
     closings: &mut Closings<'_, Wire>,
     (first, second): (&Flags, &Flags),
 ) -> (bool, bool) {
@@ -113,31 +104,20 @@ fn closes_second(
 }
 
 /// Closes two sockets, the second of which has writes that fail.
-fn closes_two(rt: &HostRuntime, poller: &Poller<Steps>) -> Result<(), Fail> {
-    let flags = two_rows(rt, poller)?;
+fn closes_two(rt: &HostRuntime, table: &SocketTable) -> Result<(), Fail> {
+    let mut poller = still(rt, table)?;
+    let flags = two_rows(table)?;
     let mut closings = Closings::new(rt.alloc(), None)?;
-    closings.begin(poller, holding(poller, Wire::new(LATE, 0), flags.0));
-    closings.begin(poller, holding(poller, broken(), flags.1));
-    let told = closes_second(poller, &mut closings, flags);
+    closings.begin(table, holding(table, Wire::new(LATE, 0), flags.0));
+    closings.begin(table, holding(table, broken(), flags.1));
+    let told = closes_second(&mut poller, &mut closings, flags);
     holds(told == (true, true), "the second, then the first")
-}
-
-/// The same in a table that never waits.
-fn closes_two_beside(
-    rt: &HostRuntime,
-    poller: &Poller<Steps>,
-    acceptor: &mut TcpListener,
-) -> Result<(), Fail> {
-    let _place = hurries(poller, acceptor)?;
-    closes_two(rt, poller)
 }
 
 /// Two sockets close. The second one's writes fail, and it is closed at its peer's end. The first goes on.
 #[test]
 fn one_closes_before_another(rt: HostRuntime) -> Result<(), Fail> {
-    let mut acceptor = TcpListener::bind(&rt, any_port())?;
-    let poller = table(&rt)?;
-    closes_two_beside(&rt, &poller, &mut acceptor)
+    closes_two(&rt, &table(&rt)?)
 }
 
 /// Three bytes are in the write buffer, and the peer accepts none for a second. The third step gives up, and then the
@@ -152,31 +132,20 @@ const STALLS: &[Closes] = &[
 ];
 
 /// Closes a socket whose peer accepts nothing, step by step.
-fn closes_stalled(rt: &HostRuntime, poller: &Poller<Steps>) -> Result<(), Fail> {
-    let (flags, _) = two_rows(rt, poller)?;
+fn closes_stalled(rt: &HostRuntime, table: &SocketTable) -> Result<(), Fail> {
+    let mut poller = still(rt, table)?;
+    let (flags, _) = two_rows(table)?;
     let mut closings = Closings::new(rt.alloc(), Some(Duration::from_secs(1)))?;
-    let mut socket = socket_over(poller, Wire::new(&[], 0), flags);
+    let mut socket = socket_over(table, Wire::new(&[], 0), flags);
     flags.note(true, true);
     socket.put(b"abc");
-    closings.begin(poller, socket);
-    let wrong = wrong_step(poller, &mut closings, flags, STALLS);
+    closings.begin(table, socket);
+    let wrong = wrong_step(&mut poller, &mut closings, flags, STALLS);
     same(&wrong, &None, &"a step")
-}
-
-/// The same in a table that never waits.
-fn closes_stalled_beside(
-    rt: &HostRuntime,
-    poller: &Poller<Steps>,
-    acceptor: &mut TcpListener,
-) -> Result<(), Fail> {
-    let _place = hurries(poller, acceptor)?;
-    closes_stalled(rt, poller)
 }
 
 /// A socket whose peer accepts nothing is given up after its timeout, and closed.
 #[test]
 fn stalled_socket_is_closed(rt: HostRuntime) -> Result<(), Fail> {
-    let mut acceptor = TcpListener::bind(&rt, any_port())?;
-    let poller = table(&rt)?;
-    closes_stalled_beside(&rt, &poller, &mut acceptor)
+    closes_stalled(&rt, &table(&rt)?)
 }

@@ -1,15 +1,14 @@
 //! The times at which the poller is called, and the length of a wait, for sockets over streams in memory.
 
-use crate::doors::any_port;
-use crate::wires::{STEP, Steps, Wire, WirePorts, hurries, row_for, socket_over, table, two_rows};
+use crate::wires::{
+    STEP, StillPoller, Wire, WirePorts, row_of, socket_over, still, table, two_rows,
+};
 use daide_buffered_io::readiness::Readiness;
 use daide_io::ports::Ports;
-use daide_sockets::TcpListener;
-use daide_sockets::poller::{Flags, Poller};
+use daide_sockets::admission::Acceptor;
 use daide_sockets::ports::SocketPorts;
-use daide_test_support::rows::{holds, same};
-use std::net::{SocketAddr, TcpStream};
-use std::rt::Clock;
+use daide_sockets::table::{Flags, Registration, SocketTable};
+use daide_test_support::rows::same;
 use std::test::Fail;
 use std::time::Duration;
 
@@ -23,7 +22,7 @@ const ASKED: &[Asked] = &[(1, 33, 65), (2, 33, 65), (3, 34, 67), (40, 41, 81)];
 /// of the `count` sessions had a turn.
 fn turn_that_knows(
     ports: &mut WirePorts<'_>,
-    poller: &Poller<Steps>,
+    poller: &mut StillPoller<'_>,
     acceptor: &Flags,
     (count, behind): (usize, usize),
 ) -> usize {
@@ -43,71 +42,55 @@ fn turn_that_knows(
 /// Returns the turn at which a first caller at the acceptor is known, and the turn at which a second one is, who calls
 /// after that.
 fn knowing_turns(
-    rt: &HostRuntime,
     ports: &mut WirePorts<'_>,
-    poller: &Poller<Steps>,
-    (acceptor, at): (&Flags, SocketAddr),
+    poller: &mut StillPoller<'_>,
+    acceptor: &Flags,
     count: usize,
-) -> Result<(usize, usize), Fail> {
+) -> (usize, usize) {
     poller.wait();
     acceptor.readiness.set(Readiness::UNKNOWN);
-    let _caller = TcpStream::connect(rt, at)?;
+    poller.network().has_caller = true;
     let first = turn_that_knows(ports, poller, acceptor, (count, 0));
     acceptor.readiness.set(Readiness::UNKNOWN);
-    let _other = TcpStream::connect(rt, at)?;
-    Ok((
+    poller.network().has_caller = true;
+    (
         first,
         turn_that_knows(ports, poller, acceptor, (count, first)),
-    ))
+    )
 }
 
 /// Returns the ports of a session in two table entries, which has nothing to do.
-fn idle_ports<'w, R: Clock>(
-    poller: &'w Poller<R>,
-    flags: (&'w Flags, &'w Flags),
-) -> SocketPorts<'w, R, Wire> {
-    let bot = socket_over(poller, Wire::new(&[], 0), flags.0);
-    let server = socket_over(poller, Wire::new(&[], 0), flags.1);
-    SocketPorts::new(poller, bot, server)
+fn idle_ports<'w>(table: &'w SocketTable, flags: (&'w Flags, &'w Flags)) -> WirePorts<'w> {
+    let bot = socket_over(table, Wire::new(&[], 0), flags.0);
+    let server = socket_over(table, Wire::new(&[], 0), flags.1);
+    SocketPorts::new(table, bot, server)
 }
 
-/// Checks each row with this acceptor.
-fn are_known(
-    rt: &HostRuntime,
-    ports: &mut WirePorts<'_>,
-    poller: &Poller<Steps>,
-    acceptor: (&Flags, SocketAddr),
-) -> Result<(), Fail> {
+/// Takes the first entry of a table, where the listener is followed.
+fn listens<'w>(poller: &mut StillPoller<'w>) -> Result<(Acceptor<'w>, Registration<'w>), Fail> {
+    let flags = row_of(poller.table())?.flags;
+    match Acceptor::new(poller) {
+        Some(acceptor) => Ok((acceptor, Registration { flags })),
+        None => Err(Fail::new("no row")),
+    }
+}
+
+/// Checks each row in this table.
+fn are_known(rt: &HostRuntime, table: &SocketTable) -> Result<(), Fail> {
+    let mut poller = still(rt, table)?;
+    let (_acceptor, place) = listens(&mut poller)?;
+    let mut ports = idle_ports(table, two_rows(table)?);
     for (count, first, second) in ASKED.iter() {
-        let known = knowing_turns(rt, ports, poller, acceptor, *count)?;
+        let known = knowing_turns(&mut ports, &mut poller, place.flags, *count);
         same(&known, &(*first, *second), count)?;
     }
     Ok(())
 }
 
-/// The same with an acceptor in the first entry of a table.
-fn are_known_at(
-    rt: &HostRuntime,
-    poller: &Poller<Steps>,
-    (acceptor, at): (&mut TcpListener, SocketAddr),
-) -> Result<(), Fail> {
-    let place = hurries(poller, acceptor)?;
-    let flags = two_rows(rt, poller)?;
-    are_known(
-        rt,
-        &mut idle_ports(poller, flags),
-        poller,
-        (place.flags, at),
-    )
-}
-
 /// The poller is called after 32 turns, even if all of them move something, and at the next round if that is later.
 #[test]
 fn system_is_asked_after_32_turns(rt: HostRuntime) -> Result<(), Fail> {
-    let mut acceptor = TcpListener::bind(&rt, any_port())?;
-    let at = acceptor.local_addr()?;
-    let poller = table(&rt)?;
-    are_known_at(&rt, &poller, (&mut acceptor, at))
+    are_known(&rt, &table(&rt)?)
 }
 
 /// Begins a turn, and returns the results of two timer queries in it.
@@ -116,19 +99,27 @@ fn popped_in_turn(ports: &mut WirePorts<'_>) -> (bool, bool) {
     (ports.clock_popped(), ports.clock_popped())
 }
 
-/// An expired IM timer is returned in one turn, however often it is queried there, and not before a turn begins.
-#[test]
-fn moment_is_told_once(rt: HostRuntime) -> Result<(), Fail> {
-    let poller = table(&rt)?;
-    let flags = two_rows(&rt, &poller)?;
-    let mut ports = idle_ports(&poller, flags);
-    flags.0.due.set(poller.after(Duration::ZERO));
+/// Returns the results of timer queries before and in two turns, where the deadline is past.
+fn told_of(
+    rt: &HostRuntime,
+    table: &SocketTable,
+) -> Result<(bool, (bool, bool), (bool, bool)), Fail> {
+    let _poller = still(rt, table)?;
+    let flags = two_rows(table)?;
+    let mut ports = idle_ports(table, flags);
+    flags.0.due.set(table.after(Duration::ZERO));
     let before = ports.clock_popped();
-    let told = (
+    Ok((
         before,
         popped_in_turn(&mut ports),
         popped_in_turn(&mut ports),
-    );
+    ))
+}
+
+/// An expired IM timer is returned in one turn, however often it is queried there, and not before a turn begins.
+#[test]
+fn moment_is_told_once(rt: HostRuntime) -> Result<(), Fail> {
+    let told = told_of(&rt, &table(&rt)?)?;
     same(
         &told,
         &(false, (true, true), (false, false)),
@@ -136,57 +127,49 @@ fn moment_is_told_once(rt: HostRuntime) -> Result<(), Fail> {
     )
 }
 
-/// Waits in a table whose first entry has a deadline, and returns whether the deadline is then past.
-fn waits_for<R: Clock>(poller: &Poller<R>, waits: &Flags) -> bool {
-    waits.due.set(poller.after(Duration::from_millis(STEP)));
+/// Waits in a table whose entry has a deadline a step later, and returns the timeout of the poll.
+fn waits_for(poller: &mut StillPoller<'_>, waits: &Flags) -> Option<Duration> {
+    let step = Duration::from_millis(STEP);
+    waits.due.set(poller.table().after(step));
     poller.wait();
-    poller.is_over(waits.due.get())
+    poller.network().timeout
 }
 
 /// The same beside an entry without a socket, whose deadline is past.
-fn waits_beside_free<R: Clock>(
-    rt: &HostRuntime,
-    poller: &Poller<R>,
-    acceptor: &mut TcpListener,
-) -> Result<bool, Fail> {
-    let place = row_for(poller, acceptor)?;
-    let (_, free) = two_rows(rt, poller)?;
-    free.due.set(poller.after(Duration::ZERO));
-    Ok(waits_for(poller, place.flags))
+fn waits_beside_free(rt: &HostRuntime, table: &SocketTable) -> Result<Option<Duration>, Fail> {
+    let mut poller = still(rt, table)?;
+    let place = row_of(table)?;
+    let (_, free) = two_rows(table)?;
+    free.due.set(table.after(Duration::ZERO));
+    Ok(waits_for(&mut poller, place.flags))
 }
 
 /// A wait ends at the deadline of a registered socket, and not at that of a free entry.
 #[test]
 fn free_row_is_not_waited_for(rt: HostRuntime) -> Result<(), Fail> {
-    let mut acceptor = TcpListener::bind(&rt, any_port())?;
-    let poller = Poller::new(rt.alloc(), &rt, &rt, 3)?;
-    holds(
-        waits_beside_free(&rt, &poller, &mut acceptor)?,
-        "the moment is over",
+    same(
+        &waits_beside_free(&rt, &table(&rt)?)?,
+        &Some(Duration::from_millis(STEP)),
+        &"the timeout",
     )
 }
 
-/// Begins as many turns as cause a call of the poller.
-fn asks_by_turns<R: Clock>(ports: &mut SocketPorts<'_, R, Wire>, poller: &Poller<R>) {
+/// Returns the timeout of the wait after a poll with an event, and of the wait after that one.
+fn waits_once_more(
+    rt: &HostRuntime,
+    table: &SocketTable,
+) -> Result<(Option<Duration>, Option<Duration>), Fail> {
+    let mut poller = still(rt, table)?;
+    let (_acceptor, place) = listens(&mut poller)?;
+    let mut ports = idle_ports(table, two_rows(table)?);
+    poller.network().has_caller = true;
     for _ in 0..32 {
         ports.begin_turn();
     }
     poller.look_by_turns();
-}
-
-/// Returns whether the wait after a poll with an event does not block, and whether the wait after that one blocks.
-fn waits_once_more<'w, R: Clock>(
-    rt: &HostRuntime,
-    poller: &'w Poller<R>,
-    (acceptor, at): (&mut TcpListener, SocketAddr),
-) -> Result<(bool, bool), Fail> {
-    let place = row_for(poller, acceptor)?;
-    let flags = two_rows(rt, poller)?;
-    let _caller = TcpStream::connect(rt, at)?;
-    asks_by_turns(&mut idle_ports(poller, flags), poller);
     Ok((
-        waits_for(poller, place.flags),
-        waits_for(poller, place.flags),
+        waits_for(&mut poller, place.flags),
+        waits_for(&mut poller, place.flags),
     ))
 }
 
@@ -194,9 +177,11 @@ fn waits_once_more<'w, R: Clock>(
 /// after it does.
 #[test]
 fn one_wait_is_none_behind_a_look(rt: HostRuntime) -> Result<(), Fail> {
-    let mut acceptor = TcpListener::bind(&rt, any_port())?;
-    let at = acceptor.local_addr()?;
-    let poller = Poller::new(rt.alloc(), &rt, &rt, 3)?;
-    let waited = waits_once_more(&rt, &poller, (&mut acceptor, at))?;
-    same(&waited, &(false, true), &"the first, and the second")
+    let waited = waits_once_more(&rt, &table(&rt)?)?;
+    let step = Duration::from_millis(STEP);
+    same(
+        &waited,
+        &(Some(Duration::ZERO), Some(step)),
+        &"the first, and the second",
+    )
 }

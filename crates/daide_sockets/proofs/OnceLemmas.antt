@@ -3,7 +3,7 @@ use Rattle.std.proofs.Common.{◌≡◌, ◌≤◌, ℕ, ◌+◌, Bool, true, fa
 use Rattle.std.specs.Prelude.{nat_lt, if◌then◌else◌}
 use Rattle.daide_io.specs.System.{SystemCall, Begins, BeginsTurn, Accepts, Connects, Retires, Notifies, Waits, TransitsBy}
 use Rattle.daide_io.specs.declared.system.Connect.TheVariants.{Ready, Failed, Pending}
-use Rattle.daide_buffered_io.specs.Calls.{StreamCall}
+use Rattle.daide_io.specs.Streams.{StreamCall}
 use Rattle.daide_sockets.specs.Pairing.{Arriving, Paired, RunSockets, AllStayPending, ChecksArrivals, TakesOut, Transits}
 use Rattle.daide_sockets.specs.PairedOnce.{is_same, handed}
 

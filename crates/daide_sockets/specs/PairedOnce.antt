@@ -3,7 +3,7 @@ use Rattle.std.specs.Prelude.{◌≡◌, ◌≤◌, ℕ, ◌+◌, nat_eq, List, 
 use Rattle.daide_io.specs.System.{SystemCall, Begins, BeginsTurn, Accepts, Connects, Retires, Notifies, Waits}
 use Rattle.daide_io.specs.System.{TransitsBy}
 use Rattle.daide_io.specs.declared.system.Connect.TheVariants.{Ready, Failed, Pending}
-use Rattle.daide_buffered_io.specs.Calls.{StreamCall}
+use Rattle.daide_io.specs.Streams.{StreamCall}
 use Rattle.daide_sockets.specs.Pairing.{Paired, RunSockets, Transits}
 
 -- 1 if two numbers are the same, else 0

@@ -5,7 +5,7 @@ use Rattle.daide_io.specs.System.{SystemCall, Begins, BeginsTurn, Accepts, Conne
 use Rattle.daide_io.specs.declared.system.Connect.{Connect}
 use Rattle.daide_io.specs.declared.system.Connect.TheVariants.{Ready, Failed, Pending}
 use Rattle.daide_buffered_io.specs.Buffers.{Buffer}
-use Rattle.daide_buffered_io.specs.Calls.{StreamCall}
+use Rattle.daide_io.specs.Streams.{StreamCall}
 use Rattle.std.specs.declared.time.Instant.{Instant}
 use Rattle.daide_sockets.specs.Lingering.{ClosingStream, ClosingList, begins_closing, WritesOut, ClosingsGoOn}
 

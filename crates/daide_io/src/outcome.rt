@@ -1,7 +1,7 @@
 //! The result of a system call on a stream, reduced to the four cases that callers distinguish.
 
 ghost use Rattle.std.specs.Prelude.{◌≡◌};
-ghost use Rattle.daide_buffered_io.specs.Calls.{outcome_by};
+ghost use Rattle.daide_io.specs.Streams.{outcome_by};
 
 use std::io;
 use std::io::ErrorKind;

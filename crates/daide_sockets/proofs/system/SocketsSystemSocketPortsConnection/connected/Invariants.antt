@@ -1,6 +1,6 @@
 use Rattle.std.proofs.Common.{◌≡◌}
 use Rattle.daide_sockets.specs.Pairing.{ChecksArrivals}
-use Rattle.daide_sockets.proofs.system.SocketsSystemSocketPortsRef.connected.Given as goal
+use Rattle.daide_sockets.proofs.system.SocketsSystemSocketPortsConnection.connected.Given as goal
 
 -- the arrivals checked so far
 abbrev pub invariant-loop-look : goal.invariant-loop-look

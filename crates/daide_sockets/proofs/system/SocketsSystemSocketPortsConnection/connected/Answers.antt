@@ -1,6 +1,6 @@
 use Rattle.std.proofs.Common.{ℕ, ◌<◌, ◌∙◌, subst}
 use Rattle.daide_sockets.proofs.PairingLemmas.{next_out, one_more}
-use Rattle.daide_sockets.proofs.system.SocketsSystemSocketPortsRef.connected.Goals as goal
+use Rattle.daide_sockets.proofs.system.SocketsSystemSocketPortsConnection.connected.Goals as goal
 
 pub returns-in-Ready : goal.returns-in-Ready
 returns-in-Ready g c =

@@ -4,7 +4,7 @@ ghost use Rattle.std.specs.Prelude.{◌≡◌, ℕ, List, [], ◌∷◌, length,
 ghost use Rattle.std.specs.Io.{ReadsAtMost, WritesAtMost};
 ghost use Rattle.std.specs.Io.KnownBytes.{ReadConsumes, WriteAppends};
 ghost use Rattle.daide_io.specs.Ports.{AppendsTo};
-ghost use Rattle.daide_buffered_io.specs.Calls.{StreamCall, Read, Written, WritingEnded, outcome_by};
+ghost use Rattle.daide_io.specs.Streams.{StreamCall, Read, Written, WritingEnded, outcome_by};
 
 use std::io;
 
