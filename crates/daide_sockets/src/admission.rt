@@ -146,7 +146,8 @@ impl<'w> Acceptor<'w> {
     }
 
     /// Returns the next bot that came: its session's number, its socket and its address. Returns `None` if none came,
-    /// if the system refuses to follow it, or if all numbers are given.
+    /// if the system refuses to follow it, or if all numbers are given. After a refusal a pause begins, as after a failed
+    /// accept: the system does not report again the bots that wait behind it.
     ///
     /// `one`: exactly one bot was accepted, is followed, and is counted.
     ///
@@ -163,7 +164,11 @@ impl<'w> Acceptor<'w> {
     {
         let number = self.came.checked_add(1)?;
         let (stream, address) = self.accept(poller)?;
-        let bot = Socket::new(poller, stream)?;
+        let Some(bot) = Socket::new(poller, stream) else {
+            self.pause(poller.table().now().get(), ErrorKind::Other);
+            self.registration.flags.due.set(self.resumes_at);
+            return None;
+        };
         self.came = number;
         Some((number, bot, address))
     }
