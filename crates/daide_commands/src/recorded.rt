@@ -58,6 +58,13 @@ impl<'w, R: AllocGlobal + Clock + Net + Files, E: Write + Drop> System<
         self.sockets.begin_round();
     }
 
+    fn has_news(
+        &mut self,
+        ports: &Recording<SocketPorts<'w, &'w R>, SessionFile<R::File>>,
+    ) -> bool {
+        self.sockets.has_news(ports.ports())
+    }
+
     fn begin_turn(&mut self, ports: &mut Recording<SocketPorts<'w, &'w R>, SessionFile<R::File>>) {
         ports.begin_turn(&mut self.sockets);
     }

@@ -39,7 +39,7 @@ pub fn sessions_are_apart<P: Ports>()
 
 /// While each put to a wire takes at least one byte (`EachTurnTakesSome`), n waiting bytes are taken within n turns,
 /// whatever else happens. The bytes that waited first are taken first (`delivered` of `turn`). In a run each session
-/// has one turn in each round.
+/// that is due a turn has one in each round (`round`).
 pub fn due_bytes_go()
     ensures { DueBytesGo }
 {}

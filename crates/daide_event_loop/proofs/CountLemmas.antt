@@ -79,13 +79,13 @@ module _ {P : Type 0} where
   beginning_counts counters =
       silent_counts (Begins ∷ []) counters (record { came = refl; joined = refl; failed = refl })
 
-  -- beginning turns accepts no bot
+  -- reporting news and beginning turns accepts no bot
   pub turns_count : (answers : List (SystemCall P)) (counters : AdmissionCounters) → OnlyBegin answers → Counts answers counters counters
   turns_count answers counters h =
       silent_counts answers counters (record {
-        came = none_counted comes answers (λ before after. refl) h;
-        joined = none_counted connects answers (λ before after. refl) h;
-        failed = none_counted unreached answers (λ before after. refl) h;
+        came = none_counted comes answers (λ ports news. refl) (λ before after. refl) h;
+        joined = none_counted connects answers (λ ports news. refl) (λ before after. refl) h;
+        failed = none_counted unreached answers (λ ports news. refl) (λ before after. refl) h;
       })
 
   pub admission_counts : (b : Bool) (old : AdmissionCounters) (answers : List (SystemCall P)) (new : AdmissionCounters) →

@@ -1,7 +1,7 @@
 -- The sessions of a run, step by step.
 use Rattle.std.proofs.Common.{◌≡◌, ℕ, zero, suc, ◌<◌, ◌≤◌, Bool, true, false, List, [], ◌∷◌, ◌++◌, length, take, set}
 use Rattle.std.proofs.Common.{◌+◌, refl, sym, ap, ◌∙◌, subst, arith, append-nil, length-append}
-use Rattle.std.specs.Prelude.{◌==◌, ◌&&◌, ◌||◌, Option, Some, None, Ok, Contains, All, is_none, is_some, not}
+use Rattle.std.specs.Prelude.{◌==◌, ◌&&◌, ◌||◌, Option, Some, None, Ok, Contains, All, is_none, is_some, not, slice_get}
 use Rattle.std.proofs.lemmas.Bool.{eqb-true}
 use Rattle.std.proofs.lemmas.List.{take_all, length-set}
 use Rattle.std.proofs.lemmas.List.Elements.{All-nil, All-cons, All-head, All-tail, All-same, All-append, All-set}
@@ -29,9 +29,11 @@ use Rattle.daide_io.specs.declared.system.Connect.TheVariants.{Ready, Failed, Pe
 use Rattle.daide_io.specs.declared.system.Notice.TheVariants.{CannotReach, TurnsSpent}
 use Rattle.daide_event_loop.specs.declared.admission_counters.AdmissionCounters.{AdmissionCounters}
 use Rattle.daide_event_loop.specs.QuotaPorts.{QuotaPortsView, Meters, progress_by}
-use Rattle.daide_io.specs.System.{SystemCall, Begins, BeginsTurn, Accepts, Connects, Retires, Notifies, Waits}
+use Rattle.daide_io.specs.System.{SystemCall, Begins, ReportsNews, BeginsTurn, Accepts, Connects, Retires, Notifies}
+use Rattle.daide_io.specs.System.{Waits}
 use Rattle.daide_event_loop.specs.Serving.{ServiceView, fresh, initial_service, may_accept, come, AdmitsWhere, MeetsWhere, OpensTurn}
-use Rattle.daide_event_loop.specs.Serving.{TurnsBelow, TurnsAll, last_words, retirement, retirement_where, retirements, remaining, parting}
+use Rattle.daide_event_loop.specs.Serving.{IsDueBy, TurnsIf, VisitsPlace, TurnsBelow, TurnsAll, last_words, retirement, retirement_where}
+use Rattle.daide_event_loop.specs.Serving.{retirements, remaining, parting}
 use Rattle.daide_event_loop.specs.Serving.{cause_by, end_of}
 use Rattle.daide_event_loop.specs.Serving.{MeetsBy, wait_where, any_progress, any_moved, Round, Rounds, is_done}
 use Rattle.daide_event_loop.specs.Served.{run_limits, IsSessionOfRun, IsServed, IsEndOf, RetiresClosed, connects, retires, sum_over_calls}
@@ -80,8 +82,8 @@ module _ {P : Type 0} where
 
   turns_pass : (answers : List (SystemCall P)) → OnlyBegin answers → Passes answers 0 0
   turns_pass answers h = record {
-    came = none_counted connects answers (λ before after. refl) h;
-    went = none_counted retires answers (λ before after. refl) h;
+    came = none_counted connects answers (λ ports news. refl) (λ before after. refl) h;
+    went = none_counted retires answers (λ ports news. refl) (λ before after. refl) h;
   }
 
   admission_passes : (b : Bool) (old : AdmissionCounters) (answers : List (SystemCall P)) (new : AdmissionCounters) →
@@ -184,6 +186,7 @@ module _ {P : Type 0} (port_transition : P → PortCall → P → Type 0) (setti
       RetiresClosed port_transition settings (xs ++ ys) answer
   gone_later xs ys (Retires ports end) h = (h.0, h.1, h.2, (later IsBoundedAndExact xs ys h.0 h.3.0, h.3.1))
   gone_later xs ys Begins h = tt
+  gone_later xs ys (ReportsNews ports news) h = tt
   gone_later xs ys (BeginsTurn before after) h = tt
   gone_later xs ys (Accepts came) h = tt
   gone_later xs ys (Connects connect) h = tt
@@ -215,6 +218,13 @@ module _ {P : Type 0} (port_transition : P → PortCall → P → Type 0) (setti
       },
       h.1,
     )
+
+    -- before the turns of a round: a session whose last turn made no progress had one, so it is served
+    abbrev Ready : SessionView × QuotaPortsView P → Type 0
+    Ready now = Held now × (now.1.made_progress ≡ false → Served now)
+
+    ready : (now : SessionView × QuotaPortsView P) → Served now → Ready now
+    ready now h = (still now h, λ still. h)
 
     begun : (a b : SessionView × QuotaPortsView P) → IsBegun (Meters port_transition) a b → Held a → Held b
     begun a b t h =
@@ -252,17 +262,19 @@ module _ {P : Type 0} (port_transition : P → PortCall → P → Type 0) (setti
               stands.sends h.1,
         )
 
-    -- the places below this one had their turns
-    record Below (n : ℕ) (old new : HubView (QuotaPortsView P)) : Type 0 where
+    -- the places below n were visited, and those from m on are as before
+    record Below (n m : ℕ) (old new : HubView (QuotaPortsView P)) : Type 0 where
       held : All Held new.places
       served : All Served (take n new.places)
+      rest : (k : ℕ) → m ≤ k → slice_get new.places k ≡ slice_get old.places k
       count : length new.places ≡ length old.places
       limits : new.limits ≡ old.limits
 
-    none_below : (old new : HubView (QuotaPortsView P)) → new ≡ old → All Held old.places → Below 0 old new
+    none_below : (old new : HubView (QuotaPortsView P)) → new ≡ old → All Held old.places → Below 0 0 old new
     none_below old new e h = record {
       held = subst (λ (k : HubView (QuotaPortsView P)). All Held k.places) (sym e) h;
       served = All-nil Served;
+      rest = λ k far. ap (λ (hub : HubView (QuotaPortsView P)). slice_get hub.places k) e;
       count = ap (λ (k : HubView (QuotaPortsView P)). length k.places) e;
       limits = ap (λ (k : HubView (QuotaPortsView P)). k.limits) e;
     }
@@ -273,9 +285,30 @@ module _ {P : Type 0} (port_transition : P → PortCall → P → Type 0) (setti
     take_set (suc n) [] x = refl
     take_set (suc n) (y ∷ xs) x = ap (λ (l : List (SessionView × QuotaPortsView P)). y ∷ l) (take_set n xs x)
 
+    set_other : (n k : ℕ) (xs : List (SessionView × QuotaPortsView P)) (x : SessionView × QuotaPortsView P) → suc n ≤ k →
+        slice_get (set xs n x) k ≡ slice_get xs k
+    set_other zero zero xs x far = absurd (omega (arith, far))
+    set_other (suc n) zero xs x far = absurd (omega (arith, far))
+    set_other zero (suc k) [] x far = refl
+    set_other (suc n) (suc k) [] x far = refl
+    set_other zero (suc k) (y ∷ xs) x far = refl
+    set_other (suc n) (suc k) (y ∷ xs) x far = set_other n k xs x (omega (arith, far))
+
+    -- the value of an option, or else the first argument
+    abbrev value_or : SessionView × QuotaPortsView P → Option (SessionView × QuotaPortsView P) → SessionView × QuotaPortsView P
+    value_or x None = x
+    value_or x (Some y) = y
+
+    take_more : (n : ℕ) (xs : List (SessionView × QuotaPortsView P)) (x : SessionView × QuotaPortsView P) →
+        slice_get xs n ≡ Some x → take (suc n) xs ≡ take n xs ++ x ∷ []
+    take_more zero [] x e = absurd (cc)
+    take_more (suc n) [] x e = absurd (cc)
+    take_more zero (y ∷ xs) x e = ap (λ (o : Option (SessionView × QuotaPortsView P)). value_or y o ∷ []) e
+    take_more (suc n) (y ∷ xs) x e = ap (λ (l : List (SessionView × QuotaPortsView P)). y ∷ l) (take_more n xs x e)
+
     -- the turn of the next one begins
-    begun_below : (n : ℕ) (old mid new : HubView (QuotaPortsView P)) (answers : List (SystemCall P)) → Below n old mid →
-        Changes (OpensTurn port_transition answers) mid n new → Below n old new
+    begun_below : (n : ℕ) (old mid new : HubView (QuotaPortsView P)) (answers : List (SystemCall P)) → Below n n old mid →
+        Changes (OpensTurn port_transition answers) mid n new → Below n (suc n) old new
     begun_below n old mid new answers h c =
         let places : new.places ≡ set mid.places n c.1 = ap (λ (k : HubView (QuotaPortsView P)). k.places) c.3 in
         let inside : n < length mid.places = slice_get_within mid.places n c.0 c.2 in
@@ -286,13 +319,15 @@ module _ {P : Type 0} (port_transition : P → PortCall → P → Type 0) (setti
               (All-set Held mid.places n c.1 (begun c.0 c.1 c.4.0 was) h.held);
           served = All-same Served (take n new.places) (take n mid.places)
               (ap (take n) places ∙ take_set n mid.places c.1) h.served;
+          rest = λ k far. ap (λ (l : List (SessionView × QuotaPortsView P)). slice_get l k) places
+              ∙ set_other n k mid.places c.1 far ∙ h.rest k (omega (arith, far));
           count = ap length places ∙ length-set mid.places n c.1 ∙ h.count;
           limits = ap (λ (k : HubView (QuotaPortsView P)). k.limits) c.3 ∙ h.limits;
         }
 
     -- the turn runs
-    one_below : (n : ℕ) (old mid new : HubView (QuotaPortsView P)) → Below n old mid →
-        Changes (IsTurned (Meters port_transition)) mid n new → Below (suc n) old new
+    one_below : (n : ℕ) (old mid new : HubView (QuotaPortsView P)) → Below n (suc n) old mid →
+        Changes (IsTurned (Meters port_transition)) mid n new → Below (suc n) (suc n) old new
     one_below n old mid new h c =
         let places : new.places ≡ set mid.places n c.1 = ap (λ (k : HubView (QuotaPortsView P)). k.places) c.3 in
         let inside : n < length mid.places = slice_get_within mid.places n c.0 c.2 in
@@ -305,19 +340,57 @@ module _ {P : Type 0} (port_transition : P → PortCall → P → Type 0) (setti
           served = All-same Served (take (suc n) new.places) (take n mid.places ++ c.1 ∷ [])
               (ap (take (suc n)) places ∙ take-suc-set mid.places n c.1 inside)
               (All-push Served (take n mid.places) c.1 h.served now);
+          rest = λ k far. ap (λ (l : List (SessionView × QuotaPortsView P)). slice_get l k) places
+              ∙ set_other n k mid.places c.1 far ∙ h.rest k far;
           count = ap length places ∙ length-set mid.places n c.1 ∙ h.count;
           limits = ap (λ (k : HubView (QuotaPortsView P)). k.limits) c.3 ∙ h.limits;
         }
 
+    -- the next one is not due a turn
+    same_below : (n : ℕ) (old mid : HubView (QuotaPortsView P)) (place : SessionView × QuotaPortsView P) →
+        slice_get mid.places n ≡ Some place → Served place → Below n n old mid → Below (suc n) (suc n) old mid
+    same_below n old mid place there now h = record {
+      held = h.held;
+      served = All-same Served (take (suc n) mid.places) (take n mid.places ++ place ∷ [])
+          (take_more n mid.places place there) (All-push Served (take n mid.places) place h.served now);
+      rest = λ k far. h.rest k (omega (arith, far));
+      count = h.count;
+      limits = h.limits;
+    }
+
+    visited_below : (n : ℕ) (old mid new : HubView (QuotaPortsView P)) (answers : List (SystemCall P)) →
+        All Ready old.places → Below n n old mid → VisitsPlace port_transition mid n answers new →
+        Below (suc n) (suc n) old new
+    visited_below n old mid new answers each h v =
+        by v.place.1.made_progress v.due refl v.report v.looks v.turn v.turns
+      where
+        was : slice_get old.places n ≡ Some v.place
+        was = sym (h.rest n (omega arith)) ∙ v.there
+
+        own : Ready v.place
+        own =
+            subst Ready (get_or_from_slice_get old.places n v.place v.place was)
+            (each n v.place (slice_get_within old.places n v.place was))
+
+        by : (moved due : Bool) → v.place.1.made_progress ≡ moved → (report : List (SystemCall P)) →
+            IsDueBy moved v.place.1.ports report due → (turn : List (SystemCall P)) →
+            TurnsIf port_transition due mid n turn new → Below (suc n) (suc n) old new
+        by moved true e report looks turn takes =
+            one_below n old takes.0 new (begun_below n old mid takes.0 turn h takes.1) takes.2
+        by false false e report looks turn stays =
+            subst (λ (k : HubView (QuotaPortsView P)). Below (suc n) (suc n) old k) (sym stays.1)
+            (same_below n old mid v.place v.there (own.1 e) h)
+        by true false e report looks turn stays = let due = looks.1 in absurd (cc)
+
     below : (n : ℕ) (old : HubView (QuotaPortsView P)) (answers : List (SystemCall P)) (new : HubView (QuotaPortsView P)) →
-        TurnsBelow port_transition n old answers new → All Held old.places → Below n old new
-    below zero old answers new run h = none_below old new run.1 h
+        TurnsBelow port_transition n old answers new → All Ready old.places → Below n n old new
+    below zero old answers new run h =
+        none_below old new run.1 (All-weaker Ready Held (λ now own. own.0) old.places h)
     below (suc n) old answers new run h =
-        one_below n old run.5.0 new
-        (begun_below n old run.0 run.5.0 run.2 (below n old run.1 run.0 run.4 h) run.5.1) run.5.2
+        visited_below n old run.0 new run.2 h (below n old run.1 run.0 run.4 h) run.5
 
     all_turned : (old : HubView (QuotaPortsView P)) (answers : List (SystemCall P)) (new : HubView (QuotaPortsView P)) →
-        TurnsAll port_transition old answers new → All Held old.places →
+        TurnsAll port_transition old answers new → All Ready old.places →
         All Served new.places × (new.limits ≡ old.limits) × (length new.places ≡ length old.places)
     all_turned old answers new run h =
         let b = below (length old.places) old answers new run h in
@@ -346,18 +419,18 @@ module _ {P : Type 0} (port_transition : P → PortCall → P → Type 0) (setti
     record Met (old : HubView (QuotaPortsView P)) (old_counters : AdmissionCounters) (answers : List (SystemCall P)) (new : HubView (QuotaPortsView P))
         (new_counters : AdmissionCounters) : Type 0 where
       gone : All Gone answers
-      held : All Held new.places
+      held : All Ready new.places
       limits : new.limits ≡ old.limits
       turns : new_counters.turns ≡ old_counters.turns
 
     connected : (b : Bool) (old : HubView (QuotaPortsView P)) (counters : AdmissionCounters) (answers : List (SystemCall P))
         (new : HubView (QuotaPortsView P)) (new_counters : AdmissionCounters) →
         ((ports : P) → Contains answers (Connects (Ready ports)) → Contains all (Connects (Ready ports))) →
-        old.limits ≡ run_limits settings → counters.turns ≡ settings.turns → All Held old.places →
+        old.limits ≡ run_limits settings → counters.turns ≡ settings.turns → All Ready old.places →
         MeetsWhere b old counters answers new new_counters → Met old counters answers new new_counters
     connected true old counters answers new new_counters within limits turns h m = record {
       gone = All-same Gone answers [] m.0 (All-nil Gone);
-      held = subst (λ (k : HubView (QuotaPortsView P)). All Held k.places) (sym m.1) h;
+      held = subst (λ (k : HubView (QuotaPortsView P)). All Ready k.places) (sym m.1) h;
       limits = ap (λ (k : HubView (QuotaPortsView P)). k.limits) m.1;
       turns = ap (λ (t : AdmissionCounters). t.turns) m.2;
     }
@@ -382,11 +455,12 @@ module _ {P : Type 0} (port_transition : P → PortCall → P → Type 0) (setti
               subst (λ (n : ℕ). IsCut port_transition (run_limits settings) settings.turns [] (m.1.0, fresh ports n)) (sym turns)
                   (cut_begins port_transition (run_limits settings) settings.turns m.1.0 ports stands),
             ) in
+            let first : Ready (m.1.0, fresh ports counters.turns) = (place, λ still. absurd (cc)) in
             record {
               gone = All-same Gone answers (Connects (Ready ports) ∷ []) one
                   (All-cons Gone (Connects (Ready ports)) [] tt (All-nil Gone));
-              held = subst (λ (k : HubView (QuotaPortsView P)). All Held k.places) (sym m.1.2)
-                  (All-push Held old.places (m.1.0, fresh ports counters.turns) h place);
+              held = subst (λ (k : HubView (QuotaPortsView P)). All Ready k.places) (sym m.1.2)
+                  (All-push Ready old.places (m.1.0, fresh ports counters.turns) h first);
               limits = ap (λ (k : HubView (QuotaPortsView P)). k.limits) m.1.2;
               turns = ap (λ (t : AdmissionCounters). t.turns) m.2;
             }
@@ -397,7 +471,7 @@ module _ {P : Type 0} (port_transition : P → PortCall → P → Type 0) (setti
               gone = All-same Gone answers (Connects Failed ∷ Notifies CannotReach ∷ []) two
                   (All-cons Gone (Connects Failed) (Notifies CannotReach ∷ []) tt
                   (All-cons Gone (Notifies CannotReach) [] tt (All-nil Gone)));
-              held = subst (λ (k : HubView (QuotaPortsView P)). All Held k.places) (sym m.1) h;
+              held = subst (λ (k : HubView (QuotaPortsView P)). All Ready k.places) (sym m.1) h;
               limits = ap (λ (k : HubView (QuotaPortsView P)). k.limits) m.1;
               turns = ap (λ (t : AdmissionCounters). t.turns) m.2;
             }
@@ -407,7 +481,7 @@ module _ {P : Type 0} (port_transition : P → PortCall → P → Type 0) (setti
             record {
               gone = All-same Gone answers (Connects Pending ∷ []) one
                   (All-cons Gone (Connects Pending) [] tt (All-nil Gone));
-              held = subst (λ (k : HubView (QuotaPortsView P)). All Held k.places) (sym m.1) h;
+              held = subst (λ (k : HubView (QuotaPortsView P)). All Ready k.places) (sym m.1) h;
               limits = ap (λ (k : HubView (QuotaPortsView P)). k.limits) m.1;
               turns = ap (λ (t : AdmissionCounters). t.turns) m.2;
             }
@@ -495,8 +569,8 @@ module _ {P : Type 0} (port_transition : P → PortCall → P → Type 0) (setti
       let more = may_accept new.counters (length new.hub.places) in
       let last = wait_where {P = P} made_progress more in
       let come = admitted all (may_accept old.counters (length old.hub.places)) old.counters r.admission r.came r.admits in
-      let still_held : All (Held all) old.hub.places =
-      All-weaker (Served xs) (Held all) (λ now s. still all now (later IsBoundedAndExact xs ys now s.0, s.1))
+      let still_held : All (Ready all) old.hub.places =
+      All-weaker (Served xs) (Ready all) (λ now s. ready all now (later IsBoundedAndExact xs ys now s.0, s.1))
       old.hub.places h.held in
       let within : (ports : P) → Contains r.meeting (Connects (Ready ports)) → Contains all (Connects (Ready ports)) =
       λ ports c. Contains-append_right xs ys (Connects (Ready ports))
@@ -524,7 +598,7 @@ module _ {P : Type 0} (port_transition : P → PortCall → P → Type 0) (setti
             (All-append (Gone all) (Begins ∷ r.admission ++ r.meeting ++ r.beginnings) r.removal
             (All-append (Gone all) (Begins ∷ r.admission ++ r.meeting) r.beginnings
             (All-append (Gone all) (Begins ∷ r.admission) r.meeting (All-cons (Gone all) Begins r.admission tt come.0)
-            connected.gone) (all_begin (Gone all) r.beginnings (λ before after. tt) only))
+            connected.gone) (all_begin (Gone all) r.beginnings (λ ports news. tt) (λ before after. tt) only))
             (All-same (Gone all) r.removal (retirements r.turned.places) r.removes.0
             (all_parted all r.turned.places turned.0)))
             (waited all made_progress more)));

@@ -15,7 +15,8 @@ use Rattle.daide_io.specs.declared.system.Cause.{Cause}
 use Rattle.daide_io.specs.declared.system.Cause.TheVariants as Causes
 use Rattle.daide_io.specs.declared.system.SessionEnd.{SessionEnd}
 use Rattle.daide_event_loop.specs.QuotaPorts.{QuotaPortsView, Meters, progress_by}
-use Rattle.daide_io.specs.System.{SystemCall, Begins, BeginsTurn, Accepts, Connects, Retires, Notifies, Waits}
+use Rattle.daide_io.specs.System.{SystemCall, Begins, ReportsNews, BeginsTurn, Accepts, Connects, Retires, Notifies}
+use Rattle.daide_io.specs.System.{Waits}
 use Rattle.daide_event_loop.specs.Serving.{ServiceView, fresh, initial_service, Rounds, Serves}
 
 -- the limits of a run's sessions
@@ -68,6 +69,7 @@ RetiresClosed {P} transition settings answers (Retires ports end) =
     × ((served : IsServed transition settings answers now)
     × IsEndOf (run_limits settings) settings.turns served.history now.0 end)
 RetiresClosed transition settings answers Begins = Unit {0}
+RetiresClosed transition settings answers (ReportsNews ports news) = Unit {0}
 RetiresClosed transition settings answers (BeginsTurn before after) = Unit {0}
 RetiresClosed transition settings answers (Accepts came) = Unit {0}
 RetiresClosed transition settings answers (Connects connect) = Unit {0}
@@ -80,6 +82,7 @@ connects (Connects (Ready ports)) = 1
 connects (Connects Failed) = 0
 connects (Connects Pending) = 0
 connects Begins = 0
+connects (ReportsNews ports news) = 0
 connects (BeginsTurn before after) = 0
 connects (Accepts came) = 0
 connects (Retires ports end) = 0
@@ -89,6 +92,7 @@ connects (Waits more) = 0
 abbrev pub retires : {P : Type 0} → SystemCall P → ℕ
 retires (Retires ports end) = 1
 retires Begins = 0
+retires (ReportsNews ports news) = 0
 retires (BeginsTurn before after) = 0
 retires (Accepts came) = 0
 retires (Connects connect) = 0
@@ -100,6 +104,7 @@ abbrev pub comes : {P : Type 0} → SystemCall P → ℕ
 comes (Accepts true) = 1
 comes (Accepts false) = 0
 comes Begins = 0
+comes (ReportsNews ports news) = 0
 comes (BeginsTurn before after) = 0
 comes (Connects connect) = 0
 comes (Retires ports end) = 0
@@ -111,6 +116,7 @@ unreached (Connects Failed) = 1
 unreached (Connects (Ready ports)) = 0
 unreached (Connects Pending) = 0
 unreached Begins = 0
+unreached (ReportsNews ports news) = 0
 unreached (BeginsTurn before after) = 0
 unreached (Accepts came) = 0
 unreached (Retires ports end) = 0

@@ -1,7 +1,8 @@
 -- The loop of a run: the system calls and the effect of each step of a round, a round, and a whole run, completed or
 -- broken off. Each step is stated with its trace of system calls, recorded or not.
 use Rattle.std.specs.Prelude.{◌≡◌, ℕ, zero, suc, ◌+◌, ◌-◌, ◌≤◌, nat_lt, Bool, true, false, not, ◌&&◌, ◌||◌, ◌==◌, ◌⊎◌}
-use Rattle.std.specs.Prelude.{List, [], ◌∷◌, ◌++◌, length, filter, Option, Some, None, Ok, is_none, if◌then◌else◌}
+use Rattle.std.specs.Prelude.{List, [], ◌∷◌, ◌++◌, length, filter, Option, Some, None, Ok, is_none, slice_get}
+use Rattle.std.specs.Prelude.{if◌then◌else◌}
 use Rattle.std.specs.List.{list_any}
 use Rattle.daide_protocol.specs.declared.ending.Ending.{Ending}
 use Rattle.daide_protocol.specs.declared.ending.Ending.TheVariants.{Ended, Lost}
@@ -26,7 +27,8 @@ use Rattle.daide_io.specs.declared.system.Cause.{Cause}
 use Rattle.daide_io.specs.declared.system.Cause.TheVariants as Causes
 use Rattle.daide_io.specs.declared.system.SessionEnd.{SessionEnd}
 use Rattle.daide_event_loop.specs.QuotaPorts.{QuotaPortsView, Meters, beginning}
-use Rattle.daide_io.specs.System.{SystemCall, Begins, BeginsTurn, Accepts, Connects, Retires, Notifies, Waits}
+use Rattle.daide_io.specs.System.{SystemCall, Begins, ReportsNews, BeginsTurn, Accepts, Connects, Retires, Notifies}
+use Rattle.daide_io.specs.System.{Waits}
 
 -- the state of a run: the sessions, and the counters
 pub record ServiceView (P : Type 0) : Type 0 where
@@ -80,9 +82,9 @@ Admits count old = AdmitsWhere (may_accept old count) old
 
 -- ---- connects complete or fail
 
--- ports with a full quota of turns
+-- ports with a full quota of turns; new ports count as progress, so that their session has a turn in the same round
 abbrev pub fresh : {P : Type 0} → P → ℕ → QuotaPortsView P
-fresh ports turns = record { ports = ports; turns_left = Some turns; made_progress = false; first_synthetic_end = None }
+fresh ports turns = record { ports = ports; turns_left = Some turns; made_progress = true; first_synthetic_end = None }
 
 -- a completed connect turns into a session in its opening state, at the last place; a failed one is reported, and its
 -- bot dropped
@@ -106,7 +108,7 @@ abbrev pub FinishesConnect : {P : Type 0} → HubView (QuotaPortsView P) → Adm
     HubView (QuotaPortsView P) → AdmissionCounters → Type 0
 FinishesConnect hub counters = MeetsWhere (counters.connecting == 0) hub counters
 
--- ---- each session has a turn
+-- ---- each session that has news has a turn
 
 -- a turn of a session begins with its own ports, and the system begins it with these while turns are left
 abbrev pub OpensTurn : {P : Type 0} → (P → PortCall → P → Type 0) → List (SystemCall P) →
@@ -120,13 +122,37 @@ TakesTurn {P} transition old i answers new =
     (mid : HubView (QuotaPortsView P)) × Changes (OpensTurn transition answers) old i mid
     × Changes (IsTurned (Meters transition)) mid i new
 
--- the sessions at the first n places have one turn each, in their order
+-- whether a session is due a turn: if its last turn made progress, without a call; else if the system has news for its
+-- ports
+abbrev pub IsDueBy : {P : Type 0} → Bool → P → List (SystemCall P) → Bool → Type 0
+IsDueBy true ports answers due = (answers ≡ []) × (due ≡ true)
+IsDueBy false ports answers due = answers ≡ ReportsNews ports due ∷ []
+
+-- a session that is due a turn has one turn; any other stays as it is, and the system is not called
+abbrev pub TurnsIf : {P : Type 0} → (P → PortCall → P → Type 0) → Bool → HubView (QuotaPortsView P) → ℕ →
+    List (SystemCall P) → HubView (QuotaPortsView P) → Type 0
+TurnsIf transition true old i answers new = TakesTurn transition old i answers new
+TurnsIf transition false old i answers new = (answers ≡ []) × (new ≡ old)
+
+-- the session at this place has one turn if it is due one, and none otherwise
+pub record VisitsPlace {P : Type 0} (transition : P → PortCall → P → Type 0) (old : HubView (QuotaPortsView P)) (i : ℕ)
+    (answers : List (SystemCall P)) (new : HubView (QuotaPortsView P)) : Type 0 where
+  pub place : SessionView × QuotaPortsView P
+  pub there : slice_get old.places i ≡ Some place
+  pub due : Bool
+  pub report : List (SystemCall P)
+  pub turn : List (SystemCall P)
+  pub looks : IsDueBy place.1.made_progress place.1.ports report due
+  pub turns : TurnsIf transition due old i turn new
+  pub asked : answers ≡ report ++ turn
+
+-- the sessions at the first n places have a turn each if they are due one, in their order
 abbrev pub TurnsBelow : {P : Type 0} → (P → PortCall → P → Type 0) → ℕ → HubView (QuotaPortsView P) →
     List (SystemCall P) → HubView (QuotaPortsView P) → Type 0
 TurnsBelow transition zero old answers new = (answers ≡ []) × (new ≡ old)
 TurnsBelow {P} transition (suc n) old answers new =
     (mid : HubView (QuotaPortsView P)) × (first : List (SystemCall P)) × (second : List (SystemCall P))
-    × (answers ≡ first ++ second) × TurnsBelow transition n old first mid × TakesTurn transition mid n second new
+    × (answers ≡ first ++ second) × TurnsBelow transition n old first mid × VisitsPlace transition mid n second new
 
 abbrev pub TurnsAll : {P : Type 0} → (P → PortCall → P → Type 0) → HubView (QuotaPortsView P) → List (SystemCall P) →
     HubView (QuotaPortsView P) → Type 0
@@ -191,6 +217,7 @@ RemovesClosed old answers new = (answers ≡ retirements old.places) × (new ≡
 -- whether a call is progress: an accepted bot, a completed or failed connect, a retirement, or a notice
 abbrev pub is_progress : {P : Type 0} → SystemCall P → Bool
 is_progress Begins = false
+is_progress (ReportsNews ports news) = false
 is_progress (BeginsTurn before after) = false
 is_progress (Accepts came) = came
 is_progress (Connects (Ready ports)) = true
@@ -208,8 +235,8 @@ abbrev pub wait_where : {P : Type 0} → Bool → Bool → List (SystemCall P)
 wait_where true more = []
 wait_where false more = Waits more ∷ []
 
--- The system begins a round. At most one bot is accepted, and at most one connect completes or fails. Each session has
--- a turn, which the system begins. Closed sessions are removed. There is one wait, exactly if no progress was made.
+-- The system begins a round. At most one bot is accepted, and at most one connect completes or fails. Each session that
+-- is due a turn has one, which the system begins. Closed sessions are removed. There is one wait, exactly if no progress was made.
 pub record Round {P : Type 0} (transition : P → PortCall → P → Type 0) (old : ServiceView P)
     (answers : List (SystemCall P)) (new : ServiceView P) : Type 0 where
   pub admission : List (SystemCall P)

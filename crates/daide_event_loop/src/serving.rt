@@ -3,11 +3,12 @@
 //! It uses no socket. The system is a parameter, so that tests can drive whole runs in memory.
 
 ghost use Rattle.std.specs.Prelude.{◌≡◌, ◌+◌, ◌<◌, ◌≤◌, ◌==◌, false, List, [], ◌∷◌, length, Some};
-ghost use Rattle.std.specs.Prelude.{Ok, OnOk, OnErr, IfOk, IfErr};
+ghost use Rattle.std.specs.Prelude.{Ok, OnOk, OnErr, IfOk, IfErr, IfSome, slice_get};
 ghost use Rattle.daide_protocol.specs.Config.{config_fault};
 ghost use Rattle.daide_driver.specs.Hub.{IsHubSize};
 ghost use Rattle.daide_io.specs.System.{SystemCall, Connects, TransitsBy};
-ghost use Rattle.daide_event_loop.specs.Serving.{IsWithinQuotas, Admits, FinishesConnect, TakesTurn, TurnsAll, any_moved};
+ghost use Rattle.daide_event_loop.specs.Serving.{IsWithinQuotas, Admits, FinishesConnect, IsDueBy, TakesTurn, VisitsPlace};
+ghost use Rattle.daide_event_loop.specs.Serving.{TurnsAll, any_moved};
 ghost use Rattle.daide_event_loop.specs.Serving.{RemovesClosed, parting};
 ghost use Rattle.daide_event_loop.specs.Serving.{is_reported, cause_by, end_by};
 ghost use Rattle.daide_event_loop.specs.Serving.{wait_where, any_progress, Round, is_done, initial_service, fault_of};
@@ -152,7 +153,38 @@ fn take_turn<P: Ports, A: Allocator + Copy, S: System<P>>(
     hub.turn(i);
 }
 
-/// Makes one turn of each session, in order of place.
+/// Returns whether the session at a place is due a turn: whether its last turn made progress, or else whether the system
+/// has news for its ports.
+fn is_due<P: Ports, A: Allocator + Copy, S: System<P>>(
+    hub: &Hub<QuotaPorts<P>, A>,
+    i: usize,
+    system: &mut S,
+) -> bool
+    requires { i < length hub.now.places }
+    ensures { IfSome (slice_get hub.now.places i) (λ place. (report : List (SystemCall P))
+        × TransitsBy S.transition system.old report system.new
+        × IsDueBy place.1.made_progress place.1.ports report result) }
+{
+    let ports = hub.ports(i);
+    ports.has_moved() || system.has_news(ports.ports())
+}
+
+/// Makes one turn of the session at a place if it is due one.
+fn visit<P: Ports, A: Allocator + Copy, S: System<P>>(
+    hub: &mut Hub<QuotaPorts<P>, A>,
+    i: usize,
+    system: &mut S,
+)
+    requires { i < length hub.old.places }
+    ensures { (answers : List (SystemCall P)) × TransitsBy S.transition system.old answers system.new
+        × VisitsPlace P.transition hub.old i answers hub.new }
+{
+    if is_due(hub, i, system) {
+        take_turn(hub, i, system);
+    }
+}
+
+/// Makes one turn of each session that is due one, in order of place.
 fn turn_all<P: Ports, A: Allocator + Copy, S: System<P>>(
     hub: &mut Hub<QuotaPorts<P>, A>,
     system: &mut S,
@@ -163,7 +195,7 @@ fn turn_all<P: Ports, A: Allocator + Copy, S: System<P>>(
     ensures count { length hub.new.places ≡ length hub.old.places }
 {
     for i in 0..hub.count() {
-        take_turn(hub, i, system);
+        visit(hub, i, system);
     }
 }
 
@@ -287,12 +319,13 @@ impl<P: Ports, A: Memory + Copy> Service<P, A> {
     }
 
     /// Makes one round. It calls the system to begin the round, accepts at most one bot, and takes up at most one
-    /// connect. Each session then has one turn, in order of place. Closed sessions are taken out, from the last place
-    /// to the first. If nothing moved in all this, it waits once.
+    /// connect. Each session that is due a turn then has one, in order of place. Closed sessions are taken out, from the
+    /// last place to the first. If nothing moved in all this, it waits once.
     ///
     /// `round`: a bot is accepted only below two limits: of sessions and pending connects at once, and of bots in all.
-    /// The system begins each turn with the session's ports (`begin_turn`), and the turn is made by the clauses of
-    /// `turn` (`TakesTurn`). Exactly the sessions that are over and for which nothing waits are taken out. It waits if
+    /// A session is due a turn if its last turn made progress, if it is new, or else if the system has news for its
+    /// ports (`VisitsPlace`). The system begins each turn with the session's ports (`begin_turn`), and the turn is made
+    /// by the clauses of `turn` (`TakesTurn`). Exactly the sessions that are over and for which nothing waits are taken out. It waits if
     /// and only if nothing moved.
     ///
     /// `refused`: its only fault is no memory for a session.

@@ -32,6 +32,8 @@ enum Fate {
 #[derive(Clone, Copy, PartialEq, Eq)]
 enum Event {
     Begun,
+    News,
+    NoNews,
     TurnBegun,
     Came,
     NoneCame,
@@ -44,11 +46,12 @@ enum Event {
 }
 
 /// The script of a run. After the last accept each further one returns a bot; after the last fate each connect
-/// succeeds.
+/// succeeds; after the last report there is news each time.
 #[derive(Clone, Copy)]
 struct Scene {
     accepts: &'static [bool],
     fates: &'static [Fate],
+    news: &'static [bool],
     bot: Script<'static>,
 }
 
@@ -59,6 +62,7 @@ struct Harness {
     scene: Scene,
     accepts: usize,
     fates: usize,
+    news: usize,
     /// The number of bots that are connected, and the greatest number of them so far.
     held: usize,
     most: usize,
@@ -76,6 +80,7 @@ impl Harness {
             scene,
             accepts: 0,
             fates: 0,
+            news: 0,
             held: 0,
             most: 0,
             events: Vec::new(alloc),
@@ -97,6 +102,13 @@ impl System<MemoryPorts<'static>> for Harness {
 
     fn begin_round(&mut self) {
         self.note(Event::Begun);
+    }
+
+    fn has_news(&mut self, _ports: &MemoryPorts<'static>) -> bool {
+        let news = self.scene.news.get(self.news).is_none_or(|news| *news);
+        self.news = self.news.saturating_add(1);
+        self.note(if news { Event::News } else { Event::NoNews });
+        news
     }
 
     fn begin_turn(&mut self, ports: &mut MemoryPorts<'static>) {
@@ -179,6 +191,7 @@ const OPENS_ALONE: Script<'static> = Script {
 const ENDING: Scene = Scene {
     accepts: &[],
     fates: &[],
+    news: &[],
     bot: ENDS,
 };
 
@@ -202,6 +215,7 @@ const RUNS: &[(Scene, Limits, &[Event])] = &[
         Scene {
             accepts: &[false],
             fates: &[Fate::Pending, Fate::Pending],
+            news: &[],
             bot: ENDS,
         },
         (16, 1, 9),
@@ -226,6 +240,7 @@ const RUNS: &[(Scene, Limits, &[Event])] = &[
         Scene {
             accepts: &[],
             fates: &[Fate::Failed],
+            news: &[],
             bot: ENDS,
         },
         (1, 1, 9),
@@ -241,6 +256,7 @@ const RUNS: &[(Scene, Limits, &[Event])] = &[
         Scene {
             accepts: &[],
             fates: &[],
+            news: &[],
             bot: ENDS_LATER,
         },
         (1, 2, 9),
@@ -250,6 +266,7 @@ const RUNS: &[(Scene, Limits, &[Event])] = &[
             Event::Ready,
             Event::TurnBegun,
             Event::Begun,
+            Event::News,
             Event::TurnBegun,
             Event::Retired,
             Event::Begun,
@@ -257,6 +274,7 @@ const RUNS: &[(Scene, Limits, &[Event])] = &[
             Event::Ready,
             Event::TurnBegun,
             Event::Begun,
+            Event::News,
             Event::TurnBegun,
             Event::Retired,
         ],
@@ -266,6 +284,7 @@ const RUNS: &[(Scene, Limits, &[Event])] = &[
         Scene {
             accepts: &[],
             fates: &[Fate::Pending, Fate::Pending, Fate::Failed],
+            news: &[],
             bot: ENDS,
         },
         (1, 2, 9),
@@ -291,6 +310,7 @@ const RUNS: &[(Scene, Limits, &[Event])] = &[
         Scene {
             accepts: &[],
             fates: &[Fate::Pending],
+            news: &[],
             bot: ENDS_LATER,
         },
         (2, 2, 9),
@@ -304,10 +324,12 @@ const RUNS: &[(Scene, Limits, &[Event])] = &[
             Event::TurnBegun,
             Event::Begun,
             Event::Ready,
+            Event::News,
             Event::TurnBegun,
             Event::TurnBegun,
             Event::Retired,
             Event::Begun,
+            Event::News,
             Event::TurnBegun,
             Event::Retired,
         ],
@@ -317,6 +339,7 @@ const RUNS: &[(Scene, Limits, &[Event])] = &[
         Scene {
             accepts: &[],
             fates: &[],
+            news: &[],
             bot: QUIET,
         },
         (1, 1, 3),
@@ -326,13 +349,76 @@ const RUNS: &[(Scene, Limits, &[Event])] = &[
             Event::Ready,
             Event::TurnBegun,
             Event::Begun,
+            Event::News,
             Event::TurnBegun,
             Event::Waited(false),
             Event::Begun,
+            Event::News,
             Event::TurnBegun,
             Event::Waited(false),
             Event::Begun,
+            Event::News,
             Event::ParsedEvent(Notice::TurnsSpent),
+            Event::Retired,
+        ],
+    ),
+    // without news a session whose last turn made no progress has no turn, and uses none of its quota
+    (
+        Scene {
+            accepts: &[],
+            fates: &[],
+            news: &[false, false],
+            bot: QUIET,
+        },
+        (1, 1, 2),
+        &[
+            Event::Begun,
+            Event::Came,
+            Event::Ready,
+            Event::TurnBegun,
+            Event::Begun,
+            Event::NoNews,
+            Event::Waited(false),
+            Event::Begun,
+            Event::NoNews,
+            Event::Waited(false),
+            Event::Begun,
+            Event::News,
+            Event::TurnBegun,
+            Event::Waited(false),
+            Event::Begun,
+            Event::News,
+            Event::ParsedEvent(Notice::TurnsSpent),
+            Event::Retired,
+        ],
+    ),
+    // the first of two sessions is passed over, and the second has its turn
+    (
+        Scene {
+            accepts: &[],
+            fates: &[],
+            news: &[false, false],
+            bot: ENDS_LATER,
+        },
+        (2, 2, 9),
+        &[
+            Event::Begun,
+            Event::Came,
+            Event::Ready,
+            Event::TurnBegun,
+            Event::Begun,
+            Event::Came,
+            Event::Ready,
+            Event::NoNews,
+            Event::TurnBegun,
+            Event::Begun,
+            Event::NoNews,
+            Event::News,
+            Event::TurnBegun,
+            Event::Retired,
+            Event::Begun,
+            Event::News,
+            Event::TurnBegun,
             Event::Retired,
         ],
     ),
@@ -376,6 +462,7 @@ const SPENT: &[Event] = &[
     Event::TurnBegun,
     Event::Waited(false),
     Event::Begun,
+    Event::News,
     Event::Begun,
     Event::ParsedEvent(Notice::TurnsSpent),
     Event::Retired,
@@ -465,6 +552,7 @@ fn system_is_told_how_a_session_ended(rt: HostRuntime) -> Result<(), Fail> {
 const HUNDRED: Scene = Scene {
     accepts: &[true, false, true, false],
     fates: &[Fate::Failed, Fate::Pending, Fate::Failed],
+    news: &[],
     bot: QUIET,
 };
 

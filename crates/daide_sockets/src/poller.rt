@@ -37,6 +37,8 @@ pub struct Flags {
     pub(crate) silent_from: Cell<Option<Instant>>,
     /// A copy of the moment at which the stall timeout of the socket's peer expires. It ends a wait.
     pub(crate) stalls_at: Cell<Option<Instant>>,
+    /// Whether an event of the socket came, or a deadline of it expired, since the last turn of its session began.
+    pub(crate) has_news: Cell<bool>,
 }
 
 /// The table of a run, with the time of the last poll.
@@ -166,6 +168,7 @@ impl Flags {
             due: Cell::new(None),
             silent_from: Cell::new(None),
             stalls_at: Cell::new(None),
+            has_news: Cell::new(false),
         }
     }
 
@@ -187,6 +190,7 @@ impl Flags {
         self.due.set(None);
         self.silent_from.set(None);
         self.stalls_at.set(None);
+        self.has_news.set(false);
     }
 
     /// Sets the flag of a read or a write that may succeed. Clears neither flag.
@@ -214,6 +218,7 @@ impl Flags {
     /// Records an event of the socket. The next call returns an end or a failure, and a read stops before an urgent
     /// byte. The system reports neither again, so from then on a short read does not clear `may_read`.
     fn note_event(&self, event: &Event) {
+        self.has_news.set(true);
         self.note(
             event.is_readable() || event.is_read_closed() || event.is_error(),
             event.is_writable() || event.is_write_closed() || event.is_error(),
@@ -223,6 +228,13 @@ impl Flags {
             readiness.reads_on = true;
             self.readiness.set(readiness);
         }
+    }
+
+    /// Returns true if a deadline of the row is past at this reading of the clock.
+    fn has_expired(&self, now: Option<Instant>) -> bool {
+        is_past(now, self.due.get())
+            || is_past(now, self.stalls_at.get())
+            || is_past(now, self.silent_from.get())
     }
 
     /// Returns the next deadline of a taken row. An idle timeout that already expired is no deadline, since the next
@@ -322,12 +334,27 @@ impl<R: Clock> Poller<R> {
         self.registry.try_clone()
     }
 
-    /// Returns the time until the next deadline; `None` if there is none.
-    fn idle(&self) -> Option<Duration> {
+    /// Returns the next deadline; `None` if there is none.
+    fn nearest(&self) -> Option<Instant> {
         let now = self.now.get()?;
         let used = self.flags.iter().take(self.used.get());
-        let nearest = used.filter_map(|flags| flags.awaited(now)).min()?;
-        Some(nearest.saturating_duration_since(now))
+        used.filter_map(|flags| flags.awaited(now)).min()
+    }
+
+    /// Returns the time from the last reading of the clock until a moment; `None` without a moment.
+    fn until(&self, moment: Option<Instant>) -> Option<Duration> {
+        let now = self.now.get()?;
+        Some(moment?.saturating_duration_since(now))
+    }
+
+    /// Marks the sockets that have a deadline in the past.
+    fn note_deadlines(&self) {
+        let now = self.now.get();
+        for flags in self.flags.iter().take(self.used.get()) {
+            if flags.has_expired(now) {
+                flags.has_news.set(true);
+            }
+        }
     }
 
     /// Polls the system for events, at most for `timeout`, and reads the clock.
@@ -362,20 +389,24 @@ impl<R: Clock> Poller<R> {
         }
     }
 
-    /// Polls for the present events.
+    /// Polls for the present events, and marks the sockets that have a deadline in the past.
     pub(crate) fn look(&self) {
         self.ask(Some(Duration::ZERO));
+        self.note_deadlines();
     }
 
     /// Blocks until a socket is ready, or until the next deadline. Does not block if a poll since the last wait
     /// received events, since the system reports each of them only once.
     pub fn wait(&self) {
-        let timeout = if self.has_news.get() {
-            Some(Duration::ZERO)
+        if self.has_news.get() {
+            self.look();
         } else {
-            self.idle()
-        };
-        self.ask(timeout);
+            let nearest = self.nearest();
+            self.ask(self.until(nearest));
+            if self.is_over(nearest) {
+                self.note_deadlines();
+            }
+        }
         self.has_news.set(false);
     }
 }

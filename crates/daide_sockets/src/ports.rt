@@ -616,7 +616,12 @@ impl<'w, R: Clock, S: Drop> SocketPorts<'w, R, S> {
         (bot, server)
     }
 
-    /// Counts the beginning of a turn. Makes no system call.
+    /// Returns whether an event of one of the sockets came, or a deadline of one expired, since the last turn began.
+    pub fn has_news(&self) -> bool {
+        self.bot.registration.flags.has_news.get() || self.server.registration.flags.has_news.get()
+    }
+
+    /// Counts the beginning of a turn, in which the session acts on all news. Makes no system call.
     fn count_turn(&mut self)
         ensures bot { self.new.bot ≡ self.old.bot }
         ensures server { self.new.server ≡ self.old.server }
@@ -624,6 +629,8 @@ impl<'w, R: Clock, S: Drop> SocketPorts<'w, R, S> {
         ensures idle { self.new.idle ≡ self.old.idle }
     {
         self.idle.poller.note_turn();
+        self.bot.registration.flags.has_news.set(false);
+        self.server.registration.flags.has_news.set(false);
         self.held_for_bot = self.held_for_bot.with_turn(self.bot.stream.behind_len());
         self.held_for_server = self
             .held_for_server

@@ -228,6 +228,10 @@ impl<'w, R: Clock + Net, E: Write + Drop> System<SocketPorts<'w, &'w R>> for Soc
         self.tidy();
     }
 
+    fn has_news(&mut self, ports: &SocketPorts<'w, &'w R>) -> bool {
+        ports.has_news()
+    }
+
     fn begin_turn(&mut self, ports: &mut SocketPorts<'w, &'w R>)
         ensures ports { Transfers ⟦<Connection as Duplex>⟧.to_give ⟦<Connection as Duplex>⟧.taken
             (ports.old.bot.stream, ports.old.server.stream) TurnBegins (ports.new.bot.stream, ports.new.server.stream) }
