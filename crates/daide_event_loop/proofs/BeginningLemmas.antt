@@ -204,6 +204,21 @@ module _ {P S : Type 0} (port_transition : P → PortCall → P → Type 0) (tra
       (report : List (SystemCall P)) × TransitsBy transition s report t
       × IsDueBy place.1.made_progress place.1.ports report due
 
+  pub looked : (hub : HubView (QuotaPortsView P)) (i : ℕ) (ports : QuotaPortsView P) (s t : S) (due : Bool)
+      (report : List (SystemCall P)) → IfSome (slice_get hub.places i) (λ place. ports ≡ place.1) →
+      TransitsBy transition s report t → IsDueBy ports.made_progress ports.ports report due →
+      IfSome (slice_get hub.places i) (Looks s t due)
+  looked hub i ports s t due report value goes looks = by (slice_get hub.places i) value
+    where
+      by : (o : Option (SessionView × QuotaPortsView P)) → IfSome o (λ place. ports ≡ place.1) →
+          IfSome o (Looks s t due)
+      by None same = tt
+      by (Some place) same = (
+        report,
+        goes,
+        subst (λ (own : QuotaPortsView P). IsDueBy own.made_progress own.ports report due) same looks,
+      )
+
   pub visited : (hub new : HubView (QuotaPortsView P)) (i : ℕ) (s t u : S) (due : Bool) → i < length hub.places →
       IfSome (slice_get hub.places i) (Looks s t due) →
       ((turn : List (SystemCall P)) × TransitsBy transition t turn u × TurnsIf port_transition due hub i turn new) →

@@ -220,11 +220,11 @@ module _ {P : Type 0} (port_transition : P → PortCall → P → Type 0) (setti
     )
 
     -- before the turns of a round: a session whose last turn made no progress had one, so it is served
-    abbrev Ready : SessionView × QuotaPortsView P → Type 0
-    Ready now = Held now × (now.1.made_progress ≡ false → Served now)
+    abbrev IsRested : SessionView × QuotaPortsView P → Type 0
+    IsRested now = Held now × (now.1.made_progress ≡ false → Served now)
 
-    ready : (now : SessionView × QuotaPortsView P) → Served now → Ready now
-    ready now h = (still now h, λ still. h)
+    rested : (now : SessionView × QuotaPortsView P) → Served now → IsRested now
+    rested now h = (still now h, λ still. h)
 
     begun : (a b : SessionView × QuotaPortsView P) → IsBegun (Meters port_transition) a b → Held a → Held b
     begun a b t h =
@@ -359,7 +359,7 @@ module _ {P : Type 0} (port_transition : P → PortCall → P → Type 0) (setti
     }
 
     visited_below : (n : ℕ) (old mid new : HubView (QuotaPortsView P)) (answers : List (SystemCall P)) →
-        All Ready old.places → Below n n old mid → VisitsPlace port_transition mid n answers new →
+        All IsRested old.places → Below n n old mid → VisitsPlace port_transition mid n answers new →
         Below (suc n) (suc n) old new
     visited_below n old mid new answers each h v =
         by v.place.1.made_progress v.due refl v.report v.looks v.turn v.turns
@@ -367,9 +367,9 @@ module _ {P : Type 0} (port_transition : P → PortCall → P → Type 0) (setti
         was : slice_get old.places n ≡ Some v.place
         was = sym (h.rest n (omega arith)) ∙ v.there
 
-        own : Ready v.place
+        own : IsRested v.place
         own =
-            subst Ready (get_or_from_slice_get old.places n v.place v.place was)
+            subst IsRested (get_or_from_slice_get old.places n v.place v.place was)
             (each n v.place (slice_get_within old.places n v.place was))
 
         by : (moved due : Bool) → v.place.1.made_progress ≡ moved → (report : List (SystemCall P)) →
@@ -383,14 +383,14 @@ module _ {P : Type 0} (port_transition : P → PortCall → P → Type 0) (setti
         by true false e report looks turn stays = let due = looks.1 in absurd (cc)
 
     below : (n : ℕ) (old : HubView (QuotaPortsView P)) (answers : List (SystemCall P)) (new : HubView (QuotaPortsView P)) →
-        TurnsBelow port_transition n old answers new → All Ready old.places → Below n n old new
+        TurnsBelow port_transition n old answers new → All IsRested old.places → Below n n old new
     below zero old answers new run h =
-        none_below old new run.1 (All-weaker Ready Held (λ now own. own.0) old.places h)
+        none_below old new run.1 (All-weaker IsRested Held (λ now own. own.0) old.places h)
     below (suc n) old answers new run h =
         visited_below n old run.0 new run.2 h (below n old run.1 run.0 run.4 h) run.5
 
     all_turned : (old : HubView (QuotaPortsView P)) (answers : List (SystemCall P)) (new : HubView (QuotaPortsView P)) →
-        TurnsAll port_transition old answers new → All Ready old.places →
+        TurnsAll port_transition old answers new → All IsRested old.places →
         All Served new.places × (new.limits ≡ old.limits) × (length new.places ≡ length old.places)
     all_turned old answers new run h =
         let b = below (length old.places) old answers new run h in
@@ -419,18 +419,18 @@ module _ {P : Type 0} (port_transition : P → PortCall → P → Type 0) (setti
     record Met (old : HubView (QuotaPortsView P)) (old_counters : AdmissionCounters) (answers : List (SystemCall P)) (new : HubView (QuotaPortsView P))
         (new_counters : AdmissionCounters) : Type 0 where
       gone : All Gone answers
-      held : All Ready new.places
+      held : All IsRested new.places
       limits : new.limits ≡ old.limits
       turns : new_counters.turns ≡ old_counters.turns
 
     connected : (b : Bool) (old : HubView (QuotaPortsView P)) (counters : AdmissionCounters) (answers : List (SystemCall P))
         (new : HubView (QuotaPortsView P)) (new_counters : AdmissionCounters) →
         ((ports : P) → Contains answers (Connects (Ready ports)) → Contains all (Connects (Ready ports))) →
-        old.limits ≡ run_limits settings → counters.turns ≡ settings.turns → All Ready old.places →
+        old.limits ≡ run_limits settings → counters.turns ≡ settings.turns → All IsRested old.places →
         MeetsWhere b old counters answers new new_counters → Met old counters answers new new_counters
     connected true old counters answers new new_counters within limits turns h m = record {
       gone = All-same Gone answers [] m.0 (All-nil Gone);
-      held = subst (λ (k : HubView (QuotaPortsView P)). All Ready k.places) (sym m.1) h;
+      held = subst (λ (k : HubView (QuotaPortsView P)). All IsRested k.places) (sym m.1) h;
       limits = ap (λ (k : HubView (QuotaPortsView P)). k.limits) m.1;
       turns = ap (λ (t : AdmissionCounters). t.turns) m.2;
     }
@@ -455,12 +455,12 @@ module _ {P : Type 0} (port_transition : P → PortCall → P → Type 0) (setti
               subst (λ (n : ℕ). IsCut port_transition (run_limits settings) settings.turns [] (m.1.0, fresh ports n)) (sym turns)
                   (cut_begins port_transition (run_limits settings) settings.turns m.1.0 ports stands),
             ) in
-            let first : Ready (m.1.0, fresh ports counters.turns) = (place, λ still. absurd (cc)) in
+            let first : IsRested (m.1.0, fresh ports counters.turns) = (place, λ still. absurd (cc)) in
             record {
               gone = All-same Gone answers (Connects (Ready ports) ∷ []) one
                   (All-cons Gone (Connects (Ready ports)) [] tt (All-nil Gone));
-              held = subst (λ (k : HubView (QuotaPortsView P)). All Ready k.places) (sym m.1.2)
-                  (All-push Ready old.places (m.1.0, fresh ports counters.turns) h first);
+              held = subst (λ (k : HubView (QuotaPortsView P)). All IsRested k.places) (sym m.1.2)
+                  (All-push IsRested old.places (m.1.0, fresh ports counters.turns) h first);
               limits = ap (λ (k : HubView (QuotaPortsView P)). k.limits) m.1.2;
               turns = ap (λ (t : AdmissionCounters). t.turns) m.2;
             }
@@ -471,7 +471,7 @@ module _ {P : Type 0} (port_transition : P → PortCall → P → Type 0) (setti
               gone = All-same Gone answers (Connects Failed ∷ Notifies CannotReach ∷ []) two
                   (All-cons Gone (Connects Failed) (Notifies CannotReach ∷ []) tt
                   (All-cons Gone (Notifies CannotReach) [] tt (All-nil Gone)));
-              held = subst (λ (k : HubView (QuotaPortsView P)). All Ready k.places) (sym m.1) h;
+              held = subst (λ (k : HubView (QuotaPortsView P)). All IsRested k.places) (sym m.1) h;
               limits = ap (λ (k : HubView (QuotaPortsView P)). k.limits) m.1;
               turns = ap (λ (t : AdmissionCounters). t.turns) m.2;
             }
@@ -481,7 +481,7 @@ module _ {P : Type 0} (port_transition : P → PortCall → P → Type 0) (setti
             record {
               gone = All-same Gone answers (Connects Pending ∷ []) one
                   (All-cons Gone (Connects Pending) [] tt (All-nil Gone));
-              held = subst (λ (k : HubView (QuotaPortsView P)). All Ready k.places) (sym m.1) h;
+              held = subst (λ (k : HubView (QuotaPortsView P)). All IsRested k.places) (sym m.1) h;
               limits = ap (λ (k : HubView (QuotaPortsView P)). k.limits) m.1;
               turns = ap (λ (t : AdmissionCounters). t.turns) m.2;
             }
@@ -569,8 +569,8 @@ module _ {P : Type 0} (port_transition : P → PortCall → P → Type 0) (setti
       let more = may_accept new.counters (length new.hub.places) in
       let last = wait_where {P = P} made_progress more in
       let come = admitted all (may_accept old.counters (length old.hub.places)) old.counters r.admission r.came r.admits in
-      let still_held : All (Ready all) old.hub.places =
-      All-weaker (Served xs) (Ready all) (λ now s. ready all now (later IsBoundedAndExact xs ys now s.0, s.1))
+      let still_held : All (IsRested all) old.hub.places =
+      All-weaker (Served xs) (IsRested all) (λ now s. rested all now (later IsBoundedAndExact xs ys now s.0, s.1))
       old.hub.places h.held in
       let within : (ports : P) → Contains r.meeting (Connects (Ready ports)) → Contains all (Connects (Ready ports)) =
       λ ports c. Contains-append_right xs ys (Connects (Ready ports))
