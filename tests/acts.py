@@ -3,15 +3,35 @@
 An act is played repeatedly until it is done. It fails once it can no longer succeed.
 """
 
+import os
 import resource
 import select
 import selectors
+import shutil
+import signal
 import socket
 import time
 from dataclasses import dataclass, fields
 
 from frames import UNCLOSED
 from held import Wrong, brief
+
+
+# The most of a processor that a program uses while it waits. One that spins uses all of it.
+MOST_WORK = 0.2
+
+# The number of connections that fill the queue of a listener.
+MORE_THAN_WAIT = 160
+
+
+def fill_queue(listener):
+    """Fills the queue of a listener with connections that were closed by their peers."""
+    queue = [socket.socket() for _ in range(MORE_THAN_WAIT)]
+    for stream in queue:
+        stream.setblocking(False)
+        stream.connect_ex(listener.getsockname())
+    for stream in queue:
+        stream.close()
 
 
 @dataclass(frozen=True)
@@ -86,6 +106,15 @@ class MeetsNobody(Act):
 
 
 @dataclass(frozen=True)
+class Fills(Act):
+    """Others connect to the server and leave at once, until its queue is full. It accepts none of them."""
+
+    def play(self, stage):
+        fill_queue(stage.listener)
+        return True
+
+
+@dataclass(frozen=True)
 class Empties(Act):
     """The server accepts all waiting connections, and closes them."""
 
@@ -121,6 +150,84 @@ class Frees(Act):
 
     def play(self, stage):
         resource.prlimit(stage.run.process.pid, resource.RLIMIT_NOFILE, stage.hoard)
+        return True
+
+
+@dataclass(frozen=True)
+class Stops(Act):
+    """The program is stopped, so that all that is sent from now on is there when it goes on."""
+
+    def play(self, stage):
+        if stage.run.is_stopped():
+            return True
+        stage.run.process.send_signal(signal.SIGSTOP)
+        stage.awaits_moment(time.monotonic() + 0.001)
+        return False
+
+
+@dataclass(frozen=True)
+class GoesOn(Act):
+    """The program goes on."""
+
+    def play(self, stage):
+        stage.run.process.send_signal(signal.SIGCONT)
+        return True
+
+
+@dataclass(frozen=True)
+class Waits(Act):
+    """For this many milliseconds the program uses at most a fifth of a processor. The time for which it waits for a
+    processor that others use doesn't count."""
+
+    millis: int
+
+    def play(self, stage):
+        if stage.work_before is None:
+            stage.work_before = stage.run.work()
+        if not stage.awaits_moment(stage.act_began + self.millis / 1000):
+            return False
+        work, queued = (now - before for now, before in zip(stage.run.work(), stage.work_before))
+        stage.work_before, seconds = None, time.monotonic() - stage.act_began - queued
+        if work > seconds * MOST_WORK:
+            raise Wrong(f"saw {work:.2f} s of a processor in {seconds:.2f} s, wanted {MOST_WORK} of it at most")
+        return True
+
+
+@dataclass(frozen=True)
+class Within(Act):
+    """This act is done within this many milliseconds."""
+
+    millis: int
+    act: Act
+
+    @property
+    def who(self):
+        """Returns the end that acts, if there is one."""
+        return getattr(self.act, "who", None)
+
+    def play(self, stage):
+        if self.act.play(stage):
+            return True
+        if stage.awaits_moment(stage.act_began + self.millis / 1000):
+            raise Wrong(f"{stage.seen(self)}it is not done within {self.millis} ms")
+        return False
+
+
+@dataclass(frozen=True)
+class Vanishes(Act):
+    """The folder of the records is removed."""
+
+    def play(self, stage):
+        shutil.rmtree(stage.run.folder)
+        return True
+
+
+@dataclass(frozen=True)
+class ReadsErrors(Act):
+    """Somebody reads standard error, a pipe, until it is empty."""
+
+    def play(self, stage):
+        stage.run.errors.read()
         return True
 
 
@@ -185,9 +292,9 @@ class HearsEndAlone(Act):
     def play(self, stage):
         peer = stage.peer(self.who)
         peer.listen()
-        fault = peer.fault or peer.stream.getsockopt(socket.SOL_SOCKET, socket.SO_ERROR)
-        if fault:
-            raise Wrong(f"saw {fault}, wanted the end alone")
+        error = peer.stream.getsockopt(socket.SOL_SOCKET, socket.SO_ERROR)
+        if peer.fault or error:
+            raise Wrong(f"saw {peer.fault or os.strerror(error)}, wanted the end alone")
         return HearsEnd(self.who).play(stage)
 
 
@@ -250,6 +357,30 @@ class Pours(Act):
     def play(self, stage):
         stage.flows.append(Flow(stage.peer(self.who), self.data * self.times))
         return True
+
+
+@dataclass(frozen=True)
+class Narrows(Act):
+    """Its socket has room for few bytes that it has not read."""
+
+    who: object
+
+    def play(self, stage):
+        stage.peer(self.who).stream.setsockopt(socket.SOL_SOCKET, socket.SO_RCVBUF, 4_096)
+        return True
+
+
+@dataclass(frozen=True)
+class Settles(Act):
+    """For this many milliseconds nobody could send a byte of what was started."""
+
+    millis: int
+
+    def play(self, stage):
+        sent = sum(flow.sent for flow in stage.flows)
+        if sent != stage.sent_before:
+            stage.sent_before, stage.sent_last = sent, time.monotonic()
+        return stage.awaits_moment(stage.sent_last + self.millis / 1000)
 
 
 @dataclass(frozen=True)

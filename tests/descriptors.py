@@ -58,7 +58,7 @@ class Many(Scene):
         """Plays the scene until the machine is fast enough. If it never is, the test shows nothing."""
         plays = []
         for _ in range(TIMES):
-            with begun(program, self.settings, self.server) as stage:
+            with begun(program, self.conditions()) as stage:
                 plays.append(self.play_once(stage))
             if plays[-1][0] < QUICK:
                 return

@@ -6,9 +6,10 @@ RM = b"\x01\x00\x00\x00"
 FM = b"\x03\x00\x00\x00"
 IM_FM = IM + FM
 
-# The IM did not come in time; a length above the cap, or an unknown type.
+# The IM did not come in time; a length above the cap, or an unknown type; more than one RM.
 EM_01 = b"\x04\x00\x00\x02\x00\x01"
 EM_08 = b"\x04\x00\x00\x02\x00\x08"
+EM_0C = b"\x04\x00\x00\x02\x00\x0c"
 
 # `OBS`; the same followed by the final message; and `YES ( OBS )`.
 OBS = b"\x02\x00\x00\x02\x48\x0f"
@@ -26,6 +27,9 @@ HLO_20 = bytes.fromhex("02 00 001a 4804 4000 4101 4001 4000 04d2 4001 4000 4000 
 XYZ = bytes.fromhex("02 00 0014 4817 4000 4102 4001 4000 4a40 4000 4101 4001 4001")
 ITS_HUH = bytes.fromhex("02 00 001c 4806 4000 4817 4000 4102 4001 4000 4902 4a40 4000 4101 4001 4001 4001")
 
+# `FRM ( FRA ) ( ENG ) ( XYZ ( ENG ) )` of a server.
+XYZ_OF_SERVER = bytes.fromhex("02 00 001a 4802 4000 4102 4001 4000 4101 4001 4000 4a40 4000 4101 4001 4001")
+
 # `NME ( 'a..' ) ( 'a' )`, with a name of 480 letters: 976 bytes.
 LONG_NAME = b"\x02\x00\x03\xcc\x48\x0c\x40\x00" + b"Ka" * 480 + b"\x40\x01\x40\x00Ka\x40\x01"
 
@@ -34,6 +38,9 @@ LONGER_NAME = b"\x02\x00\x4e\x2c\x48\x0c\x40\x00" + b"Ka" * 10_000 + b"\x40\x01\
 
 # The same followed by `GOF`, which no message allows there: 20,018 bytes.
 MISNAMED = b"\x02\x00\x4e\x2e" + LONGER_NAME[4:] + b"\x48\x03"
+
+# `MAP ( 'a..' )` of a server, with a name of 10,000 letters: 20,010 bytes.
+LONG_MAP = b"\x02\x00\x4e\x26\x48\x09\x40\x00" + b"Ka" * 10_000 + b"\x40\x01"
 
 # `OBS GOF`, and `HUH ( OBS ERR GOF )`.
 OBS_GOF = b"\x02\x00\x00\x04\x48\x0f\x48\x03"

@@ -1,11 +1,11 @@
 """Scenes of the gateway at work, as lists of acts. The expected bytes are worked out from docs/PROTOCOL.md."""
 
 from acts import (
-    Bot, Comes, Ends, FinishesConnect, Flooded, Floods, Hears, HearsEnd, HearsEndAlone, Leave, MeetsNobody, Pours,
-    Rests, Says, Server,
+    Bot, Comes, Ends, FinishesConnect, Flooded, Floods, Hears, HearsEnd, HearsEndAlone, Leave, MeetsNobody, Passes,
+    Pours, Rests, Says, Server,
 )
 from frames import (
-    EM_01, EM_08, FM, HLO_20, IM, IM_FM, ITS_HUH, ITS_PRN, OBS, OBS_FM, RM, UNCLOSED, UNKNOWN, XYZ,
+    EM_01, EM_08, FM, HLO_20, IM, IM_FM, ITS_HUH, ITS_PRN, OBS, OBS_FM, RM, UNCLOSED, UNKNOWN, XYZ, XYZ_OF_SERVER,
 )
 from stage import Scene, full_listener, silent_door
 
@@ -68,6 +68,17 @@ WORD_GOES_ON = [
     Hears(Server(0), FM),
 ]
 
+WORD_COMES_FROM_THE_SERVER = [
+    *joins(),
+    *opens(0),
+    Says(Server(0), HLO_20),
+    Hears(Bot(0), HLO_20),
+    Says(Server(0), XYZ_OF_SERVER),
+    Hears(Bot(0), XYZ_OF_SERVER),
+    Says(Bot(0), FM),
+    Hears(Server(0), FM),
+]
+
 WORD_IS_UNKNOWN = [
     *joins(),
     *opens(0),
@@ -81,6 +92,14 @@ WORD_IS_UNKNOWN = [
 
 # A bot without a server counts as served.
 NOBODY_SERVES = [Comes(), HearsEnd(Bot(0)), Comes(), HearsEnd(Bot(1))]
+
+# Addresses at which no server can be: a name that nobody knows, since its first part has more than 63 letters, so that
+# nobody is asked for it; an address without a port; and one with a port above 65,535.
+WRONG_ADDRESSES = {
+    "server_whose_name_is_unknown_is_told_for_each_bot": f"{'n' * 64}.invalid:16714",
+    "server_without_a_port_is_told_for_each_bot": "127.0.0.1",
+    "server_with_a_wrong_port_is_told_for_each_bot": "127.0.0.1:65536",
+}
 
 # A server with a full queue does not answer at all. The connect is given up after its timeout, and the run goes on.
 NEVER_ANSWERS = [Comes(), HearsEnd(Bot(0))]
@@ -175,7 +194,8 @@ STAYS_SILENT = [
     HearsEnd(Server(0)),
 ]
 
-HEARS_THE_END = [*joins(), HearsEnd(Bot(0)), HearsEnd(Server(0))]
+# The first turn of the session finds nothing. It has no other for the bot's IM.
+HEARS_THE_END = [*joins(), Passes(100), Says(Bot(0), IM), HearsEnd(Bot(0)), HearsEnd(Server(0))]
 
 # A bot that sends its IM and ends its session at once, and a server that accepts the connection after the run has
 # ended.
@@ -188,8 +208,13 @@ SCENES = [
     Scene("opens_with_im_and_rm_over_sockets", OPENS_AND_ENDS),
     Scene("unclosed_bracket_gets_prn_over_sockets", GETS_PRN),
     Scene("word_of_the_settings_goes_on", WORD_GOES_ON, WITH_XYZ),
+    Scene("word_of_the_settings_goes_on_to_the_bot", WORD_COMES_FROM_THE_SERVER, WITH_XYZ),
     Scene("word_that_no_settings_have_gets_huh", WORD_IS_UNKNOWN),
     Scene("nobody_listens_at_the_server", NOBODY_SERVES, "sessions = 2", UNREACHED * 2, server=silent_door),
+    *(
+        Scene(name, NOBODY_SERVES, "sessions = 2", UNREACHED * 2, server=silent_door, address=address)
+        for name, address in WRONG_ADDRESSES.items()
+    ),
     Scene("server_that_never_answers_is_given_up", NEVER_ANSWERS, told=UNREACHED, server=full_listener, waits=True),
     Scene("end_that_comes_with_the_last_bytes_is_heard", ENDS_WITH_ITS_LAST),
     Scene("two_sessions_at_once", TWO_AT_ONCE, "sessions = 2"),

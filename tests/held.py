@@ -1,5 +1,6 @@
 """The comparisons of the tests."""
 
+import itertools
 import re
 
 
@@ -29,7 +30,17 @@ def same(seen, wanted, where):
         raise Wrong(f"{where}: saw {brief(seen)}, wanted {brief(wanted)}")
 
 
+def is_same_but_counts(seen, wanted):
+    """Returns whether two texts are the same, with `*` for any number in the wanted one."""
+    return re.fullmatch(re.escape(wanted).replace(r"\*", r"\d+"), seen) is not None
+
+
 def same_but_counts(seen, wanted, where):
-    """The same for a text in which `*` matches any number."""
-    if not re.fullmatch(re.escape(wanted).replace(r"\*", r"\d+"), seen):
-        same(seen, wanted, where)
+    """The same for the lines of a text in which `*` matches any number. Names the first line that differs."""
+    if is_same_but_counts(seen, wanted):
+        return
+    pairs = itertools.zip_longest(seen.splitlines(), wanted.splitlines(), fillvalue="no line")
+    for number, (line, wanted_line) in enumerate(pairs, 1):
+        if not is_same_but_counts(line, wanted_line):
+            same(line, wanted_line, f"{where}, line {number}")
+    same(seen, wanted, where)

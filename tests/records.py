@@ -1,8 +1,81 @@
 """Scenes of a recorded run, which behaves as one that is not recorded and has a file for each session; and of a run
 that logs the beginning and the end of its sessions, with the texts of docs/FORMATS.md."""
 
-from gateway import GETS_PRN, IS_NOT_RESET, NOBODY_SERVES, ONE_FLOODS, STAYS_SILENT, UNREACHED
-from stage import Scene, silent_door
+import re
+import subprocess
+from dataclasses import dataclass
+
+from acts import (
+    Bot, Comes, Empties, Ends, FinishesConnect, Hears, HearsEnd, MeetsNobody, Passes, Pours, Says, Server, Vanishes,
+)
+from frames import (
+    EM_01, EM_08, EM_0C, FM, IM, ITS_ERR, ITS_PRN, OBS, OBS_FM, OBS_GOF, RM, UNCLOSED, UNKNOWN, YES,
+)
+from gateway import (
+    GETS_PRN, HEARS_THE_END, IS_NOT_RESET, NOBODY_SERVES, ONE_FLOODS, STAYS_SILENT, UNREACHED, joins, opens,
+)
+from held import Wrong, same
+from stage import SECONDS, Scene, full_listener, record_names, silent_door
+
+# The first lines of a record with the default limits and without words.
+HEAD = ["daide-log 2", "config 60 65526 62 1 0"]
+
+# The most lines of a record.
+MOST_LINES = 1_000_000
+
+ENDED = re.compile(r"^daide-gate: session (\d+) ended: .*; (relayed .*)$", re.MULTILINE)
+
+
+def said_in(record):
+    """Returns the bytes of the bot and of the server in the lines of a record."""
+    said = {"bot": b"", "server": b""}
+    for side in said:
+        pieces = (line.rpartition(" ")[2] for line in record if line.startswith(f"1 {side} "))
+        said[side] = bytes.fromhex("".join(pieces))
+    return said["bot"], said["server"]
+
+
+@dataclass
+class Recorded(Scene):
+    """A recorded scene, with the bytes of the bot and of the server in the record of each session."""
+
+    kept: tuple = ()
+
+    def end(self, stage):
+        """Checks also each record, and that its report has the counts of the session's line, if there are lines."""
+        super().end(stage)
+        counts = dict(ENDED.findall(stage.run.told()))
+        same(len(self.kept), self.recorded, "sessions with a record")
+        for number, (name, said) in enumerate(zip(record_names(self.recorded), self.kept), 1):
+            file = stage.run.folder / name
+            lines = file.read_text(encoding="utf-8").splitlines()
+            same(lines[:2], HEAD, f"the head of {name}")
+            self.check(lines, said, name)
+            if self.verbose:
+                same(report_of(stage.run.program, file)[-1:], [counts.get(str(number))], f"the counts of {name}")
+
+    def check(self, lines, said, name):
+        """Checks that a record has these bytes."""
+        for side, seen, wanted in zip(("bot", "server"), said_in(lines), said):
+            same(seen, wanted, f"the {side}'s bytes in {name}")
+
+
+class Full(Recorded):
+    """A scene with a record that has as many lines as a record may have, and not all bytes."""
+
+    def check(self, lines, said, name):
+        """Checks the number of lines, and that their bytes are the first ones."""
+        same(len(lines), MOST_LINES, f"lines of {name}")
+        for side, seen, wanted in zip(("bot", "server"), said_in(lines), said):
+            if not wanted.startswith(seen):
+                raise Wrong(f"the {side}'s bytes in {name} are not the first {len(seen)} that it sent")
+
+
+def report_of(program, file):
+    """Returns the lines of the report of a record."""
+    words = [str(program), "check", str(file)]
+    return subprocess.run(words, capture_output=True, timeout=SECONDS, check=False).stdout.decode().splitlines()
+
 
 # The log of a run of `GETS_PRN`: an IM, an RM and an OBS were relayed, and a message got a PRN.
 TELLS_BOTH = """\
@@ -11,6 +84,168 @@ daide-gate: session 1 ended: bot ended; relayed 3 prn 1 huh 0 faults 0
 """
 
 IS_THERE = "daide-gate: session 1 is not recorded: its file is there already\n"
+
+# Three sessions, which end in another order than they begin, each for another reason and with other counts.
+END_IN_ANOTHER_ORDER = [
+    *joins(),
+    *joins(),
+    *joins(),
+    *opens(0),
+    *opens(1),
+    *opens(2),
+    Says(Bot(1), UNCLOSED),
+    Hears(Bot(1), ITS_PRN),
+    Says(Server(1), FM),
+    Hears(Bot(1), FM),
+    HearsEnd(Bot(1)),
+    HearsEnd(Server(1)),
+    Says(Bot(2), OBS_GOF),
+    Hears(Bot(2), ITS_ERR),
+    Says(Bot(2), FM),
+    Hears(Server(2), FM),
+    HearsEnd(Server(2)),
+    Says(Bot(0), OBS),
+    Ends(Bot(0)),
+    Hears(Server(0), OBS_FM),
+    HearsEnd(Server(0)),
+]
+
+TELLS_EACH = """\
+daide-gate: session 1 began: bot at 127.0.0.1:{0}
+daide-gate: session 2 began: bot at 127.0.0.1:{1}
+daide-gate: session 3 began: bot at 127.0.0.1:{2}
+daide-gate: session 2 ended: FM of server; relayed 3 prn 1 huh 0 faults 0
+daide-gate: session 3 ended: FM of bot; relayed 3 prn 0 huh 1 faults 0
+daide-gate: session 1 ended: bot ended; relayed 3 prn 0 huh 0 faults 0
+"""
+
+KEEPS_EACH = ((IM + OBS, RM), (IM + UNCLOSED, RM + FM), (IM + OBS_GOF + FM, RM))
+
+# While the connect of the first of two bots is pending, because the server's queue was full, the second is joined and
+# speaks. The server's first connection is then that of the second bot.
+ARE_JOINED_IN_ANOTHER_ORDER = [
+    Comes(),
+    Passes(1_100),
+    Empties(),
+    Comes(),
+    FinishesConnect(),
+    Says(Bot(1), IM),
+    Hears(Server(0), IM),
+    Says(Server(0), RM),
+    Hears(Bot(1), RM),
+    Says(Bot(1), UNCLOSED),
+    Hears(Bot(1), ITS_PRN),
+    MeetsNobody(),
+    FinishesConnect(),
+    Says(Bot(0), IM),
+    Hears(Server(1), IM),
+    Says(Server(1), RM),
+    Hears(Bot(0), RM),
+    Says(Bot(0), OBS),
+    Hears(Server(1), OBS),
+    Says(Server(1), YES),
+    Hears(Bot(0), YES),
+    Says(Bot(1), FM),
+    Hears(Server(0), FM),
+    HearsEnd(Server(0)),
+    Says(Server(1), FM),
+    Hears(Bot(0), FM),
+    HearsEnd(Bot(0)),
+]
+
+TELLS_AS_THEY_CAME = """\
+daide-gate: session 1 began: bot at 127.0.0.1:{0}
+daide-gate: session 2 began: bot at 127.0.0.1:{1}
+daide-gate: session 2 ended: FM of bot; relayed 3 prn 1 huh 0 faults 0
+daide-gate: session 1 ended: FM of server; relayed 5 prn 0 huh 0 faults 0
+"""
+
+KEEPS_AS_THEY_CAME = ((IM + OBS, RM + YES + FM), (IM + UNCLOSED + FM, RM))
+
+# The frame that ends a session or is its fault, who sends it, what both sides receive, and the line's cause and counts.
+ENDINGS = [
+    (Bot, FM, b"", FM, "FM of bot; relayed 3 prn 0 huh 0 faults 0"),
+    (Server, FM, FM, b"", "FM of server; relayed 3 prn 0 huh 0 faults 0"),
+    (Bot, EM_08, b"", EM_08, "EM of bot; relayed 3 prn 0 huh 0 faults 0"),
+    (Server, EM_08, EM_08, b"", "EM of server; relayed 3 prn 0 huh 0 faults 0"),
+    (Bot, UNKNOWN[:4], EM_08, FM, "fault 08 of bot; relayed 2 prn 0 huh 0 faults 1"),
+    (Server, RM, FM, EM_0C, "fault 0C of server; relayed 2 prn 0 huh 0 faults 1"),
+]
+
+# The session after them, whose bot sends no IM.
+LAST = len(ENDINGS)
+
+# One session after another, each with another end.
+END_IN_EACH_WAY = [
+    *(
+        act
+        for number, (who, said, bot, server, _) in enumerate(ENDINGS)
+        for act in (
+            *joins(),
+            *opens(number),
+            Says(who(number), said),
+            Hears(Bot(number), bot),
+            Hears(Server(number), server),
+            HearsEnd(Bot(number)),
+            HearsEnd(Server(number)),
+        )
+    ),
+    *joins(),
+    Hears(Bot(LAST), EM_01),
+    HearsEnd(Bot(LAST)),
+    HearsEnd(Server(LAST)),
+]
+
+ENDS = [*(row[-1] for row in ENDINGS), "no IM in time; relayed 0 prn 0 huh 0 faults 1"]
+
+TELLS_EACH_END = "".join(
+    f"daide-gate: session {number} began: bot at 127.0.0.1:{{{number - 1}}}\n"
+    f"daide-gate: session {number} ended: {end}\n"
+    for number, end in enumerate(ENDS, 1)
+)
+
+KEEPS_EACH_END = (
+    *((IM + said, RM) if who is Bot else (IM, RM + said) for who, said, *_ in ENDINGS),
+    (b"", b""),
+)
+
+SPENT = "daide-gate: turns spent\n"
+
+TELLS_SPENT = """\
+daide-gate: session 1 began: bot at 127.0.0.1:{0}
+daide-gate: turns spent
+daide-gate: session 1 ended: turns spent; relayed 0 prn 0 huh 0 faults 0
+"""
+
+TELLS_UNREACHED = """\
+daide-gate: session 1 began: bot at 127.0.0.1:{0}
+daide-gate: session 1 ended: no server; relayed 0 prn 0 huh 0 faults 0
+daide-gate: cannot reach the server
+daide-gate: session 2 began: bot at 127.0.0.1:{1}
+daide-gate: session 2 ended: no server; relayed 0 prn 0 huh 0 faults 0
+daide-gate: cannot reach the server
+"""
+
+UNMADE = "daide-gate: session 1 is not recorded: its file could not be made\n"
+
+FULL = f"daide-gate: record of session 1 broke off: it has {MOST_LINES} lines\n"
+
+
+def says_many(count):
+    """A bot says OBS this many times, which has two lines each in a record."""
+    return [
+        *joins(),
+        *opens(0),
+        Pours(Bot(0), OBS, count),
+        Hears(Server(0), OBS * count),
+        Says(Bot(0), FM),
+        Hears(Server(0), FM),
+        HearsEnd(Server(0)),
+    ]
+
+
+# The number of messages that have more than 65,536 lines, and the number that have more than a record may have.
+LONG, TOO_LONG = 40_000, 500_010
 
 SCENES = [
     Scene("recorded_bot_gets_prn", GETS_PRN, recorded=1),
@@ -24,4 +259,29 @@ SCENES = [
     Scene("verbose_run_tells_both_ends_of_a_session", GETS_PRN, told=TELLS_BOTH, verbose=True),
     Scene("verbose_run_is_recorded", GETS_PRN, told=TELLS_BOTH, verbose=True, recorded=1),
     Scene("record_that_is_there_is_left_as_it_is", GETS_PRN, told=IS_THERE, recorded=1, there=1),
+    Scene("each_line_names_its_own_session", END_IN_ANOTHER_ORDER, "sessions = 3", TELLS_EACH, verbose=True),
+    Recorded(
+        "each_record_is_of_its_own_session", END_IN_ANOTHER_ORDER, "sessions = 3", TELLS_EACH, verbose=True,
+        recorded=3, kept=KEEPS_EACH,
+    ),
+    Recorded(
+        "records_are_numbered_as_bots_came", ARE_JOINED_IN_ANOTHER_ORDER, "sessions = 2", TELLS_AS_THEY_CAME,
+        server=full_listener, verbose=True, recorded=2, kept=KEEPS_AS_THEY_CAME,
+    ),
+    Recorded(
+        "each_cause_of_an_end_is_told", END_IN_EACH_WAY, f"sessions = {LAST + 1}\nim_seconds = 1", TELLS_EACH_END,
+        verbose=True, recorded=LAST + 1, kept=KEEPS_EACH_END,
+    ),
+    Recorded(
+        "spent_turns_of_a_recorded_session_are_told", HEARS_THE_END, "turns = 1", SPENT, recorded=1,
+        kept=((b"", b""),),
+    ),
+    Scene("verbose_run_tells_of_spent_turns", HEARS_THE_END, "turns = 1", TELLS_SPENT, verbose=True),
+    Scene(
+        "verbose_run_tells_of_bots_without_a_server", NOBODY_SERVES, "sessions = 2", TELLS_UNREACHED,
+        server=silent_door, verbose=True,
+    ),
+    Scene("record_that_cannot_be_made_is_told", [Vanishes(), *GETS_PRN], told=UNMADE, recorded=0, folder="records"),
+    Recorded("long_record_is_whole", says_many(LONG), recorded=1, kept=((IM + OBS * LONG + FM, RM),)),
+    Full("full_record_is_told", says_many(TOO_LONG), told=FULL, recorded=1, kept=((IM + OBS * TOO_LONG + FM, RM),)),
 ]

@@ -133,6 +133,16 @@ def run_that_cannot_begin_has_status_1(program):
     check_rows(program, "unbegun")
 
 
+def file_of_the_folders_test_is_left_as_it_is(program):
+    """A run that can't test the folder of its records, since the file of that test is there, leaves the file there."""
+    files = {"settings": FILES["settings-without-port"], "session-000000.log": "somebody's"}
+    with Folder(program, files) as folder:
+        ran = folder.run(["run", "--record", ".", "settings"])
+        check_ran(ran, ("", "record could not be written", "1"), "run --record . settings")
+        there = {path.name: path.read_text(encoding="utf-8") for path in pathlib.Path(folder.room.name).glob("*.log")}
+        same(there, {"session-000000.log": "somebody's"}, "files of records")
+
+
 def checked_logs(program):
     """Reports of logs from standard input and from files."""
     check_rows(program, "checked", has_lines=True)
@@ -285,6 +295,7 @@ TESTS = [
     one_bracket_too_deep_gets_huh,
     shown_with_the_words_of_settings,
     run_that_cannot_begin_has_status_1,
+    file_of_the_folders_test_is_left_as_it_is,
     address_that_is_taken_cannot_be_listened_on,
     address_with_no_port_cannot_be_listened_on,
     without_a_descriptor_for_its_table_it_cannot_listen,

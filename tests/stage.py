@@ -14,7 +14,7 @@ import tempfile
 import time
 from dataclasses import dataclass, field
 
-from acts import Bot, HearsEnd, Listens, Peer, Rests, Server
+from acts import Bot, HearsEnd, Listens, Peer, Rests, Server, fill_queue
 from held import Wrong, same, same_but_counts
 
 # The time limit of a scene, in seconds.
@@ -23,26 +23,65 @@ SECONDS = 30
 # The CPU time limit, in seconds, of a run that mostly waits. One that spins for half a second uses more.
 WAITING = 0.3
 
-# The number of connections that fill the queue of a listener, and the size of the queue.
-MORE_THAN_WAIT = 160
+# The size of the queue of a listener.
 QUEUE = 128
 
 HOST = "127.0.0.1"
 
 
-class Run:
-    """A run of the program in this folder, at a free port, with a server at this address. These lines of settings
-    follow both addresses, and these arguments precede the settings. A watcher's words precede the program."""
+class ErrorsFile:
+    """A file as standard error."""
 
-    def __init__(self, program, room, settings, server, words, watcher=()):
-        self.port, self.room = free_port(), pathlib.Path(room)
+    def __init__(self):
+        self.file = tempfile.TemporaryFile()
+
+    def fileno(self):
+        """Returns the descriptor for the program."""
+        return self.file.fileno()
+
+    def told(self):
+        """Returns the text that the program wrote."""
+        self.file.seek(0)
+        return self.file.read().decode(errors="replace")
+
+    def close(self):
+        """Closes the file."""
+        self.file.close()
+
+
+@dataclass(frozen=True)
+class Conditions:
+    """The conditions of a run."""
+
+    # The lines of settings that follow both addresses.
+    settings: str = ""
+    # Returns the socket at the server's address; and that address, if it is not the socket's.
+    server: object = None
+    address: str = ""
+    # The arguments before the settings, and the words before the program, of a watcher.
+    words: tuple = ()
+    watcher: tuple = ()
+    # The folder of records below that of the run, and the empty files in it.
+    folder: str = "."
+    files: tuple = ()
+    # Returns the standard error.
+    errors: object = ErrorsFile
+
+
+class Run:
+    """A run of the program in this folder, at a free port, under these conditions, with a server at this address."""
+
+    def __init__(self, program, room, conditions, address):
+        self.program, self.port, self.room = program, free_port(), pathlib.Path(room)
+        self.folder = self.room / conditions.folder
         self.printed, self.status, self.seconds = b"", None, 0.0
         file = self.room / "settings.toml"
-        file.write_text(f"listen = '{HOST}:{self.port}'\nserver = '{HOST}:{server}'\n{settings}\n", encoding="utf-8")
-        self.errors = tempfile.TemporaryFile()
+        addresses = f"listen = '{HOST}:{self.port}'\nserver = '{address}'\n"
+        file.write_text(f"{addresses}{conditions.settings}\n", encoding="utf-8")
+        self.errors = conditions.errors()
         self.process = subprocess.Popen(
-            [*watcher, str(program), "run", *words, str(file)], cwd=room,
-            stdin=subprocess.DEVNULL, stdout=subprocess.PIPE, stderr=self.errors, bufsize=0,
+            [*conditions.watcher, str(program), "run", *conditions.words, str(file)], cwd=room,
+            stdin=subprocess.DEVNULL, stdout=subprocess.PIPE, stderr=self.errors.fileno(), bufsize=0,
         )
         os.set_blocking(self.process.stdout.fileno(), False)
 
@@ -66,16 +105,33 @@ class Run:
 
     def records(self):
         """Returns the names of the files with its records."""
-        return sorted(path.name for path in self.room.glob("*.log"))
+        return sorted(path.name for path in self.folder.glob("*.log"))
 
     def size(self, name):
         """Returns the size of this file, in bytes."""
-        return (self.room / name).stat().st_size
+        return (self.folder / name).stat().st_size
 
     def told(self):
         """Returns its text on standard error."""
-        self.errors.seek(0)
-        return self.errors.read().decode(errors="replace")
+        return self.errors.told()
+
+    def status_words(self):
+        """Returns the words of `/proc/PID/stat` from the third on: the state, and the times in ticks."""
+        text = pathlib.Path(f"/proc/{self.process.pid}/stat").read_text(encoding="utf-8")
+        return text.rpartition(")")[2].split()
+
+    def is_stopped(self):
+        """Returns whether it is stopped by a signal."""
+        return self.status_words()[0] == "T"
+
+    def work(self):
+        """Returns the CPU time that it used so far, and the time for which it waited for a processor, in seconds. The
+        second is 0 if the system doesn't know it."""
+        words = self.status_words()
+        used = (int(words[11]) + int(words[12])) / os.sysconf("SC_CLK_TCK")
+        times = pathlib.Path(f"/proc/{self.process.pid}/schedstat")
+        queued = int(times.read_text(encoding="utf-8").split()[1]) / 1e9 if times.exists() else 0.0
+        return used, queued
 
     def descriptors(self):
         """Returns the numbers of its descriptors."""
@@ -101,6 +157,7 @@ class Stage:
         self.over = time.monotonic() + SECONDS
         self.awaited, self.moment, self.act_began = {}, None, 0.0
         self.longest, self.may_print = 0.0, True
+        self.work_before, self.sent_before, self.sent_last = None, None, 0.0
 
     def peer(self, who):
         """Returns the end with this number."""
@@ -230,12 +287,7 @@ def open_listener():
 def full_listener():
     """The same with a queue full of connections that were closed by their peers."""
     listener = open_listener()
-    queue = [socket.socket() for _ in range(MORE_THAN_WAIT)]
-    for stream in queue:
-        stream.setblocking(False)
-        stream.connect_ex(listener.getsockname())
-    for stream in queue:
-        stream.close()
+    fill_queue(listener)
     return listener
 
 
@@ -247,14 +299,16 @@ def silent_door():
 
 
 @contextlib.contextmanager
-def begun(program, settings, server, words=(), files=(), watcher=()):
-    """Creates a stage beside a run that listens, with this server, in a folder with these empty files. Releases all of
-    them afterwards."""
-    listener = server()
+def begun(program, conditions):
+    """Creates a stage beside a run that listens, under these conditions. Releases all of them afterwards."""
+    listener = conditions.server()
+    address = conditions.address or f"{HOST}:{listener.getsockname()[1]}"
     with tempfile.TemporaryDirectory() as room:
-        for name in files:
-            (pathlib.Path(room) / name).touch()
-        run = Run(program, room, settings, listener.getsockname()[1], words, watcher)
+        folder = pathlib.Path(room) / conditions.folder
+        folder.mkdir(exist_ok=True)
+        for name in conditions.files:
+            (folder / name).touch()
+        run = Run(program, room, conditions, address)
         stage = Stage(run, listener)
         try:
             stage.play_beside(Listens(), "before all acts")
@@ -273,8 +327,11 @@ class Scene:
     settings: str = ""
     # The expected text on standard error, with `{0}` for the port of the first bot.
     told: str = ""
-    # The socket at the server's address.
+    # The socket at the server's address; and that address in the settings, if it is not the socket's.
     server: object = field(default=open_listener)
+    address: str = ""
+    # The standard error of the program.
+    errors: object = field(default=ErrorsFile)
     # Whether the run uses almost no CPU time, because it waits.
     waits: bool = False
     # Whether the run logs the beginning and the end of sessions.
@@ -282,14 +339,24 @@ class Scene:
     # The number of recorded sessions, or none if the run is not recorded. The number of empty records before the run.
     recorded: int | None = None
     there: int = 0
+    # The folder of the records, below that of the run.
+    folder: str = "."
 
     def words(self):
         """Returns the arguments before the settings."""
-        return (["--verbose"] if self.verbose else []) + (["--record", "."] if self.recorded is not None else [])
+        recorded = ("--record", self.folder) if self.recorded is not None else ()
+        return (("--verbose",) if self.verbose else ()) + recorded
+
+    def conditions(self, watcher=()):
+        """Returns the conditions of the run, with the words of a watcher."""
+        return Conditions(
+            self.settings, self.server, self.address, self.words(), tuple(watcher), self.folder,
+            tuple(record_names(self.there)), self.errors,
+        )
 
     def play(self, program):
         """Plays the scene."""
-        with begun(program, self.settings, self.server, self.words(), record_names(self.there)) as stage:
+        with begun(program, self.conditions()) as stage:
             stage.play(self.acts)
             self.end(stage)
 

@@ -127,7 +127,7 @@ class Traced(Scene):
         with tempfile.TemporaryDirectory() as room:
             need_strace(room)
             trace = pathlib.Path(room) / "trace"
-            with begun(program, self.settings, self.server, watcher=watcher(trace)) as stage:
+            with begun(program, self.conditions(watcher(trace))) as stage:
                 stage.play(self.acts)
                 self.end(stage)
             calls = calls_in(ended(trace))

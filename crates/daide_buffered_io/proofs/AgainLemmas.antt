@@ -10,10 +10,11 @@ use Rattle.std.specs.declared.io.Error.{Error}
 use Rattle.std.specs.declared.io.ErrorKind.{ErrorKind}
 use Rattle.std.specs.declared.io.ErrorKind.TheVariants as Kinds
 use Rattle.daide_io.specs.Ports.{AppendsTo, IsPullWithin, IsPutWithin, pulled_len}
-use Rattle.daide_buffered_io.specs.Calls.{StreamCall, Tries, outcome_by, outcome_of_kind, pull_of, put_of}
+use Rattle.daide_buffered_io.specs.Calls.{Tries, pull_of, put_of}
+use Rattle.daide_io.specs.Streams.{StreamCall, outcome_by, outcome_of_kind}
 use Rattle.daide_buffered_io.specs.Taking.{IsTaken}
-use Rattle.daide_buffered_io.specs.declared.outcome.IoResult.{IoResult}
-use Rattle.daide_buffered_io.specs.declared.outcome.IoResult.TheVariants.{Interrupted, NotNow, Failed}
+use Rattle.daide_io.specs.declared.outcome.IoResult.{IoResult}
+use Rattle.daide_io.specs.declared.outcome.IoResult.TheVariants.{Interrupted, NotNow, Failed}
 
 -- ---- traces
 

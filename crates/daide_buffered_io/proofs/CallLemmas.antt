@@ -10,10 +10,11 @@ use Rattle.daide_io.specs.declared.ports.Put.{Put}
 use Rattle.daide_io.specs.declared.ports.Put.TheVariants.{Took}
 use Rattle.daide_io.specs.Ports.{pulled_len}
 use Rattle.daide_buffered_io.specs.declared.readiness.Readiness.{Readiness}
-use Rattle.daide_buffered_io.specs.declared.outcome.IoResult.{IoResult}
-use Rattle.daide_buffered_io.specs.declared.outcome.IoResult.TheVariants.{Moved, Interrupted, NotNow, Failed}
+use Rattle.daide_io.specs.declared.outcome.IoResult.{IoResult}
+use Rattle.daide_io.specs.declared.outcome.IoResult.TheVariants.{Moved, Interrupted, NotNow, Failed}
 use Rattle.daide_buffered_io.specs.Buffers.{is_alike}
-use Rattle.daide_buffered_io.specs.Calls.{StreamCall, Tries, Read, Written, IsPull, IsPut, IsStopped, pull_of, put_of}
+use Rattle.daide_buffered_io.specs.Calls.{Tries, IsPull, IsPut, IsStopped, pull_of, put_of}
+use Rattle.daide_io.specs.Streams.{StreamCall, Read, Written}
 use Rattle.daide_buffered_io.specs.Calls.{after_read, after_write, without_writes}
 
 alike_self : (pull : Pull) → is_alike pull pull ≡ true

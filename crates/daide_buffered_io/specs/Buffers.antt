@@ -5,7 +5,8 @@ use Rattle.daide_io.specs.declared.ports.Pull.{Pull}
 use Rattle.daide_io.specs.declared.ports.Pull.TheVariants.{Got, Idle, Ended}
 use Rattle.daide_buffered_io.specs.declared.readiness.Readiness.{Readiness}
 use Rattle.daide_io.specs.declared.ports.Put.{Put}
-use Rattle.daide_buffered_io.specs.Calls.{StreamCall, IsPull, IsPut}
+use Rattle.daide_buffered_io.specs.Calls.{IsPull, IsPut}
+use Rattle.daide_io.specs.Streams.{StreamCall}
 use Rattle.daide_buffered_io.specs.Taking.{taken_len, has_put_failed}
 
 -- a stream, the bytes of its read buffer (`read_buffer`) and of its write buffer (`write_buffer`), and whether a write

@@ -1,35 +1,15 @@
--- The calls of a non-blocking stream, and the results of a pull and a put by those of the calls. (own)
+-- The results of a pull and a put, by those of the calls of a non-blocking stream. (own)
 use Rattle.std.specs.Prelude.{◌≡◌, ℕ, zero, suc, ◌<◌, ◌⊎◌, ◌==◌, ◌&&◌, not, nat_lt, if◌then◌else◌, Bool, true, false, List, [], ◌∷◌, ◌++◌, length, Option}
-use Rattle.std.specs.Prelude.{Result, Ok, Err, replicate}
-use Rattle.std.specs.IoError.{error_kind}
-use Rattle.std.specs.declared.io.Error.{Error}
-use Rattle.std.specs.declared.io.ErrorKind.{ErrorKind}
-use Rattle.std.specs.declared.io.ErrorKind.TheVariants as Kinds
+use Rattle.std.specs.Prelude.{replicate}
 use Rattle.daide_io.specs.Ports.{AppendsTo}
+use Rattle.daide_io.specs.Streams.{StreamCall, Read, Written, WritingEnded}
 use Rattle.daide_io.specs.declared.ports.Pull.{Pull}
 use Rattle.daide_io.specs.declared.ports.Pull.TheVariants as Pulls
 use Rattle.daide_io.specs.declared.ports.Put.{Put}
 use Rattle.daide_io.specs.declared.ports.Put.TheVariants as Puts
-use Rattle.daide_buffered_io.specs.declared.outcome.IoResult.{IoResult}
+use Rattle.daide_io.specs.declared.outcome.IoResult.{IoResult}
 use Rattle.daide_buffered_io.specs.declared.readiness.Readiness.{Readiness}
-use Rattle.daide_buffered_io.specs.declared.outcome.IoResult.TheVariants.{Moved, Interrupted, NotNow, Failed}
-
--- an error is an interruption, a call that would have blocked, or a failure
-abbrev pub outcome_of_kind : ErrorKind → IoResult
-outcome_of_kind Kinds.Interrupted = Interrupted
-outcome_of_kind Kinds.WouldBlock = NotNow
-outcome_of_kind kind = Failed
-
--- the outcome of a call, by its result
-abbrev pub outcome_by : Result ℕ Error → IoResult
-outcome_by (Ok count) = Moved count
-outcome_by (Err error) = outcome_of_kind (error_kind error)
-
--- one call in a trace: a read into a buffer of this size, a write of these bytes, or the shutdown of writing
-pub data StreamCall : Type 0 where
-  Read : ℕ → IoResult → StreamCall
-  Written : List ℕ → IoResult → StreamCall
-  WritingEnded : StreamCall
+use Rattle.daide_io.specs.declared.outcome.IoResult.TheVariants.{Moved, Interrupted, NotNow, Failed}
 
 -- A call is repeated while it is interrupted, up to eight calls in all. The first `before` calls were interrupted; the
 -- last one has the outcome.

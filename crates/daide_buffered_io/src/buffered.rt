@@ -8,14 +8,15 @@
 ghost use Rattle.std.specs.Prelude.{◌≡◌, ◌<◌, ◌≤◌, ◌++◌, [], ◌∷◌, true, false, min, length, take, IfSome};
 ghost use Rattle.daide_io.specs.Ports.{AppendsTo, IsPullWithin, IsPutWithin, pulled_len};
 ghost use Rattle.daide_buffered_io.specs.Buffers.{Passes, ReadsNothing, WritesNothing, IsBufferedPull, IsFlushed, buffered_bytes};
-ghost use Rattle.daide_buffered_io.specs.Calls.{IsStopped, WritingEnded};
+ghost use Rattle.daide_buffered_io.specs.Calls.{IsStopped};
+ghost use Rattle.daide_io.specs.Streams.{WritingEnded};
 ghost use Rattle.daide_buffered_io.specs.Taking.{bytes_taken};
 
 use crate::calls::{pull_from, put_to};
-use crate::duplex::Duplex;
 use crate::io_buffer::{IoBuffer, MOST_HELD};
 use crate::pool::Pool;
 use crate::readiness::Readiness;
+use daide_io::duplex::Duplex;
 use daide_io::ports::{Pull, Put};
 use std::marker::Model;
 

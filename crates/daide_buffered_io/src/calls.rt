@@ -3,12 +3,13 @@
 ghost use Rattle.std.specs.Prelude.{◌≡◌, length, take};
 ghost use Rattle.std.specs.Io.KnownBytes.{Consumes};
 ghost use Rattle.daide_io.specs.Ports.{IsPullWithin, IsPutWithin, pulled_len};
-ghost use Rattle.daide_buffered_io.specs.Calls.{Tries, Read, Written, IsPull, IsPut, pull_of, put_of};
+ghost use Rattle.daide_buffered_io.specs.Calls.{Tries, IsPull, IsPut, pull_of, put_of};
+ghost use Rattle.daide_io.specs.Streams.{Read, Written};
 ghost use Rattle.daide_buffered_io.specs.Taking.{IsTaken};
 
-use crate::duplex::Duplex;
-use crate::outcome::IoResult;
 use crate::readiness::Readiness;
+use daide_io::duplex::Duplex;
+use daide_io::outcome::IoResult;
 use daide_io::ports::{Pull, Put};
 
 /// How often an interrupted call is repeated.

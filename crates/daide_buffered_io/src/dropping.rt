@@ -6,9 +6,9 @@ ghost use Rattle.daide_buffered_io.specs.Buffers.{Passes, WritesNothing, IsBuffe
 ghost use Rattle.daide_buffered_io.specs.Calls.{is_last_piece};
 
 use crate::buffered::Buffered;
-use crate::duplex::Duplex;
 use crate::pool::Pool;
 use crate::readiness::Readiness;
+use daide_io::duplex::Duplex;
 use daide_io::ports::Pull;
 use std::marker::Model;
 

@@ -8,8 +8,8 @@ ghost use Rattle.daide_buffered_io.specs.Calls.{IsPull, IsPut};
 ghost use Rattle.daide_buffered_io.specs.Taking.{IsTaken, taken_len};
 
 use crate::calls::{pull_from, put_to};
-use crate::duplex::Duplex;
 use crate::readiness::Readiness;
+use daide_io::duplex::Duplex;
 use daide_io::ports::{Pull, Put};
 use std::alloc::{AllocError, Global};
 use std::marker::Model;

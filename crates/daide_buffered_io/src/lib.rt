@@ -5,8 +5,6 @@
 pub mod buffered;
 pub mod calls;
 pub mod dropping;
-pub mod duplex;
 pub mod io_buffer;
-pub mod outcome;
 pub mod pool;
 pub mod readiness;

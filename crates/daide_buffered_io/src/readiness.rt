@@ -3,7 +3,7 @@
 ghost use Rattle.std.specs.Prelude.{◌≡◌};
 ghost use Rattle.daide_buffered_io.specs.Calls.{after_read, after_write};
 
-use crate::outcome::IoResult;
+use daide_io::outcome::IoResult;
 
 /// Whether a read or a write may make progress. Events of the poller set the flags; results of calls clear them.
 #[derive(Clone, Copy, Debug, PartialEq, Eq)]

@@ -5,10 +5,10 @@ use Rattle.std.specs.Prelude.{is_some, ◌||◌, nat_lt}
 use Rattle.daide_frame.specs.declared.side.Side.{Side}
 use Rattle.daide_frame.specs.declared.side.Side.TheVariants.{Bot, Server}
 use Rattle.daide_reader.specs.declared.verdict.Verdict.{Verdict}
-use Rattle.daide_protocol.specs.Events.{other}
+use Rattle.daide_frame.specs.Side.{other}
 use Rattle.daide_protocol.specs.Wires.{is_awaited}
 use Rattle.daide_channels.specs.declared.send_queue.QueuedFrame.{QueuedFrame}
-use Rattle.daide_channels.specs.PerSide.{at}
+use Rattle.daide_frame.specs.PerSide.{at}
 use Rattle.daide_channels.specs.Receiver.{Receiver}
 use Rattle.daide_channels.specs.Channels.{ReceiveState, Channels, Fields, IsSound, answer_at, answer_mark, arrival_of, drop_sent}
 use Rattle.daide_channels.specs.Channels.{count_of, frame_of_queued, side_holding, pending, pending_by, presence, channels_of}

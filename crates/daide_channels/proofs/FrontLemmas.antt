@@ -8,7 +8,7 @@ use Rattle.daide_protocol.specs.Machine.{em_bytes, fm_bytes}
 use Rattle.daide_protocol.specs.Wires.{IsFrontOf, first_len, next_part, parts_after}
 use Rattle.daide_channels.specs.declared.send_queue.QueuedFrame.{QueuedFrame}
 use Rattle.daide_channels.specs.declared.send_queue.QueuedFrame.TheVariants.{Answer, Em, Fm}
-use Rattle.daide_channels.specs.PerSide.{PerSide, at}
+use Rattle.daide_frame.specs.PerSide.{PerSide, at}
 use Rattle.daide_channels.specs.Receiver.{Receiver, front_after, front_in, answer_parts}
 use Rattle.daide_channels.specs.SendQueue.{Queue, first_of}
 use Rattle.daide_channels.specs.Channels.{Fields, IsPartlySent, IsSound, Channels, answer_at, queued_bytes, frames_of, queued_frames_to}

@@ -8,12 +8,12 @@ use Rattle.daide_frame.specs.declared.code.Code.{Code}
 use Rattle.daide_frame.specs.declared.head.Head.{Head}
 use Rattle.daide_frame.specs.Head.{head_bytes}
 use Rattle.daide_reader.specs.declared.verdict.Verdict.{Verdict}
-use Rattle.daide_protocol.specs.Events.{other}
+use Rattle.daide_frame.specs.Side.{other}
 use Rattle.daide_protocol.specs.Machine.{Sent, destination}
 use Rattle.daide_protocol.specs.Wires.{parts_after}
 use Rattle.daide_channels.specs.declared.send_queue.QueuedFrame.{QueuedFrame}
 use Rattle.daide_channels.specs.declared.send_queue.QueuedFrame.TheVariants.{Answer, Em, Fm}
-use Rattle.daide_channels.specs.PerSide.{PerSide, at, put}
+use Rattle.daide_frame.specs.PerSide.{PerSide, at, put}
 use Rattle.daide_channels.specs.SendQueue.{Queue, pushed}
 use Rattle.daide_channels.specs.Receiver.{Receiver, Answers, whole_answer, bytes_by, parts_by, answer_parts}
 use Rattle.daide_channels.specs.Channels.{Fields, Channels, IsPartlySent, answer_at, answer_mark, count_of}

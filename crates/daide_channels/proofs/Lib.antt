@@ -1,5 +1,4 @@
 pub mod AwaitedLemmas
-pub mod PerSideLemmas
 pub mod DroppedLemmas
 pub mod FrontLemmas
 pub mod FrontsKept

@@ -11,13 +11,13 @@ use Rattle.daide_protocol.specs.Machine.{Sent}
 use Rattle.daide_protocol.specs.Wires.{is_answer, has_answer}
 use Rattle.daide_channels.specs.declared.send_queue.QueuedFrame.{QueuedFrame}
 use Rattle.daide_channels.specs.declared.send_queue.QueuedFrame.TheVariants.{Answer, Fm, Em}
-use Rattle.daide_channels.specs.PerSide.{PerSide, at, put}
+use Rattle.daide_frame.specs.PerSide.{PerSide, at, put}
 use Rattle.daide_channels.specs.Receiver.{Receiver}
 use Rattle.daide_channels.specs.SendQueue.{Queue, pushed}
 use Rattle.daide_channels.specs.Channels.{answer_at, answers_of, queued_bytes, frame_of_queued, drop_sent, frames_of, answer_mark}
 use Rattle.daide_channels.specs.Channels.{final_frame_mark}
 use Rattle.daide_channels.specs.Channels.{count_of, presence, IsPartlySent, is_final_frame, has_final_frame, posted}
-use Rattle.daide_channels.proofs.PerSideLemmas.{put_all}
+use Rattle.daide_frame.proofs.PerSideLemmas.{put_all}
 use Rattle.daide_channels.proofs.PartsLemmas.{below}
 
 -- ---- counts

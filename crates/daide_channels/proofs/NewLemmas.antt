@@ -3,7 +3,7 @@ use Rattle.std.proofs.Common.{◌≡◌, ℕ, ◌+◌, ◌≤◌, [], None, refl
 use Rattle.daide_frame.specs.declared.side.Side.{Side}
 use Rattle.daide_frame.specs.declared.side.Side.TheVariants.{Bot, Server}
 use Rattle.daide_grammar.specs.declared.level.Level.TheVariants.{L0}
-use Rattle.daide_channels.specs.PerSide.{at}
+use Rattle.daide_frame.specs.PerSide.{at}
 use Rattle.daide_channels.specs.Receiver.{Receiver, ReaderLimits}
 use Rattle.daide_channels.specs.Channels.{Fields, IsPartlySent, IsQuiet, IsSound, answer_at, answer_mark, arrival_of, count_of}
 use Rattle.daide_channels.specs.Channels.{final_frame_mark, frames_of, presence, channels_of}

@@ -8,12 +8,12 @@ use Rattle.daide_frame.specs.Frames.{head_in}
 use Rattle.daide_grammar.specs.declared.level.Level.{Level}
 use Rattle.daide_grammar.specs.declared.level.Level.TheVariants.{L0}
 use Rattle.daide_reader.specs.declared.verdict.Verdict.{Verdict}
-use Rattle.daide_protocol.specs.Events.{other}
+use Rattle.daide_frame.specs.Side.{other, same_side}
 use Rattle.daide_protocol.specs.Machine.{Coming, Sent, destination, fm_bytes, em_bytes}
-use Rattle.daide_protocol.specs.Wires.{Holding, same_side, is_answer, is_awaited, is_dm_head, parts_after}
+use Rattle.daide_protocol.specs.Wires.{Holding, is_answer, is_awaited, is_dm_head, parts_after}
 use Rattle.daide_channels.specs.declared.send_queue.QueuedFrame.{QueuedFrame}
 use Rattle.daide_channels.specs.declared.send_queue.QueuedFrame.TheVariants.{Answer, Fm, Em}
-use Rattle.daide_channels.specs.PerSide.{PerSide, at, put}
+use Rattle.daide_frame.specs.PerSide.{PerSide, at, put}
 use Rattle.daide_channels.specs.Receiver.{Receiver, ReaderLimits, StartsFrame, whole_answer, answer_parts}
 use Rattle.daide_channels.specs.SendQueue.{Queue}
 

@@ -6,7 +6,7 @@ use Rattle.daide_reader.specs.declared.verdict.Verdict.{Verdict}
 use Rattle.daide_protocol.specs.Answers.{answer_body}
 use Rattle.daide_protocol.specs.Machine.{Sent, destination}
 use Rattle.daide_protocol.specs.Wires.{SessionView, queued, parts_of, no_frame}
-use Rattle.daide_channels.specs.PerSide.{at}
+use Rattle.daide_frame.specs.PerSide.{at}
 use Rattle.daide_channels.specs.Receiver.{parts_by}
 use Rattle.daide_channels.specs.Channels.{Channels}
 

@@ -1,5 +1,3 @@
-pub mod PerSide
-pub mod Lends
 pub mod Receiver
 pub mod SendQueue
 pub mod Channels

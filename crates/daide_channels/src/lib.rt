@@ -8,7 +8,6 @@
 #![tactic(auto)]
 
 pub mod channels;
-mod per_side;
 mod receiver;
 mod send_queue;
 

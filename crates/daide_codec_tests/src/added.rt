@@ -64,10 +64,10 @@ const OPERANDS: &[(&str, Option<Operand>)] = &[
 #[test]
 fn slots_and_operands_have_their_names(_rt: HostRuntime) -> Result<(), Fail> {
     for (name, slot) in SLOTS {
-        same(&Slot::by_name(name), slot, name)?;
+        same(&Slot::by_name(name.as_bytes()), slot, name)?;
     }
     for (name, operand) in OPERANDS {
-        same(&Operand::by_name(name), operand, name)?;
+        same(&Operand::by_name(name.as_bytes()), operand, name)?;
     }
     Ok(())
 }

@@ -58,6 +58,6 @@ module _ {P S : Type 0} (streams : P → Buffer S × Buffer S) (to_give taken : 
     (
       h.history,
       exchanged to_give taken (run_limits settings) h.history (streams h.ports) (streams now.1.ports) now.0
-          (all_move h.history (fresh h.ports settings.turns) now.1 h.answered) h.stands,
+          (all_move h.history (fresh h.ports settings.turns) now.1 h.answered) h.stands.0,
     ),
   )

@@ -1,27 +1,38 @@
 -- How a run ends, by the calls that the loop made of a system over sockets.
 use Rattle.std.proofs.Common.{◌≡◌, ℕ, List, [], ◌∷◌, Option, Result, Ok, Err, refl, inl, inr, ap}
 use Rattle.std.specs.Result.{OnOk, IfErr}
-use Rattle.std.specs.declared.time.Duration.{Duration}
 use Rattle.daide_io.specs.Ports.{PortCall}
 use Rattle.daide_io.specs.System.{SystemCall, TransitsBy}
 use Rattle.daide_settings.specs.declared.settings.Settings.{Settings}
 use Rattle.daide_event_loop.specs.declared.serving.ServeFault.{ServeFault}
 use Rattle.daide_event_loop.specs.Served.{IsWholeRun}
 use Rattle.daide_event_loop.specs.Serving.{GivesUp}
-use Rattle.daide_buffered_io.specs.Calls.{StreamCall}
-use Rattle.daide_sockets.specs.Lingering.{no_closing}
+use Rattle.daide_io.specs.Streams.{StreamCall}
 use Rattle.daide_sockets.specs.Pairing.{Paired, RunSockets, Transits}
-use Rattle.daide_sockets.specs.Times.{IsIdleTime}
 use Rattle.daide_commands.specs.declared.gateway.GatewayFault.{GatewayFault}
 use Rattle.daide_commands.specs.declared.gateway.GatewayFault.TheVariants as gateway_faults
 use Rattle.daide_commands.specs.declared.running.RunFault.{RunFault}
 use Rattle.daide_commands.specs.declared.running.RunFault.TheVariants.{Gateway}
 use Rattle.daide_commands.specs.declared.running.RunFault.TheVariants as run_faults
 use Rattle.daide_commands.specs.Gateway.{Announces, IsBeforeServing}
-use Rattle.daide_commands.specs.Running.{HasNoSockets, RunsBy, RunEnds, TextRuns, FileRuns, IsOfText, ending_by}
+use Rattle.daide_commands.specs.Running.{HasNoSockets, RunsBy, RunsOn, RunEnds, TextRuns, FileRuns, IsOfText, ending_by}
 
--- A run of a system whose last value is given. Sockets are a part of a system.
-module _ {P S T : Type 0} (last : T) (to_give taken : S → Option (List ℕ)) (calls : S → Option (List StreamCall))
+-- a run on a system ends by the result of its loop
+pub ran_on : {P T : Type 0} (transition : T → SystemCall P → T → Type 0) (port_transition : P → PortCall → P → Type 0)
+    (settings : Settings) (failed : Type 0) (before after : Option (List ℕ)) (begun last : T)
+    (served : Result (Unit {0}) ServeFault) → Announces failed before after →
+    OnOk served ((answers : List (SystemCall P)) × TransitsBy transition begun answers last
+    × IsWholeRun port_transition settings answers) →
+    IfErr served (λ fault. (answers : List (SystemCall P)) × TransitsBy transition begun answers last
+    × GivesUp (λ n. Unit {0}) port_transition settings fault answers) →
+    RunsOn transition port_transition settings failed before after begun (ending_by served)
+ran_on transition port_transition settings failed before after begun last (Ok done) said whole given_up =
+    (said, last, whole.0, whole.1, whole.2)
+ran_on transition port_transition settings failed before after begun last (Err fault) said whole given_up =
+    (said, last, given_up.0, given_up.1, given_up.2)
+
+-- A run on a system of which sockets are a part.
+module _ {P S T : Type 0} (to_give taken : S → Option (List ℕ)) (calls : S → Option (List StreamCall))
     (pair : P → Paired S) (transition : P → PortCall → P → Type 0) (sockets_of : T → RunSockets S) where
   -- the effect of one call on the system
   abbrev step : T → SystemCall P → T → Type 0
@@ -33,24 +44,26 @@ module _ {P S T : Type 0} (last : T) (to_give taken : S → Option (List ℕ)) (
   sockets_go [] old new e = ap sockets_of e
   sockets_go (answer ∷ answers) old new h = (sockets_of h.0, h.1, sockets_go answers h.0 new h.2)
 
-  runs : (seconds : ℕ) (Kind : List (SystemCall P) → Type 0) (old : T) → HasNoSockets seconds (sockets_of old) →
+  runs : (seconds : ℕ) (Kind : List (SystemCall P) → Type 0) (old last : T) → HasNoSockets seconds (sockets_of old) →
       ((answers : List (SystemCall P)) × TransitsBy step old answers last × Kind answers) →
       RunsBy to_give taken calls pair seconds Kind
-  runs seconds Kind old begun h =
+  runs seconds Kind old last begun h =
       (h.0, sockets_of old, sockets_of last, begun, sockets_go h.0 old last h.1, h.2)
 
-  pub run_ends : (settings : Settings) (failed : Type 0) (before after : Option (List ℕ))
-      (served : Result (Unit {0}) ServeFault) (old : T) → Announces failed before after →
-      OnOk served ((answers : List (SystemCall P)) × TransitsBy step old answers last × IsWholeRun transition settings answers) →
-      IfErr served (λ fault. (answers : List (SystemCall P)) × TransitsBy step old answers last
-      × GivesUp (λ n. Unit {0}) transition settings fault answers) →
-      (time : Option Duration) → IsIdleTime settings.stall_seconds time →
-      sockets_of old ≡ record { came = 0; arrivals = []; closing = no_closing time } →
-      RunEnds to_give taken calls pair transition settings failed before after (ending_by served)
-  run_ends settings failed before after (Ok done) old said whole given_up time is_time none =
-      (said, runs settings.stall_seconds (IsWholeRun transition settings) old (time, is_time, none) whole)
-  run_ends settings failed before after (Err fault) old said whole given_up time is_time none =
-      (said, runs settings.stall_seconds (GivesUp (λ n. Unit {0}) transition settings fault) old (time, is_time, none) given_up)
+  pub run_ends : (settings : Settings) (failed : Type 0) (before after : Option (List ℕ)) (begun : T)
+      (result : Result (Unit {0}) RunFault) → RunsOn step transition settings failed before after begun result →
+      HasNoSockets settings.stall_seconds (sockets_of begun) →
+      RunEnds to_give taken calls pair transition settings failed before after result
+  run_ends settings failed before after begun (Ok done) h none =
+      (h.0, runs settings.stall_seconds (IsWholeRun transition settings) begun h.1 none (h.2, h.3, h.4))
+  run_ends settings failed before after begun (Err (Gateway (gateway_faults.Serve fault))) h none =
+      (h.0, runs settings.stall_seconds (GivesUp (λ n. Unit {0}) transition settings fault) begun h.1 none (h.2, h.3, h.4))
+  run_ends settings failed before after begun (Err (Gateway gateway_faults.Listen)) h none = absurd h
+  run_ends settings failed before after begun (Err (Gateway gateway_faults.Memory)) h none = absurd h
+  run_ends settings failed before after begun (Err run_faults.Memory) h none = absurd h
+  run_ends settings failed before after begun (Err run_faults.Unreadable) h none = absurd h
+  run_ends settings failed before after begun (Err run_faults.Record) h none = absurd h
+  run_ends settings failed before after begun (Err (run_faults.Settings fault)) h none = absurd h
 
 module _ {P S : Type 0} (to_give taken : S → Option (List ℕ)) (calls : S → Option (List StreamCall)) (pair : P → Paired S)
     (transition : P → PortCall → P → Type 0) where

@@ -7,7 +7,8 @@ use Rattle.daide_frame.specs.declared.side.Side.TheVariants.{Bot, Server}
 use Rattle.daide_protocol.specs.Events.{Event, Comes, Ends, Loses, ImTimerExpired, bytes_come}
 use Rattle.daide_protocol.specs.Heard.{bytes_from}
 use Rattle.daide_protocol.specs.Machine.{Limits}
-use Rattle.daide_protocol.specs.Wires.{SessionView, same_side, sent_bytes, queued}
+use Rattle.daide_frame.specs.Side.{same_side}
+use Rattle.daide_protocol.specs.Wires.{SessionView, sent_bytes, queued}
 use Rattle.daide_driver.specs.Headline.{IsBoundedAndExact, untouched}
 use Rattle.daide_io.specs.Ports.{PortCall, TurnBegins, Clock, Pulled, Offered, EvolvesBy, event_of}
 use Rattle.daide_io.specs.Ports.{events_of, took}

@@ -2,7 +2,7 @@
 use Rattle.std.specs.Prelude.{◌≡◌, ℕ, ◌+◌, List, Option}
 use Rattle.daide_io.specs.System.{SystemCall, TransitsBy}
 use Rattle.daide_event_loop.specs.Served.{sum_over_calls, comes}
-use Rattle.daide_buffered_io.specs.Calls.{StreamCall}
+use Rattle.daide_io.specs.Streams.{StreamCall}
 use Rattle.daide_sockets.specs.Pairing.{Paired, RunSockets, Transits}
 
 -- By any trace, the sockets of a run count each bot that the trace accepts. So after a whole run they have counted as

@@ -9,6 +9,7 @@ use Rattle.daide_words.specs.declared.word.Word.{Word}
 use Rattle.daide_words.specs.Word.{names_of}
 use Rattle.daide_token.specs.Names.{Named}
 use Rattle.daide_protocol.specs.declared.summary.Summary.{Summary}
+use Rattle.daide_protocol.specs.Summary.{is_clean}
 use Rattle.daide_log_lines.specs.declared.fault.LogFault.{LogFault}
 use Rattle.daide_log_lines.specs.Reader.{silent}
 use Rattle.daide_log.specs.declared.explained.Explained.{Explained}
@@ -58,10 +59,6 @@ ShowEnds asked input old new status =
     (answer : Result Bool ShowFault) × IsShowAnswer asked input old new answer × (status ≡ show_status answer)
 
 -- ---- `check`
-
--- no PRN, no HUH and no fault
-abbrev pub is_clean : Summary → Bool
-is_clean counts = counts.prn == 0 && counts.huh == 0 && counts.faults == 0
 
 abbrev pub check_status : Result Summary LogFault → ℕ
 check_status (Ok counts) = if is_clean counts then 0 else 3

@@ -12,7 +12,7 @@ use Rattle.daide_settings.specs.Settings.{judged_settings}
 use Rattle.daide_event_loop.specs.declared.serving.ServeFault.{ServeFault}
 use Rattle.daide_event_loop.specs.Served.{IsWholeRun}
 use Rattle.daide_event_loop.specs.Serving.{GivesUp}
-use Rattle.daide_buffered_io.specs.Calls.{StreamCall}
+use Rattle.daide_io.specs.Streams.{StreamCall}
 use Rattle.daide_sockets.specs.Lingering.{no_closing}
 use Rattle.daide_sockets.specs.Pairing.{Paired, RunSockets, Transits}
 use Rattle.daide_sockets.specs.Times.{IsIdleTime}
@@ -39,6 +39,23 @@ RunsBy {P} {S} to_give taken calls pair stall_seconds Kind = (answers : List (Sy
 abbrev pub ending_by : Result (Unit {0}) ServeFault → Result (Unit {0}) RunFault
 ending_by (Ok done) = Ok done
 ending_by (Err fault) = Err (Gateway (gateway_faults.Serve fault))
+
+-- The end of a run on a system, from this value of it. If all bots were served, it printed `listening`, and its calls
+-- are a whole run of these settings. If it was given up, they are the calls until then.
+abbrev pub RunsOn : {P T : Type 0} → (T → SystemCall P → T → Type 0) → (P → PortCall → P → Type 0) → Settings → Type 0 →
+    Option (List ℕ) → Option (List ℕ) → T → Result (Unit {0}) RunFault → Type 0
+RunsOn {P} {T} transition port_transition settings failed old new begun (Ok done) =
+    Announces failed old new × (last : T) × (answers : List (SystemCall P)) × TransitsBy transition begun answers last
+    × IsWholeRun port_transition settings answers
+RunsOn {P} {T} transition port_transition settings failed old new begun (Err (Gateway (gateway_faults.Serve fault))) =
+    Announces failed old new × (last : T) × (answers : List (SystemCall P)) × TransitsBy transition begun answers last
+    × GivesUp (λ n. Unit {0}) port_transition settings fault answers
+RunsOn transition port_transition settings failed old new begun (Err (Gateway gateway_faults.Listen)) = ⊥
+RunsOn transition port_transition settings failed old new begun (Err (Gateway gateway_faults.Memory)) = ⊥
+RunsOn transition port_transition settings failed old new begun (Err Memory) = ⊥
+RunsOn transition port_transition settings failed old new begun (Err Unreadable) = ⊥
+RunsOn transition port_transition settings failed old new begun (Err Record) = ⊥
+RunsOn transition port_transition settings failed old new begun (Err (run_faults.Settings fault)) = ⊥
 
 -- The end of a run of settings. If all bots were served, it printed `listening`, and its calls are a whole run of these
 -- settings. If it was given up, they are the calls until then. Before that nothing is written.

@@ -1,7 +1,7 @@
 //! `check`: the report of a log, from a file or from standard input.
 
 ghost use Rattle.std.specs.Prelude.{◌≡◌, ◌≤◌, IfOk};
-ghost use Rattle.daide_commands.specs.Endings.{check_status, explained_status, is_clean, CheckRuns, ReportEnds};
+ghost use Rattle.daide_commands.specs.Endings.{check_status, explained_status, CheckRuns, ReportEnds};
 
 use crate::arguments::CheckOrder;
 use crate::faults::{CLEAN, FAULT, NOT_RELAYED, tell};
@@ -12,19 +12,12 @@ use std::io::{Read, Write};
 use std::rt::Files;
 use std::{fs, io};
 
-/// Returns true if a report counts no PRN, no HUH and no fault.
-fn is_clean(counts: Summary) -> bool
-    ensures { result ≡ is_clean counts }
-{
-    counts.prn == 0 && counts.huh == 0 && counts.faults == 0
-}
-
 /// Reports a fault of a log on standard error. Returns the status.
 fn end_check<E: Write>(answer: Result<Summary, LogFault>, errors: &mut E) -> io::Result<u8>
     ensures { IfOk result (λ status. status ≡ check_status answer) }
 {
     match answer {
-        Ok(counts) if is_clean(counts) => Ok(CLEAN),
+        Ok(counts) if counts.is_clean() => Ok(CLEAN),
         Ok(_counts) => Ok(NOT_RELAYED),
         Err(fault) => tell(errors, fault, FAULT),
     }
@@ -35,7 +28,7 @@ fn end_explained<E: Write>(answer: Result<Explained, LogFault>, errors: &mut E) 
     ensures { IfOk result (λ status. status ≡ explained_status answer) }
 {
     match answer {
-        Ok(report) if is_clean(report.counts) && report.unfinished == 0 => Ok(CLEAN),
+        Ok(report) if report.counts.is_clean() && report.unfinished == 0 => Ok(CLEAN),
         Ok(_report) => Ok(NOT_RELAYED),
         Err(fault) => tell(errors, fault, FAULT),
     }

@@ -3,7 +3,7 @@
 ghost use Rattle.std.specs.Prelude.{◌≡◌, List, IfErr, OnOk};
 ghost use Rattle.daide_io.specs.System.{SystemCall, TransitsBy};
 ghost use Rattle.daide_event_loop.specs.Served.{IsWholeRun};
-ghost use Rattle.daide_event_loop.specs.Serving.{IsServeCause, IsOfSettings, GivesUp};
+ghost use Rattle.daide_event_loop.specs.Serving.{IsServeCause, GivesUp};
 ghost use Rattle.daide_commands.specs.Gateway.{IsBeforeServing, fault_by, Announces};
 ghost use Rattle.daide_log.specs.Recording.{HasFailed};
 
@@ -70,14 +70,11 @@ fn announce<O: Sink>(output: &mut O)
 ///
 /// `announced`: it writes `listening` and a line feed to the output, and nothing else, unless a write failed.
 ///
-/// `served`: if it returns `Ok`, the settings' limits were accepted. The calls that took the system from its old to its
-/// new value are those of a whole run.
+/// `served`: if it returns `Ok`, the calls that took the system from its old to its new value are those of a whole run.
 ///
 /// `given_up`: else they are those of a run that was given up for its fault.
 ///
 /// `refused`: it returns `Memory` as `serve` does, only after the allocator refused room.
-///
-/// `unasked`: after a fault of the settings the system is unchanged.
 pub fn serve_on<A: Memory + Copy, P: Ports, S: System<P>, O: Sink>(
     alloc: A,
     settings: &Settings,
@@ -91,7 +88,6 @@ pub fn serve_on<A: Memory + Copy, P: Ports, S: System<P>, O: Sink>(
     ensures given_up { IfErr result (λ fault. (answers : List (SystemCall P))
         × TransitsBy S.transition system.old answers system.new
         × GivesUp A.Refuses P.transition settings.now fault answers) }
-    ensures unasked { IfErr result (λ fault. IsOfSettings fault → system.new ≡ system.old) }
 {
     announce(output);
     serve(alloc, settings, system)

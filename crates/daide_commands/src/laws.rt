@@ -4,10 +4,9 @@
 ghost use Rattle.daide_commands.specs.Exchanged.{SessionsExchange, ServedSessionsExchange};
 ghost use Rattle.daide_commands.specs.Accepted.{BotsAreCounted};
 
-use daide_buffered_io::duplex::Duplex;
 use daide_io::Ports;
+use daide_io::duplex::Duplex;
 use daide_sockets::ports::SocketPorts;
-use std::rt::Clock;
 
 /// Let a session have two streams that record their bytes. What it received from a side is what was read from that
 /// side's socket, in order (`passes`). What a socket took is a prefix of the machine's answers to that (`front`). It is
@@ -25,8 +24,8 @@ pub fn sessions_exchange<S: Duplex>()
 
 /// The same holds of each session of a run, with its quota of turns. The ports are those that ship, over any two
 /// streams that record their bytes.
-pub fn served_sessions_exchange<R: Clock, S: Duplex + Drop>()
-    ensures { ServedSessionsExchange ⟦<SocketPorts<'static, R, S> as Ports>⟧.transition
+pub fn served_sessions_exchange<S: Duplex + Drop>()
+    ensures { ServedSessionsExchange ⟦<SocketPorts<'static, S> as Ports>⟧.transition
         (λ ports. (ports.bot.stream, ports.server.stream)) S.to_give S.taken }
 {}
 

@@ -6,39 +6,38 @@ ghost use Rattle.daide_sockets.specs.Lingering.{GoOnFor};
 ghost use Rattle.daide_sockets.specs.Pairing.{Transits};
 
 use crate::folder::{Folder, SessionFile, end};
-use daide_buffered_io::duplex::Duplex;
-use daide_io::{Connect, Notice, SessionEnd, System};
+use crate::running::Finish;
+use daide_io::{Connect, Network, Notice, SessionEnd, System};
 use daide_log::Recording;
-use daide_sockets::connection::Connection;
 use daide_sockets::ports::SocketPorts;
 use daide_sockets::system::Sockets;
 use std::io::Write;
-use std::net::Net;
-use std::rt::{Clock, Files};
+use std::rt::Files;
 
 /// The sockets of a run, and the folder of its records.
 #[derive(Drop)]
-pub(crate) struct RecordedSockets<'w, 'f, R: AllocGlobal + Clock + Net + Files, E: Write + Drop> {
-    pub sockets: Sockets<'w, R, E>,
+pub(crate) struct RecordedSockets<'w, 'f, N: Network, R: AllocGlobal + Files, E: Write + Drop> {
+    pub sockets: Sockets<'w, N, E>,
     pub folder: &'f Folder<'f, R>,
 }
 
-impl<R: AllocGlobal + Clock + Net + Files, E: Write + Drop> RecordedSockets<'_, '_, R, E> {
+impl<N: Network, R: AllocGlobal + Files, E: Write + Drop> Finish
+    for RecordedSockets<'_, '_, N, R, E> {
     /// Waits until the last sockets are closed. The closing sockets are advanced by rounds.
-    pub(crate) fn finish(&mut self)
-        ensures { (rounds : ℕ) × GoOnFor ⟦<Connection as Duplex>⟧.to_give ⟦<Connection as Duplex>⟧.taken
-            ⟦<Connection as Duplex>⟧.calls rounds self.old.sockets.closings self.new.sockets.closings
+    fn finish(&mut self)
+        ensures { (rounds : ℕ) × GoOnFor N.Connection.to_give N.Connection.taken
+            N.Connection.calls rounds self.old.sockets.closings self.new.sockets.closings
             × ((self.new.sockets.closings.streams ≡ []) ⊎ (rounds ≡ u64.MAX)) }
     {
         self.sockets.finish();
     }
 }
 
-impl<'w, R: AllocGlobal + Clock + Net + Files, E: Write + Drop> System<
-    Recording<SocketPorts<'w, &'w R>, SessionFile<R::File>>,
-> for RecordedSockets<'w, '_, R, E> {
-    ghost transition = { λ old answer new. Transits ⟦<Connection as Duplex>⟧.to_give ⟦<Connection as Duplex>⟧.taken
-        ⟦<Connection as Duplex>⟧.calls (λ ports. record {
+impl<'w, N: Network, R: AllocGlobal + Files, E: Write + Drop> System<
+    Recording<SocketPorts<'w, N::Connection>, SessionFile<R::File>>,
+> for RecordedSockets<'w, '_, N, R, E> {
+    ghost transition = { λ old answer new. Transits N.Connection.to_give N.Connection.taken
+        N.Connection.calls (λ ports. record {
           number = ports.ports.number;
           bot = ports.ports.bot.stream;
           server = ports.ports.server.stream;
@@ -58,7 +57,17 @@ impl<'w, R: AllocGlobal + Clock + Net + Files, E: Write + Drop> System<
         self.sockets.begin_round();
     }
 
-    fn begin_turn(&mut self, ports: &mut Recording<SocketPorts<'w, &'w R>, SessionFile<R::File>>) {
+    fn has_news(
+        &mut self,
+        ports: &Recording<SocketPorts<'w, N::Connection>, SessionFile<R::File>>,
+    ) -> bool {
+        self.sockets.has_news(ports.ports())
+    }
+
+    fn begin_turn(
+        &mut self,
+        ports: &mut Recording<SocketPorts<'w, N::Connection>, SessionFile<R::File>>,
+    ) {
         ports.begin_turn(&mut self.sockets);
     }
 
@@ -66,7 +75,9 @@ impl<'w, R: AllocGlobal + Clock + Net + Files, E: Write + Drop> System<
         self.sockets.accept()
     }
 
-    fn connected(&mut self) -> Connect<Recording<SocketPorts<'w, &'w R>, SessionFile<R::File>>> {
+    fn connected(
+        &mut self,
+    ) -> Connect<Recording<SocketPorts<'w, N::Connection>, SessionFile<R::File>>> {
         match self.sockets.connected() {
             Connect::Ready(ports) => {
                 let number = ports.number();
@@ -79,7 +90,7 @@ impl<'w, R: AllocGlobal + Clock + Net + Files, E: Write + Drop> System<
 
     fn retire(
         &mut self,
-        ports: Recording<SocketPorts<'w, &'w R>, SessionFile<R::File>>,
+        ports: Recording<SocketPorts<'w, N::Connection>, SessionFile<R::File>>,
         end_of: SessionEnd,
     ) {
         let ports = end(ports, &mut self.sockets.errors);
@@ -90,7 +101,7 @@ impl<'w, R: AllocGlobal + Clock + Net + Files, E: Write + Drop> System<
         self.sockets.tell(notice);
     }
 
-    fn wait(&mut self, accepts: bool) {
-        self.sockets.wait(accepts);
+    fn wait(&mut self) {
+        self.sockets.wait();
     }
 }

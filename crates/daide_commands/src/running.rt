@@ -2,7 +2,7 @@
 
 ghost use Rattle.std.specs.Prelude.{◌≡◌, ◌≤◌, None, [], IfOk, IfErr, OnOk, IfSome, IsOkAnd, string_bytes};
 ghost use Rattle.daide_log.specs.Recording.{HasFailed};
-ghost use Rattle.daide_commands.specs.Running.{RunEnds, TextRuns, FileRuns, IsOfText, ending_by};
+ghost use Rattle.daide_commands.specs.Running.{RunEnds, RunsOn, TextRuns, FileRuns, IsOfText, ending_by};
 ghost use Rattle.daide_commands.specs.Gateway.{Announces};
 ghost use Rattle.daide_words.specs.Words.{words_of};
 
@@ -12,16 +12,17 @@ use crate::folder::{Folder, SessionFile};
 use crate::gateway::{GatewayFault, bind, serve_on};
 use crate::recorded::RecordedSockets;
 use crate::text::{SettingsTextFault, read_text};
-use daide_buffered_io::duplex::Duplex;
 use daide_event_loop::ServeFault;
-use daide_io::Ports;
+use daide_io::duplex::Duplex;
+use daide_io::{Network, Ports, System};
 use daide_log::{Recording, Sink};
 use daide_settings::{Settings, SettingsError, read_settings};
 use daide_sockets::bound_sockets::{BoundSockets, sockets_on};
 use daide_sockets::connection::Connection;
 use daide_sockets::ports::SocketPorts;
+use daide_sockets::system::Sockets;
 use daide_words::Words;
-use std::alloc::Allocator;
+use std::alloc::{Allocator, Global};
 use std::io::{Read, Write};
 use std::net::Net;
 use std::rt::{Clock, Files};
@@ -86,6 +87,18 @@ pub(crate) fn words_at<R: AllocGlobal + Files>(
     }
 }
 
+/// The system of a run, which can end: it waits until its last sockets are closed.
+pub(crate) trait Finish {
+    /// Waits until the last sockets are closed.
+    fn finish(&mut self);
+}
+
+impl<N: Network, E: Write + Drop> Finish for Sockets<'_, N, E> {
+    fn finish(&mut self) {
+        Sockets::finish(self);
+    }
+}
+
 /// Returns the result of a run from the result of its loop.
 fn ending_of(served: Result<(), ServeFault>) -> Result<(), RunFault>
     ensures { result ≡ ending_by served }
@@ -96,8 +109,22 @@ fn ending_of(served: Result<(), ServeFault>) -> Result<(), RunFault>
     }
 }
 
-/// Serves over sockets at the addresses of the settings, and waits until the last sockets are closed. Logs its sessions
-/// if it `is_verbose`.
+/// Serves on a system, and waits until the last sockets are closed.
+fn run_on<P: Ports, S: System<P> + Finish, O: Sink>(
+    alloc: Global,
+    settings: &Settings,
+    system: &mut S,
+    output: &mut O,
+) -> Result<(), RunFault>
+    ensures { RunsOn S.transition P.transition settings.now (HasFailed O.Fails) (O.contents output.old)
+        (O.contents output.new) system.old result }
+{
+    let served = serve_on(alloc, settings, system, output);
+    system.finish();
+    ending_of(served)
+}
+
+/// Serves over sockets at the addresses of the settings. Logs its sessions if it `is_verbose`.
 fn serve_sockets<R: AllocGlobal + Clock + Net, O: Sink, E: Write>(
     rt: &R,
     settings: &Settings,
@@ -107,22 +134,20 @@ fn serve_sockets<R: AllocGlobal + Clock + Net, O: Sink, E: Write>(
 ) -> Result<(), RunFault>
     ensures { RunEnds ⟦<Connection as Duplex>⟧.to_give ⟦<Connection as Duplex>⟧.taken ⟦<Connection as Duplex>⟧.calls
         (λ ports. record { number = ports.number; bot = ports.bot.stream; server = ports.server.stream })
-        ⟦<SocketPorts<'static, &'static R> as Ports>⟧.transition settings.now (HasFailed O.Fails)
+        ⟦<SocketPorts<'static, Connection> as Ports>⟧.transition settings.now (HasFailed O.Fails)
         (O.contents output.old) (O.contents output.new) result }
 {
     let BoundSockets {
-        listener,
+        network,
         servers,
-        poller,
+        table,
     } = bind(rt, settings).map_err(RunFault::Gateway)?;
-    let at = (listener, servers.as_slice(), &poller);
-    let Some(mut system) = sockets_on(rt, settings, at, errors) else {
+    let ground = (network, servers.as_slice(), &table);
+    let Some(mut sockets) = sockets_on(rt.alloc(), settings, ground, errors) else {
         return Err(RunFault::Memory);
     };
-    system.set_verbose(is_verbose);
-    let served = serve_on(rt.alloc(), settings, &mut system, output);
-    system.finish();
-    ending_of(served)
+    sockets.set_verbose(is_verbose);
+    run_on(rt.alloc(), settings, &mut sockets, output)
 }
 
 /// Serves with the settings of a text: binds, opens the sockets, serves on them (`serve_on`), and finishes closing. If
@@ -147,7 +172,7 @@ pub fn run_text<R: AllocGlobal + Clock + Net, O: Sink, E: Write>(
 ) -> Result<(), RunFault>
     ensures runs { TextRuns ⟦<Connection as Duplex>⟧.to_give ⟦<Connection as Duplex>⟧.taken ⟦<Connection as Duplex>⟧.calls
         (λ ports. record { number = ports.number; bot = ports.bot.stream; server = ports.server.stream })
-        ⟦<SocketPorts<'static, &'static R> as Ports>⟧.transition text.now (HasFailed O.Fails)
+        ⟦<SocketPorts<'static, Connection> as Ports>⟧.transition text.now (HasFailed O.Fails)
         (O.contents output.old) (O.contents output.new) result }
     ensures untouched { IfErr result (λ fault. IsOfText fault →
         (output.new ≡ output.old) × (errors.new ≡ errors.old)) }
@@ -172,24 +197,22 @@ fn serve_recorded<'r, R: AllocGlobal + Files + Clock + Net, O: Sink, E: Write>(
           bot = ports.ports.bot.stream;
           server = ports.ports.server.stream;
         })
-        ⟦<Recording<SocketPorts<'static, &'static R>, SessionFile<R::File>> as Ports>⟧.transition settings.now
+        ⟦<Recording<SocketPorts<'static, Connection>, SessionFile<R::File>> as Ports>⟧.transition settings.now
         (HasFailed O.Fails) (O.contents output.old) (O.contents output.new) result }
 {
     let (is_verbose, folder) = kept;
     let BoundSockets {
-        listener,
+        network,
         servers,
-        poller,
+        table,
     } = bind(rt, settings).map_err(RunFault::Gateway)?;
-    let at = (listener, servers.as_slice(), &poller);
-    let Some(mut sockets) = sockets_on(rt, settings, at, &mut *errors) else {
+    let ground = (network, servers.as_slice(), &table);
+    let Some(mut sockets) = sockets_on(rt.alloc(), settings, ground, errors) else {
         return Err(RunFault::Memory);
     };
     sockets.set_verbose(is_verbose);
     let mut system = RecordedSockets { sockets, folder };
-    let served = serve_on(rt.alloc(), settings, &mut system, output);
-    system.finish();
-    ending_of(served)
+    run_on(rt.alloc(), settings, &mut system, output)
 }
 
 /// Serves with the settings of a file, and keeps a record of each session in a folder.
@@ -206,7 +229,7 @@ fn run_recorded<'r, R: AllocGlobal + Files + Clock + Net, O: Sink, E: Write>(
           bot = ports.ports.bot.stream;
           server = ports.ports.server.stream;
         })
-        ⟦<Recording<SocketPorts<'static, &'static R>, SessionFile<R::File>> as Ports>⟧.transition
+        ⟦<Recording<SocketPorts<'static, Connection>, SessionFile<R::File>> as Ports>⟧.transition
         (HasFailed O.Fails) (O.contents output.old) (O.contents output.new) result }
 {
     let (is_verbose, folder) = kept;

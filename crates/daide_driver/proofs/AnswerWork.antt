@@ -3,14 +3,15 @@ use Rattle.std.proofs.Common.{◌≡◌, ℕ, ◌+◌, Bool, true, false, cond, 
 use Rattle.std.proofs.Common.{subst, arith, length-append, append-nil}
 use Rattle.daide_frame.specs.declared.side.Side.{Side}
 use Rattle.daide_frame.specs.declared.side.Side.TheVariants.{Bot, Server}
-use Rattle.daide_protocol.specs.Events.{Event, Comes, Ends, Loses, ImTimerExpired, bytes_come, other}
+use Rattle.daide_frame.specs.Side.{other, same_side}
+use Rattle.daide_protocol.specs.Events.{Event, Comes, Ends, Loses, ImTimerExpired, bytes_come}
 use Rattle.daide_protocol.specs.Heard.{bytes_from}
-use Rattle.daide_protocol.specs.Wires.{SessionView, same_side}
+use Rattle.daide_protocol.specs.Wires.{SessionView}
 use Rattle.daide_session.specs.Work.{IsPaidBy}
 use Rattle.daide_session.proofs.WorkLemmas.{paid_then}
 use Rattle.daide_io.specs.declared.ports.Pull.TheVariants.{Got}
 use Rattle.daide_io.specs.Ports.{PortCall, Clock, Pulled, events_of}
-use Rattle.daide_driver.specs.Record.{came, Works}
+use Rattle.daide_driver.specs.Totals.{came, Works}
 
 -- ---- one port call after another
 

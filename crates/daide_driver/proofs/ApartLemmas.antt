@@ -6,17 +6,20 @@ use Rattle.daide_protocol.specs.Machine.{Limits}
 use Rattle.daide_protocol.specs.Wires.{SessionView, IsNew, is_closed}
 use Rattle.daide_io.specs.Ports.{PortCall, TurnBegins, EvolvesBy}
 use Rattle.daide_session.specs.Bounds.{IsWithinBounds}
-use Rattle.daide_driver.specs.Record.{RefinesRun, EvolveTogether}
+use Rattle.daide_driver.specs.Record.{EvolveTogether}
+use Rattle.daide_driver.specs.Totals.{RefinesRun}
 use Rattle.daide_driver.specs.Turn.{Then}
-use Rattle.daide_driver.specs.Headline.{IsReachable, Headline, WholeTurn, untouched}
+use Rattle.daide_driver.specs.Headline.{untouched}
+use Rattle.daide_driver.specs.Whole.{HasHeadline, WholeTurn}
 use Rattle.daide_driver.specs.Hub.{HubView}
 use Rattle.daide_driver.specs.HubRuns.{HubCall, Added, Begun, Turned, Removed, HubStep, HubRuns, Beginning, Stood, Opened}
 use Rattle.daide_driver.specs.HubRuns.{OwnCall, TurnStarts, TurnRuns, Life, fresh_life, with_call, with_call_at, lives_after}
 use Rattle.daide_driver.specs.HubRuns.{lives_after_all, lives_of, OwnStep, CallsAlone, turns_of, BeginsAs, WentAlone}
 use Rattle.daide_driver.specs.HubRuns.{AreApart}
 use Rattle.daide_driver.proofs.PortCalls.{turn_begins}
-use Rattle.daide_driver.proofs.Stretches.{transition_then, carries_then, carries_weaker, relays_append, relays_nil}
-use Rattle.daide_driver.proofs.Standing.{headline_of, headlines_join, new_stands}
+use Rattle.daide_io.proofs.TraceLemmas.{transition_then}
+use Rattle.daide_driver.proofs.Stretches.{carries_then, carries_weaker, relays_append, relays_nil}
+use Rattle.daide_driver.proofs.Standing.{headline_of, headlines_join, new_stands, totals_of}
 
 -- `Some` is injective
 some-same : {X : Type 0} (x y : X) → Some x ≡ Some y → x ≡ y
@@ -174,11 +177,11 @@ module _ {P : Type 0} (transition : P → PortCall → P → Type 0) where
       (found.0, removed.0, found.1, removed.2, found.2)
 
   -- two headlines, one after another, by the joined traces
-  pub headline_then : (a b c : SessionView × P) → EvolveTogether transition Headline a b → EvolveTogether transition Headline b c →
-      EvolveTogether transition Headline a c
+  pub headline_then : (a b c : SessionView × P) → EvolveTogether transition HasHeadline a b →
+      EvolveTogether transition HasHeadline b c → EvolveTogether transition HasHeadline a c
   headline_then a b c h k =
-      carries_weaker transition (Then Headline Headline) Headline a c (λ xs. headlines_join a.0 xs c.0)
-      (carries_then transition Headline Headline a b c h k)
+      carries_weaker transition (Then HasHeadline HasHeadline) HasHeadline a c (λ xs. headlines_join a.0 xs c.0)
+      (carries_then transition HasHeadline HasHeadline a b c h k)
 
   -- a call for a session is a part of a run, by the port calls in it
   own-relays : (call : OwnCall) (a b : SessionView × P) → OwnStep transition call a b → EvolveTogether transition RefinesRun a b
@@ -221,23 +224,24 @@ module _ {P : Type 0} (transition : P → PortCall → P → Type 0) where
 
   -- the calls for a session, if at least one is a turn, have the headline of all port calls in them
   alone-headline : (calls : List OwnCall) (a b : SessionView × P) → 0 < turns_of calls → CallsAlone transition calls a b →
-      EvolveTogether transition Headline a b
+      EvolveTogether transition HasHeadline a b
   alone-headline calls a b h t =
-      carries_weaker transition RefinesRun Headline a b (λ xs r. headline_of a.0 xs b.0 (turned-bounded calls a b h t) r)
+      carries_weaker transition RefinesRun HasHeadline a b
+      (λ xs r. (headline_of a.0 xs b.0 (turned-bounded calls a b h t) r.sends, totals_of a.0 xs b.0 r))
       (alone-relays calls a b t)
 
   pub each_headline : (calls : List (HubCall P)) (old new : HubView P) → HubRuns transition old calls new →
       (i : ℕ) (life : Life P) (now : SessionView × P) → slice_get (lives_of old calls) i ≡ Some life →
       slice_get new.places i ≡ Some now → 0 < turns_of life.calls →
-      (first : SessionView × P) × BeginsAs old.limits life.begun first × EvolveTogether transition Headline first now
+      (first : SessionView × P) × BeginsAs old.limits life.begun first × EvolveTogether transition HasHeadline first now
   each_headline calls old new run i life now e f h =
       let went = (sessions_apart calls old new run).alone i life now e f in
       (went.0, went.1, alone-headline life.calls went.0 now h went.2)
 
   -- a reachable session stays reachable, with the port calls of the calls for it appended to its history
   stands-alone : (limits : Limits) (ports : P) (a b : SessionView × P) → EvolveTogether transition RefinesRun a b →
-      ((history : List PortCall) × IsReachable limits history a.0 × EvolvesBy transition ports history a.1) →
-      (history : List PortCall) × IsReachable limits history b.0 × EvolvesBy transition ports history b.1
+      ((history : List PortCall) × RefinesRun (untouched limits) history a.0 × EvolvesBy transition ports history a.1) →
+      (history : List PortCall) × RefinesRun (untouched limits) history b.0 × EvolvesBy transition ports history b.1
   stands-alone limits ports a b t h = (
     h.0 ++ t.call,
     relays_append (untouched limits) h.0 a.0 t.call b.0 h.1 t.session,
@@ -247,7 +251,7 @@ module _ {P : Type 0} (transition : P → PortCall → P → Type 0) where
   pub opened_stand : (calls : List (HubCall P)) (old new : HubView P) → HubRuns transition old calls new →
       (i : ℕ) (life : Life P) (ports : P) (now : SessionView × P) → slice_get (lives_of old calls) i ≡ Some life →
       slice_get new.places i ≡ Some now → life.begun ≡ Opened ports →
-      (history : List PortCall) × IsReachable old.limits history now.0 × EvolvesBy transition ports history now.1
+      (history : List PortCall) × RefinesRun (untouched old.limits) history now.0 × EvolvesBy transition ports history now.1
   opened_stand calls old new run i life ports now e f o =
       let went = (sessions_apart calls old new run).alone i life now e f in
       let begun : IsNew old.limits went.0.0 × (went.0.1 ≡ ports) =

@@ -15,8 +15,9 @@ use Rattle.daide_protocol.specs.Config.{limits_of}
 use Rattle.daide_session.specs.Bounds.{IsWithinBounds}
 use Rattle.daide_io.specs.Ports.{PortCall, Pulled}
 use Rattle.daide_driver.specs.Turn.{FillsRoom, turn_steps}
-use Rattle.daide_driver.specs.Headline.{IsBoundedAndExact}
-use Rattle.daide_driver.specs.Hub.{IsHubSize, IsHubCause, session_bound}
+use Rattle.daide_driver.specs.Totals.{HasTotals}
+use Rattle.daide_protocol.specs.Bounds.{IsSessionCount}
+use Rattle.daide_driver.specs.Hub.{IsHubCause, session_bound}
 
 -- ---- bounds
 
@@ -25,7 +26,7 @@ work_of_a_turn : turn_steps ≡ 1032
 work_of_a_turn = refl
 
 -- at most 64 frames are queued for both wires, beside the bounds of each direction
-frames_that_wait : (g : SessionView) → IsWithinBounds g → length g.to_bot + length g.to_server ≤ 64
+frames_that_wait : (g : SessionView) → IsWithinBounds g → length g.wires.bot + length g.wires.server ≤ 64
 frames_that_wait g bounds = bounds.further
 
 -- with this much room, the one pull uses a buffer of this many bytes
@@ -44,7 +45,7 @@ pulled_bytes = (buffer, buffer, buffer, buffer, buffer, buffer, buffer)
 
 -- over all bytes received, two look-ups a byte: eight for four bytes from the bot, and none for the server
 work_of_bytes : (limits : Limits) (g : SessionView) →
-    IsBoundedAndExact limits (Pulled Bot 4 (Got 4) (0x02 ∷ 0x00 ∷ 0x00 ∷ 0x02 ∷ []) ∷ []) g →
+    HasTotals limits (Pulled Bot 4 (Got 4) (0x02 ∷ 0x00 ∷ 0x00 ∷ 0x02 ∷ []) ∷ []) g →
     IsRaised 8 0 (holding g Bot).total × IsRaised 0 0 (holding g Server).total
 work_of_bytes limits g holds = (holds.work Bot, holds.work Server)
 
@@ -68,7 +69,7 @@ narrowest_bound = refl
 -- ---- hubs
 
 -- a hub is for 1 to 256 sessions; 0 and more than 256 are refused
-hub_sizes : IsHubSize 1 × IsHubSize 255 × IsHubSize 256 × (IsHubSize 0 → ⊥) × (IsHubSize 257 → ⊥)
+hub_sizes : IsSessionCount 1 × IsSessionCount 255 × IsSessionCount 256 × (IsSessionCount 0 → ⊥) × (IsSessionCount 257 → ⊥)
 hub_sizes = (
   (omega arith, omega arith),
   (omega arith, omega arith),

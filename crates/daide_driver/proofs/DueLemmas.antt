@@ -5,7 +5,8 @@ use Rattle.std.proofs.Common.{append_assoc, append-nil}
 use Rattle.std.proofs.lemmas.Bool.{cases_lt}
 use Rattle.daide_frame.specs.declared.side.Side.{Side}
 use Rattle.daide_frame.specs.declared.side.Side.TheVariants.{Bot, Server}
-use Rattle.daide_protocol.specs.Events.{Event, other}
+use Rattle.daide_frame.specs.Side.{other}
+use Rattle.daide_protocol.specs.Events.{Event}
 use Rattle.daide_protocol.specs.Machine.{Sent}
 use Rattle.daide_protocol.specs.Wires.{SessionView, queued, sent_to, sent_bytes, front_of}
 use Rattle.daide_protocol.proofs.WireLemmas.{same_self, sent_bytes-append}
@@ -14,17 +15,12 @@ use Rattle.daide_io.specs.declared.ports.Pull.TheVariants.{Got, Idle, Ended}
 use Rattle.daide_io.specs.declared.ports.Put.{Put}
 use Rattle.daide_io.specs.declared.ports.Put.TheVariants.{Took, Failed}
 use Rattle.daide_io.specs.Ports.{PortCall, Clock, Offered, took, taken, IsPutWithin}
+use Rattle.daide_io.proofs.TraceLemmas.{taken-append}
 use Rattle.daide_driver.specs.Turn.{Then, AdvancesByEvents, Hears, AsksClock, Hands, Puts, Gets}
 use Rattle.daide_driver.specs.Turn.{Pulls, Turn}
 use Rattle.daide_driver.specs.Due.{AreTurns, TakesSome, EachTakesSome, EachTurnTakesSome, taken_in}
 
 -- ---- traces joined
-
-pub taken-append : (side : Side) (a b : List PortCall) → taken side (a ++ b) ≡ taken side a ++ taken side b
-taken-append side [] b = refl
-taken-append side (x ∷ a) b =
-    ap (λ (t : List ℕ). took side x ++ t) (taken-append side a b) ∙ sym (append_assoc (took side x) (taken side a)
-    (taken side b))
 
 split : (side : Side) (a b : List PortCall) → EachTakesSome side (a ++ b) →
     EachTakesSome side a × EachTakesSome side b

@@ -10,7 +10,7 @@ use Rattle.daide_reader.specs.declared.verdict.Verdict.TheVariants.{Relay, Prn, 
 use Rattle.daide_frame.specs.declared.side.Side.{Side}
 use Rattle.daide_frame.specs.declared.side.Side.TheVariants.{Bot, Server}
 use Rattle.daide_protocol.specs.Answers.{answer_body, huh_open, err_bytes, close_bytes}
-use Rattle.daide_protocol.specs.Events.{other}
+use Rattle.daide_frame.specs.Side.{other}
 use Rattle.daide_protocol.specs.Machine.{Sent}
 use Rattle.daide_protocol.specs.Wires.{SessionView, queued, parts_of, next_part, parts_after, front_of, no_frame}
 use Rattle.daide_protocol.specs.Wires.{without, first_len, sent_to}
@@ -25,7 +25,8 @@ use Rattle.daide_io.specs.declared.ports.Put.TheVariants.{Took, Failed}
 use Rattle.daide_io.specs.Ports.{PortCall, Offered, taken}
 use Rattle.daide_driver.specs.Turn.{Then, Hears, AsksClock, Hands, Puts, Gets, Pulls, Turn}
 use Rattle.daide_driver.specs.Due.{AreTurns, TakesAll, EachTakesAll, EachTurnTakesAll, taken_in}
-use Rattle.daide_driver.proofs.DueLemmas.{own_taken, taken-append}
+use Rattle.daide_io.proofs.TraceLemmas.{taken-append}
+use Rattle.daide_driver.proofs.DueLemmas.{own_taken}
 
 -- ---- parts
 

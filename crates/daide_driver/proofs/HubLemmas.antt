@@ -20,21 +20,9 @@ use Rattle.daide_protocol.specs.declared.config.ConfigError.TheVariants as Error
 use Rattle.daide_protocol.specs.Config.{config_fault, is_level, is_body, is_depth}
 use Rattle.daide_protocol.specs.Weight.{IsKeptSmall}
 use Rattle.daide_protocol.specs.Config.{limits_with}
-use Rattle.daide_session.specs.Session.{IsCause}
-use Rattle.daide_session.specs.declared.session.SessionError.{SessionError}
-use Rattle.daide_session.specs.declared.session.SessionError.TheVariants as SessionErrors
 use Rattle.daide_driver.specs.Hub.{HubView, IsHubSession, with_places, session_bound}
 use Rattle.std.proofs.lemmas.Bool.{leb-true}
 use Rattle.std.proofs.Math.Nat.{add-mul}
-
--- ---- memory
-
--- with right limits there is one reason why no session is created
-pub body_refused : (Refuses : ℕ → Type 0) (config : Config) (error : SessionError) → config_fault config ≡ Ok tt →
-    IsCause Refuses config error → Refuses config.max_body
-body_refused Refuses config (SessionErrors.Config fault) right cause =
-    let e : Err fault ≡ Ok tt = sym cause ∙ right in absurd (cc)
-body_refused Refuses config SessionErrors.Memory right cause = cause.1
 
 -- ---- places
 
@@ -130,7 +118,6 @@ module _ {X : Type 0} (seen : X → SessionView) (config : Config) (words : List
       let old : Limited x =
       subst (λ (z : X). Limited z) (sym read) (All-get_or (λ (z : X). Limited z) items i x lt h.same_limits) in
       record {
-        checked = h.checked;
         size = h.size;
         fits = let fits = h.fits in omega (arith, fits, length-set items i y);
         room = h.room;
@@ -141,7 +128,6 @@ module _ {X : Type 0} (seen : X → SessionView) (config : Config) (words : List
   pub hosting_added : (capacity : ℕ) (items : List X) (x : X) → length items < max → IsNew (limits_with config words) (seen x) →
       IsHubSession seen config words max capacity items → IsHubSession seen config words max capacity (items ++ x ∷ [])
   hosting_added capacity items x lt new h = record {
-    checked = h.checked;
     size = h.size;
     fits = omega (arith, lt, length-append items (x ∷ []));
     room = h.room;
@@ -153,7 +139,7 @@ module _ {X : Type 0} (seen : X → SessionView) (config : Config) (words : List
 -- the greatest weight of one session, whatever it received
 pub weight_small : (g : SessionView) → ((side : Side) → IsKeptSmall g.state.limits.cap (holding g side)) →
     ((side : Side) → (holding g side).entries ≤ 8 * g.state.limits.max_depth + 16) →
-    (length g.to_bot ≤ 3) × (length g.to_server ≤ 3) → weight_of g ≤ session_bound g.state.limits
+    (length g.wires.bot ≤ 3) × (length g.wires.server ≤ 3) → weight_of g ≤ session_bound g.state.limits
 unfolding weight_of
 weight_small g kept entries three =
     let bot = (kept Bot).bytes in
@@ -194,7 +180,7 @@ pub place_small : {X : Type 0} (seen : X → SessionView) (config : Config) (wor
     (items : List X) (i : ℕ) (x : X) → IsHubSession seen config words max capacity items → i < length items → x ≡ get_or items i x →
     ((side : Side) → IsKeptSmall (seen x).state.limits.cap (holding (seen x) side)) →
     ((side : Side) → (holding (seen x) side).entries ≤ 8 * (seen x).state.limits.max_depth + 16) →
-    (length (seen x).to_bot ≤ 3) × (length (seen x).to_server ≤ 3) →
+    (length (seen x).wires.bot ≤ 3) × (length (seen x).wires.server ≤ 3) →
     weight_of (seen x) ≤ session_bound (limits_with config words)
 place_small {X} seen config words max capacity items i x h lt read kept entries three =
     let same : (seen x).state.limits ≡ limits_with config words =

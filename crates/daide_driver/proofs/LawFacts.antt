@@ -4,18 +4,22 @@ use Rattle.std.proofs.Common.{◌≡◌, ℕ, ◌+◌, ◌<◌, ◌≤◌, min, 
 use Rattle.std.specs.Prelude.{slice_get}
 use Rattle.daide_frame.specs.declared.side.Side.TheVariants.{Bot, Server}
 use Rattle.daide_protocol.specs.Machine.{Limits}
-use Rattle.daide_protocol.specs.Wires.{SessionView, queued, first_len, sent_bytes, parts_of}
+use Rattle.daide_protocol.specs.Wires.{SessionView, queued, first_len, sent_bytes, parts_of, holding}
 use Rattle.daide_io.specs.declared.ports.Pull.TheVariants.{Got}
 use Rattle.daide_io.specs.Ports.{PortCall, TurnBegins, Clock, Pulled, EvolvesBy}
 use Rattle.daide_channels.specs.Fronts.{AreFresh}
 use Rattle.daide_driver.specs.Due.{AreTurns, DueBytesGo, EachTurnTakesAll, EachTurnTakesSome, FramesGo, taken_in}
-use Rattle.daide_driver.specs.Headline.{Headline, IsReachable, untouched}
+use Rattle.daide_driver.specs.Headline.{untouched}
+use Rattle.daide_driver.specs.Whole.{HasHeadline}
 use Rattle.daide_driver.specs.Hub.{HubView}
 use Rattle.daide_driver.specs.HubRuns.{Added, Begun, Removed, Turned, HubRuns, Life, Opened, Stood, TurnRuns, TurnStarts, fresh_life}
 use Rattle.daide_driver.specs.HubRuns.{with_call, SessionsAreApart, PortsComeBackApart, EachHasItsHeadline, OpenedSessionsAreReachable}
 use Rattle.daide_driver.specs.HubRuns.{WentAlone}
 use Rattle.daide_driver.specs.Laws.{HeadlinesJoin, NewSessionsAreReachable, RelaysJoin}
-use Rattle.daide_driver.specs.Record.{EvolveTogether, RefinesRun}
+use Rattle.daide_driver.specs.Record.{EvolveTogether}
+use Rattle.daide_driver.specs.Totals.{RefinesRun}
+use Rattle.daide_frame.proofs.PerSideLemmas.{on_both}
+use Rattle.daide_frame.specs.declared.side.Side.{Side}
 
 -- ---- relays
 
@@ -26,21 +30,20 @@ joined law a b c bytes first second =
     law a b c (Clock false ∷ []) (Pulled Bot 512 (Got 2) bytes ∷ []) first second
 
 -- before any call, whatever the limits
-opens : NewSessionsAreReachable → (limits : Limits) → IsReachable limits [] (untouched limits)
+opens : NewSessionsAreReachable → (limits : Limits) → RefinesRun (untouched limits) [] (untouched limits)
 opens law limits = law limits (untouched limits) (record {
   state = refl;
-  to_bot = refl;
-  to_server = refl;
-  held = (refl, refl);
-  unasked = (refl, refl);
-  unlooked = (refl, refl);
+  quiet = on_both (λ (side : Side). queued (untouched limits) side ≡ []) refl refl;
+  held = on_both (λ (side : Side). (holding (untouched limits) side).held ≡ []) refl refl;
+  unasked = on_both (λ (side : Side). (holding (untouched limits) side).total ≡ 0) refl refl;
+  unlooked = on_both (λ (side : Side). (holding (untouched limits) side).looked_at ≡ 0) refl refl;
   uncounted = refl;
 })
 
 -- three calls, one after the other
 headlines : {P : Type 0} (transition : P → PortCall → P → Type 0) → HeadlinesJoin transition →
-    (a b c d : SessionView × P) → EvolveTogether transition Headline a b → EvolveTogether transition Headline b c →
-    EvolveTogether transition Headline c d → EvolveTogether transition Headline a d
+    (a b c d : SessionView × P) → EvolveTogether transition HasHeadline a b → EvolveTogether transition HasHeadline b c →
+    EvolveTogether transition HasHeadline c d → EvolveTogether transition HasHeadline a d
 headlines transition law a b c d first second third = law a c d (law a b c first second) third
 
 -- ---- the queued bytes
@@ -90,15 +93,15 @@ module _ {P : Type 0} (transition : P → PortCall → P → Type 0) (limits : L
   -- one turn of the only place
   one_headline : EachHasItsHeadline transition → (place now : SessionView × P) (new : HubView P) →
       HubRuns transition (two (place ∷ [])) (Turned 0 ∷ []) new → slice_get new.places 0 ≡ Some now →
-      EvolveTogether transition Headline place now
+      EvolveTogether transition HasHeadline place now
   one_headline law place now new runs at =
       let got = law (Turned 0 ∷ []) (two (place ∷ [])) new runs 0 (with_call TurnRuns (fresh_life (Stood place))) now refl
       at (omega arith) in
-      subst (λ (first : SessionView × P). EvolveTogether transition Headline first now) got.1 got.2
+      subst (λ (first : SessionView × P). EvolveTogether transition HasHeadline first now) got.1 got.2
 
   -- ports that were handed over, and no turn
   one_added : OpenedSessionsAreReachable transition → (ports : P) (now : SessionView × P) (new : HubView P) →
       HubRuns transition (two []) (Added ports ∷ []) new → slice_get new.places 0 ≡ Some now →
-      (history : List PortCall) × IsReachable limits history now.0 × EvolvesBy transition ports history now.1
+      (history : List PortCall) × RefinesRun (untouched limits) history now.0 × EvolvesBy transition ports history now.1
   one_added law ports now new runs at =
       law (Added ports ∷ []) (two []) new runs 0 (fresh_life (Opened ports)) ports now refl at refl

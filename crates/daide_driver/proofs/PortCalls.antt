@@ -9,7 +9,8 @@ use Rattle.std.proofs.lemmas.Bool.Decides.{leb_tells}
 use Rattle.daide_frame.specs.declared.side.Side.{Side}
 use Rattle.daide_frame.specs.declared.side.Side.TheVariants.{Bot, Server}
 use Rattle.daide_protocol.specs.declared.note.Note.{Note}
-use Rattle.daide_protocol.specs.Events.{Event, Ends, ImTimerExpired, bytes_come, other}
+use Rattle.daide_frame.specs.Side.{other}
+use Rattle.daide_protocol.specs.Events.{Event, Ends, ImTimerExpired, bytes_come}
 use Rattle.daide_protocol.specs.Machine.{Sent, Effect, Runs, is_over}
 use Rattle.daide_protocol.specs.Wires.{SessionView, queued, sent_to, sent_bytes, without}
 use Rattle.daide_protocol.specs.Wires.{Refines, Lost, Wrote, IsFrontOf}
@@ -19,7 +20,8 @@ use Rattle.daide_session.proofs.WorkLemmas.{paid_same}
 use Rattle.daide_io.specs.declared.ports.Pull.TheVariants.{Got, Idle, Ended}
 use Rattle.daide_io.specs.declared.ports.Put.TheVariants.{Took, Failed}
 use Rattle.daide_io.specs.Ports.{TurnBegins, Clock, Pulled, Offered, taken, has_failed}
-use Rattle.daide_driver.specs.Record.{Moved, RefinesRun, Works}
+use Rattle.daide_driver.specs.Record.{Moved}
+use Rattle.daide_driver.specs.Totals.{RefinesRun, Works}
 
 goes_wire : (a : SessionView) (es : List Event) (note : Note) (b : SessionView) (g : Refines a es note b) (side : Side) →
     sent_bytes (queued a side) ++ sent_bytes (sent_to side g.effects) ≡ sent_bytes (queued b side)
@@ -30,9 +32,11 @@ goes_wire a es note b g side =
 
 pub turn_begins : (a : SessionView) → RefinesRun a (TurnBegins ∷ []) a
 turn_begins a = record {
-  effects = [];
-  run = (refl, refl);
-  wires = λ side. append-nil (sent_bytes (queued a side));
+  sends = record {
+    effects = [];
+    run = (refl, refl);
+    wires = λ side. append-nil (sent_bytes (queued a side));
+  };
   counts = refl;
   work = λ side. paid_same side a a refl refl;
 }
@@ -40,18 +44,22 @@ turn_begins a = record {
 pub clock_pops : (a b : SessionView) (note : Note) → Works a (Clock true ∷ []) b → Refines a (ImTimerExpired ∷ []) note b →
     RefinesRun a (Clock true ∷ []) b
 clock_pops a b note work g = record {
-  effects = g.effects;
-  run = g.run;
-  wires = λ side. goes_wire a (ImTimerExpired ∷ []) note b g side;
+  sends = record {
+    effects = g.effects;
+    run = g.run;
+    wires = λ side. goes_wire a (ImTimerExpired ∷ []) note b g side;
+  };
   counts = g.counts;
   work = work;
 }
 
 pub clock_runs : (a : SessionView) → Works a (Clock false ∷ []) a → RefinesRun a (Clock false ∷ []) a
 clock_runs a work = record {
-  effects = [];
-  run = (refl, refl);
-  wires = λ side. append-nil (sent_bytes (queued a side));
+  sends = record {
+    effects = [];
+    run = (refl, refl);
+    wires = λ side. append-nil (sent_bytes (queued a side));
+  };
   counts = refl;
   work = work;
 }
@@ -60,9 +68,11 @@ pub got_bytes : (a : SessionView) (side : Side) (len n : ℕ) (bytes : List ℕ)
     Works a (Pulled side len (Got n) bytes ∷ []) b → Refines a (bytes_come side bytes) note b →
     RefinesRun a (Pulled side len (Got n) bytes ∷ []) b
 got_bytes a side len n bytes note b work g = record {
-  effects = g.effects;
-  run = subst (λ (es : List Event). Runs a.state es g.effects b.state) (sym (append-nil (bytes_come side bytes))) g.run;
-  wires = λ one. goes_wire a (bytes_come side bytes) note b g one;
+  sends = record {
+    effects = g.effects;
+    run = subst (λ (es : List Event). Runs a.state es g.effects b.state) (sym (append-nil (bytes_come side bytes))) g.run;
+    wires = λ one. goes_wire a (bytes_come side bytes) note b g one;
+  };
   counts = g.counts;
   work = work;
 }
@@ -70,9 +80,11 @@ got_bytes a side len n bytes note b work g = record {
 pub was_idle : (a : SessionView) (side : Side) (len : ℕ) (bytes : List ℕ) → Works a (Pulled side len Idle bytes ∷ []) a →
     RefinesRun a (Pulled side len Idle bytes ∷ []) a
 was_idle a side len bytes work = record {
-  effects = [];
-  run = (refl, refl);
-  wires = λ one. append-nil (sent_bytes (queued a one));
+  sends = record {
+    effects = [];
+    run = (refl, refl);
+    wires = λ one. append-nil (sent_bytes (queued a one));
+  };
   counts = refl;
   work = work;
 }
@@ -81,9 +93,11 @@ pub has_ended : (a : SessionView) (side : Side) (len : ℕ) (bytes : List ℕ) (
     Works a (Pulled side len Ended bytes ∷ []) b → Refines a (Ends side ∷ []) note b →
     RefinesRun a (Pulled side len Ended bytes ∷ []) b
 has_ended a side len bytes note b work g = record {
-  effects = g.effects;
-  run = g.run;
-  wires = λ one. goes_wire a (Ends side ∷ []) note b g one;
+  sends = record {
+    effects = g.effects;
+    run = g.run;
+    wires = λ one. goes_wire a (Ends side ∷ []) note b g one;
+  };
   counts = g.counts;
   work = work;
 }
@@ -140,9 +154,11 @@ pub took_bytes : (a : SessionView) (side : Side) (bytes : List ℕ) (n : ℕ) (b
     n ≤ length bytes → Works a (Offered side bytes (Took n) ∷ []) b → Wrote a side n b →
     RefinesRun a (Offered side bytes (Took n) ∷ []) b
 took_bytes a side bytes n b f h work g = record {
-  effects = [];
-  run = (refl, g.same_state);
-  wires = λ one. wire side one f g;
+  sends = record {
+    effects = [];
+    run = (refl, g.same_state);
+    wires = λ one. wire side one f g;
+  };
   counts = g.counts;
   work = work;
 }
@@ -158,9 +174,11 @@ took_bytes a side bytes n b f h work g = record {
 pub put_failed : (a : SessionView) (side : Side) (bytes : List ℕ) (b : SessionView) → Works a (Offered side bytes Failed ∷ []) b →
     Lost a side b → RefinesRun a (Offered side bytes Failed ∷ []) b
 put_failed a side bytes b work g = record {
-  effects = g.effects;
-  run = g.run;
-  wires = λ one. wire side one g.effects g.over g.dropped g.other_wire;
+  sends = record {
+    effects = g.effects;
+    run = g.run;
+    wires = λ one. wire side one g.effects g.over g.dropped g.other_wire;
+  };
   counts = g.counts;
   work = work;
 }

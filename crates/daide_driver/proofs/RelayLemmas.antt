@@ -3,15 +3,16 @@ use Rattle.std.proofs.Common.{◌≡◌, ℕ, zero, suc, ◌+◌, false, List, [
 use Rattle.std.proofs.Common.{sym, subst, add-one}
 use Rattle.daide_protocol.specs.Wires.{SessionView, is_closed}
 use Rattle.daide_io.specs.Ports.{PortCall}
-use Rattle.daide_driver.specs.Record.{RefinesRun, EvolveTogether}
+use Rattle.daide_driver.specs.Record.{EvolveTogether}
+use Rattle.daide_driver.specs.Totals.{RefinesRun}
 use Rattle.daide_driver.specs.Turn.{Then}
-use Rattle.daide_driver.specs.Headline.{WholeTurn}
+use Rattle.daide_driver.specs.Whole.{WholeTurn}
 use Rattle.daide_session.specs.Bounds.{IsWithinBounds}
 use Rattle.daide_driver.specs.Relay.{Turns, MakesTurns, WholeRelay}
 use Rattle.daide_driver.specs.declared.relaying.RelayEnd.{RelayEnd}
 use Rattle.daide_driver.specs.declared.relaying.RelayEnd.TheVariants.{Closed, TurnsSpent}
 use Rattle.daide_driver.proofs.Stretches.{relays_append, relays_nil, carries_then, carries_weaker, carries_nothing}
-use Rattle.daide_driver.proofs.Standing.{headline_of}
+use Rattle.daide_driver.proofs.Standing.{headline_of, totals_of}
 
 -- n turns, and the session is not closed after them
 abbrev pub StaysOpen : ℕ → SessionView → List PortCall → SessionView → Type 0
@@ -30,10 +31,10 @@ pub relayed : (end : RelayEnd) (turns : ℕ) (a : SessionView) (xs : List PortCa
     MakesTurns end turns a xs b → WholeRelay end turns a xs b
 relayed Closed turns a xs b within h =
     let relays = turns_relay h.0 a xs b h.2 in
-    record { in_order = h; delivered = relays; headline = headline_of a xs b within relays }
+    record { in_order = h; delivered = relays; headline = headline_of a xs b within relays.sends; totals = totals_of a xs b relays }
 relayed TurnsSpent turns a xs b within h =
     let relays = turns_relay turns a xs b h in
-    record { in_order = h; delivered = relays; headline = headline_of a xs b within relays }
+    record { in_order = h; delivered = relays; headline = headline_of a xs b within relays.sends; totals = totals_of a xs b relays }
 
 one_more : (n : ℕ) (a : SessionView) (xs : List PortCall) (b : SessionView) → Then (StaysOpen n) WholeTurn a xs b →
     Turns (n + 1) a xs b

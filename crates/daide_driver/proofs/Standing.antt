@@ -8,12 +8,14 @@ use Rattle.daide_reader.specs.Reading.{IsRaised}
 use Rattle.daide_protocol.specs.Machine.{Limits, Sent, SessionState, is_over}
 use Rattle.daide_protocol.specs.Wires.{SessionView, IsNew, holding, queued, sent_bytes, is_closed, no_frame}
 use Rattle.daide_io.specs.Ports.{PortCall, has_failed}
-use Rattle.daide_driver.specs.Record.{Moved, RefinesRun, Works, came}
+use Rattle.daide_driver.specs.Record.{Moved, DeliversOutput}
+use Rattle.daide_driver.specs.Totals.{RefinesRun, Works, HasTotals, KeepsTotals, came}
 use Rattle.daide_driver.specs.Turn.{Then}
 use Rattle.daide_session.specs.Work.{unspent}
 use Rattle.daide_session.specs.Bounds.{IsWithinBounds}
-use Rattle.daide_driver.specs.Headline.{untouched, IsReachable, IsBoundedAndExact, Headline, WholeTurn}
-use Rattle.daide_driver.proofs.Stretches.{relays_append}
+use Rattle.daide_driver.specs.Headline.{untouched, IsBoundedAndExact, Headline}
+use Rattle.daide_driver.specs.Whole.{HasHeadline, WholeTurn}
+use Rattle.daide_driver.proofs.Stretches.{delivers_append, relays_append}
 use Rattle.daide_driver.proofs.TurnLemmas.{WorkingTurn, turn_in_order, turn_relays}
 use Rattle.daide_session.proofs.WorkLemmas.{nothing_left, paid_idle}
 
@@ -31,9 +33,9 @@ all_three false b c e = absurd (cc)
 
 closed_wire : (g : SessionView) → is_closed g ≡ true → (side : Side) → queued g side ≡ []
 closed_wire g e Bot =
-    none_of g.to_bot (all_three (is_over g.state.phase) (no_frame g.to_bot) (no_frame g.to_server) e).0
+    none_of g.wires.bot (all_three (is_over g.state.phase) (no_frame g.wires.bot) (no_frame g.wires.server) e).0
 closed_wire g e Server =
-    none_of g.to_server (all_three (is_over g.state.phase) (no_frame g.to_bot) (no_frame g.to_server) e).1
+    none_of g.wires.server (all_three (is_over g.state.phase) (no_frame g.wires.bot) (no_frame g.wires.server) e).1
 
 nothing_waited : (limits : Limits) (side : Side) → sent_bytes (queued (untouched limits) side) ≡ []
 nothing_waited limits Bot = refl
@@ -47,8 +49,8 @@ moved_all false over waited answers took waits f e n h =
 
 -- ---- the work since the opening of a run
 
-whole_work : (limits : Limits) (history : List PortCall) (g : SessionView) → IsReachable limits history g → (side : Side) →
-    IsRaised (2 * came side history) 0 (holding g side).total
+whole_work : (limits : Limits) (history : List PortCall) (g : SessionView) →
+    RefinesRun (untouched limits) history g → (side : Side) → IsRaised (2 * came side history) 0 (holding g side).total
 whole_work limits history g stands side =
     let paid = stands.work side in
     let few = paid.few in
@@ -69,24 +71,32 @@ whole_work limits history g stands side =
 
 -- ---- the headline
 
-pub headline_of : (a : SessionView) (xs : List PortCall) (b : SessionView) → IsWithinBounds b → RefinesRun a xs b →
+pub headline_of : (a : SessionView) (xs : List PortCall) (b : SessionView) → IsWithinBounds b → DeliversOutput a xs b →
     Headline a xs b
 headline_of a xs b within r limits history stands =
-    let all = relays_append (untouched limits) history a xs b stands r in
+    let all = delivers_append (untouched limits) history a xs b stands r in
     record {
       bounds = within;
-      work = λ side. whole_work limits (history ++ xs) b all side;
       sends = all;
       all_sent = λ closed side ok. moved_all (has_failed side (history ++ xs)) (is_over b.state.phase) _ _ _ _ ok
           (nothing_waited limits side) (ap sent_bytes (closed_wire b closed side)) (all.wires side);
     }
 
+-- ---- the totals
+
+pub totals_of : (a : SessionView) (xs : List PortCall) (b : SessionView) → RefinesRun a xs b → KeepsTotals a xs b
+totals_of a xs b r limits history whole =
+    let all = relays_append (untouched limits) history a xs b whole r in
+    record { whole = all; work = λ side. whole_work limits (history ++ xs) b all side }
+
 -- a new session is at the opening of a run
-pub new_stands : (limits : Limits) (g : SessionView) → IsNew limits g → IsReachable limits [] g
+pub new_stands : (limits : Limits) (g : SessionView) → IsNew limits g → RefinesRun (untouched limits) [] g
 new_stands limits g n = record {
-  effects = [];
-  run = (refl, n.state);
-  wires = λ side. wire side n.to_bot n.to_server;
+  sends = record {
+    effects = [];
+    run = (refl, n.state);
+    wires = λ side. ap (λ (x : List ℕ). x ++ []) (nothing_waited limits side) ∙ sym (ap sent_bytes (n.quiet side));
+  };
   counts = n.uncounted;
   work = work;
 }
@@ -95,13 +105,8 @@ new_stands limits g n = record {
     limits_set = ap (λ (s : SessionState). s.limits) n.state
 
     work : Works (untouched limits) [] g
-    work Bot = paid_idle Bot (untouched limits) g limits_set n.unasked.0 (inr n.held.0)
-    work Server = paid_idle Server (untouched limits) g limits_set n.unasked.1 (inr n.held.1)
-
-    wire : (side : Side) → g.to_bot ≡ [] → g.to_server ≡ [] →
-        ◌≡◌ {A = List ℕ} (sent_bytes (queued (untouched limits) side) ++ []) (sent_bytes (queued g side))
-    wire Bot e f = sym (ap sent_bytes e)
-    wire Server e f = sym (ap sent_bytes f)
+    work Bot = paid_idle Bot (untouched limits) g limits_set (n.unasked Bot) (inr (n.held Bot))
+    work Server = paid_idle Server (untouched limits) g limits_set (n.unasked Server) (inr (n.held Server))
 
 -- the whole effect of a turn's trace
 pub one_turn : (a : SessionView) (xs : List PortCall) (b : SessionView) → IsWithinBounds b → WorkingTurn a xs b →
@@ -112,14 +117,22 @@ one_turn a xs b within t =
       in_order = turn_in_order a xs b t;
       delivered = relays;
       bounds = within;
-      headline = headline_of a xs b within relays;
+      headline = headline_of a xs b within relays.sends;
+      totals = totals_of a xs b relays;
     }
 
 -- two headlines, one after another, are a headline of the joined traces
-pub headlines_join : (a : SessionView) (xs : List PortCall) (c : SessionView) → Then Headline Headline a xs c →
-    Headline a xs c
-headlines_join a xs c h limits history stands =
-    let first = h.4 limits history stands in
-    subst (λ (ys : List PortCall). IsBoundedAndExact limits ys c)
-    (append_assoc history h.1 h.2 ∙ ap (λ (ys : List PortCall). history ++ ys) (sym h.3))
-    (h.5 limits (history ++ h.1) first.sends)
+pub headlines_join : (a : SessionView) (xs : List PortCall) (c : SessionView) → Then HasHeadline HasHeadline a xs c →
+    HasHeadline a xs c
+headlines_join a xs c h = (
+  λ limits history stands.
+      subst (λ (ys : List PortCall). IsBoundedAndExact limits ys c) (joined history)
+      (h.5.0 limits (history ++ h.1) (h.4.0 limits history stands).sends),
+  λ limits history whole.
+      subst (λ (ys : List PortCall). HasTotals limits ys c) (joined history)
+      (h.5.1 limits (history ++ h.1) (h.4.1 limits history whole).whole),
+)
+  where
+    joined : (history : List PortCall) → (history ++ h.1) ++ h.2 ≡ history ++ xs
+    joined history =
+        append_assoc history h.1 h.2 ∙ ap (λ (ys : List PortCall). history ++ ys) (sym h.3)

@@ -11,37 +11,14 @@ use Rattle.daide_protocol.proofs.PieceRuns.{over_stays}
 use Rattle.daide_protocol.proofs.SummaryLemmas.{tallied_then}
 use Rattle.daide_protocol.proofs.WireLemmas.{sent_to-append, sent_bytes-append}
 use Rattle.daide_io.specs.Ports.{PortCall, event_of, events_of, took, taken, put_fails, has_failed}
-use Rattle.daide_driver.specs.Record.{Moved, RefinesRun}
-use Rattle.daide_io.specs.Ports.{EvolvesBy, AppendsTo}
+use Rattle.daide_io.proofs.TraceLemmas.{events_of-append, taken-append, has_failed-append, transition_then}
+use Rattle.daide_driver.specs.Record.{Moved, DeliversOutput}
+use Rattle.daide_driver.specs.Totals.{RefinesRun}
+use Rattle.daide_io.specs.Ports.{EvolvesBy}
 use Rattle.daide_driver.specs.Record.{EvolveTogether}
 use Rattle.daide_driver.specs.Turn.{Then}
 use Rattle.daide_session.proofs.WorkLemmas.{paid_same}
 use Rattle.daide_driver.proofs.AnswerWork.{works_then}
-
--- ---- lists along an append
-
-pub events_of-append : (xs ys : List PortCall) → events_of (xs ++ ys) ≡ events_of xs ++ events_of ys
-events_of-append [] ys = refl
-events_of-append (x ∷ xs) ys =
-    ap (λ (t : List Event). event_of x ++ t) (events_of-append xs ys)
-    ∙ sym (append_assoc (event_of x) (events_of xs) (events_of ys))
-
-pub taken-append : (side : Side) (xs ys : List PortCall) → taken side (xs ++ ys) ≡ taken side xs ++ taken side ys
-taken-append side [] ys = refl
-taken-append side (x ∷ xs) ys =
-    ap (λ (t : List ℕ). took side x ++ t) (taken-append side xs ys)
-    ∙ sym (append_assoc (took side x) (taken side xs) (taken side ys))
-
-pub or_assoc : (a b c : Bool) → (a || (b || c)) ≡ ((a || b) || c)
-or_assoc true b c = refl
-or_assoc false b c = refl
-
-pub has_failed-append : (side : Side) (xs ys : List PortCall) →
-    has_failed side (xs ++ ys) ≡ (has_failed side xs || has_failed side ys)
-has_failed-append side [] ys = refl
-has_failed-append side (x ∷ xs) ys =
-    ap (λ (b : Bool). put_fails side x || b) (has_failed-append side xs ys)
-    ∙ or_assoc (put_fails side x) (has_failed side xs) (has_failed side ys)
 
 -- ---- one wire
 
@@ -82,9 +59,9 @@ over_runs : (a b : SessionState) (es : List Event) (effects : List Effect) → i
     Runs a es effects b → (effects ≡ []) × (b ≡ a)
 over_runs a b es effects over run = one_run es a effects [] b a run (over_stays a es over)
 
-pub relays_append : (a : SessionView) (xs : List PortCall) (b : SessionView) (ys : List PortCall) (c : SessionView) →
-    RefinesRun a xs b → RefinesRun b ys c → RefinesRun a (xs ++ ys) c
-relays_append a xs b ys c h k = record {
+pub delivers_append : (a : SessionView) (xs : List PortCall) (b : SessionView) (ys : List PortCall) (c : SessionView) →
+    DeliversOutput a xs b → DeliversOutput b ys c → DeliversOutput a (xs ++ ys) c
+delivers_append a xs b ys c h k = record {
   effects = h.effects ++ k.effects;
   run = subst (λ (es : List Event). Runs a.state es (h.effects ++ k.effects) c.state) (sym (events_of-append xs ys))
       (runs_join (events_of xs) (events_of ys) a.state b.state c.state h.effects k.effects h.run k.run);
@@ -101,53 +78,33 @@ relays_append a xs b ys c h k = record {
       )
       (moved_append (has_failed side xs) (has_failed side ys) (is_over b.state.phase) (is_over c.state.phase)
       _ _ _ _ _ _ _ (h.wires side) (k.wires side) quiet);
-  counts = tallied_then h.effects k.effects a.summary b.summary c.summary h.counts k.counts;
+}
+
+pub relays_append : (a : SessionView) (xs : List PortCall) (b : SessionView) (ys : List PortCall) (c : SessionView) →
+    RefinesRun a xs b → RefinesRun b ys c → RefinesRun a (xs ++ ys) c
+unfolding delivers_append
+relays_append a xs b ys c h k = record {
+  sends = delivers_append a xs b ys c h.sends k.sends;
+  counts = tallied_then h.sends.effects k.sends.effects a.summary b.summary c.summary h.counts k.counts;
   work = works_then a xs b ys c (events_of-append xs ys) h.work k.work;
 }
 
 pub relays_nil : (a : SessionView) → RefinesRun a [] a
 relays_nil a = record {
-  effects = [];
-  run = (refl, refl);
-  wires = λ side. append-nil (sent_bytes (queued a side));
+  sends = record { effects = []; run = (refl, refl); wires = λ side. append-nil (sent_bytes (queued a side)) };
   counts = refl;
   work = λ side. paid_same side a a refl refl;
 }
 
--- ---- traces, step by step
-
-module _ {A : Type 0} where
-  pub tells_nil : (s : Option (List A)) → AppendsTo s [] s
-  tells_nil None = tt
-  tells_nil (Some r) = (r, refl, sym (append-nil r))
-
-  unwrapped : (x y : List A) → Some x ≡ Some y → x ≡ y
-  unwrapped x y e = ap (λ (o : Option (List A)). unwrap_or o []) e
-
-  pub tells_then : (s t u : Option (List A)) (xs ys : List A) → AppendsTo s xs t → AppendsTo t ys u → AppendsTo s (xs ++ ys) u
-  tells_then s t None xs ys h k = tt
-  tells_then s t (Some after) xs ys h k = reported_at t h k
-    where
-      reported_at : (t : Option (List A)) → AppendsTo s xs t → AppendsTo t ys (Some after) → AppendsTo s (xs ++ ys) (Some after)
-      reported_at None h k = absurd (let e = k.1 in cc)
-      reported_at (Some mid) h k =
-          let same : mid ≡ k.0 = unwrapped mid k.0 k.1 in
-          (h.0, h.1, k.2 ∙ ap (λ (x : List A). x ++ ys) (sym same ∙ h.2) ∙ append_assoc h.0 xs ys)
-
 -- ---- calls in a row
 
 module _ {P : Type 0} (transition : P → PortCall → P → Type 0) where
-  pub transition_then : (xs ys : List PortCall) (p q r : P) → EvolvesBy transition p xs q → EvolvesBy transition q ys r →
-      EvolvesBy transition p (xs ++ ys) r
-  transition_then [] ys p q r h k = subst (λ (x : P). EvolvesBy transition x ys r) h k
-  transition_then (x ∷ xs) ys p q r h k = (h.0, h.1, transition_then xs ys h.0 q r h.2 k)
-
   pub carries_then : (K L : SessionView → List PortCall → SessionView → Type 0) (a b c : SessionView × P) →
       EvolveTogether transition K a b → EvolveTogether transition L b c → EvolveTogether transition (Then K L) a c
   carries_then K L a b c h k = record {
     call = h.call ++ k.call;
     session = (b.0, h.call, k.call, refl, h.session, k.session);
-    ports = transition_then h.call k.call a.1 b.1 c.1 h.ports k.ports;
+    ports = transition_then transition h.call k.call a.1 b.1 c.1 h.ports k.ports;
   }
 
   pub carries_weaker : (K L : SessionView → List PortCall → SessionView → Type 0) (a b : SessionView × P) →

@@ -11,8 +11,8 @@ use Rattle.daide_io.specs.declared.ports.Pull.TheVariants.{Got, Idle, Ended}
 use Rattle.daide_io.specs.declared.ports.Put.{Put}
 use Rattle.daide_io.specs.declared.ports.Put.TheVariants.{Took, Failed}
 use Rattle.daide_io.specs.Ports.{PortCall, Clock, Pulled, Offered, IsPutWithin, pulled_len}
-use Rattle.daide_driver.specs.Record.{RefinesRun, Works}
-use Rattle.daide_driver.specs.Record.{Working}
+use Rattle.daide_driver.specs.Totals.{RefinesRun, Works}
+use Rattle.daide_driver.specs.Totals.{Working}
 use Rattle.std.specs.Prelude.{min}
 use Rattle.daide_driver.specs.Turn.{Then, Hears, AsksClock, Hands, HasNone, HandsFront, Puts, Gets, HasNoRoom}
 use Rattle.daide_driver.specs.Turn.{FillsRoom, Pulls, Turn}

@@ -2,7 +2,8 @@
 -- offered.
 use Rattle.std.specs.Prelude.{◌≡◌, ℕ, ◌<◌, ◌≤◌, min, true, List, [], ◌∷◌, ◌++◌, length}
 use Rattle.daide_frame.specs.declared.side.Side.{Side}
-use Rattle.daide_protocol.specs.Wires.{SessionView, queued, same_side, sent_bytes, first_len, parts_of}
+use Rattle.daide_frame.specs.Side.{same_side}
+use Rattle.daide_protocol.specs.Wires.{SessionView, queued, sent_bytes, first_len, parts_of}
 use Rattle.daide_channels.specs.Fronts.{AreFresh}
 use Rattle.daide_io.specs.declared.ports.Put.TheVariants.{Took, Failed}
 use Rattle.daide_io.specs.Ports.{PortCall, TurnBegins, Clock, Pulled, Offered, taken}

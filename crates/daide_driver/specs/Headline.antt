@@ -1,17 +1,16 @@
 -- The main theorem: whatever bytes the two sides send, in whatever pieces and order, a session keeps in each direction
 -- at most one message's announced length, capped, and eight stack entries for each open bracket plus sixteen, with 64
--- further entries in all, takes at most four table steps a token, over all bytes received two a byte, and sends exactly
--- the grammar's answers.
-use Rattle.std.specs.Prelude.{◌≡◌, ◌*◌, true, false, List, [], ◌++◌}
+-- further entries in all, takes at most four table steps a token, and sends exactly the grammar's answers. What a
+-- session counts is beside it, in Totals.
+use Rattle.std.specs.Prelude.{◌≡◌, true, false, List, [], ◌++◌}
 use Rattle.daide_frame.specs.declared.side.Side.{Side}
-use Rattle.daide_reader.specs.Reading.{IsRaised}
+use Rattle.daide_frame.specs.PerSide.{both}
 use Rattle.daide_protocol.specs.Machine.{Limits, initial_state}
 use Rattle.daide_protocol.specs.Summary.{nothing_counted}
-use Rattle.daide_protocol.specs.Wires.{SessionView, Holding, holding, sent_to, sent_bytes, is_closed}
+use Rattle.daide_protocol.specs.Wires.{SessionView, Holding, sent_to, sent_bytes, is_closed}
 use Rattle.daide_session.specs.Bounds.{IsWithinBounds}
 use Rattle.daide_io.specs.Ports.{PortCall, taken, has_failed}
-use Rattle.daide_driver.specs.Record.{RefinesRun, came}
-use Rattle.daide_driver.specs.Turn.{Turn}
+use Rattle.daide_driver.specs.Record.{DeliversOutput}
 
 -- ---- reachable sessions
 
@@ -23,20 +22,16 @@ nothing_held = record { held = []; entries = 0; total = 0; total_before = 0; loo
 abbrev pub untouched : Limits → SessionView
 untouched limits = record {
   state = initial_state limits;
-  to_bot = [];
-  to_server = [];
-  bot_parts = [];
-  server_parts = [];
-  bot = nothing_held;
-  server = nothing_held;
+  wires = both [] [];
+  parts = both [] [];
+  sides = both nothing_held nothing_held;
   summary = nothing_counted;
 }
 
 -- A run from the opening leads to this session, by its port calls since it was created. Its state is the machine's. The
--- bytes accepted and the bytes queued are the machine's output. All moves are counted, and each table made at most two
--- look-ups for a byte received.
+-- bytes accepted and the bytes queued are the machine's output.
 abbrev pub IsReachable : Limits → List PortCall → SessionView → Type 0
-IsReachable limits history g = RefinesRun (untouched limits) history g
+IsReachable limits history g = DeliversOutput (untouched limits) history g
 
 -- ---- the headline
 
@@ -45,8 +40,6 @@ pub record IsBoundedAndExact (limits : Limits) (history : List PortCall) (g : Se
   -- it keeps in each direction at most one message's announced length, capped, and eight stack entries for each open
   -- bracket plus sixteen, with 64 further entries in all, takes at most four table steps a token,
   pub bounds : IsWithinBounds g
-  -- over all its history at most two for each byte received from the side, counted modulo 2^64,
-  pub work : (side : Side) → IsRaised (2 * came side history) 0 (holding g side).total
   -- and sends exactly the grammar's answers: the bytes that each wire accepted are a front of them, and, unless the
   -- wire failed, the queued bytes are the rest
   pub sends : IsReachable limits history g
@@ -59,11 +52,3 @@ pub record IsBoundedAndExact (limits : Limits) (history : List PortCall) (g : Se
 abbrev pub Headline : SessionView → List PortCall → SessionView → Type 0
 Headline old call new = (limits : Limits) (history : List PortCall) →
     IsReachable limits history old → IsBoundedAndExact limits (history ++ call) new
-
--- The effect of one turn, all parts by the same trace. The port calls are in order; the bytes accepted and queued are
--- the machine's output; the session is within its bounds, and it has the headline.
-pub record WholeTurn (old : SessionView) (call : List PortCall) (new : SessionView) : Type 0 where
-  pub in_order : Turn old call new
-  pub delivered : RefinesRun old call new
-  pub bounds : IsWithinBounds new
-  pub headline : Headline old call new

@@ -2,7 +2,7 @@
 use Rattle.std.specs.Prelude.{◌≡◌, ℕ, ◌+◌, ◌*◌, ◌<◌, ◌≤◌, ◌⊎◌, true, List, [], ◌∷◌, ◌++◌, length}
 use Rattle.std.specs.Prelude.{Option, Some, None, Ok, Err, slice_get, slice_set, remove, All}
 use Rattle.daide_words.specs.declared.word.Word.{Word}
-use Rattle.daide_protocol.specs.Machine.{Limits}
+use Rattle.daide_protocol.specs.Machine.{Limits, ending_in}
 use Rattle.daide_protocol.specs.Wires.{SessionView, IsNew, is_closed}
 use Rattle.daide_protocol.specs.Weight.{weight_of, weight_bound}
 use Rattle.daide_protocol.specs.declared.config.Config.{Config}
@@ -12,13 +12,13 @@ use Rattle.daide_driver.specs.declared.hub.AddFault.{AddFault}
 use Rattle.daide_driver.specs.declared.hub.AddFault.TheVariants as Faults
 use Rattle.daide_driver.specs.declared.hub.HubError.{HubError}
 use Rattle.daide_driver.specs.declared.hub.HubError.TheVariants as Errors
-use Rattle.daide_protocol.specs.Bounds.{most_sessions}
+use Rattle.daide_protocol.specs.Bounds.{most_sessions, IsSessionCount}
 use Rattle.daide_protocol.specs.Config.{config_fault}
 use Rattle.daide_protocol.specs.Config.{limits_with}
 use Rattle.daide_io.specs.Ports.{PortCall, TurnBegins}
 use Rattle.daide_driver.specs.Record.{EvolveTogether}
 use Rattle.daide_driver.specs.Turn.{AsksAtMost, turn_steps}
-use Rattle.daide_driver.specs.Headline.{WholeTurn}
+use Rattle.daide_driver.specs.Whole.{WholeTurn}
 
 -- the state of a hub: the limits of its sessions, the maximum number of them, and at each place a session and its ports
 pub record HubView (P : Type 0) : Type 0 where
@@ -41,24 +41,19 @@ with_ports hub i ports = with_ports_at hub i (slice_get hub.places i) ports
 -- the invariant of a hub between calls; `seen` returns the session at a place
 pub record IsHubSession {X : Type 0} (seen : X → SessionView) (config : Config) (words : List Word) (max capacity : ℕ)
     (items : List X) : Type 0 where
-  pub checked : config_fault config ≡ Ok tt
-  pub size : (0 < max) × (max ≤ most_sessions)
+  pub size : IsSessionCount max
   pub fits : length items ≤ max
   pub room : max ≤ capacity
   pub same_limits : All (λ x. (seen x).state.limits ≡ limits_with config words) items
 
 -- ---- refusals
 
--- a hub is for at least one session and at most `most_sessions`
-abbrev pub IsHubSize : ℕ → Type 0
-IsHubSize max = (0 < max) × (max ≤ most_sessions)
-
 -- The limits are checked first, then the number of sessions. Memory is requested only if both are right; the error is
 -- then that the allocator refused the places. `Refuses` is the allocator's relation of that name.
 abbrev pub IsHubCause : (ℕ → Type 0) → Config → ℕ → HubError → Type 0
 IsHubCause Refuses config max (Errors.Config fault) = config_fault config ≡ Err fault
 IsHubCause Refuses config max Errors.Sessions = (config_fault config ≡ Ok tt) × ((max ≡ 0) ⊎ (most_sessions < max))
-IsHubCause Refuses config max Errors.Memory = (config_fault config ≡ Ok tt) × IsHubSize max × Refuses max
+IsHubCause Refuses config max Errors.Memory = (config_fault config ≡ Ok tt) × IsSessionCount max × Refuses max
 
 -- A session is refused if the hub is full. Memory is requested only if it is not; the fault is then that the allocator
 -- refused a body of the longest length.
@@ -81,7 +76,7 @@ Removes old i ports new =
 
 -- the report of a removed session: its counted moves, and the event that ended it
 abbrev pub IsReportedOf : SessionView → Summary → Ending → Type 0
-IsReportedOf session summary ending = (summary ≡ session.summary) × (session.state.ending ≡ Some ending)
+IsReportedOf session summary ending = (summary ≡ session.summary) × (ending_in session.state.phase ≡ Some ending)
 
 -- The session and the ports at this place went from one pair to another, by a call of this kind; every other place is
 -- unchanged.

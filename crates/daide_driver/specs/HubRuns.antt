@@ -5,7 +5,9 @@ use Rattle.daide_protocol.specs.Machine.{Limits}
 use Rattle.daide_protocol.specs.Wires.{SessionView, IsNew, is_closed}
 use Rattle.daide_io.specs.Ports.{PortCall, EvolvesBy}
 use Rattle.daide_driver.specs.Record.{EvolveTogether}
-use Rattle.daide_driver.specs.Headline.{IsReachable, Headline}
+use Rattle.daide_driver.specs.Headline.{untouched}
+use Rattle.daide_driver.specs.Totals.{RefinesRun}
+use Rattle.daide_driver.specs.Whole.{HasHeadline}
 use Rattle.daide_driver.specs.Hub.{HubView, AddsSession, Removes, Changes, IsBegun, IsTurned}
 
 -- ---- the calls
@@ -138,11 +140,11 @@ EachHasItsHeadline {P} transition = (calls : List (HubCall P)) (old new : HubVie
     (i : ℕ) (life : Life P) (now : SessionView × P) → slice_get (lives_of old calls) i ≡ Some life →
     slice_get new.places i ≡ Some now → 0 < turns_of life.calls →
     (first : SessionView × P) × BeginsAs old.limits life.begun first
-    × EvolveTogether transition Headline first now
+    × EvolveTogether transition HasHeadline first now
 
 -- Each session that the calls added is reachable, by all its port calls since its ports were handed over.
 abbrev pub OpenedSessionsAreReachable : {P : Type 0} → (P → PortCall → P → Type 0) → Type 0
 OpenedSessionsAreReachable {P} transition = (calls : List (HubCall P)) (old new : HubView P) → HubRuns transition old calls new →
     (i : ℕ) (life : Life P) (ports : P) (now : SessionView × P) → slice_get (lives_of old calls) i ≡ Some life →
     slice_get new.places i ≡ Some now → life.begun ≡ Opened ports →
-    (history : List PortCall) × IsReachable old.limits history now.0 × EvolvesBy transition ports history now.1
+    (history : List PortCall) × RefinesRun (untouched old.limits) history now.0 × EvolvesBy transition ports history now.1

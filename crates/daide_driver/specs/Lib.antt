@@ -1,6 +1,8 @@
 pub mod Record
 pub mod Turn
 pub mod Headline
+pub mod Totals
+pub mod Whole
 pub mod Relay
 pub mod Hub
 pub mod HubRuns

@@ -1,26 +1,9 @@
--- The effect of a trace of port calls on a session: its moves, the queued bytes of each wire, and the table look-ups.
-use Rattle.std.specs.Prelude.{◌≡◌, ℕ, Bool, true, false, List, [], ◌++◌, length}
+-- The effect of a trace of port calls on a session: its moves, and the bytes of each wire.
+use Rattle.std.specs.Prelude.{◌≡◌, ℕ, Bool, true, false, List, [], ◌++◌}
 use Rattle.daide_frame.specs.declared.side.Side.{Side}
-use Rattle.daide_protocol.specs.Heard.{bytes_from}
 use Rattle.daide_protocol.specs.Machine.{Effect, Runs, is_over}
 use Rattle.daide_io.specs.Ports.{PortCall, EvolvesBy, events_of, taken, has_failed}
-use Rattle.daide_protocol.specs.Summary.{tallied}
 use Rattle.daide_protocol.specs.Wires.{SessionView, queued, sent_to, sent_bytes}
-use Rattle.daide_session.specs.Work.{IsPaidBy}
-
--- ---- the work
-
--- how many bytes were received from a side
-abbrev pub came : Side → List PortCall → ℕ
-came side answers = length (bytes_from side (events_of answers))
-
--- each side's table made at most two look-ups for each byte received from that side
-abbrev pub Works : SessionView → List PortCall → SessionView → Type 0
-Works old answers new = (side : Side) → IsPaidBy (came side answers) side old new
-
--- a part of a run of this kind, with at most that many look-ups
-abbrev pub Working : (SessionView → List PortCall → SessionView → Type 0) → SessionView → List PortCall → SessionView → Type 0
-Working Kind old answers new = Kind old answers new × Works old answers new
 
 -- ---- the bytes sent and the bytes queued are the output
 
@@ -32,15 +15,12 @@ Moved true over waited answers took waits =
     (over ≡ true) × (waits ≡ []) × ((rest : List ℕ) × (waited ++ answers ≡ took ++ rest))
 
 -- By this trace the session goes from old to new. Its state is the machine's after the events of the trace. The bytes
--- that each wire accepted, with those that are queued, are the machine's output. The moves are counted, and each table
--- made at most two look-ups for a byte received.
-pub record RefinesRun (old : SessionView) (answers : List PortCall) (new : SessionView) : Type 0 where
+-- that each wire accepted, with those that are queued, are the machine's output.
+pub record DeliversOutput (old : SessionView) (answers : List PortCall) (new : SessionView) : Type 0 where
   pub effects : List Effect
   pub run : Runs old.state (events_of answers) effects new.state
   pub wires : (side : Side) → Moved (has_failed side answers) (is_over new.state.phase) (sent_bytes (queued old side))
       (sent_bytes (sent_to side effects)) (taken side answers) (sent_bytes (queued new side))
-  pub counts : new.summary ≡ tallied effects old.summary
-  pub work : Works old answers new
 
 -- ---- a call
 

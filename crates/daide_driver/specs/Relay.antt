@@ -2,8 +2,9 @@
 use Rattle.std.specs.Prelude.{◌≡◌, ℕ, zero, suc, ◌≤◌, Bool, true, false, List, [], ◌++◌}
 use Rattle.daide_protocol.specs.Wires.{SessionView, is_closed}
 use Rattle.daide_io.specs.Ports.{PortCall}
-use Rattle.daide_driver.specs.Record.{RefinesRun}
-use Rattle.daide_driver.specs.Headline.{Headline, WholeTurn}
+use Rattle.daide_driver.specs.Headline.{Headline}
+use Rattle.daide_driver.specs.Totals.{RefinesRun, KeepsTotals}
+use Rattle.daide_driver.specs.Whole.{WholeTurn}
 use Rattle.daide_driver.specs.declared.relaying.RelayEnd.{RelayEnd}
 use Rattle.daide_driver.specs.declared.relaying.RelayEnd.TheVariants.{Closed, TurnsSpent}
 
@@ -30,3 +31,4 @@ pub record WholeRelay (end : RelayEnd) (turns : ℕ) (old : SessionView) (call :
   pub in_order : MakesTurns end turns old call new
   pub delivered : RefinesRun old call new
   pub headline : Headline old call new
+  pub totals : KeepsTotals old call new

@@ -5,7 +5,8 @@ use Rattle.daide_frame.specs.declared.side.Side.{Side}
 use Rattle.daide_frame.specs.declared.side.Side.TheVariants.{Bot, Server}
 use Rattle.daide_reader.specs.Reading.{IsRaised}
 use Rattle.daide_protocol.specs.declared.note.Note.{Note}
-use Rattle.daide_protocol.specs.Events.{Event, Ends, ImTimerExpired, bytes_come, other}
+use Rattle.daide_frame.specs.Side.{other}
+use Rattle.daide_protocol.specs.Events.{Event, Ends, ImTimerExpired, bytes_come}
 use Rattle.daide_protocol.specs.Wires.{SessionView, queued, first_len, front_of, holding, room_of, IsFrontOf}
 use Rattle.daide_protocol.specs.Wires.{Refines, Lost, Wrote, parts_of, parts_after}
 use Rattle.daide_io.specs.declared.ports.Pull.{Pull}

@@ -5,11 +5,12 @@
 
 ghost use Rattle.std.specs.Prelude.{◌≡◌, ℕ, ◌+◌, ◌*◌, ◌<◌, ◌≤◌, [], length, Ok, Some, None, false};
 ghost use Rattle.std.specs.Prelude.{IfOk, IfErr, IfSome, IfNone, OnOk, OnErr, slice_get, sum_by};
+ghost use Rattle.daide_protocol.specs.Bounds.{IsSessionCount};
 ghost use Rattle.daide_protocol.specs.Wires.{is_closed};
 ghost use Rattle.daide_protocol.specs.Config.{config_fault};
 ghost use Rattle.daide_protocol.specs.Config.{limits_of, limits_with};
 ghost use Rattle.daide_words.specs.Words.{words_of};
-ghost use Rattle.daide_driver.specs.Hub.{HubView, IsHubSize, IsHubCause, IsAddCause, AddsSession, Removes, Changes, IsTurned};
+ghost use Rattle.daide_driver.specs.Hub.{HubView, IsHubCause, IsAddCause, AddsSession, Removes, Changes, IsTurned};
 ghost use Rattle.std.specs.Borrow.{Lends, sem};
 ghost use Rattle.daide_driver.specs.Hub.{IsReportedOf, with_ports, weight_at, session_bound};
 
@@ -17,12 +18,12 @@ use crate::turn_io::{BUFFER, turn_through};
 use daide_frame::memory::Memory;
 use daide_io::ports::Ports;
 use daide_protocol::bounds::MAX_SESSIONS;
-use daide_protocol::config::{Config, ConfigError};
+use daide_protocol::config::{Config, ConfigError, SessionLimits};
 use daide_protocol::ending::Ending;
 use daide_protocol::summary::Summary;
 use daide_session::session::Session;
 use daide_words::words::Words;
-use std::alloc::{Allocator, Global};
+use std::alloc::{AllocError, Allocator, Global};
 use std::marker::Model;
 
 /// Why no hub was created, in the order of the checks.
@@ -67,7 +68,7 @@ struct SessionSlot<P: Ports, A: Allocator> {
 #[derive(Drop)]
 pub struct Hub<P: Ports, A: Allocator = Global> {
     alloc: A,
-    config: Config,
+    limits: SessionLimits,
     words: Words,
     max: usize,
     places: Vec<SessionSlot<P, A>, A>,
@@ -83,12 +84,12 @@ impl<P: Ports, A: Allocator> Model for Hub<P, A> {
     ghost Value = { HubView P };
 
     ghost view = { λ h. record {
-      limits = limits_with h.config (words_of h.words);
+      limits = limits_with h.limits.config (words_of h.words);
       max = h.max;
       places = map (λ p. (p.session, p.ports)) h.places.items;
     } };
 
-    ghost invariant = { λ h. IsHubSession (λ p. p.session) h.config (words_of h.words) h.max (vec_capacity h.places)
+    ghost invariant = { λ h. IsHubSession (λ p. p.session) h.limits.config (words_of h.words) h.max (vec_capacity h.places)
         h.places.items };
 }
 
@@ -99,37 +100,41 @@ impl<P: Ports, A: Memory + Copy> Hub<P, A> {
     /// refused room for `max` places (`IsHubCause`).
     pub fn new(alloc: A, config: Config, max: usize) -> Result<Hub<P, A>, HubError>
         ensures opening { IfOk result (λ hub. hub ≡ record { limits = limits_of config; max = max; places = [] }) }
-        ensures accepted { IfOk result (λ hub. (config_fault config ≡ Ok tt) × IsHubSize max) }
+        ensures accepted { IfOk result (λ hub. (config_fault config ≡ Ok tt) × IsSessionCount max) }
         ensures refused { IfErr result (λ error. IsHubCause A.Refuses config max error) }
     {
-        Hub::with_words(alloc, config, max, Words::new())
-    }
-
-    /// Creates a hub whose messages may have these words of the operator's. It allocates as `new` does, and returns the
-    /// same errors.
-    pub fn with_words(
-        alloc: A,
-        config: Config,
-        max: usize,
-        words: Words,
-    ) -> Result<Hub<P, A>, HubError>
-        ensures opening { IfOk result (λ hub. hub
-            ≡ record { limits = limits_with config (words_of words); max = max; places = [] }) }
-        ensures accepted { IfOk result (λ hub. (config_fault config ≡ Ok tt) × IsHubSize max) }
-        ensures refused { IfErr result (λ error. IsHubCause A.Refuses config max error) }
-    {
-        if let Err(fault) = config.check() {
-            return Err(HubError::Config(fault));
-        }
+        let limits = match config.limits() {
+            Ok(limits) => limits,
+            Err(fault) => return Err(HubError::Config(fault)),
+        };
         if max == 0 || max > MAX_SESSIONS {
             return Err(HubError::Sessions);
         }
-        let Ok(places) = alloc.with_capacity(max) else {
-            return Err(HubError::Memory);
-        };
+        match Hub::with_limits(alloc, limits, max, Words::new()) {
+            Ok(hub) => Ok(hub),
+            Err(_) => Err(HubError::Memory),
+        }
+    }
+
+    /// Creates a hub with checked limits and a right number of sessions, whose messages may have these words of the
+    /// operator's.
+    ///
+    /// `refused`: its only error is that the allocator refused room for `max` places.
+    pub fn with_limits(
+        alloc: A,
+        limits: SessionLimits,
+        max: usize,
+        words: Words,
+    ) -> Result<Hub<P, A>, AllocError>
+        requires { IsSessionCount max }
+        ensures opening { IfOk result (λ hub. hub
+            ≡ record { limits = limits_with limits.config (words_of words); max = max; places = [] }) }
+        ensures refused { OnErr result (A.Refuses max) }
+    {
+        let places = alloc.with_capacity(max)?;
         Ok(Hub {
             alloc,
-            config,
+            limits,
             words,
             max,
             places,
@@ -154,7 +159,7 @@ impl<P: Ports, A: Memory + Copy> Hub<P, A> {
         if place == self.max {
             return Err((AddFault::Full, ports));
         }
-        let Ok(session) = Session::with_words(self.alloc, self.config, self.words) else {
+        let Ok(session) = Session::with_limits(self.alloc, self.limits, self.words) else {
             return Err((AddFault::Memory, ports));
         };
         self.places.push_reserved(SessionSlot { session, ports });

@@ -12,12 +12,12 @@ pub fn relays_join()
     ensures { RelaysJoin }
 {}
 
-/// A new session is reachable: it is where the empty run from its opening leads.
+/// A new session is reachable: it is where the empty run from its opening leads, with nothing counted.
 pub fn new_sessions_stand()
     ensures { NewSessionsAreReachable }
 {}
 
-/// The headline of one call and that of the next are the headline of both, so to relay twice is to relay once.
+/// The headline and the totals of one call and those of the next are those of both, so to relay twice is to relay once.
 pub fn headlines_join<P: Ports>()
     ensures { HeadlinesJoin P.transition }
 {}
@@ -25,7 +25,7 @@ pub fn headlines_join<P: Ports>()
 /// Over any calls of a hub, the session at each place evolved by its own calls alone, in their order, however it moved
 /// (`kept`). So its answers, and what its ports were called for, are those that it would have had alone. The same holds
 /// of a session that was taken out, whose ports are returned (`taken_out`). Each session that was turned has the
-/// headline (`headline`). Each that was added is reachable, by all that its ports returned since (`stands`).
+/// headline, and its totals (`headline`). Each that was added is reachable, by all that its ports returned since (`stands`).
 ///
 /// Premise: the calls are `add`, `turn`, `remove_over`, and `ports_mut` to begin a turn with the ports that it lends.
 ///
@@ -39,7 +39,7 @@ pub fn sessions_are_apart<P: Ports>()
 
 /// While each put to a wire takes at least one byte (`EachTurnTakesSome`), n waiting bytes are taken within n turns,
 /// whatever else happens. The bytes that waited first are taken first (`delivered` of `turn`). In a run each session
-/// has one turn in each round.
+/// that is due a turn has one in each round (`round`).
 pub fn due_bytes_go()
     ensures { DueBytesGo }
 {}

@@ -44,8 +44,8 @@ fn make_turns<A: Allocator, P: Ports>(
 
 /// Makes at most `turns` turns while the session is not closed. Beside the session it keeps one array of 512 bytes.
 ///
-/// `relayed`: it says of all turns together what `exchange` of `turn` says of one: `in_order`, `delivered`, `work` and
-/// `headline`. The bounds hold after each turn.
+/// `relayed`: it says of all turns together what `exchange` of `turn` says of one: `in_order`, `delivered`, `headline`
+/// and `totals`. The bounds hold after each turn.
 ///
 /// `closed`: it returns `Closed` if and only if the session is over and nothing waits. Else it made all its turns.
 ///

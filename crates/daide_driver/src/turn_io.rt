@@ -7,12 +7,13 @@
 ghost use Rattle.std.specs.Prelude.{◌≡◌, ℕ, ◌+◌, ◌*◌, ◌<◌, ◌≤◌, min, length};
 ghost use Rattle.daide_frame.specs.declared.side.Side.{Side};
 ghost use Rattle.daide_reader.specs.Reading.{IsRaised};
-ghost use Rattle.daide_protocol.specs.Events.{other};
+ghost use Rattle.daide_frame.specs.Side.{other};
 ghost use Rattle.daide_protocol.specs.Wires.{holding, room_of, AsksNothing};
 ghost use Rattle.daide_protocol.specs.Weight.{weight_of, weight_bound};
-ghost use Rattle.daide_driver.specs.Record.{EvolveTogether, Working};
+ghost use Rattle.daide_driver.specs.Record.{EvolveTogether};
+ghost use Rattle.daide_driver.specs.Totals.{Working};
 ghost use Rattle.daide_driver.specs.Turn.{AsksClock, Puts, Pulls, AsksAtMost, most_pulled, turn_steps};
-ghost use Rattle.daide_driver.specs.Headline.{WholeTurn};
+ghost use Rattle.daide_driver.specs.Whole.{WholeTurn};
 
 use daide_frame::side::Side;
 use daide_io::ports::{Ports, Pull, Put};
@@ -111,18 +112,19 @@ fn pull<A: Allocator, P: Ports>(
 /// wire, what waited before and the machine's answers are the bytes that it took and what waits after. A wire that
 /// failed took a prefix of that, nothing waits for it, and the session is over.
 ///
-/// `exchange` (`work`): over all that the ports returned since the session was made, a side's table gives at most two
-/// answers for each byte received, modulo 2^64. A token of two bytes takes at most four answers, and the four bytes of
-/// a message's header pay for the four at its end. Neither pieces nor the number of messages matter. Between any two
-/// calls the same holds, with what is left over for the bytes held at the beginning (`Works`). So it holds of a relay,
-/// and of each session of a hub and of a run (`sessions_are_apart`, `sessions_are_served`).
+/// `exchange` (`totals`): over all that the ports returned since the session was made, the session counted the moves
+/// of the machine, and a side's table gives at most two answers for each byte received, modulo 2^64 (`HasTotals`). A
+/// token of two bytes takes at most four answers, and the four bytes of a message's header pay for the four at its end.
+/// Neither pieces nor the number of messages matter. Between any two calls the same holds, with what is left over for
+/// the bytes held at the beginning (`Works`). So it holds of a relay, and of each session of a hub and of a run
+/// (`sessions_are_apart`, `sessions_are_served`).
 ///
 /// `exchange` (`headline`): let the session be reachable, by all that its ports returned before: a run from its opening
 /// leads to it (`IsReachable`). Then it is reachable after the call, and bounded and exact (`IsBoundedAndExact`). In
 /// each direction it holds at most one message's announced length, capped, plus eight entries for each open bracket,
-/// plus sixteen. It holds at most 64 further entries in all. It took at most four table steps a token, and two answers
-/// for each byte received. Each wire took a prefix of the machine's answers, and unless it failed, what waits is all
-/// that is left of them. Once the session is closed, a wire that did not fail took all of them.
+/// plus sixteen. It holds at most 64 further entries in all. It took at most four table steps a token. Each wire took a
+/// prefix of the machine's answers, and unless it failed, what waits is all that is left of them. Once the session is
+/// closed, a wire that did not fail took all of them.
 ///
 /// `exchange` (`bounds`): the bounds on what is held and on steps hold after each turn of any session, wherever it
 /// began.

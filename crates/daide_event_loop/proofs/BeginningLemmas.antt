@@ -1,87 +1,117 @@
 -- The turns of a round: the system calls that begin them, and the hub that lends their ports.
-use Rattle.std.proofs.Common.{◌≡◌, ℕ, zero, suc, ◌+◌, ◌<◌, List, [], ◌∷◌, ◌++◌, length, Option, Some, None}
+use Rattle.std.proofs.Common.{◌≡◌, ℕ, zero, suc, ◌+◌, ◌<◌, Bool, true, false, List, [], ◌∷◌, ◌++◌, length}
+use Rattle.std.proofs.Common.{Option, Some, None}
 use Rattle.std.proofs.Common.{refl, sym, ap, ◌∙◌, subst, arith, add-one}
 use Rattle.std.specs.Prelude.{IfSome, All, slice_get}
 use Rattle.std.proofs.lemmas.List.{length-set}
 use Rattle.std.proofs.lemmas.List.Elements.{All-nil, All-cons}
 use Rattle.daide_protocol.specs.Wires.{SessionView}
 use Rattle.daide_io.specs.Ports.{PortCall, TurnBegins}
-use Rattle.daide_io.specs.System.{SystemCall, Begins, BeginsTurn, Accepts, Connects, Retires, Notifies, Waits}
-use Rattle.daide_io.specs.System.{TransitsBy}
+use Rattle.daide_io.specs.System.{SystemCall, Begins, ReportsNews, BeginsTurn, Accepts, Connects, Retires, Notifies}
+use Rattle.daide_io.specs.System.{Waits, TransitsBy}
 use Rattle.daide_driver.specs.Hub.{HubView, with_ports, with_ports_at, Changes, IsTurned}
 use Rattle.daide_event_loop.specs.QuotaPorts.{QuotaPortsView, Meters, beginning, beginning_where}
-use Rattle.daide_event_loop.specs.Serving.{OpensTurn, TakesTurn, TurnsBelow}
+use Rattle.daide_event_loop.specs.Serving.{IsDueBy, OpensTurn, TakesTurn, TurnsIf, VisitsPlace, TurnsBelow}
 use Rattle.daide_event_loop.specs.Served.{sum_over_calls}
 use Rattle.daide_event_loop.proofs.TransitLemmas.{transits_then}
 
 -- ---- the system calls
 
 module _ {P : Type 0} where
-  -- each of these calls begins a turn
+  -- each of these calls reports news or begins a turn
   abbrev pub OnlyBegin : List (SystemCall P) → Type 0
   OnlyBegin [] = Unit {0}
+  OnlyBegin (ReportsNews ports news ∷ answers) = OnlyBegin answers
   OnlyBegin (BeginsTurn before after ∷ answers) = OnlyBegin answers
   OnlyBegin (Begins ∷ answers) = ⊥
   OnlyBegin (Accepts came ∷ answers) = ⊥
   OnlyBegin (Connects connect ∷ answers) = ⊥
   OnlyBegin (Retires ports end ∷ answers) = ⊥
   OnlyBegin (Notifies notice ∷ answers) = ⊥
-  OnlyBegin (Waits more ∷ answers) = ⊥
+  OnlyBegin (Waits ∷ answers) = ⊥
 
   only_append : (xs ys : List (SystemCall P)) → OnlyBegin xs → OnlyBegin ys → OnlyBegin (xs ++ ys)
   only_append [] ys h k = k
+  only_append (ReportsNews ports news ∷ xs) ys h k = only_append xs ys h k
   only_append (BeginsTurn before after ∷ xs) ys h k = only_append xs ys h k
   only_append (Begins ∷ xs) ys h k = absurd h
   only_append (Accepts came ∷ xs) ys h k = absurd h
   only_append (Connects connect ∷ xs) ys h k = absurd h
   only_append (Retires ports end ∷ xs) ys h k = absurd h
   only_append (Notifies notice ∷ xs) ys h k = absurd h
-  only_append (Waits more ∷ xs) ys h k = absurd h
+  only_append (Waits ∷ xs) ys h k = absurd h
 
   -- so they add nothing to any other count
   pub none_counted : (count : SystemCall P → ℕ) (xs : List (SystemCall P)) →
+      ((ports : P) (news : Bool) → count (ReportsNews ports news) ≡ 0) →
       ((before after : P) → count (BeginsTurn before after) ≡ 0) → OnlyBegin xs → sum_over_calls count xs ≡ 0
-  none_counted count [] none h = refl
-  none_counted count (BeginsTurn before after ∷ xs) none h =
-      let one = none before after in
-      let rest = none_counted count xs none h in
+  none_counted count [] silent none h = refl
+  none_counted count (ReportsNews ports news ∷ xs) silent none h =
+      let one = silent ports news in
+      let rest = none_counted count xs silent none h in
       omega (arith, one, rest)
-  none_counted count (Begins ∷ xs) none h = absurd h
-  none_counted count (Accepts came ∷ xs) none h = absurd h
-  none_counted count (Connects connect ∷ xs) none h = absurd h
-  none_counted count (Retires ports end ∷ xs) none h = absurd h
-  none_counted count (Notifies notice ∷ xs) none h = absurd h
-  none_counted count (Waits more ∷ xs) none h = absurd h
+  none_counted count (BeginsTurn before after ∷ xs) silent none h =
+      let one = none before after in
+      let rest = none_counted count xs silent none h in
+      omega (arith, one, rest)
+  none_counted count (Begins ∷ xs) silent none h = absurd h
+  none_counted count (Accepts came ∷ xs) silent none h = absurd h
+  none_counted count (Connects connect ∷ xs) silent none h = absurd h
+  none_counted count (Retires ports end ∷ xs) silent none h = absurd h
+  none_counted count (Notifies notice ∷ xs) silent none h = absurd h
+  none_counted count (Waits ∷ xs) silent none h = absurd h
 
   pub all_begin : (Q : SystemCall P → Type 0) (xs : List (SystemCall P)) →
-      ((before after : P) → Q (BeginsTurn before after)) → OnlyBegin xs → All Q xs
-  all_begin Q [] each h = All-nil Q
-  all_begin Q (BeginsTurn before after ∷ xs) each h =
-      All-cons Q (BeginsTurn before after) xs (each before after) (all_begin Q xs each h)
-  all_begin Q (Begins ∷ xs) each h = absurd h
-  all_begin Q (Accepts came ∷ xs) each h = absurd h
-  all_begin Q (Connects connect ∷ xs) each h = absurd h
-  all_begin Q (Retires ports end ∷ xs) each h = absurd h
-  all_begin Q (Notifies notice ∷ xs) each h = absurd h
-  all_begin Q (Waits more ∷ xs) each h = absurd h
+      ((ports : P) (news : Bool) → Q (ReportsNews ports news)) → ((before after : P) → Q (BeginsTurn before after)) →
+      OnlyBegin xs → All Q xs
+  all_begin Q [] silent each h = All-nil Q
+  all_begin Q (ReportsNews ports news ∷ xs) silent each h =
+      All-cons Q (ReportsNews ports news) xs (silent ports news) (all_begin Q xs silent each h)
+  all_begin Q (BeginsTurn before after ∷ xs) silent each h =
+      All-cons Q (BeginsTurn before after) xs (each before after) (all_begin Q xs silent each h)
+  all_begin Q (Begins ∷ xs) silent each h = absurd h
+  all_begin Q (Accepts came ∷ xs) silent each h = absurd h
+  all_begin Q (Connects connect ∷ xs) silent each h = absurd h
+  all_begin Q (Retires ports end ∷ xs) silent each h = absurd h
+  all_begin Q (Notifies notice ∷ xs) silent each h = absurd h
+  all_begin Q (Waits ∷ xs) silent each h = absurd h
 
   one_begins : (left : Option ℕ) (before after : P) → OnlyBegin (beginning_where left before after)
   one_begins None before after = tt
   one_begins (Some turns) before after = tt
+
+  one_reports : (moved : Bool) (ports : P) (report : List (SystemCall P)) (due : Bool) → IsDueBy moved ports report due →
+      OnlyBegin report
+  one_reports true ports report due h = subst OnlyBegin (sym h.0) tt
+  one_reports false ports report due h = subst OnlyBegin (sym h) tt
+
+  turn_only : (port_transition : P → PortCall → P → Type 0) (due : Bool) (old : HubView (QuotaPortsView P)) (i : ℕ)
+      (turn : List (SystemCall P)) (new : HubView (QuotaPortsView P)) → TurnsIf port_transition due old i turn new →
+      OnlyBegin turn
+  turn_only port_transition true old i turn new h =
+      let opens = h.1.4 in
+      subst OnlyBegin (sym opens.1) (one_begins h.1.1.1.turns_left h.1.0.1.ports h.1.1.1.ports)
+  turn_only port_transition false old i turn new h = subst OnlyBegin (sym h.0) tt
+
+  visit_only : (port_transition : P → PortCall → P → Type 0) (old : HubView (QuotaPortsView P)) (i : ℕ)
+      (answers : List (SystemCall P)) (new : HubView (QuotaPortsView P)) → VisitsPlace port_transition old i answers new →
+      OnlyBegin answers
+  visit_only port_transition old i answers new h =
+      subst OnlyBegin (sym h.asked)
+      (only_append h.report h.turn (one_reports h.place.1.made_progress h.place.1.ports h.report h.due h.looks)
+      (turn_only port_transition h.due old i h.turn new h.turns))
 
   pub turns_only : (port_transition : P → PortCall → P → Type 0) (n : ℕ) (old : HubView (QuotaPortsView P))
       (answers : List (SystemCall P)) (new : HubView (QuotaPortsView P)) → TurnsBelow port_transition n old answers new →
       OnlyBegin answers
   turns_only port_transition zero old answers new h = subst OnlyBegin (sym h.0) tt
   turns_only port_transition (suc n) old answers new h =
-      let opens = h.5.1.4 in
       subst OnlyBegin (sym h.3)
-      (only_append h.1 h.2 (turns_only port_transition n old h.1 h.0 h.4)
-      (subst OnlyBegin (sym opens.1) (one_begins h.5.1.1.1.turns_left h.5.1.0.1.ports h.5.1.1.1.ports)))
+      (only_append h.1 h.2 (turns_only port_transition n old h.1 h.0 h.4) (visit_only port_transition h.0 n h.2 new h.5))
 
 -- ---- the ports of one place are lent
 
-slice_some : {X : Type 0} (xs : List X) (i : ℕ) → i < length xs → (x : X) × (slice_get xs i ≡ Some x)
+pub slice_some : {X : Type 0} (xs : List X) (i : ℕ) → i < length xs → (x : X) × (slice_get xs i ≡ Some x)
 slice_some [] i h = absurd (omega (arith, h))
 slice_some (x ∷ xs) zero h = (x, refl)
 slice_some (x ∷ xs) (suc i) h = slice_some xs i (omega (arith, h))
@@ -114,6 +144,23 @@ module _ {P : Type 0} (port_transition : P → PortCall → P → Type 0) where
     ap (λ (k : HubView (QuotaPortsView P)). length k.places) h.3 ∙ length-set old.places i h.1,
   )
 
+  turned_count : (due : Bool) (old : HubView (QuotaPortsView P)) (i : ℕ) (turn : List (SystemCall P))
+      (new : HubView (QuotaPortsView P)) → TurnsIf port_transition due old i turn new →
+      (new.max ≡ old.max) × (length new.places ≡ length old.places)
+  turned_count true old i turn new takes =
+      let opened = same_count (OpensTurn port_transition turn) old i takes.0 takes.1 in
+      let made = same_count (IsTurned (Meters port_transition)) takes.0 i new takes.2 in
+      (made.0 ∙ opened.0, made.1 ∙ opened.1)
+  turned_count false old i turn new stays = (
+    ap (λ (k : HubView (QuotaPortsView P)). k.max) stays.1,
+    ap (λ (k : HubView (QuotaPortsView P)). length k.places) stays.1,
+  )
+
+  visited_count : (old : HubView (QuotaPortsView P)) (i : ℕ) (answers : List (SystemCall P))
+      (new : HubView (QuotaPortsView P)) → VisitsPlace port_transition old i answers new →
+      (new.max ≡ old.max) × (length new.places ≡ length old.places)
+  visited_count old i answers new h = turned_count h.due old i h.turn new h.turns
+
   -- the number of places stays
   pub lent_inside : (hub : HubView (QuotaPortsView P)) (i : ℕ) (old new : QuotaPortsView P) → i < length hub.places →
       IfSome (slice_get hub.places i) (λ place. old ≡ place.1) → Meters port_transition old TurnBegins new →
@@ -136,17 +183,60 @@ module _ {P : Type 0} (port_transition : P → PortCall → P → Type 0) where
     pub none_turned : (s : S) (old : HubView (QuotaPortsView P)) → Turning s old 0 old s
     none_turned s old = record { answers = []; transits = refl; turns = (refl, refl); max = refl; count = refl }
 
-    -- one place more had its turn
-    pub another_turn : (s t u : S) (old mid new : HubView (QuotaPortsView P)) (n : ℕ) → Turning s old n mid t →
-        (answers : List (SystemCall P)) → TransitsBy transition t answers u → TakesTurn port_transition mid n answers new →
+    -- one place more was visited
+    pub another_visit : (s t u : S) (old mid new : HubView (QuotaPortsView P)) (n : ℕ) → Turning s old n mid t →
+        (answers : List (SystemCall P)) → TransitsBy transition t answers u → VisitsPlace port_transition mid n answers new →
         Turning s old (n + 1) new u
-    another_turn s t u old mid new n h answers goes takes =
-        let opened = same_count (OpensTurn port_transition answers) mid n takes.0 takes.1 in
-        let made = same_count (IsTurned (Meters port_transition)) takes.0 n new takes.2 in
+    another_visit s t u old mid new n h answers goes visits =
+        let same = visited_count mid n answers new visits in
         record {
           answers = h.answers ++ answers;
           transits = transits_then transition h.answers answers s t u h.transits goes;
-          turns = rw add-one (mid, h.answers, answers, refl, h.turns, takes);
-          max = made.0 ∙ opened.0 ∙ h.max;
-          count = made.1 ∙ opened.1 ∙ h.count;
+          turns = rw add-one (mid, h.answers, answers, refl, h.turns, visits);
+          max = same.0 ∙ h.max;
+          count = same.1 ∙ h.count;
         }
+
+-- the visit of a place: what the system reports, and then the turn, if the session is due one
+module _ {P S : Type 0} (port_transition : P → PortCall → P → Type 0) (transition : S → SystemCall P → S → Type 0) where
+  abbrev pub Looks : S → S → Bool → SessionView × QuotaPortsView P → Type 0
+  Looks s t due place =
+      (report : List (SystemCall P)) × TransitsBy transition s report t
+      × IsDueBy place.1.made_progress place.1.ports report due
+
+  pub looked : (hub : HubView (QuotaPortsView P)) (i : ℕ) (ports : QuotaPortsView P) (s t : S) (due : Bool)
+      (report : List (SystemCall P)) → IfSome (slice_get hub.places i) (λ place. ports ≡ place.1) →
+      TransitsBy transition s report t → IsDueBy ports.made_progress ports.ports report due →
+      IfSome (slice_get hub.places i) (Looks s t due)
+  looked hub i ports s t due report value goes looks = by (slice_get hub.places i) value
+    where
+      by : (o : Option (SessionView × QuotaPortsView P)) → IfSome o (λ place. ports ≡ place.1) →
+          IfSome o (Looks s t due)
+      by None same = tt
+      by (Some place) same = (
+        report,
+        goes,
+        subst (λ (own : QuotaPortsView P). IsDueBy own.made_progress own.ports report due) same looks,
+      )
+
+  pub visited : (hub new : HubView (QuotaPortsView P)) (i : ℕ) (s t u : S) (due : Bool) → i < length hub.places →
+      IfSome (slice_get hub.places i) (Looks s t due) →
+      ((turn : List (SystemCall P)) × TransitsBy transition t turn u × TurnsIf port_transition due hub i turn new) →
+      (answers : List (SystemCall P)) × TransitsBy transition s answers u × VisitsPlace port_transition hub i answers new
+  visited hub new i s t u due inside looks turns =
+      let found = slice_some hub.places i inside in
+      let look : Looks s t due found.0 =
+      subst (λ (o : Option (SessionView × QuotaPortsView P)). IfSome o (Looks s t due)) found.1 looks in (
+        look.0 ++ turns.0,
+        transits_then transition look.0 turns.0 s t u look.1 turns.1,
+        record {
+          place = found.0;
+          there = found.1;
+          due = due;
+          report = look.0;
+          turn = turns.0;
+          looks = look.2;
+          turns = turns.2;
+          asked = refl;
+        },
+      )

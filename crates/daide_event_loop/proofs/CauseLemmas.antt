@@ -11,16 +11,17 @@ use Rattle.daide_io.specs.declared.system.Cause.TheVariants as Causes
 use Rattle.daide_io.specs.declared.ports.Pull.TheVariants.{Got, Idle, Ended}
 use Rattle.daide_io.specs.declared.ports.Put.TheVariants.{Took, Failed}
 use Rattle.daide_protocol.specs.Events.{Event, Ends, Loses}
-use Rattle.daide_protocol.specs.Machine.{SessionState, Effect, Limits, Successor, Runs, Transition, is_over}
+use Rattle.daide_protocol.specs.Machine.{SessionState, Effect, Limits, Successor, Runs, Transition, is_over, ending_in}
 use Rattle.daide_io.specs.Ports.{PortCall, TurnBegins, Clock, Pulled, Offered, EvolvesBy, events_of}
-use Rattle.daide_protocol.specs.Wires.{SessionView, same_side, front_of, room_of}
-use Rattle.daide_protocol.proofs.EndingLemmas.{runs_reported}
+use Rattle.daide_frame.specs.Side.{same_side}
+use Rattle.daide_protocol.specs.Wires.{SessionView, front_of, room_of}
+use Rattle.daide_protocol.proofs.EndingLemmas.{ending_known}
 use Rattle.daide_protocol.proofs.OneRun.{one_run}
 use Rattle.daide_protocol.proofs.PieceRuns.{over_stays}
 use Rattle.daide_driver.specs.Headline.{IsReachable, untouched}
 use Rattle.daide_driver.specs.Hub.{IsBegun, IsTurned}
 use Rattle.daide_driver.specs.Turn.{Then, Hears, Puts, Pulls, Turn}
-use Rattle.daide_driver.proofs.Stretches.{transition_then}
+use Rattle.daide_io.proofs.TraceLemmas.{transition_then}
 use Rattle.daide_event_loop.specs.QuotaPorts.{QuotaPortsView, Meters, EvolvesWhile, IsSpentAnswer, one_less, reported_where}
 use Rattle.daide_event_loop.specs.Served.{while_left, cause_of, turns_in}
 use Rattle.daide_event_loop.specs.Serving.{fresh, is_reported, cause_by}
@@ -211,8 +212,8 @@ module _ {P : Type 0} (port_transition : P → PortCall → P → Type 0) where
 -- the session was in this state when its turns were spent, and the first synthetic end led to its present state
 pub record Cut (state now : SessionState) (told : Option Ending) : Type 0 where
   pub still : told ≡ None → now ≡ state
-  pub before : (e : Ending) → state.ending ≡ Some e → (now.ending ≡ Some e) × (is_reported told e ≡ false)
-  pub since : (e : Ending) → state.ending ≡ None → told ≡ Some e → now.ending ≡ Some e
+  pub before : (e : Ending) → (ending_in state.phase) ≡ Some e → ((ending_in now.phase) ≡ Some e) × (is_reported told e ≡ false)
+  pub since : (e : Ending) → (ending_in state.phase) ≡ None → told ≡ Some e → (ending_in now.phase) ≡ Some e
   pub itself : (e : Ending) → told ≡ Some e → is_reported (Some e) e ≡ true
 
 pub cut_open : (state : SessionState) (told : Option Ending) → told ≡ None → Cut state state told
@@ -228,19 +229,19 @@ is_reported_by one None = false
 is_reported_by one (Some two) = is_reported (Some one) two
 
 pub cut_cause : (state now : SessionState) (told : Option Ending) (ending : Ending) → Cut state now told →
-    now.ending ≡ Some ending → cause_by told (Some ending) ≡ cause_of state.ending
-cut_cause state now told ending c ended = by state.ending refl
+    (ending_in now.phase) ≡ Some ending → cause_by told (Some ending) ≡ cause_of (ending_in state.phase)
+cut_cause state now told ending c ended = by (ending_in state.phase) refl
   where
-    spent : (o : Option Ending) → told ≡ o → state.ending ≡ None → cause_by told (Some ending) ≡ Causes.TurnsSpent
+    spent : (o : Option Ending) → told ≡ o → (ending_in state.phase) ≡ None → cause_by told (Some ending) ≡ Causes.TurnsSpent
     spent None none same =
-        let f = sym ended ∙ (ap (λ (s : SessionState). s.ending) (c.still none) ∙ same) in absurd (cc)
+        let f = sym ended ∙ (ap (λ (s : SessionState). ending_in s.phase) (c.still none) ∙ same) in absurd (cc)
     spent (Some e) is same =
         let own : is_reported told ending ≡ true =
         ap (λ (o : Option Ending). is_reported o ending) is
         ∙ subst (λ (o : Option Ending). is_reported_by e o ≡ true) (sym (c.since e same is) ∙ ended) (c.itself e is) in
         rw own refl
 
-    by : (o : Option Ending) → state.ending ≡ o → cause_by told (Some ending) ≡ cause_of o
+    by : (o : Option Ending) → (ending_in state.phase) ≡ o → cause_by told (Some ending) ≡ cause_of o
     by (Some e) same =
         let b = c.before e same in
         let own = sym ended ∙ b.0 in
@@ -271,23 +272,23 @@ over_for_good : (old : SessionState) (events : List Event) (effects : List Effec
 over_for_good old events effects new over run = (one_run events old effects [] new old run (over_stays old events over)).1
 
 ends_by : (old : SessionState) (side : Side) (effects : List Effect) (new : SessionState) → is_over old.phase ≡ false →
-    Transition old (Ends side) effects new → (new.ending ≡ Some (Endings.Ended side)) × (is_over new.phase ≡ true)
+    Transition old (Ends side) effects new → ((ending_in new.phase) ≡ Some (Endings.Ended side)) × (is_over new.phase ≡ true)
 ends_by old side effects new live step = (
-  ap (λ (o : Successor). o.state.ending) (sym step.outcome) ∙ (rw live refl),
+  ap (λ (o : Successor). (ending_in o.state.phase)) (sym step.outcome) ∙ (rw live refl),
   ap (λ (o : Successor). is_over o.state.phase) (sym step.outcome) ∙ (rw live refl),
 )
 
 loses_by : (old : SessionState) (side : Side) (effects : List Effect) (new : SessionState) → is_over old.phase ≡ false →
-    Transition old (Loses side) effects new → (new.ending ≡ Some (Endings.Lost side)) × (is_over new.phase ≡ true)
+    Transition old (Loses side) effects new → ((ending_in new.phase) ≡ Some (Endings.Lost side)) × (is_over new.phase ≡ true)
 loses_by old side effects new live step = (
-  ap (λ (o : Successor). o.state.ending) (sym step.outcome) ∙ (rw live refl),
+  ap (λ (o : Successor). (ending_in o.state.phase)) (sym step.outcome) ∙ (rw live refl),
   ap (λ (o : Successor). is_over o.state.phase) (sym step.outcome) ∙ (rw live refl),
 )
 
 -- the first synthetic end ends it, and nothing else does
 abbrev RefinesBy : Option Ending → SessionState → SessionState → Type 0
 RefinesBy None old new = new ≡ old
-RefinesBy (Some e) old new = new.ending ≡ Some e
+RefinesBy (Some e) old new = (ending_in new.phase) ≡ Some e
 
 goes_by : (answers : List PortCall) (old : SessionState) (effects : List Effect) (new : SessionState) →
     AreSpent answers → is_over old.phase ≡ false → Runs old (events_of answers) effects new →
@@ -302,12 +303,12 @@ goes_by (Pulled side buffer Idle bytes ∷ answers) old effects new spent live r
     let f = spent.0 in absurd (cc)
 goes_by (Pulled side buffer Ended bytes ∷ answers) old effects new spent live run =
     let one = ends_by old side run.1 run.0 live run.3 in
-    ap (λ (s : SessionState). s.ending) (over_for_good run.0 (events_of answers) run.2 new one.1 run.4) ∙ one.0
+    ap (λ (s : SessionState). ending_in s.phase) (over_for_good run.0 (events_of answers) run.2 new one.1 run.4) ∙ one.0
 goes_by (Offered side bytes (Took n) ∷ answers) old effects new spent live run =
     let f = spent.0 in absurd (cc)
 goes_by (Offered side bytes Failed ∷ answers) old effects new spent live run =
     let one = loses_by old side run.1 run.0 live run.3 in
-    ap (λ (s : SessionState). s.ending) (over_for_good run.0 (events_of answers) run.2 new one.1 run.4) ∙ one.0
+    ap (λ (s : SessionState). ending_in s.phase) (over_for_good run.0 (events_of answers) run.2 new one.1 run.4) ∙ one.0
 
 -- ---- a session that is over
 
@@ -326,7 +327,7 @@ unfolding room_of
 no_room g side over = rw over refl
 
 module _ (limits : Limits) (history : List PortCall) (g : SessionView) (ending : Ending)
-    (stands : IsReachable limits history g) (over : is_over g.state.phase ≡ true) (ended : g.state.ending ≡ Some ending) where
+    (stands : IsReachable limits history g) (over : is_over g.state.phase ≡ true) (ended : (ending_in g.state.phase) ≡ Some ending) where
   -- its ending is not the first synthetic end
   abbrev Other : List PortCall → Type 0
   Other answers = is_reported (first_of answers) ending ≡ false
@@ -399,21 +400,21 @@ module _ (limits : Limits) (history call : List PortCall) (a b : SessionView) (e
     (state : SessionState) (told later : Option Ending) (stands : IsReachable limits history a) (turn : Turn a call b)
     (spent : AreSpent call) (run : Runs a.state (events_of call) effects b.state)
     (is : later ≡ option_or told (first_of call)) (c : Cut state a.state told) where
-  known : is_some a.state.ending ≡ is_over a.state.phase
-  known = runs_reported (untouched limits).state (events_of history) stands.effects a.state stands.run refl
+  known : is_some (ending_in a.state.phase) ≡ is_over a.state.phase
+  known = ending_known a.state.phase
 
-  ended_over : (e : Ending) → a.state.ending ≡ Some e → is_over a.state.phase ≡ true
+  ended_over : (e : Ending) → (ending_in a.state.phase) ≡ Some e → is_over a.state.phase ≡ true
   ended_over e same = sym known ∙ ap is_some same
 
-  was_ended : (m : Ending) → told ≡ Some m → (o : Option Ending) → state.ending ≡ o →
-      (e : Ending) × (a.state.ending ≡ Some e)
+  was_ended : (m : Ending) → told ≡ Some m → (o : Option Ending) → (ending_in state.phase) ≡ o →
+      (e : Ending) × ((ending_in a.state.phase) ≡ Some e)
   was_ended m same (Some e) f = (e, (c.before e f).0)
   was_ended m same None f = (m, c.since m f same)
 
   -- an end was recorded before
   reported_before : (m : Ending) → told ≡ Some m → Cut state b.state later
   reported_before m same =
-      let e = was_ended m same state.ending refl in
+      let e = was_ended m same (ending_in state.phase) refl in
       let still = over_for_good a.state (events_of call) effects b.state (ended_over e.0 e.1) run in
       let kept : later ≡ told =
       is ∙ (ap (λ (o : Option Ending). option_or o (first_of call)) same ∙ sym same) in
@@ -430,17 +431,17 @@ module _ (limits : Limits) (history call : List PortCall) (a b : SessionView) (e
   -- the session was over, and no end was recorded since
   over_before : told ≡ None → is_over a.state.phase ≡ true → Cut state b.state later
   over_before none over =
-      let e = some_ending a.state.ending (is_over a.state.phase) known over in
+      let e = some_ending (ending_in a.state.phase) (is_over a.state.phase) known over in
       let first = first_is none in
       let kept : b.state ≡ state = over_for_good a.state (events_of call) effects b.state over run ∙ c.still none in
-      let start : a.state.ending ≡ state.ending = ap (λ (s : SessionState). s.ending) (c.still none) in
+      let start : (ending_in a.state.phase) ≡ (ending_in state.phase) = ap (λ (s : SessionState). ending_in s.phase) (c.still none) in
       let other : is_reported later e.0 ≡ false =
       ap (λ (o : Option Ending). is_reported o e.0) first
       ∙ turn_other limits history a e.0 stands over e.1 call b turn spent in
       record {
         still = λ f. kept;
         before = λ x same. (
-          ap (λ (s : SessionState). s.ending) kept ∙ same,
+          ap (λ (s : SessionState). ending_in s.phase) kept ∙ same,
           subst (λ (o : Option Ending). is_later o ≡ false) (sym e.1 ∙ (start ∙ same)) other,
         );
         since = λ x same f. let g = sym e.1 ∙ (start ∙ same) in absurd (cc);
@@ -454,7 +455,7 @@ module _ (limits : Limits) (history call : List PortCall) (a b : SessionView) (e
       let goes : RefinesBy later a.state b.state =
       subst (λ (o : Option Ending). RefinesBy o a.state b.state) (sym first)
       (goes_by call a.state effects b.state spent live run) in
-      let start : a.state.ending ≡ state.ending = ap (λ (s : SessionState). s.ending) (c.still none) in
+      let start : (ending_in a.state.phase) ≡ (ending_in state.phase) = ap (λ (s : SessionState). ending_in s.phase) (c.still none) in
       record {
         still = λ f. subst (λ (o : Option Ending). RefinesBy o a.state b.state) f goes ∙ c.still none;
         before = λ x same. let over = ended_over x (start ∙ same) in absurd (cc);
@@ -572,8 +573,8 @@ module _ {P : Type 0} (port_transition : P → PortCall → P → Type 0) (limit
           state = c.state;
           run = subst (λ (l : List PortCall). Runs (untouched limits).state (events_of l) c.effects c.state)
               (sym (spent_adds port_transition history call turns (fresh ports turns) a.1 refl answered e)) c.run;
-          cut = spent_turn limits history call a.0 b.0 t.exchange.session.delivered.effects c.state a.1.first_synthetic_end b.1.first_synthetic_end
-              stands t.exchange.session.in_order s.spent t.exchange.session.delivered.run s.first_synthetic_end c.cut;
+          cut = spent_turn limits history call a.0 b.0 t.exchange.session.delivered.sends.effects c.state a.1.first_synthetic_end b.1.first_synthetic_end
+              stands t.exchange.session.in_order s.spent t.exchange.session.delivered.sends.run s.first_synthetic_end c.cut;
           quiet = λ n k. let none = s.turns_left in absurd (cc);
         }
 

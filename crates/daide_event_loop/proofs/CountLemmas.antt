@@ -79,13 +79,13 @@ module _ {P : Type 0} where
   beginning_counts counters =
       silent_counts (Begins ∷ []) counters (record { came = refl; joined = refl; failed = refl })
 
-  -- beginning turns accepts no bot
+  -- reporting news and beginning turns accepts no bot
   pub turns_count : (answers : List (SystemCall P)) (counters : AdmissionCounters) → OnlyBegin answers → Counts answers counters counters
   turns_count answers counters h =
       silent_counts answers counters (record {
-        came = none_counted comes answers (λ before after. refl) h;
-        joined = none_counted connects answers (λ before after. refl) h;
-        failed = none_counted unreached answers (λ before after. refl) h;
+        came = none_counted comes answers (λ ports news. refl) (λ before after. refl) h;
+        joined = none_counted connects answers (λ ports news. refl) (λ before after. refl) h;
+        failed = none_counted unreached answers (λ ports news. refl) (λ before after. refl) h;
       })
 
   pub admission_counts : (b : Bool) (old : AdmissionCounters) (answers : List (SystemCall P)) (new : AdmissionCounters) →
@@ -157,7 +157,7 @@ module _ {P : Type 0} where
   pub removal_counts : (places : List (SessionView × QuotaPortsView P)) (counters : AdmissionCounters) → Counts (retirements places) counters counters
   removal_counts places counters = silent_counts (retirements places) counters (silent_farewells places)
 
-  pub wait_counts : (made_progress more : Bool) (counters : AdmissionCounters) → Counts (wait_where made_progress more) counters counters
-  wait_counts true more counters = silent_counts [] counters nothing_said
-  wait_counts false more counters =
-      silent_counts (Waits more ∷ []) counters (record { came = refl; joined = refl; failed = refl })
+  pub wait_counts : (made_progress : Bool) (counters : AdmissionCounters) → Counts (wait_where made_progress) counters counters
+  wait_counts true counters = silent_counts [] counters nothing_said
+  wait_counts false counters =
+      silent_counts (Waits ∷ []) counters (record { came = refl; joined = refl; failed = refl })

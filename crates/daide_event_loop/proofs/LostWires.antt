@@ -13,17 +13,19 @@ use Rattle.daide_frame.specs.InitialMessage.{im_of}
 use Rattle.daide_frame.specs.Frames.{FrameEvent, Begun, Whole, Wrong, last_items}
 use Rattle.daide_protocol.specs.declared.ending.Ending.{Ending}
 use Rattle.daide_protocol.specs.declared.ending.Ending.TheVariants as Endings
-use Rattle.daide_protocol.specs.declared.phase.Phase.{Phase}
-use Rattle.daide_protocol.specs.declared.phase.Phase.TheVariants.{WaitIm, WaitRm, Open, Over}
+use Rattle.daide_protocol.specs.declared.phase.SessionPhase.{SessionPhase}
+use Rattle.daide_protocol.specs.declared.phase.SessionPhase.TheVariants.{WaitIm, WaitRm, Open, Over}
 use Rattle.daide_io.specs.declared.ports.Pull.TheVariants.{Got, Idle, Ended}
 use Rattle.daide_io.specs.declared.ports.Put.TheVariants.{Took, Failed}
 use Rattle.daide_protocol.specs.Events.{Event, Comes, Ends, Loses, ImTimerExpired, bytes_come}
+use Rattle.daide_protocol.proofs.PhaseLemmas.{answer_keeps_ending}
 use Rattle.daide_protocol.specs.Machine.{SessionState, Effect, Limits, Successor, Runs, Sent, coming, with_pending, is_over}
 use Rattle.daide_protocol.specs.Machine.{header_outcome, untimely, answered, im_answered, item_outcome, items_outcome, im_timer_expired}
-use Rattle.daide_protocol.specs.Machine.{event_outcome}
+use Rattle.daide_protocol.specs.Machine.{event_outcome, ending_in}
 use Rattle.daide_io.specs.Ports.{PortCall, TurnBegins, Clock, Pulled, Offered, events_of}
 use Rattle.daide_io.specs.Ports.{has_failed, taken}
-use Rattle.daide_protocol.specs.Wires.{SessionView, same_side, queued, sent_bytes, sent_to, IsFrontOf}
+use Rattle.daide_frame.specs.Side.{same_side}
+use Rattle.daide_protocol.specs.Wires.{SessionView, queued, sent_bytes, sent_to, IsFrontOf}
 use Rattle.daide_driver.specs.Headline.{IsReachable, untouched}
 use Rattle.daide_driver.specs.Record.{Moved}
 
@@ -40,7 +42,7 @@ is_lost side (Some (Endings.Fault one code)) = false
 
 module _ (to : Side) where
   abbrev Not : SessionState → Type 0
-  Not s = is_lost to s.ending ≡ false
+  Not s = is_lost to (ending_in s.phase) ≡ false
 
   begun_not : (s : SessionState) (side : Side) (code : Option Code) → Not s → Not (header_outcome s side code).state
   begun_not s Bot None h = h
@@ -49,12 +51,10 @@ module _ (to : Side) where
 
   answered_not : (s : SessionState) (side : Side) (kind : Kind) (len : ℕ) (body : List ℕ) (v : _) → Not s →
       Not (answered s side (record { kind = kind; len = len }) body v).state
-  answered_not s Bot Im len body v h = h
-  answered_not s Server Im len body v h = h
-  answered_not s Bot Rm len body v h = h
-  answered_not s Server Rm len body v h = h
-  answered_not s Bot Dm len body v h = h
-  answered_not s Server Dm len body v h = h
+  answered_not s side Im len body v h = refl
+  answered_not s side Rm len body v h = refl
+  answered_not s side Dm len body v h =
+      ap (is_lost to) (answer_keeps_ending s side len body v) ∙ h
   answered_not s side Fm len body v h = refl
   answered_not s side Em len body v h = refl
 
@@ -88,11 +88,11 @@ module _ (to : Side) where
   pending_not s Bot bytes h = h
   pending_not s Server bytes h = h
 
-  im_timer_expired_not : (phase : Phase) (s : SessionState) → Not s → Not (im_timer_expired phase s).state
+  im_timer_expired_not : (phase : SessionPhase) (s : SessionState) → Not s → Not (im_timer_expired phase s).state
   im_timer_expired_not WaitIm s h = refl
   im_timer_expired_not WaitRm s h = h
-  im_timer_expired_not Open s h = h
-  im_timer_expired_not Over s h = h
+  im_timer_expired_not (Open level) s h = h
+  im_timer_expired_not (Over ending) s h = h
 
   comes_not : (s : SessionState) (side : Side) (x : ℕ) (v : _) → Not s →
       Not (event_outcome s (Comes side x) v).state
@@ -210,7 +210,7 @@ module _ (to : Side) where
 
   -- if the wire ended the session, no put to it is made any more
   pub lost_waits : (limits : Limits) (history : List PortCall) (g : SessionView) (front : List ℕ) → IsReachable limits history g →
-      is_lost to g.state.ending ≡ true → IsFrontOf front (queued g to) → 0 < length front → ⊥
+      is_lost to (ending_in g.state.phase) ≡ true → IsFrontOf front (queued g to) → 0 < length front → ⊥
   lost_waits limits history g front stands lost is_front some = go (has_failed to history) refl
     where
       go : (b : Bool) → has_failed to history ≡ b → ⊥

@@ -14,6 +14,7 @@ use Rattle.daide_event_loop.specs.Serving.{end_by}
 use Rattle.daide_event_loop.specs.Serving.{last_words, parting, retirement, retirement_where, retirements, remaining}
 use Rattle.daide_event_loop.specs.Serving.{RemovesClosed, is_progress, any_progress}
 use Rattle.daide_event_loop.proofs.TransitLemmas.{transits_then}
+use Rattle.daide_protocol.specs.Machine.{ending_in}
 
 -- ---- the last element of a list
 
@@ -185,7 +186,7 @@ module _ {P S : Type 0} (transition : S → SystemCall P → S → Type 0) where
       let end : SessionEnd = end_by ports.first_synthetic_end (Some ending) summary in
       let said : retirement x ≡ parting ports end =
       ap (λ (c : Bool). retirement_where c x) over
-      ∙ (ap (λ (p : SessionView × QuotaPortsView P). parting p.1 (end_by p.1.first_synthetic_end x.0.state.ending x.0.summary)) same
+      ∙ (ap (λ (p : SessionView × QuotaPortsView P). parting p.1 (end_by p.1.first_synthetic_end (ending_in x.0.state.phase) x.0.summary)) same
       ∙ (ap (λ (o : Option Ending). parting ports (end_by ports.first_synthetic_end o x.0.summary)) own.1
       ∙ ap (λ (c : Summary). parting ports (end_by ports.first_synthetic_end (Some ending) c)) (sym own.0))) in
       record {

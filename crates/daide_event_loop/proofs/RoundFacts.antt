@@ -5,12 +5,13 @@ use Rattle.std.specs.List.{range_with_len}
 use Rattle.daide_frame.specs.declared.side.Side.{Side}
 use Rattle.daide_frame.specs.declared.side.Side.TheVariants.{Bot, Server}
 use Rattle.daide_frame.specs.declared.code.Code.TheVariants.{SecondRm}
+use Rattle.daide_frame.specs.PerSide.{both}
 use Rattle.daide_protocol.specs.declared.ending.Ending.{Ending}
 use Rattle.daide_protocol.specs.declared.ending.Ending.TheVariants.{Ended, Lost, Final, Fault}
 use Rattle.daide_protocol.specs.declared.summary.Summary.{Summary}
-use Rattle.daide_protocol.specs.declared.phase.Phase.{Phase}
-use Rattle.daide_protocol.specs.declared.phase.Phase.TheVariants.{Open, Over}
-use Rattle.daide_protocol.specs.Machine.{Limits, Sent, fm_bytes, in_phase, initial_state, with_ending}
+use Rattle.daide_protocol.specs.declared.phase.SessionPhase.{SessionPhase}
+use Rattle.daide_protocol.specs.declared.phase.SessionPhase.TheVariants.{Open, Over}
+use Rattle.daide_protocol.specs.Machine.{Limits, Sent, fm_bytes, initial_state}
 use Rattle.daide_protocol.specs.Wires.{SessionView, sent_bytes}
 use Rattle.daide_io.specs.declared.ports.Pull.TheVariants.{Got, Idle, Ended}
 use Rattle.daide_io.specs.declared.ports.Put.TheVariants.{Took, Failed}
@@ -85,22 +86,19 @@ causes = (refl, refl, refl, refl, refl, refl)
 abbrev counts : ℕ → Summary
 counts n = record { relayed = n; prn = n + 1; huh = n + 2; faults = n + 3 }
 
--- a session with a phase, an ending, counts, and frames queued for its bot
-abbrev session : Limits → Phase → Option Ending → ℕ → List Sent → SessionView
-session limits phase ending n to_bot = record {
-  state = with_ending ending (in_phase phase (initial_state limits).level (initial_state limits));
-  to_bot = to_bot;
-  to_server = [];
-  bot_parts = sent_bytes to_bot ∷ [];
-  server_parts = [];
-  bot = nothing_held;
-  server = nothing_held;
+-- a session with a phase, counts, and frames queued for its bot
+abbrev session : Limits → SessionPhase → ℕ → List Sent → SessionView
+session limits phase n to_bot = record {
+  state = record (initial_state limits) { phase = phase };
+  wires = both to_bot [];
+  parts = both (sent_bytes to_bot ∷ []) [];
+  sides = both nothing_held nothing_held;
   summary = counts n;
 }
 
 -- a session with an FM queued for its bot
 abbrev queued : Limits → SessionView
-queued limits = session limits Over (Some (Final Bot)) 20 (record { to = Bot; answers = None; bytes = fm_bytes } ∷ [])
+queued limits = session limits (Over (Final Bot)) 20 (record { to = Bot; answers = None; bytes = fm_bytes } ∷ [])
 
 -- ports identified by a number, with this many turns left
 abbrev ports : ℕ → Option ℕ → QuotaPortsView ℕ
@@ -114,10 +112,10 @@ spent number told = record { ports = number; turns_left = None; made_progress = 
 -- spent. The fifth is closed, and so is the sixth, whose FM for the bot was queued until its turns were spent.
 abbrev six : Limits → List (SessionView × QuotaPortsView ℕ)
 six limits =
-    (session limits Over (Some (Fault Server SecondRm)) 10 [], ports 1 (Some 9)) ∷ (queued limits, ports 2 (Some 9))
-    ∷ (session limits Open None 30 [], ports 3 (Some 9)) ∷ (session limits Over (Some (Lost Bot)) 40 [], spent 4 (Lost Bot))
-    ∷ (session limits Over (Some (Ended Server)) 50 [], ports 5 (Some 0))
-    ∷ (session limits Over (Some (Ended Server)) 60 [], spent 6 (Lost Bot)) ∷ []
+    (session limits (Over (Fault Server SecondRm)) 10 [], ports 1 (Some 9)) ∷ (queued limits, ports 2 (Some 9))
+    ∷ (session limits (Open limits.top_level) 30 [], ports 3 (Some 9)) ∷ (session limits (Over (Lost Bot)) 40 [], spent 4 (Lost Bot))
+    ∷ (session limits (Over (Ended Server)) 50 [], ports 5 (Some 0))
+    ∷ (session limits (Over (Ended Server)) 60 [], spent 6 (Lost Bot)) ∷ []
 
 -- from the last place to the first, each closed session, with its own end and its own counts
 parted_from_the_last : (limits : Limits) →
@@ -129,7 +127,7 @@ parted_from_the_last : (limits : Limits) →
 parted_from_the_last limits = refl
 
 others_stay : (limits : Limits) →
-    remaining (six limits) ≡ (queued limits, ports 2 (Some 9)) ∷ (session limits Open None 30 [], ports 3 (Some 9)) ∷ []
+    remaining (six limits) ≡ (queued limits, ports 2 (Some 9)) ∷ (session limits (Open limits.top_level) 30 [], ports 3 (Some 9)) ∷ []
 others_stay limits = refl
 
 -- ---- turns that begin

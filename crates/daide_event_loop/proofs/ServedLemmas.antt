@@ -1,7 +1,7 @@
 -- The sessions of a run, step by step.
 use Rattle.std.proofs.Common.{◌≡◌, ℕ, zero, suc, ◌<◌, ◌≤◌, Bool, true, false, List, [], ◌∷◌, ◌++◌, length, take, set}
 use Rattle.std.proofs.Common.{◌+◌, refl, sym, ap, ◌∙◌, subst, arith, append-nil, length-append}
-use Rattle.std.specs.Prelude.{◌==◌, ◌&&◌, ◌||◌, Option, Some, None, Ok, Contains, All, is_none, is_some, not}
+use Rattle.std.specs.Prelude.{◌==◌, ◌&&◌, ◌||◌, Option, Some, None, Ok, Contains, All, is_none, is_some, not, slice_get}
 use Rattle.std.proofs.lemmas.Bool.{eqb-true}
 use Rattle.std.proofs.lemmas.List.{take_all, length-set}
 use Rattle.std.proofs.lemmas.List.Elements.{All-nil, All-cons, All-head, All-tail, All-same, All-append, All-set}
@@ -11,15 +11,16 @@ use Rattle.std.proofs.lemmas.Option.{slice_get_within, get_or_from_slice_get}
 use Rattle.std.proofs.Math.Dec.{eqb-suc-zero}
 use Rattle.std.proofs.Math.Seq.{take-suc-set}
 use Rattle.daide_protocol.specs.declared.ending.Ending.{Ending}
-use Rattle.daide_protocol.proofs.EndingLemmas.{runs_reported}
-use Rattle.daide_protocol.specs.Machine.{Limits, is_over}
+use Rattle.daide_protocol.proofs.EndingLemmas.{ending_known}
+use Rattle.daide_protocol.specs.Machine.{Limits, is_over, ending_in}
 use Rattle.daide_protocol.specs.Wires.{SessionView, IsNew, is_closed}
 use Rattle.daide_io.specs.Ports.{PortCall, TurnBegins, EvolvesBy, events_of}
-use Rattle.daide_driver.specs.Headline.{untouched, IsReachable, IsBoundedAndExact}
-use Rattle.daide_driver.specs.Hub.{HubView, IsHubSize, IsBegun, IsTurned, Changes}
-use Rattle.daide_protocol.specs.Config.{config_fault}
+use Rattle.daide_driver.specs.Headline.{untouched}
+use Rattle.daide_driver.specs.Totals.{RefinesRun}
+use Rattle.daide_driver.specs.Hub.{HubView, IsBegun, IsTurned, Changes}
 use Rattle.daide_driver.proofs.PortCalls.{turn_begins}
-use Rattle.daide_driver.proofs.Stretches.{transition_then, relays_append}
+use Rattle.daide_io.proofs.TraceLemmas.{transition_then}
+use Rattle.daide_driver.proofs.Stretches.{relays_append}
 use Rattle.daide_driver.proofs.Standing.{new_stands}
 use Rattle.daide_driver.proofs.HubLemmas.{closed_over}
 use Rattle.daide_settings.specs.declared.settings.Settings.{Settings}
@@ -28,12 +29,14 @@ use Rattle.daide_io.specs.declared.system.Connect.TheVariants.{Ready, Failed, Pe
 use Rattle.daide_io.specs.declared.system.Notice.TheVariants.{CannotReach, TurnsSpent}
 use Rattle.daide_event_loop.specs.declared.admission_counters.AdmissionCounters.{AdmissionCounters}
 use Rattle.daide_event_loop.specs.QuotaPorts.{QuotaPortsView, Meters, progress_by}
-use Rattle.daide_io.specs.System.{SystemCall, Begins, BeginsTurn, Accepts, Connects, Retires, Notifies, Waits}
+use Rattle.daide_io.specs.System.{SystemCall, Begins, ReportsNews, BeginsTurn, Accepts, Connects, Retires, Notifies}
+use Rattle.daide_io.specs.System.{Waits}
 use Rattle.daide_event_loop.specs.Serving.{ServiceView, fresh, initial_service, may_accept, come, AdmitsWhere, MeetsWhere, OpensTurn}
-use Rattle.daide_event_loop.specs.Serving.{TurnsBelow, TurnsAll, last_words, retirement, retirement_where, retirements, remaining, parting}
+use Rattle.daide_event_loop.specs.Serving.{IsDueBy, TurnsIf, VisitsPlace, TurnsBelow, TurnsAll, last_words, retirement, retirement_where}
+use Rattle.daide_event_loop.specs.Serving.{retirements, remaining, parting}
 use Rattle.daide_event_loop.specs.Serving.{cause_by, end_of}
 use Rattle.daide_event_loop.specs.Serving.{MeetsBy, wait_where, any_progress, any_moved, Round, Rounds, is_done}
-use Rattle.daide_event_loop.specs.Served.{run_limits, IsSessionOfRun, IsServed, IsEndOf, RetiresClosed, connects, retires, sum_over_calls}
+use Rattle.daide_event_loop.specs.Served.{IsServedSession, run_limits, IsSessionOfRun, IsServed, IsEndOf, RetiresClosed, connects, retires, sum_over_calls}
 use Rattle.daide_event_loop.specs.Served.{IsWholeRun}
 use Rattle.daide_event_loop.proofs.BeginningLemmas.{OnlyBegin, none_counted, all_begin, turns_only}
 use Rattle.daide_event_loop.proofs.CauseLemmas.{IsCut, cut_begins, cut_begun, cut_turn, cut_cause}
@@ -79,8 +82,8 @@ module _ {P : Type 0} where
 
   turns_pass : (answers : List (SystemCall P)) → OnlyBegin answers → Passes answers 0 0
   turns_pass answers h = record {
-    came = none_counted connects answers (λ before after. refl) h;
-    went = none_counted retires answers (λ before after. refl) h;
+    came = none_counted connects answers (λ ports news. refl) (λ before after. refl) h;
+    went = none_counted retires answers (λ ports news. refl) (λ before after. refl) h;
   }
 
   admission_passes : (b : Bool) (old : AdmissionCounters) (answers : List (SystemCall P)) (new : AdmissionCounters) →
@@ -162,9 +165,13 @@ module _ {P : Type 0} where
             omega (arith, rest, same)),
       )
 
-  wait_passes : (made_progress more : Bool) → Passes (wait_where made_progress more) 0 0
-  wait_passes true more = record { came = refl; went = refl }
-  wait_passes false more = record { came = refl; went = refl }
+  wait_passes : (made_progress : Bool) → Passes (wait_where made_progress) 0 0
+  wait_passes true = record { came = refl; went = refl }
+  wait_passes false = record { came = refl; went = refl }
+
+-- a session that its port calls since the opening of a run lead to, with its counts and its look-ups
+abbrev IsReached : Limits → List PortCall → SessionView → Type 0
+IsReached limits history g = RefinesRun (untouched limits) history g
 
 module _ {P : Type 0} (port_transition : P → PortCall → P → Type 0) (settings : Settings) where
   -- ---- a longer trace
@@ -181,19 +188,20 @@ module _ {P : Type 0} (port_transition : P → PortCall → P → Type 0) (setti
 
   gone_later : (xs ys : List (SystemCall P)) (answer : SystemCall P) → RetiresClosed port_transition settings xs answer →
       RetiresClosed port_transition settings (xs ++ ys) answer
-  gone_later xs ys (Retires ports end) h = (h.0, h.1, h.2, (later IsBoundedAndExact xs ys h.0 h.3.0, h.3.1))
+  gone_later xs ys (Retires ports end) h = (h.0, h.1, h.2, (later IsServedSession xs ys h.0 h.3.0, h.3.1))
   gone_later xs ys Begins h = tt
+  gone_later xs ys (ReportsNews ports news) h = tt
   gone_later xs ys (BeginsTurn before after) h = tt
   gone_later xs ys (Accepts came) h = tt
   gone_later xs ys (Connects connect) h = tt
   gone_later xs ys (Notifies notice) h = tt
-  gone_later xs ys (Waits more) h = tt
+  gone_later xs ys Waits h = tt
 
   -- ---- turns
 
   module _ (all : List (SystemCall P)) where
     abbrev Held : SessionView × QuotaPortsView P → Type 0
-    Held now = (h : IsSessionOfRun port_transition IsReachable settings all now)
+    Held now = (h : IsSessionOfRun port_transition IsReached settings all now)
         × IsCut port_transition (run_limits settings) settings.turns h.history now
 
     abbrev pub Served : SessionView × QuotaPortsView P → Type 0
@@ -210,17 +218,24 @@ module _ {P : Type 0} (port_transition : P → PortCall → P → Type 0) (setti
         came = h.0.came;
         history = h.0.history;
         answered = h.0.answered;
-        stands = h.0.stands.sends;
+        stands = h.0.stands.1.whole;
       },
       h.1,
     )
+
+    -- before the turns of a round: a session whose last turn made no progress had one, so it is served
+    abbrev IsRested : SessionView × QuotaPortsView P → Type 0
+    IsRested now = Held now × (now.1.made_progress ≡ false → Served now)
+
+    rested : (now : SessionView × QuotaPortsView P) → Served now → IsRested now
+    rested now h = (still now h, λ still. h)
 
     begun : (a b : SessionView × QuotaPortsView P) → IsBegun (Meters port_transition) a b → Held a → Held b
     begun a b t h =
         let own = h.0 in
         let longer = own.history ++ TurnBegins ∷ [] in
-        let stands : IsReachable (run_limits settings) longer b.0 =
-        subst (λ (g : SessionView). IsReachable (run_limits settings) longer g) (sym t.0)
+        let stands : IsReached (run_limits settings) longer b.0 =
+        subst (λ (g : SessionView). IsReached (run_limits settings) longer g) (sym t.0)
         (relays_append (untouched (run_limits settings)) own.history a.0 (TurnBegins ∷ []) a.0 own.stands
         (turn_begins a.0)) in (
           record {
@@ -231,14 +246,18 @@ module _ {P : Type 0} (port_transition : P → PortCall → P → Type 0) (setti
                 own.answered (b.1, t.1, refl);
             stands = stands;
           },
-          cut_begun port_transition (run_limits settings) settings.turns own.history own.ports a b t own.answered own.stands stands
+          cut_begun port_transition (run_limits settings) settings.turns own.history own.ports a b t own.answered own.stands.sends
+              stands.sends
               h.1,
         )
 
     turned : (a b : SessionView × QuotaPortsView P) → IsTurned (Meters port_transition) a b → Held a → Served b
     turned a b t h =
         let own = h.0 in
-        let stands = t.exchange.session.headline (run_limits settings) own.history own.stands in (
+        let stands : IsServedSession (run_limits settings) (own.history ++ t.exchange.call) b.0 = (
+          t.exchange.session.headline (run_limits settings) own.history own.stands.sends,
+          t.exchange.session.totals (run_limits settings) own.history own.stands,
+        ) in (
           record {
             ports = own.ports;
             came = own.came;
@@ -247,21 +266,23 @@ module _ {P : Type 0} (port_transition : P → PortCall → P → Type 0) (setti
                 own.answered t.exchange.ports;
             stands = stands;
           },
-          cut_turn port_transition (run_limits settings) settings.turns own.history own.ports a b t own.answered own.stands
-              stands.sends h.1,
+          cut_turn port_transition (run_limits settings) settings.turns own.history own.ports a b t own.answered own.stands.sends
+              stands.0.sends h.1,
         )
 
-    -- the places below this one had their turns
-    record Below (n : ℕ) (old new : HubView (QuotaPortsView P)) : Type 0 where
+    -- the places below n were visited, and those from m on are as before
+    record Below (n m : ℕ) (old new : HubView (QuotaPortsView P)) : Type 0 where
       held : All Held new.places
       served : All Served (take n new.places)
+      rest : (k : ℕ) → m ≤ k → slice_get new.places k ≡ slice_get old.places k
       count : length new.places ≡ length old.places
       limits : new.limits ≡ old.limits
 
-    none_below : (old new : HubView (QuotaPortsView P)) → new ≡ old → All Held old.places → Below 0 old new
+    none_below : (old new : HubView (QuotaPortsView P)) → new ≡ old → All Held old.places → Below 0 0 old new
     none_below old new e h = record {
       held = subst (λ (k : HubView (QuotaPortsView P)). All Held k.places) (sym e) h;
       served = All-nil Served;
+      rest = λ k far. ap (λ (hub : HubView (QuotaPortsView P)). slice_get hub.places k) e;
       count = ap (λ (k : HubView (QuotaPortsView P)). length k.places) e;
       limits = ap (λ (k : HubView (QuotaPortsView P)). k.limits) e;
     }
@@ -272,9 +293,30 @@ module _ {P : Type 0} (port_transition : P → PortCall → P → Type 0) (setti
     take_set (suc n) [] x = refl
     take_set (suc n) (y ∷ xs) x = ap (λ (l : List (SessionView × QuotaPortsView P)). y ∷ l) (take_set n xs x)
 
+    set_other : (n k : ℕ) (xs : List (SessionView × QuotaPortsView P)) (x : SessionView × QuotaPortsView P) → suc n ≤ k →
+        slice_get (set xs n x) k ≡ slice_get xs k
+    set_other zero zero xs x far = absurd (omega (arith, far))
+    set_other (suc n) zero xs x far = absurd (omega (arith, far))
+    set_other zero (suc k) [] x far = refl
+    set_other (suc n) (suc k) [] x far = refl
+    set_other zero (suc k) (y ∷ xs) x far = refl
+    set_other (suc n) (suc k) (y ∷ xs) x far = set_other n k xs x (omega (arith, far))
+
+    -- the value of an option, or else the first argument
+    abbrev value_or : SessionView × QuotaPortsView P → Option (SessionView × QuotaPortsView P) → SessionView × QuotaPortsView P
+    value_or x None = x
+    value_or x (Some y) = y
+
+    take_more : (n : ℕ) (xs : List (SessionView × QuotaPortsView P)) (x : SessionView × QuotaPortsView P) →
+        slice_get xs n ≡ Some x → take (suc n) xs ≡ take n xs ++ x ∷ []
+    take_more zero [] x e = absurd (cc)
+    take_more (suc n) [] x e = absurd (cc)
+    take_more zero (y ∷ xs) x e = ap (λ (o : Option (SessionView × QuotaPortsView P)). value_or y o ∷ []) e
+    take_more (suc n) (y ∷ xs) x e = ap (λ (l : List (SessionView × QuotaPortsView P)). y ∷ l) (take_more n xs x e)
+
     -- the turn of the next one begins
-    begun_below : (n : ℕ) (old mid new : HubView (QuotaPortsView P)) (answers : List (SystemCall P)) → Below n old mid →
-        Changes (OpensTurn port_transition answers) mid n new → Below n old new
+    begun_below : (n : ℕ) (old mid new : HubView (QuotaPortsView P)) (answers : List (SystemCall P)) → Below n n old mid →
+        Changes (OpensTurn port_transition answers) mid n new → Below n (suc n) old new
     begun_below n old mid new answers h c =
         let places : new.places ≡ set mid.places n c.1 = ap (λ (k : HubView (QuotaPortsView P)). k.places) c.3 in
         let inside : n < length mid.places = slice_get_within mid.places n c.0 c.2 in
@@ -285,13 +327,15 @@ module _ {P : Type 0} (port_transition : P → PortCall → P → Type 0) (setti
               (All-set Held mid.places n c.1 (begun c.0 c.1 c.4.0 was) h.held);
           served = All-same Served (take n new.places) (take n mid.places)
               (ap (take n) places ∙ take_set n mid.places c.1) h.served;
+          rest = λ k far. ap (λ (l : List (SessionView × QuotaPortsView P)). slice_get l k) places
+              ∙ set_other n k mid.places c.1 far ∙ h.rest k (omega (arith, far));
           count = ap length places ∙ length-set mid.places n c.1 ∙ h.count;
           limits = ap (λ (k : HubView (QuotaPortsView P)). k.limits) c.3 ∙ h.limits;
         }
 
     -- the turn runs
-    one_below : (n : ℕ) (old mid new : HubView (QuotaPortsView P)) → Below n old mid →
-        Changes (IsTurned (Meters port_transition)) mid n new → Below (suc n) old new
+    one_below : (n : ℕ) (old mid new : HubView (QuotaPortsView P)) → Below n (suc n) old mid →
+        Changes (IsTurned (Meters port_transition)) mid n new → Below (suc n) (suc n) old new
     one_below n old mid new h c =
         let places : new.places ≡ set mid.places n c.1 = ap (λ (k : HubView (QuotaPortsView P)). k.places) c.3 in
         let inside : n < length mid.places = slice_get_within mid.places n c.0 c.2 in
@@ -304,19 +348,57 @@ module _ {P : Type 0} (port_transition : P → PortCall → P → Type 0) (setti
           served = All-same Served (take (suc n) new.places) (take n mid.places ++ c.1 ∷ [])
               (ap (take (suc n)) places ∙ take-suc-set mid.places n c.1 inside)
               (All-push Served (take n mid.places) c.1 h.served now);
+          rest = λ k far. ap (λ (l : List (SessionView × QuotaPortsView P)). slice_get l k) places
+              ∙ set_other n k mid.places c.1 far ∙ h.rest k far;
           count = ap length places ∙ length-set mid.places n c.1 ∙ h.count;
           limits = ap (λ (k : HubView (QuotaPortsView P)). k.limits) c.3 ∙ h.limits;
         }
 
+    -- the next one is not due a turn
+    same_below : (n : ℕ) (old mid : HubView (QuotaPortsView P)) (place : SessionView × QuotaPortsView P) →
+        slice_get mid.places n ≡ Some place → Served place → Below n n old mid → Below (suc n) (suc n) old mid
+    same_below n old mid place there now h = record {
+      held = h.held;
+      served = All-same Served (take (suc n) mid.places) (take n mid.places ++ place ∷ [])
+          (take_more n mid.places place there) (All-push Served (take n mid.places) place h.served now);
+      rest = λ k far. h.rest k (omega (arith, far));
+      count = h.count;
+      limits = h.limits;
+    }
+
+    visited_below : (n : ℕ) (old mid new : HubView (QuotaPortsView P)) (answers : List (SystemCall P)) →
+        All IsRested old.places → Below n n old mid → VisitsPlace port_transition mid n answers new →
+        Below (suc n) (suc n) old new
+    visited_below n old mid new answers each h v =
+        by v.place.1.made_progress v.due refl v.report v.looks v.turn v.turns
+      where
+        was : slice_get old.places n ≡ Some v.place
+        was = sym (h.rest n (omega arith)) ∙ v.there
+
+        own : IsRested v.place
+        own =
+            subst IsRested (get_or_from_slice_get old.places n v.place v.place was)
+            (each n v.place (slice_get_within old.places n v.place was))
+
+        by : (moved due : Bool) → v.place.1.made_progress ≡ moved → (report : List (SystemCall P)) →
+            IsDueBy moved v.place.1.ports report due → (turn : List (SystemCall P)) →
+            TurnsIf port_transition due mid n turn new → Below (suc n) (suc n) old new
+        by moved true e report looks turn takes =
+            one_below n old takes.0 new (begun_below n old mid takes.0 turn h takes.1) takes.2
+        by false false e report looks turn stays =
+            subst (λ (k : HubView (QuotaPortsView P)). Below (suc n) (suc n) old k) (sym stays.1)
+            (same_below n old mid v.place v.there (own.1 e) h)
+        by true false e report looks turn stays = let due = looks.1 in absurd (cc)
+
     below : (n : ℕ) (old : HubView (QuotaPortsView P)) (answers : List (SystemCall P)) (new : HubView (QuotaPortsView P)) →
-        TurnsBelow port_transition n old answers new → All Held old.places → Below n old new
-    below zero old answers new run h = none_below old new run.1 h
+        TurnsBelow port_transition n old answers new → All IsRested old.places → Below n n old new
+    below zero old answers new run h =
+        none_below old new run.1 (All-weaker IsRested Held (λ now own. own.0) old.places h)
     below (suc n) old answers new run h =
-        one_below n old run.5.0 new
-        (begun_below n old run.0 run.5.0 run.2 (below n old run.1 run.0 run.4 h) run.5.1) run.5.2
+        visited_below n old run.0 new run.2 h (below n old run.1 run.0 run.4 h) run.5
 
     all_turned : (old : HubView (QuotaPortsView P)) (answers : List (SystemCall P)) (new : HubView (QuotaPortsView P)) →
-        TurnsAll port_transition old answers new → All Held old.places →
+        TurnsAll port_transition old answers new → All IsRested old.places →
         All Served new.places × (new.limits ≡ old.limits) × (length new.places ≡ length old.places)
     all_turned old answers new run h =
         let b = below (length old.places) old answers new run h in
@@ -345,18 +427,18 @@ module _ {P : Type 0} (port_transition : P → PortCall → P → Type 0) (setti
     record Met (old : HubView (QuotaPortsView P)) (old_counters : AdmissionCounters) (answers : List (SystemCall P)) (new : HubView (QuotaPortsView P))
         (new_counters : AdmissionCounters) : Type 0 where
       gone : All Gone answers
-      held : All Held new.places
+      held : All IsRested new.places
       limits : new.limits ≡ old.limits
       turns : new_counters.turns ≡ old_counters.turns
 
     connected : (b : Bool) (old : HubView (QuotaPortsView P)) (counters : AdmissionCounters) (answers : List (SystemCall P))
         (new : HubView (QuotaPortsView P)) (new_counters : AdmissionCounters) →
         ((ports : P) → Contains answers (Connects (Ready ports)) → Contains all (Connects (Ready ports))) →
-        old.limits ≡ run_limits settings → counters.turns ≡ settings.turns → All Held old.places →
+        old.limits ≡ run_limits settings → counters.turns ≡ settings.turns → All IsRested old.places →
         MeetsWhere b old counters answers new new_counters → Met old counters answers new new_counters
     connected true old counters answers new new_counters within limits turns h m = record {
       gone = All-same Gone answers [] m.0 (All-nil Gone);
-      held = subst (λ (k : HubView (QuotaPortsView P)). All Held k.places) (sym m.1) h;
+      held = subst (λ (k : HubView (QuotaPortsView P)). All IsRested k.places) (sym m.1) h;
       limits = ap (λ (k : HubView (QuotaPortsView P)). k.limits) m.1;
       turns = ap (λ (t : AdmissionCounters). t.turns) m.2;
     }
@@ -368,7 +450,7 @@ module _ {P : Type 0} (port_transition : P → PortCall → P → Type 0) (setti
             let one : answers ≡ Connects (Ready ports) ∷ [] =
             e ∙ ap (λ (l : List (SystemCall P)). Connects (Ready ports) ∷ l) m.0 in
             let stands = new_stands (run_limits settings) m.1.0 (subst (λ (l : Limits). IsNew l m.1.0) limits m.1.1) in
-            let own : IsSessionOfRun port_transition IsReachable settings all (m.1.0, fresh ports counters.turns) = record {
+            let own : IsSessionOfRun port_transition IsReached settings all (m.1.0, fresh ports counters.turns) = record {
               ports = ports;
               came = within ports (subst (λ (l : List (SystemCall P)). Contains l (Connects (Ready ports))) (sym one)
                   (0, omega arith, refl));
@@ -379,13 +461,14 @@ module _ {P : Type 0} (port_transition : P → PortCall → P → Type 0) (setti
             let place : Held (m.1.0, fresh ports counters.turns) = (
               own,
               subst (λ (n : ℕ). IsCut port_transition (run_limits settings) settings.turns [] (m.1.0, fresh ports n)) (sym turns)
-                  (cut_begins port_transition (run_limits settings) settings.turns m.1.0 ports stands),
+                  (cut_begins port_transition (run_limits settings) settings.turns m.1.0 ports stands.sends),
             ) in
+            let first : IsRested (m.1.0, fresh ports counters.turns) = (place, λ still. absurd (cc)) in
             record {
               gone = All-same Gone answers (Connects (Ready ports) ∷ []) one
                   (All-cons Gone (Connects (Ready ports)) [] tt (All-nil Gone));
-              held = subst (λ (k : HubView (QuotaPortsView P)). All Held k.places) (sym m.1.2)
-                  (All-push Held old.places (m.1.0, fresh ports counters.turns) h place);
+              held = subst (λ (k : HubView (QuotaPortsView P)). All IsRested k.places) (sym m.1.2)
+                  (All-push IsRested old.places (m.1.0, fresh ports counters.turns) h first);
               limits = ap (λ (k : HubView (QuotaPortsView P)). k.limits) m.1.2;
               turns = ap (λ (t : AdmissionCounters). t.turns) m.2;
             }
@@ -396,7 +479,7 @@ module _ {P : Type 0} (port_transition : P → PortCall → P → Type 0) (setti
               gone = All-same Gone answers (Connects Failed ∷ Notifies CannotReach ∷ []) two
                   (All-cons Gone (Connects Failed) (Notifies CannotReach ∷ []) tt
                   (All-cons Gone (Notifies CannotReach) [] tt (All-nil Gone)));
-              held = subst (λ (k : HubView (QuotaPortsView P)). All Held k.places) (sym m.1) h;
+              held = subst (λ (k : HubView (QuotaPortsView P)). All IsRested k.places) (sym m.1) h;
               limits = ap (λ (k : HubView (QuotaPortsView P)). k.limits) m.1;
               turns = ap (λ (t : AdmissionCounters). t.turns) m.2;
             }
@@ -406,7 +489,7 @@ module _ {P : Type 0} (port_transition : P → PortCall → P → Type 0) (setti
             record {
               gone = All-same Gone answers (Connects Pending ∷ []) one
                   (All-cons Gone (Connects Pending) [] tt (All-nil Gone));
-              held = subst (λ (k : HubView (QuotaPortsView P)). All Held k.places) (sym m.1) h;
+              held = subst (λ (k : HubView (QuotaPortsView P)). All IsRested k.places) (sym m.1) h;
               limits = ap (λ (k : HubView (QuotaPortsView P)). k.limits) m.1;
               turns = ap (λ (t : AdmissionCounters). t.turns) m.2;
             }
@@ -425,11 +508,10 @@ module _ {P : Type 0} (port_transition : P → PortCall → P → Type 0) (setti
     ended : (place : SessionView × QuotaPortsView P) → is_closed place.0 ≡ true → (h : Served place) →
         IsEndOf (run_limits settings) settings.turns h.0.history place.0 (end_of place)
     ended place closed h =
-        let stands = h.0.stands.sends in
-        let told = runs_reported (untouched (run_limits settings)).state (events_of h.0.history) stands.effects
-        place.0.state stands.run refl in
+        let stands = h.0.stands.0.sends in
+        let told = ending_known place.0.state.phase in
         let over = closed_over (is_over place.0.state.phase) _ closed in
-        let own = some_ending place.0.state.ending (told ∙ over) in (
+        let own = some_ending (ending_in place.0.state.phase) (told ∙ over) in (
           h.1.effects,
           h.1.state,
           h.1.run,
@@ -450,9 +532,9 @@ module _ {P : Type 0} (port_transition : P → PortCall → P → Type 0) (setti
         All-append Gone (retirements places) (retirement place) (all_parted places (All-tail Served place places h))
         (parted (is_closed place.0) place refl (All-head Served place places h))
 
-    waited : (made_progress more : Bool) → All Gone (wait_where made_progress more)
-    waited true more = All-nil Gone
-    waited false more = All-cons Gone (Waits more) [] tt (All-nil Gone)
+    waited : (made_progress : Bool) → All Gone (wait_where made_progress)
+    waited true = All-nil Gone
+    waited false = All-cons Gone Waits [] tt (All-nil Gone)
 
   -- ---- rounds
 
@@ -469,8 +551,7 @@ module _ {P : Type 0} (port_transition : P → PortCall → P → Type 0) (setti
       Counts ys old.counters new.counters
   round_counts ys old new r =
       let made_progress = any_progress r.admission || any_progress r.meeting || any_moved r.turned.places || any_progress r.removal in
-      let more = may_accept new.counters (length new.hub.places) in
-      let last = wait_where {P = P} made_progress more in
+      let last = wait_where {P = P} made_progress in
       let removes : Counts r.removal new.counters new.counters =
       subst (λ (l : List (SystemCall P)). Counts l new.counters new.counters) (sym r.removes.0)
       (removal_counts r.turned.places new.counters) in
@@ -484,18 +565,17 @@ module _ {P : Type 0} (port_transition : P → PortCall → P → Type 0) (setti
       (meeting_counts (r.came.connecting == 0) old.hub r.came r.meeting r.connected new.counters refl r.finishes))
       (turns_count r.beginnings new.counters (turns_only port_transition (length r.connected.places) r.connected r.beginnings r.turned r.turns)))
       removes)
-      (wait_counts made_progress more new.counters))
+      (wait_counts made_progress new.counters))
 
   round_serves : (xs ys : List (SystemCall P)) (old new : ServiceView P) → Keeps xs old → Round port_transition old ys new →
       Keeps (xs ++ ys) new
   round_serves xs ys old new h r =
       let all = xs ++ ys in
       let made_progress = any_progress r.admission || any_progress r.meeting || any_moved r.turned.places || any_progress r.removal in
-      let more = may_accept new.counters (length new.hub.places) in
-      let last = wait_where {P = P} made_progress more in
+      let last = wait_where {P = P} made_progress in
       let come = admitted all (may_accept old.counters (length old.hub.places)) old.counters r.admission r.came r.admits in
-      let still_held : All (Held all) old.hub.places =
-      All-weaker (Served xs) (Held all) (λ now s. still all now (later IsBoundedAndExact xs ys now s.0, s.1))
+      let still_held : All (IsRested all) old.hub.places =
+      All-weaker (Served xs) (IsRested all) (λ now s. rested all now (later IsServedSession xs ys now s.0, s.1))
       old.hub.places h.held in
       let within : (ports : P) → Contains r.meeting (Connects (Ready ports)) → Contains all (Connects (Ready ports)) =
       λ ports c. Contains-append_right xs ys (Connects (Ready ports))
@@ -523,10 +603,10 @@ module _ {P : Type 0} (port_transition : P → PortCall → P → Type 0) (setti
             (All-append (Gone all) (Begins ∷ r.admission ++ r.meeting ++ r.beginnings) r.removal
             (All-append (Gone all) (Begins ∷ r.admission ++ r.meeting) r.beginnings
             (All-append (Gone all) (Begins ∷ r.admission) r.meeting (All-cons (Gone all) Begins r.admission tt come.0)
-            connected.gone) (all_begin (Gone all) r.beginnings (λ before after. tt) only))
+            connected.gone) (all_begin (Gone all) r.beginnings (λ ports news. tt) (λ before after. tt) only))
             (All-same (Gone all) r.removal (retirements r.turned.places) r.removes.0
             (all_parted all r.turned.places turned.0)))
-            (waited all made_progress more)));
+            (waited all made_progress)));
         balance =
             let finishes = meeting_passes (r.came.connecting == 0) old.hub r.came r.meeting r.connected new.counters r.finishes in
             let leaves = removal_passes r.turned.places in
@@ -542,7 +622,7 @@ module _ {P : Type 0} (port_transition : P → PortCall → P → Type 0) (setti
             (admission_passes (may_accept old.counters (length old.hub.places)) old.counters r.admission r.came r.admits)) finishes.1)
             (turns_pass r.beginnings only))
             (passes_as r.removal (retirements r.turned.places) 0 leaves.0 r.removes.0 leaves.1))
-            (wait_passes made_progress more)) in
+            (wait_passes made_progress)) in
             let came = passes.came in
             let went = passes.went in
             let held = finishes.2 in
@@ -590,10 +670,9 @@ module _ {P : Type 0} (port_transition : P → PortCall → P → Type 0) (setti
   all_there false none count accepted sessions connecting a b e = absurd (cc)
 
   -- rounds until all were served are a whole run
-  pub whole_run : (config_fault settings.config ≡ Ok tt) × IsHubSize settings.max_sessions →
-      (n : ℕ) (answers : List (SystemCall P)) (end : ServiceView P) →
+  pub whole_run : (n : ℕ) (answers : List (SystemCall P)) (end : ServiceView P) →
       Rounds port_transition n (initial_service settings) answers end → is_done end ≡ true → IsWholeRun port_transition settings answers
-  whole_run accepted n answers end rounds done =
+  whole_run n answers end rounds done =
       let kept = rounds_serve n answers end rounds in
       let empty = nobody_left (end.counters.accepted == end.counters.sessions) (end.counters.connecting == 0)
       (length end.hub.places) done in
@@ -606,7 +685,6 @@ module _ {P : Type 0} (port_transition : P → PortCall → P → Type 0) (setti
       let all = there.0 in
       let none = there.1 in
       record {
-        accepted = accepted;
         serves = (n, end, rounds, done);
         each = kept.gone;
         none_lost = omega (arith, balance, empty);

@@ -6,7 +6,7 @@ use Rattle.std.specs.Result.{IsErrAnd}
 use Rattle.std.proofs.Math.Dec.{eqb-suc-zero}
 use Rattle.daide_protocol.specs.Wires.{SessionView}
 use Rattle.daide_io.specs.Ports.{PortCall}
-use Rattle.daide_driver.proofs.Stretches.{or_assoc}
+use Rattle.daide_io.proofs.TraceLemmas.{or_assoc}
 use Rattle.daide_event_loop.specs.QuotaPorts.{QuotaPortsView}
 use Rattle.daide_io.specs.System.{SystemCall, TransitsBy}
 use Rattle.daide_settings.specs.declared.settings.Settings.{Settings}
@@ -15,7 +15,6 @@ use Rattle.daide_event_loop.specs.declared.serving.ServeFault.TheVariants as Fau
 use Rattle.daide_event_loop.specs.Serving.{ServiceView, any_moved, wait_where, Round, Rounds, is_done, initial_service}
 use Rattle.daide_event_loop.specs.Serving.{BreaksOff, GivesUp}
 use Rattle.daide_event_loop.proofs.TransitLemmas.{transits_then}
-use Rattle.daide_event_loop.specs.Serving.{IsOpeningCause, IsServeCause}
 
 pub not_none : (n : ℕ) → (n ≡ 0 → ⊥) → (n == 0) ≡ false
 not_none zero h = absurd (h refl)
@@ -38,9 +37,9 @@ any_more (x ∷ xs) (suc i) m lt h =
 
 -- ---- rounds
 
-pub waits_alike : {P : Type 0} (a b c d e p q r s t : Bool) → a ≡ p → b ≡ q → c ≡ r → d ≡ s → e ≡ t →
-    wait_where {P = P} (a || b || c || d) e ≡ wait_where (p || q || r || s) t
-waits_alike a b c d e p q r s t h i j k l = rw (h, i, j, k, l) refl
+pub waits_alike : {P : Type 0} (a b c d p q r s : Bool) → a ≡ p → b ≡ q → c ≡ r → d ≡ s →
+    wait_where {P = P} (a || b || c || d) ≡ wait_where (p || q || r || s)
+waits_alike a b c d p q r s h i j k = rw (h, i, j, k) refl
 
 module _ {P S : Type 0} (port_transition : P → PortCall → P → Type 0) (transition : S → SystemCall P → S → Type 0) where
   -- the first n rounds, with their trace of system calls
@@ -85,29 +84,6 @@ module _ {P S : Type 0} (Refuses : ℕ → Type 0) (port_transition : P → Port
       asked = refl;
     }),
   )
-
-module _ {P : Type 0} (Refuses : ℕ → Type 0) (port_transition : P → PortCall → P → Type 0) (settings : Settings) where
-  -- a run that did not begin made no system call
-  pub not_begun : (fault : ServeFault) → IsOpeningCause Refuses settings fault →
-      GivesUp Refuses port_transition settings fault []
-  not_begun (Faults.Config wrong) cause = refl
-  not_begun Faults.Sessions cause = refl
-  not_begun Faults.Memory cause = inl (refl, cause.2)
-  not_begun Faults.RoundsSpent cause = absurd cause
-
--- the reason for not beginning is the reason for giving up
-pub opening_cause : (Refuses : ℕ → Type 0) (settings : Settings) (fault : ServeFault) →
-    IsOpeningCause Refuses settings fault → IsServeCause Refuses settings fault
-opening_cause Refuses settings (Faults.Config wrong) cause = cause
-opening_cause Refuses settings Faults.Sessions cause = cause
-opening_cause Refuses settings Faults.Memory cause = ((cause.0, cause.1), inl cause.2)
-opening_cause Refuses settings Faults.RoundsSpent cause = absurd cause
-
--- a property of a fault holds at an error that is this fault
-pub at_fault : {A : Type 0} (r : Result A ServeFault) (fault : ServeFault) (Holds : ServeFault → Type 0) →
-    IsErrAnd r (λ told. told ≡ fault) → Holds fault → IfErr r Holds
-at_fault (Ok x) fault Holds told h = tt
-at_fault (Err other) fault Holds told h = subst Holds (sym told) h
 
 -- a property of `Memory` holds if this is the only fault
 pub at_memory : {A : Type 0} (r : Result A ServeFault) (fault : ServeFault) (Holds : ServeFault → Type 0) →

@@ -2,20 +2,22 @@
 use Rattle.std.specs.Prelude.{◌≡◌, ℕ, zero, suc, ◌+◌, nat_lt, true, false, List, [], ◌∷◌, length}
 use Rattle.std.specs.Prelude.{Option, Some, None, is_none, Ok, Contains, All}
 use Rattle.daide_protocol.specs.declared.ending.Ending.{Ending}
-use Rattle.daide_protocol.specs.Machine.{Limits, SessionState, Effect, Runs}
+use Rattle.daide_protocol.specs.Machine.{Limits, SessionState, Effect, Runs, ending_in}
 use Rattle.daide_protocol.specs.Wires.{SessionView, is_closed}
 use Rattle.daide_words.specs.Words.{words_of}
-use Rattle.daide_protocol.specs.Config.{config_fault, limits_with}
+use Rattle.daide_protocol.specs.Config.{limits_with}
 use Rattle.daide_io.specs.Ports.{PortCall, TurnBegins, Clock, Pulled, Offered, EvolvesBy, events_of}
 use Rattle.daide_driver.specs.Headline.{untouched, IsBoundedAndExact}
-use Rattle.daide_driver.specs.Hub.{IsBegun, IsTurned, IsHubSize}
+use Rattle.daide_driver.specs.Totals.{HasTotals}
+use Rattle.daide_driver.specs.Hub.{IsBegun, IsTurned}
 use Rattle.daide_settings.specs.declared.settings.Settings.{Settings}
 use Rattle.daide_io.specs.declared.system.Connect.TheVariants.{Ready, Failed, Pending}
 use Rattle.daide_io.specs.declared.system.Cause.{Cause}
 use Rattle.daide_io.specs.declared.system.Cause.TheVariants as Causes
 use Rattle.daide_io.specs.declared.system.SessionEnd.{SessionEnd}
 use Rattle.daide_event_loop.specs.QuotaPorts.{QuotaPortsView, Meters, progress_by}
-use Rattle.daide_io.specs.System.{SystemCall, Begins, BeginsTurn, Accepts, Connects, Retires, Notifies, Waits}
+use Rattle.daide_io.specs.System.{SystemCall, Begins, ReportsNews, BeginsTurn, Accepts, Connects, Retires, Notifies}
+use Rattle.daide_io.specs.System.{Waits}
 use Rattle.daide_event_loop.specs.Serving.{ServiceView, fresh, initial_service, Rounds, Serves}
 
 -- the limits of a run's sessions
@@ -33,10 +35,14 @@ pub record IsSessionOfRun {P : Type 0} (transition : P → PortCall → P → Ty
   pub answered : EvolvesBy (Meters transition) (fresh ports settings.turns) history now.1
   pub stands : Kind (run_limits settings) history now.0
 
--- by all its port calls it is bounded and exact
+-- it is bounded and exact, and has its totals
+abbrev pub IsServedSession : Limits → List PortCall → SessionView → Type 0
+IsServedSession limits history g = IsBoundedAndExact limits history g × HasTotals limits history g
+
+-- by all its port calls it is so
 abbrev pub IsServed : {P : Type 0} → (P → PortCall → P → Type 0) → Settings → List (SystemCall P) →
     SessionView × QuotaPortsView P → Type 0
-IsServed transition = IsSessionOfRun transition IsBoundedAndExact
+IsServed transition = IsSessionOfRun transition IsServedSession
 
 -- the port calls within the quota: those before the first turn beyond it
 abbrev pub while_left : ℕ → List PortCall → List PortCall
@@ -57,7 +63,7 @@ cause_of None = Causes.TurnsSpent
 abbrev pub IsEndOf : Limits → ℕ → List PortCall → SessionView → SessionEnd → Type 0
 IsEndOf limits turns history session end =
     (effects : List Effect) × (state : SessionState)
-    × Runs (untouched limits).state (events_of (while_left turns history)) effects state × (end.cause ≡ cause_of state.ending)
+    × Runs (untouched limits).state (events_of (while_left turns history)) effects state × (end.cause ≡ cause_of (ending_in state.phase))
     × (end.summary ≡ session.summary)
 
 -- retired ports are those of a closed session that was served, and the reported end is that of this session
@@ -68,11 +74,12 @@ RetiresClosed {P} transition settings answers (Retires ports end) =
     × ((served : IsServed transition settings answers now)
     × IsEndOf (run_limits settings) settings.turns served.history now.0 end)
 RetiresClosed transition settings answers Begins = Unit {0}
+RetiresClosed transition settings answers (ReportsNews ports news) = Unit {0}
 RetiresClosed transition settings answers (BeginsTurn before after) = Unit {0}
 RetiresClosed transition settings answers (Accepts came) = Unit {0}
 RetiresClosed transition settings answers (Connects connect) = Unit {0}
 RetiresClosed transition settings answers (Notifies notice) = Unit {0}
-RetiresClosed transition settings answers (Waits more) = Unit {0}
+RetiresClosed transition settings answers Waits = Unit {0}
 
 -- the number of ports that a call delivered, and the number that it retired
 abbrev pub connects : {P : Type 0} → SystemCall P → ℕ
@@ -80,42 +87,46 @@ connects (Connects (Ready ports)) = 1
 connects (Connects Failed) = 0
 connects (Connects Pending) = 0
 connects Begins = 0
+connects (ReportsNews ports news) = 0
 connects (BeginsTurn before after) = 0
 connects (Accepts came) = 0
 connects (Retires ports end) = 0
 connects (Notifies notice) = 0
-connects (Waits more) = 0
+connects Waits = 0
 
 abbrev pub retires : {P : Type 0} → SystemCall P → ℕ
 retires (Retires ports end) = 1
 retires Begins = 0
+retires (ReportsNews ports news) = 0
 retires (BeginsTurn before after) = 0
 retires (Accepts came) = 0
 retires (Connects connect) = 0
 retires (Notifies notice) = 0
-retires (Waits more) = 0
+retires Waits = 0
 
 -- the number of bots that a call accepted, and the number whose server could not be reached
 abbrev pub comes : {P : Type 0} → SystemCall P → ℕ
 comes (Accepts true) = 1
 comes (Accepts false) = 0
 comes Begins = 0
+comes (ReportsNews ports news) = 0
 comes (BeginsTurn before after) = 0
 comes (Connects connect) = 0
 comes (Retires ports end) = 0
 comes (Notifies notice) = 0
-comes (Waits more) = 0
+comes Waits = 0
 
 abbrev pub unreached : {P : Type 0} → SystemCall P → ℕ
 unreached (Connects Failed) = 1
 unreached (Connects (Ready ports)) = 0
 unreached (Connects Pending) = 0
 unreached Begins = 0
+unreached (ReportsNews ports news) = 0
 unreached (BeginsTurn before after) = 0
 unreached (Accepts came) = 0
 unreached (Retires ports end) = 0
 unreached (Notifies notice) = 0
-unreached (Waits more) = 0
+unreached Waits = 0
 
 abbrev pub sum_over_calls : {P : Type 0} → (SystemCall P → ℕ) → List (SystemCall P) → ℕ
 sum_over_calls count [] = 0
@@ -132,13 +143,12 @@ SessionsAreServed {P} transition = (settings : Settings) (n : ℕ) (answers : Li
     × (run.counters.accepted ≡ sum_over_calls comes answers)
     × (sum_over_calls comes answers ≡ run.counters.connecting + sum_over_calls connects answers + sum_over_calls unreached answers)
 
--- A whole run of settings with accepted limits: rounds until all bots were served and no session is left. So each
+-- A whole run of settings: rounds until all bots were served and no session is left. So each
 -- completed connect was a session, which was served, and retired as a closed one. By all its port calls it is bounded
 -- and exact, and none is lost. As many bots were accepted as the settings say; for each, ports were retired or the
 -- server was unreachable.
 pub record IsWholeRun {P : Type 0} (transition : P → PortCall → P → Type 0) (settings : Settings)
     (answers : List (SystemCall P)) : Type 0 where
-  pub accepted : (config_fault settings.config ≡ Ok tt) × IsHubSize settings.max_sessions
   pub serves : Serves transition settings answers
   pub each : All (RetiresClosed transition settings answers) answers
   pub none_lost : sum_over_calls connects answers ≡ sum_over_calls retires answers

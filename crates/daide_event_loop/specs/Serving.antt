@@ -1,19 +1,18 @@
 -- The loop of a run: the system calls and the effect of each step of a round, a round, and a whole run, completed or
 -- broken off. Each step is stated with its trace of system calls, recorded or not.
 use Rattle.std.specs.Prelude.{◌≡◌, ℕ, zero, suc, ◌+◌, ◌-◌, ◌≤◌, nat_lt, Bool, true, false, not, ◌&&◌, ◌||◌, ◌==◌, ◌⊎◌}
-use Rattle.std.specs.Prelude.{List, [], ◌∷◌, ◌++◌, length, filter, Option, Some, None, Ok, is_none, if◌then◌else◌}
+use Rattle.std.specs.Prelude.{List, [], ◌∷◌, ◌++◌, length, filter, Option, Some, None, Ok, is_none, slice_get}
+use Rattle.std.specs.Prelude.{if◌then◌else◌}
 use Rattle.std.specs.List.{list_any}
 use Rattle.daide_protocol.specs.declared.ending.Ending.{Ending}
 use Rattle.daide_protocol.specs.declared.ending.Ending.TheVariants.{Ended, Lost}
 use Rattle.daide_protocol.specs.declared.summary.Summary.{Summary}
-use Rattle.daide_protocol.specs.Wires.{SessionView, is_closed, same_side}
-use Rattle.daide_driver.specs.declared.hub.HubError.{HubError}
-use Rattle.daide_driver.specs.declared.hub.HubError.TheVariants as HubErrors
+use Rattle.daide_frame.specs.Side.{same_side}
+use Rattle.daide_protocol.specs.Wires.{SessionView, is_closed}
 use Rattle.daide_words.specs.Words.{words_of}
-use Rattle.daide_protocol.specs.Config.{config_fault, limits_with}
-use Rattle.daide_driver.specs.Hub.{IsHubSize}
+use Rattle.daide_protocol.specs.Config.{limits_with}
 use Rattle.daide_io.specs.Ports.{PortCall}
-use Rattle.daide_driver.specs.Hub.{HubView, with_places, AddsSession, Changes, IsBegun, IsTurned, IsHubCause}
+use Rattle.daide_driver.specs.Hub.{HubView, with_places, AddsSession, Changes, IsBegun, IsTurned}
 use Rattle.daide_settings.specs.declared.settings.Settings.{Settings}
 use Rattle.daide_event_loop.specs.declared.serving.ServeFault.{ServeFault}
 use Rattle.daide_event_loop.specs.declared.serving.ServeFault.TheVariants as Faults
@@ -25,7 +24,9 @@ use Rattle.daide_io.specs.declared.system.Cause.{Cause}
 use Rattle.daide_io.specs.declared.system.Cause.TheVariants as Causes
 use Rattle.daide_io.specs.declared.system.SessionEnd.{SessionEnd}
 use Rattle.daide_event_loop.specs.QuotaPorts.{QuotaPortsView, Meters, beginning}
-use Rattle.daide_io.specs.System.{SystemCall, Begins, BeginsTurn, Accepts, Connects, Retires, Notifies, Waits}
+use Rattle.daide_io.specs.System.{SystemCall, Begins, ReportsNews, BeginsTurn, Accepts, Connects, Retires, Notifies}
+use Rattle.daide_io.specs.System.{Waits}
+use Rattle.daide_protocol.specs.Machine.{ending_in}
 
 -- the state of a run: the sessions, and the counters
 pub record ServiceView (P : Type 0) : Type 0 where
@@ -79,9 +80,9 @@ Admits count old = AdmitsWhere (may_accept old count) old
 
 -- ---- connects complete or fail
 
--- ports with a full quota of turns
+-- ports with a full quota of turns; new ports count as progress, so that their session has a turn in the same round
 abbrev pub fresh : {P : Type 0} → P → ℕ → QuotaPortsView P
-fresh ports turns = record { ports = ports; turns_left = Some turns; made_progress = false; first_synthetic_end = None }
+fresh ports turns = record { ports = ports; turns_left = Some turns; made_progress = true; first_synthetic_end = None }
 
 -- a completed connect turns into a session in its opening state, at the last place; a failed one is reported, and its
 -- bot dropped
@@ -105,7 +106,7 @@ abbrev pub FinishesConnect : {P : Type 0} → HubView (QuotaPortsView P) → Adm
     HubView (QuotaPortsView P) → AdmissionCounters → Type 0
 FinishesConnect hub counters = MeetsWhere (counters.connecting == 0) hub counters
 
--- ---- each session has a turn
+-- ---- each session that has news has a turn
 
 -- a turn of a session begins with its own ports, and the system begins it with these while turns are left
 abbrev pub OpensTurn : {P : Type 0} → (P → PortCall → P → Type 0) → List (SystemCall P) →
@@ -119,13 +120,37 @@ TakesTurn {P} transition old i answers new =
     (mid : HubView (QuotaPortsView P)) × Changes (OpensTurn transition answers) old i mid
     × Changes (IsTurned (Meters transition)) mid i new
 
--- the sessions at the first n places have one turn each, in their order
+-- whether a session is due a turn: if its last turn made progress, without a call; else if the system has news for its
+-- ports
+abbrev pub IsDueBy : {P : Type 0} → Bool → P → List (SystemCall P) → Bool → Type 0
+IsDueBy true ports answers due = (answers ≡ []) × (due ≡ true)
+IsDueBy false ports answers due = answers ≡ ReportsNews ports due ∷ []
+
+-- a session that is due a turn has one turn; any other stays as it is, and the system is not called
+abbrev pub TurnsIf : {P : Type 0} → (P → PortCall → P → Type 0) → Bool → HubView (QuotaPortsView P) → ℕ →
+    List (SystemCall P) → HubView (QuotaPortsView P) → Type 0
+TurnsIf transition true old i answers new = TakesTurn transition old i answers new
+TurnsIf transition false old i answers new = (answers ≡ []) × (new ≡ old)
+
+-- the session at this place has one turn if it is due one, and none otherwise
+pub record VisitsPlace {P : Type 0} (transition : P → PortCall → P → Type 0) (old : HubView (QuotaPortsView P)) (i : ℕ)
+    (answers : List (SystemCall P)) (new : HubView (QuotaPortsView P)) : Type 0 where
+  pub place : SessionView × QuotaPortsView P
+  pub there : slice_get old.places i ≡ Some place
+  pub due : Bool
+  pub report : List (SystemCall P)
+  pub turn : List (SystemCall P)
+  pub looks : IsDueBy place.1.made_progress place.1.ports report due
+  pub turns : TurnsIf transition due old i turn new
+  pub asked : answers ≡ report ++ turn
+
+-- the sessions at the first n places have a turn each if they are due one, in their order
 abbrev pub TurnsBelow : {P : Type 0} → (P → PortCall → P → Type 0) → ℕ → HubView (QuotaPortsView P) →
     List (SystemCall P) → HubView (QuotaPortsView P) → Type 0
 TurnsBelow transition zero old answers new = (answers ≡ []) × (new ≡ old)
 TurnsBelow {P} transition (suc n) old answers new =
     (mid : HubView (QuotaPortsView P)) × (first : List (SystemCall P)) × (second : List (SystemCall P))
-    × (answers ≡ first ++ second) × TurnsBelow transition n old first mid × TakesTurn transition mid n second new
+    × (answers ≡ first ++ second) × TurnsBelow transition n old first mid × VisitsPlace transition mid n second new
 
 abbrev pub TurnsAll : {P : Type 0} → (P → PortCall → P → Type 0) → HubView (QuotaPortsView P) → List (SystemCall P) →
     HubView (QuotaPortsView P) → Type 0
@@ -159,7 +184,7 @@ end_by told ending summary = record { cause = cause_by told ending; summary = su
 
 -- the end of a session, with its counted moves
 abbrev pub end_of : {P : Type 0} → SessionView × QuotaPortsView P → SessionEnd
-end_of place = end_by place.1.first_synthetic_end place.0.state.ending place.0.summary
+end_of place = end_by place.1.first_synthetic_end (ending_in place.0.state.phase) place.0.summary
 
 -- spent turns are reported, if so, and then the ports are retired with the end of their session
 abbrev pub parting : {P : Type 0} → QuotaPortsView P → SessionEnd → List (SystemCall P)
@@ -190,6 +215,7 @@ RemovesClosed old answers new = (answers ≡ retirements old.places) × (new ≡
 -- whether a call is progress: an accepted bot, a completed or failed connect, a retirement, or a notice
 abbrev pub is_progress : {P : Type 0} → SystemCall P → Bool
 is_progress Begins = false
+is_progress (ReportsNews ports news) = false
 is_progress (BeginsTurn before after) = false
 is_progress (Accepts came) = came
 is_progress (Connects (Ready ports)) = true
@@ -197,18 +223,18 @@ is_progress (Connects Failed) = true
 is_progress (Connects Pending) = false
 is_progress (Retires ports end) = true
 is_progress (Notifies notice) = true
-is_progress (Waits more) = false
+is_progress Waits = false
 
 abbrev pub any_progress : {P : Type 0} → List (SystemCall P) → Bool
 any_progress answers = list_any is_progress answers
 
 -- one wait if no progress was made
-abbrev pub wait_where : {P : Type 0} → Bool → Bool → List (SystemCall P)
-wait_where true more = []
-wait_where false more = Waits more ∷ []
+abbrev pub wait_where : {P : Type 0} → Bool → List (SystemCall P)
+wait_where true = []
+wait_where false = Waits ∷ []
 
--- The system begins a round. At most one bot is accepted, and at most one connect completes or fails. Each session has
--- a turn, which the system begins. Closed sessions are removed. There is one wait, exactly if no progress was made.
+-- The system begins a round. At most one bot is accepted, and at most one connect completes or fails. Each session that
+-- is due a turn has one, which the system begins. Closed sessions are removed. There is one wait, exactly if no progress was made.
 pub record Round {P : Type 0} (transition : P → PortCall → P → Type 0) (old : ServiceView P)
     (answers : List (SystemCall P)) (new : ServiceView P) : Type 0 where
   pub admission : List (SystemCall P)
@@ -226,7 +252,6 @@ pub record Round {P : Type 0} (transition : P → PortCall → P → Type 0) (ol
   pub within : IsWithinQuotas new.hub new.counters
   pub asked : answers ≡ Begins ∷ admission ++ meeting ++ beginnings ++ removal ++ wait_where
       (any_progress admission || any_progress meeting || any_moved turned.places || any_progress removal)
-      (may_accept new.counters (length new.hub.places))
 
 -- ---- a run
 
@@ -303,51 +328,18 @@ pub record RunsLong {P : Type 0} (transition : P → PortCall → P → Type 0) 
   pub all : n + 1 ≡ 18446744073709551616
   pub rounds : Rounds transition n (initial_service settings) answers end
 
--- The trace of a run that ends with this fault, before all its bots were served. With wrong settings there is no system
--- call. `Memory` has two causes, each a refusal of the allocator, by its relation `Refuses`. Either the places were
--- refused, without a system call; or a body was refused, in a round that is broken off. `RoundsSpent` needs all rounds
--- to be made.
+-- The trace of a run that ends with this fault, before all its bots were served. `Memory` has two causes, each a
+-- refusal of the allocator, by its relation `Refuses`. Either the places were refused, without a system call; or a body
+-- was refused, in a round that is broken off. `RoundsSpent` needs all rounds to be made.
 abbrev pub GivesUp : {P : Type 0} → (ℕ → Type 0) → (P → PortCall → P → Type 0) → Settings → ServeFault →
     List (SystemCall P) → Type 0
-GivesUp Refuses transition settings (Faults.Config fault) answers = answers ≡ []
-GivesUp Refuses transition settings Faults.Sessions answers = answers ≡ []
 GivesUp Refuses transition settings Faults.Memory answers =
     ((answers ≡ []) × Refuses settings.max_sessions) ⊎ RunsOut Refuses transition settings answers
 GivesUp Refuses transition settings Faults.RoundsSpent answers = RunsLong transition settings answers
 
 -- ---- refusals
 
--- an error of the hub as a fault of the run
-abbrev pub fault_of : HubError → ServeFault
-fault_of (HubErrors.Config fault) = Faults.Config fault
-fault_of HubErrors.Sessions = Faults.Sessions
-fault_of HubErrors.Memory = Faults.Memory
-
--- why a run did not begin: the limits first, then the number of sessions, then the memory of the places
-abbrev pub IsOpeningCause : (ℕ → Type 0) → Settings → ServeFault → Type 0
-IsOpeningCause Refuses settings (Faults.Config fault) =
-    IsHubCause Refuses settings.config settings.max_sessions (HubErrors.Config fault)
-IsOpeningCause Refuses settings Faults.Sessions =
-    IsHubCause Refuses settings.config settings.max_sessions HubErrors.Sessions
-IsOpeningCause Refuses settings Faults.Memory = IsHubCause Refuses settings.config settings.max_sessions HubErrors.Memory
-IsOpeningCause Refuses settings Faults.RoundsSpent = ⊥
-
--- the limits and the number of sessions are right
-abbrev pub AreAccepted : Settings → Type 0
-AreAccepted settings = (config_fault settings.config ≡ Ok tt) × IsHubSize settings.max_sessions
-
--- Why a run gave up: as above, or the allocator later refused a body. Memory is requested, and rounds are made, only if
--- the settings are right.
+-- why a run gave up: the allocator refused the places, or later a body; or all rounds were made
 abbrev pub IsServeCause : (ℕ → Type 0) → Settings → ServeFault → Type 0
-IsServeCause Refuses settings (Faults.Config fault) = IsOpeningCause Refuses settings (Faults.Config fault)
-IsServeCause Refuses settings Faults.Sessions = IsOpeningCause Refuses settings Faults.Sessions
-IsServeCause Refuses settings Faults.Memory =
-    AreAccepted settings × (Refuses settings.max_sessions ⊎ Refuses settings.config.max_body)
-IsServeCause Refuses settings Faults.RoundsSpent = AreAccepted settings
-
--- a fault of the settings, returned before the first system call
-abbrev pub IsOfSettings : ServeFault → Type 0
-IsOfSettings (Faults.Config fault) = Unit {0}
-IsOfSettings Faults.Sessions = Unit {0}
-IsOfSettings Faults.Memory = ⊥
-IsOfSettings Faults.RoundsSpent = ⊥
+IsServeCause Refuses settings Faults.Memory = Refuses settings.max_sessions ⊎ Refuses settings.config.max_body
+IsServeCause Refuses settings Faults.RoundsSpent = Unit {0}

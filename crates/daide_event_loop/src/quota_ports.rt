@@ -1,6 +1,6 @@
 //! Ports with a quota of turns, which record whether their last turn made progress.
 
-ghost use Rattle.std.specs.Prelude.{◌≡◌, false, Some, None, is_none};
+ghost use Rattle.std.specs.Prelude.{◌≡◌, false, true, Some, None, is_none};
 ghost use Rattle.daide_io.specs.Ports.{TurnBegins};
 ghost use Rattle.daide_io.specs.System.{TransitsBy};
 
@@ -17,6 +17,7 @@ pub struct QuotaPorts<P: Ports> {
     ports: P,
     /// The turns left; `None` once the quota is exceeded.
     turns_left: Option<u64>,
+    /// Whether the last turn made progress; true before the first turn, so that it is made at once.
     made_progress: bool,
     /// The first end or failure returned beyond the quota. It ends a session that was open until then.
     first_synthetic_end: Option<Ending>,
@@ -35,12 +36,12 @@ impl<P: Ports> QuotaPorts<P> {
 
     /// Wraps ports with a quota of `turns` turns.
     pub fn new(ports: P, turns: u64) -> QuotaPorts<P>
-        ensures { result ≡ record { ports = ports; turns_left = Some turns; made_progress = false; first_synthetic_end = None } }
+        ensures { result ≡ record { ports = ports; turns_left = Some turns; made_progress = true; first_synthetic_end = None } }
     {
         QuotaPorts {
             ports,
             turns_left: Some(turns),
-            made_progress: false,
+            made_progress: true,
             first_synthetic_end: None,
         }
     }
@@ -66,7 +67,7 @@ impl<P: Ports> QuotaPorts<P> {
     }
 
     /// Returns true if the turn made progress since it began: the IM timer expired, bytes were received or sent, a side
-    /// ended, or a wire failed.
+    /// ended, or a wire failed. Returns true before the first turn.
     pub fn has_moved(&self) -> bool
         ensures { result ≡ self.now.made_progress }
     {
@@ -78,6 +79,13 @@ impl<P: Ports> QuotaPorts<P> {
         ensures { result ≡ self.now.first_synthetic_end }
     {
         self.first_synthetic_end
+    }
+
+    /// Returns the ports inside by reference.
+    pub fn ports(&self) -> &P
+        ensures { result.now ≡ self.now.ports }
+    {
+        &self.ports
     }
 
     /// Returns the ports inside.

@@ -3,39 +3,31 @@
 //! It uses no socket. The system is a parameter, so that tests can drive whole runs in memory.
 
 ghost use Rattle.std.specs.Prelude.{◌≡◌, ◌+◌, ◌<◌, ◌≤◌, ◌==◌, false, List, [], ◌∷◌, length, Some};
-ghost use Rattle.std.specs.Prelude.{Ok, OnOk, OnErr, IfOk, IfErr};
-ghost use Rattle.daide_protocol.specs.Config.{config_fault};
-ghost use Rattle.daide_driver.specs.Hub.{IsHubSize};
+ghost use Rattle.std.specs.Prelude.{OnOk, OnErr, IfOk, IfErr, IfSome, slice_get};
 ghost use Rattle.daide_io.specs.System.{SystemCall, Connects, TransitsBy};
-ghost use Rattle.daide_event_loop.specs.Serving.{IsWithinQuotas, Admits, FinishesConnect, TakesTurn, TurnsAll, any_moved};
+ghost use Rattle.daide_event_loop.specs.Serving.{IsWithinQuotas, Admits, FinishesConnect, IsDueBy, TakesTurn, VisitsPlace};
+ghost use Rattle.daide_event_loop.specs.Serving.{TurnsAll, any_moved};
 ghost use Rattle.daide_event_loop.specs.Serving.{RemovesClosed, parting};
 ghost use Rattle.daide_event_loop.specs.Serving.{is_reported, cause_by, end_by};
-ghost use Rattle.daide_event_loop.specs.Serving.{wait_where, any_progress, Round, is_done, initial_service, fault_of};
+ghost use Rattle.daide_event_loop.specs.Serving.{wait_where, any_progress, Round, is_done, initial_service};
 ghost use Rattle.daide_event_loop.specs.Served.{IsWholeRun};
-ghost use Rattle.daide_event_loop.specs.Serving.{IsServeCause, IsOpeningCause, IsOfSettings, BreaksOff, GivesUp, arrived};
+ghost use Rattle.daide_event_loop.specs.Serving.{IsServeCause, BreaksOff, GivesUp, arrived};
 
 use crate::admission_counters::AdmissionCounters;
 use crate::quota_ports::QuotaPorts;
-use daide_driver::hub::{AddFault, Hub, HubError, Removed};
+use daide_driver::hub::{AddFault, Hub, Removed};
 use daide_frame::memory::Memory;
 use daide_io::ports::Ports;
 use daide_io::system::{Cause, Connect, Notice, SessionEnd, System};
-use daide_protocol::config::ConfigError;
 use daide_protocol::ending::Ending;
 use daide_settings::settings::Settings;
-use std::alloc::{Allocator, Global};
+use std::alloc::{AllocError, Allocator, Global};
 use std::marker::Model;
 use thiserror::Error;
 
 /// Why a run ended before all its bots were served.
 #[derive(Clone, Copy, Debug, PartialEq, Eq, Error)]
 pub enum ServeFault {
-    /// A limit of the sessions is wrong. Settings that were read never cause this.
-    #[error("limits out of range")]
-    Config(ConfigError),
-    /// The number of sessions at once is not from 1 to 256. Settings that were read never cause this.
-    #[error("max_sessions out of range")]
-    Sessions,
     /// The allocator refused the places, or a session.
     #[error("out of memory")]
     Memory,
@@ -59,17 +51,6 @@ impl<P: Ports, A: Allocator> Model for Service<P, A> {
     ghost view = { λ s. record { hub = s.hub; counters = s.counters } };
 
     ghost invariant = { λ s. IsWithinQuotas s.hub s.counters };
-}
-
-/// Converts an error of the hub to a fault of the run.
-fn fault_of(fault: HubError) -> ServeFault
-    ensures { result ≡ fault_of fault }
-{
-    match fault {
-        HubError::Config(fault) => ServeFault::Config(fault),
-        HubError::Sessions => ServeFault::Sessions,
-        HubError::Memory => ServeFault::Memory,
-    }
 }
 
 /// Accepts a bot if there is a place for it and the limit is not reached. Returns true if a bot was accepted.
@@ -152,7 +133,38 @@ fn take_turn<P: Ports, A: Allocator + Copy, S: System<P>>(
     hub.turn(i);
 }
 
-/// Makes one turn of each session, in order of place.
+/// Returns whether the session at a place is due a turn: whether its last turn made progress, or else whether the system
+/// has news for its ports.
+fn is_due<P: Ports, A: Allocator + Copy, S: System<P>>(
+    hub: &Hub<QuotaPorts<P>, A>,
+    i: usize,
+    system: &mut S,
+) -> bool
+    requires { i < length hub.now.places }
+    ensures { IfSome (slice_get hub.now.places i) (λ place. (report : List (SystemCall P))
+        × TransitsBy S.transition system.old report system.new
+        × IsDueBy place.1.made_progress place.1.ports report result) }
+{
+    let ports = hub.ports(i);
+    ports.has_moved() || system.has_news(ports.ports())
+}
+
+/// Makes one turn of the session at a place if it is due one.
+fn visit<P: Ports, A: Allocator + Copy, S: System<P>>(
+    hub: &mut Hub<QuotaPorts<P>, A>,
+    i: usize,
+    system: &mut S,
+)
+    requires { i < length hub.old.places }
+    ensures { (answers : List (SystemCall P)) × TransitsBy S.transition system.old answers system.new
+        × VisitsPlace P.transition hub.old i answers hub.new }
+{
+    if is_due(hub, i, system) {
+        take_turn(hub, i, system);
+    }
+}
+
+/// Makes one turn of each session that is due one, in order of place.
 fn turn_all<P: Ports, A: Allocator + Copy, S: System<P>>(
     hub: &mut Hub<QuotaPorts<P>, A>,
     system: &mut S,
@@ -163,7 +175,7 @@ fn turn_all<P: Ports, A: Allocator + Copy, S: System<P>>(
     ensures count { length hub.new.places ≡ length hub.old.places }
 {
     for i in 0..hub.count() {
-        take_turn(hub, i, system);
+        visit(hub, i, system);
     }
 }
 
@@ -241,42 +253,31 @@ fn remove_closed<P: Ports, A: Allocator + Copy, S: System<P>>(
 }
 
 /// Waits if no progress was made.
-fn rest<P: Ports, S: System<P>>(made_progress: bool, more: bool, system: &mut S)
-    ensures { TransitsBy S.transition system.old (wait_where made_progress more) system.new }
+fn rest<P: Ports, S: System<P>>(made_progress: bool, system: &mut S)
+    ensures { TransitsBy S.transition system.old (wait_where made_progress) system.new }
 {
     if !made_progress {
-        system.wait(more);
+        system.wait();
     }
 }
 
 impl<P: Ports, A: Memory + Copy> Service<P, A> {
-    /// Creates a run with no bot yet.
-    ///
-    /// Fails with `Config`, then with `Sessions`, then with `Memory` if the allocator refused the places.
-    pub fn new(alloc: A, settings: &Settings) -> Result<Service<P, A>, ServeFault>
+    /// Creates a run with no bot yet. Its only error is that the allocator refused the places.
+    pub fn new(alloc: A, settings: &Settings) -> Result<Service<P, A>, AllocError>
         ensures opening { IfOk result (λ service. service ≡ initial_service settings.now) }
-        ensures accepted { IfOk result (λ service. (config_fault settings.now.config ≡ Ok tt)
-            × IsHubSize settings.now.max_sessions) }
-        ensures refused { IfErr result (IsOpeningCause A.Refuses settings.now) }
+        ensures refused { OnErr result (A.Refuses settings.now.max_sessions) }
     {
-        match Hub::with_words(
-            alloc,
-            settings.config,
-            settings.max_sessions,
-            settings.words,
-        ) {
-            Err(fault) => Err(fault_of(fault)),
-            Ok(hub) => Ok(Service {
-                hub,
-                counters: AdmissionCounters {
-                    max_sessions: settings.max_sessions,
-                    sessions: settings.sessions,
-                    turns: settings.turns,
-                    connecting: 0,
-                    accepted: 0,
-                },
-            }),
-        }
+        let limits = settings.limits();
+        Ok(Service {
+            hub: Hub::with_limits(alloc, limits, settings.max_sessions, settings.words)?,
+            counters: AdmissionCounters {
+                max_sessions: settings.max_sessions,
+                sessions: settings.sessions,
+                turns: settings.turns,
+                connecting: 0,
+                accepted: 0,
+            },
+        })
     }
 
     /// Returns true if all bots were served and no session is left.
@@ -287,12 +288,13 @@ impl<P: Ports, A: Memory + Copy> Service<P, A> {
     }
 
     /// Makes one round. It calls the system to begin the round, accepts at most one bot, and takes up at most one
-    /// connect. Each session then has one turn, in order of place. Closed sessions are taken out, from the last place
-    /// to the first. If nothing moved in all this, it waits once.
+    /// connect. Each session that is due a turn then has one, in order of place. Closed sessions are taken out, from the
+    /// last place to the first. If nothing moved in all this, it waits once.
     ///
     /// `round`: a bot is accepted only below two limits: of sessions and pending connects at once, and of bots in all.
-    /// The system begins each turn with the session's ports (`begin_turn`), and the turn is made by the clauses of
-    /// `turn` (`TakesTurn`). Exactly the sessions that are over and for which nothing waits are taken out. It waits if
+    /// A session is due a turn if its last turn made progress, if it is new, or else if the system has news for its
+    /// ports (`VisitsPlace`). The system begins each turn with the session's ports (`begin_turn`), and the turn is made
+    /// by the clauses of `turn` (`TakesTurn`). Exactly the sessions that are over and for which nothing waits are taken out. It waits if
     /// and only if nothing moved.
     ///
     /// `refused`: its only fault is no memory for a session.
@@ -314,8 +316,7 @@ impl<P: Ports, A: Memory + Copy> Service<P, A> {
         turn_all(&mut self.hub, system);
         let made_progress = has_moved(&self.hub);
         let removed = remove_closed(&mut self.hub, system);
-        let more = self.counters.accepts(self.hub.count());
-        rest::<P, S>(came | connected | made_progress | removed, more, system);
+        rest::<P, S>(came | connected | made_progress | removed, system);
         Ok(())
     }
 }
@@ -333,14 +334,12 @@ impl<P: Ports, A: Memory + Copy> Service<P, A> {
 /// `served` (`none_lost`): no ports are lost. As many bots came as the settings say (`all_came`). For each one the
 /// ports were handed back or the server could not be reached (`all_served`).
 ///
-/// `given_up`: else the calls are those of a run that was given up for its fault (`GivesUp`). Wrong settings and no
-/// memory for the places are returned before any call. After no memory for a session, the round is broken off. The last
-/// fault is that 2^64 - 1 rounds were made, since a loop here needs a bound.
+/// `given_up`: else the calls are those of a run that was given up for its fault (`GivesUp`). No memory for the places
+/// is returned before any call. After no memory for a session, the round is broken off. The other fault is that
+/// 2^64 - 1 rounds were made, since a loop here needs a bound.
 ///
 /// `refused`: it returns `Memory` only after the allocator refused room for `max_sessions` places or for a body of
 /// `max_body` bytes.
-///
-/// `unasked`: after a fault of the settings the system is unchanged.
 ///
 /// Not said: what the system does with causes and counts; that a read gave what the peer sent, and that a peer gets
 /// what a write took. Two sessions may name the same connect; only the counts say that there are as many of both.
@@ -355,9 +354,10 @@ pub fn serve<P: Ports, A: Memory + Copy, S: System<P>>(
         × TransitsBy S.transition system.old answers system.new
         × GivesUp A.Refuses P.transition settings.now fault answers) }
     ensures refused { IfErr result (IsServeCause A.Refuses settings.now) }
-    ensures unasked { IfErr result (λ fault. IsOfSettings fault → system.new ≡ system.old) }
 {
-    let mut service = Service::<P, A>::new(alloc, settings)?;
+    let Ok(mut service) = Service::<P, A>::new(alloc, settings) else {
+        return Err(ServeFault::Memory);
+    };
     for _round in 0..u64::MAX {
         if service.is_done() {
             return Ok(());

@@ -5,7 +5,7 @@ use Rattle.std.proofs.lemmas.Bool.{eqb-true, eq-eqb}
 use Rattle.daide_token.specs.Token.{bra, tokens_of}
 use Rattle.daide_grammar.specs.Depth.{open_brackets}
 use Rattle.daide_reader.proofs.BodyLemmas.{tokens_of-length}
-use Rattle.daide_reader.proofs.SliceLemmas.{tokens_of-front}
+use Rattle.daide_token.proofs.TokenPlaces.{tokens_of-front}
 use Rattle.daide_explain.specs.Explained.{IsTooDeepAt}
 
 none_after : (m : List ℕ) (i : ℕ) → length m ≤ i → drop i m ≡ []

@@ -13,38 +13,39 @@ use Rattle.daide_token.specs.Names.{Named}
 use Rattle.daide_grammar.specs.Depth.{open_brackets}
 use Rattle.daide_words.specs.declared.word.Word.{Word}
 use Rattle.daide_words.specs.Word.{names_of}
+use Rattle.daide_explain.specs.Listed.{other_token}
 use Rattle.daide_explain.specs.Explained.{brackets_in, class_items, end_item, expected_line, has_unknown, kind_name, item, items}
 
-pub item_other : (words : List Word) (t : ℕ) → t ≡ 0x4002 → item words t ≡ codes "<other>"
+pub item_other : (words : List Word) (t : ℕ) → t ≡ other_token → item words t ≡ codes "<other>"
 unfolding item
 item_other words t e = ap (item words) e
 
-pub item_kind : (words : List Word) (t : ℕ) (class : Class) (name : List ℕ) → (t ≡ 0x4002 → ⊥) → class ≡ class_of t →
+pub item_kind : (words : List Word) (t : ℕ) (class : Class) (name : List ℕ) → (t ≡ other_token → ⊥) → class ≡ class_of t →
     Some name ≡ kind_name class → item words t ≡ name
 unfolding item
-item_kind words t class name apart same e = go (t == 0x4002) refl (e ∙ ap kind_name same)
+item_kind words t class name apart same e = go (t == other_token) refl (e ∙ ap kind_name same)
   where
-    go : (b : Bool) → (t == 0x4002) ≡ b → Some name ≡ kind_name (class_of t) →
+    go : (b : Bool) → (t == other_token) ≡ b → Some name ≡ kind_name (class_of t) →
         (if b then codes "<other>" else unwrap_or (kind_name (class_of t)) (text_with (names_of words) (t ∷ []))) ≡ name
-    go true f e = absurd (apart (eqb-true t 0x4002 f))
+    go true f e = absurd (apart (eqb-true t other_token f))
     go false f e = ap (λ (o : Option (List ℕ)). unwrap_or o (text_with (names_of words) (t ∷ []))) (sym e)
 
 one_token : (t : ℕ) → tokens_of (token_bytes t) ≡ t ∷ []
 one_token t = ap (λ (x : ℕ). x ∷ []) (let e : t / 256 * 256 + t % 256 ≡ t = omega arith in e)
 
-pub item_name : (words : List Word) (t : ℕ) (class : Class) (names : List Named) (bytes : List ℕ) → (t ≡ 0x4002 → ⊥) →
+pub item_name : (words : List Word) (t : ℕ) (class : Class) (names : List Named) (bytes : List ℕ) → (t ≡ other_token → ⊥) →
     class ≡ class_of t → None ≡ kind_name class → names ≡ names_of words → bytes ≡ token_bytes t →
     item words t ≡ text_with names (tokens_of bytes)
 unfolding item
 item_name words t class names bytes apart same e is_names is_bytes =
-    go (t == 0x4002) refl (e ∙ ap kind_name same)
+    go (t == other_token) refl (e ∙ ap kind_name same)
     ∙ (ap (λ (l : List Named). text_with l (t ∷ [])) (sym is_names)
     ∙ ap (text_with names) (sym (ap tokens_of is_bytes ∙ one_token t)))
   where
-    go : (b : Bool) → (t == 0x4002) ≡ b → ◌≡◌ {A = Option (List ℕ)} None (kind_name (class_of t)) →
+    go : (b : Bool) → (t == other_token) ≡ b → ◌≡◌ {A = Option (List ℕ)} None (kind_name (class_of t)) →
         (if b then codes "<other>" else unwrap_or (kind_name (class_of t)) (text_with (names_of words) (t ∷ [])))
         ≡ text_with (names_of words) (t ∷ [])
-    go true f e = absurd (apart (eqb-true t 0x4002 f))
+    go true f e = absurd (apart (eqb-true t other_token f))
     go false f e = ap (λ (o : Option (List ℕ)). unwrap_or o (text_with (names_of words) (t ∷ []))) (sym e)
 
 pub items_none : (words : List Word) (old : List ℕ) → old ≡ old ++ items words []

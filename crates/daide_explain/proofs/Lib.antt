@@ -1,3 +1,4 @@
+mod AnswerParts
 pub mod Allowed
 pub mod Relayed
 pub mod LevelPlaces

@@ -27,13 +27,6 @@ abbrev pub Scan : List ℕ → ℕ → ℕ → Type 0
 Scan p zero first = excess_or_none p ≡ Some 0
 Scan p (suc more) first = (excess_or_none p ≡ Some (suc more)) × OpenedAt p more first
 
-pub scan_start : (p : List ℕ) (first : ℕ) → p ≡ [] → Scan p 0 first
-scan_start p first e = ap excess_or_none e
-
-counts : (p : List ℕ) (n first : ℕ) → Scan p n first → excess_or_none p ≡ Some n
-counts p zero first h = h
-counts p (suc more) first h = h.0
-
 next_count : (p : List ℕ) (t n : ℕ) (opens closes : Bool) → is_bra t ≡ opens → is_ket t ≡ closes → excess_or_none p ≡ Some n →
     excess_or_none (p ++ t ∷ []) ≡ count_one opens closes (Some n)
 next_count p t n opens closes e f h =

@@ -1,11 +1,11 @@
 //! The first unpaired bracket of a message.
 
-ghost use Rattle.std.specs.Prelude.{◌≡◌, ◌≤◌, ◌<◌, ◌+◌, ◌*◌, ◌++◌, ◌∷◌, [], length, take, drop};
+ghost use Rattle.std.specs.Prelude.{◌≡◌, ◌≤◌, length};
 ghost use Rattle.daide_token.specs.Token.{tokens_of};
 ghost use Rattle.daide_protocol.specs.Bounds.{longest_body};
 ghost use Rattle.daide_explain.specs.Unpaired.{IsUnpairedIn};
 
-use daide_token::Token;
+use daide_token::token_at;
 
 /// The first unpaired bracket of a message, with the index of its token.
 #[derive(Clone, Copy)]
@@ -18,16 +18,6 @@ pub enum Unpaired {
     Nothing,
 }
 
-/// Returns the token at a place of a body.
-pub(crate) fn token_at(body: &[u8], place: usize) -> Token
-    requires inside { 2 * place + 1 < length body.now }
-    requires small { length body.now ≤ longest_body }
-    ensures front { take (place + 1) (tokens_of body.now) ≡ take place (tokens_of body.now) ++ result ∷ [] }
-    ensures rest { drop place (tokens_of body.now) ≡ result ∷ drop (place + 1) (tokens_of body.now) }
-{
-    Token::from_be([body[2 * place], body[2 * place + 1]])
-}
-
 /// Returns the first unpaired bracket of a body.
 pub fn find_unpaired(body: &[u8]) -> Unpaired
     requires { length body.now ≤ longest_body }
@@ -37,12 +27,12 @@ pub fn find_unpaired(body: &[u8]) -> Unpaired
     let mut first: usize = 0;
     for i in 0..body.len() / 2 {
         let token = token_at(body, i);
-        if token.code() == 0x4000 {
+        if token.is_bra() {
             if opened == 0 {
                 first = i;
             }
             opened += 1;
-        } else if token.code() == 0x4001 {
+        } else if token.is_ket() {
             if opened == 0 {
                 return Unpaired::Ket(i);
             }

@@ -28,7 +28,7 @@ pub fn is_expected(rules: &Rules<'_>, before: &[u8], token: Token) -> bool
         rules.now.max_depth (tokens_of before.now) token }
 {
     // Only PRN begins a report, and the table does not cover reports.
-    if before.len() < 2 && token.code() == 0x4813 {
+    if before.len() < 2 && token.is_prn() {
         return true;
     }
     // The prover needs the type of the words' codes in scope to build a reader over words.

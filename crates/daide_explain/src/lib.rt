@@ -4,15 +4,17 @@
 //! No session calls this crate. It reads the tokens before the error place once for each class of tokens.
 #![tactic(auto)]
 
-pub mod brackets;
-pub mod expected;
+mod answer;
+mod brackets;
+mod expected;
 mod law_facts;
 pub mod laws;
-pub mod levels;
-pub mod listed;
-pub mod rules;
-pub mod text;
+mod levels;
+mod listed;
+mod rules;
+mod text;
 
+pub use answer::answer_of;
 pub use brackets::{Unpaired, find_unpaired};
 pub use expected::{is_end_expected, is_expected, is_relayed, verdict_of};
 pub use levels::lowest_level;

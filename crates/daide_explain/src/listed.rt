@@ -30,8 +30,14 @@ const LISTED: [u16; 77] = [
     0x4A15, 0x4A16, 0x4A17, 0x4A18, 0x4A1A, 0x4A1C, 0x4A1F,
 ];
 
-/// An unlisted token of a known category, and one of an unknown category.
-const UNLISTED: [u16; 2] = [0x4002, 0x5800];
+/// An unlisted token of a known category.
+pub(crate) const OTHER: u16 = 0x4002;
+
+/// A token of an unknown category.
+pub(crate) const UNKNOWN: u16 = 0x5800;
+
+/// The tokens of classes that are not listed.
+const UNLISTED: [u16; 2] = [OTHER, UNKNOWN];
 
 /// Appends a token if it is expected after the tokens of a body.
 fn append_if_expected<A: Allocator>(

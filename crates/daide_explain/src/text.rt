@@ -15,15 +15,15 @@ ghost use Rattle.daide_explain.specs.Explained.{AreElsewhere, IsPlaceCause, IsEx
 ghost use Rattle.daide_explain.specs.Explained.{brackets_in, class_items, end_item, expected_line, has_unknown, item};
 ghost use Rattle.daide_explain.specs.Explained.{items, kind_name, level_line, other_side, side_line};
 
-use crate::brackets::{Unpaired, find_unpaired, token_at};
+use crate::brackets::{Unpaired, find_unpaired};
 use crate::expected::{is_end_expected, is_relayed};
 use crate::levels::lowest_level;
-use crate::listed::list_expected;
+use crate::listed::{OTHER, UNKNOWN, list_expected};
 use crate::rules::Rules;
 use daide_grammar::{Level, Side2};
 use daide_protocol::{MAX_DEPTH, STACK_ENTRIES};
 use daide_reader::{Reader, Verdict};
-use daide_token::{Class, Token, write_text_with};
+use daide_token::{Class, Token, token_at, write_text_with};
 use daide_words::{Extended, Words};
 use std::alloc::Allocator;
 use std::io;
@@ -51,7 +51,7 @@ fn kind_name(class: Class) -> Option<&'static str>
 fn write_item<A: Allocator>(words: &Words, token: Token, text: &mut Vec<u8, A>) -> io::Result<()>
     ensures { OnOk result (text.new.items ≡ text.old.items ++ item (words_of words.now) token) }
 {
-    if token.code() == 0x4002 {
+    if token.code() == OTHER {
         return text.write_all(b"<other>");
     }
     match kind_name(token.class()) {
@@ -84,7 +84,7 @@ fn write_brackets<A: Allocator>(
     ensures { OnOk result (text.new.items ≡ text.old.items ++ items (words_of words.now) (brackets_in tokens.now)) }
 {
     for token in tokens {
-        if token.code() == 0x4000 || token.code() == 0x4001 {
+        if token.is_bra() || token.is_ket() {
             text.write_all(b" ")?;
             write_item(words, *token, text)?;
         }
@@ -96,7 +96,7 @@ fn write_brackets<A: Allocator>(
 fn has_unknown(tokens: &[Token]) -> bool
     ensures { result ≡ has_unknown tokens.now }
 {
-    tokens.iter().any(|token| token.code() == 0x5800)
+    tokens.iter().any(|token| token.code() == UNKNOWN)
 }
 
 /// Writes the items of the expected classes. If a token of an unknown category is expected, writes the brackets and
@@ -191,7 +191,7 @@ fn is_too_deep(rules: &Rules<'_>, body: &[u8], place: usize) -> bool
     if 2 * place + 1 >= body.len() {
         return false;
     }
-    if token_at(body, place).code() != 0x4000 {
+    if !token_at(body, place).is_bra() {
         return false;
     }
     open_before(rules, &body[..2 * place]) == rules.max_depth as usize
@@ -201,10 +201,7 @@ fn is_too_deep(rules: &Rules<'_>, body: &[u8], place: usize) -> bool
 fn begins_with_prn(body: &[u8]) -> bool
     ensures { result ≡ begins_with_prn (tokens_of body.now) }
 {
-    match body {
-        [high, low, ..] => Token::from_be([*high, *low]).code() == 0x4813,
-        _ => false,
-    }
+    body.len() >= 2 && token_at(body, 0).is_prn()
 }
 
 /// Writes the line of an unpaired bracket; nothing if all are paired.

@@ -9,3 +9,4 @@ pub mod FeedingLemmas
 mod HeaderFeeding
 pub mod OneByte
 pub mod CutsAgree
+pub mod PerSideLemmas

@@ -1,3 +1,6 @@
+pub mod Side
+pub mod PerSide
+pub mod Lends
 pub mod Code
 pub mod Head
 pub mod Kind

@@ -3,40 +3,43 @@
 //! A code says what the peer did wrong, and an error message (EM) carries it to the peer. The variants are in the order
 //! of their numbers.
 
-ghost use Rattle.std.specs.Prelude.{◌≡◌, length};
+ghost use Rattle.std.specs.Prelude.{◌≡◌};
 ghost use Rattle.daide_frame.specs.Code.{code_digits, code_name, code_number};
+
+/// The hexadecimal digits, with upper-case letters.
+const DIGITS: [u8; 16] = *b"0123456789ABCDEF";
 
 /// What was wrong with a frame, or that a frame is missing.
 #[derive(Clone, Copy, Debug, PartialEq, Eq)]
 pub enum Code {
-    /// 01: the initial message did not arrive in time.
-    ImTimeout,
-    /// 02: the client's first frame is not an initial message.
-    ImNotFirst,
-    /// 03: an initial message is in the other byte order.
-    WrongEndian,
-    /// 04: an initial message has another magic number.
-    WrongMagic,
-    /// 05: an initial message has another version of the protocol.
-    WrongVersion,
-    /// 06: the client sent more than one initial message.
-    SecondIm,
-    /// 07: the server sent an initial message.
-    ImFromServer,
-    /// 08: a frame has an unknown type, or is longer than the cap.
-    UnknownMessage,
-    /// 09: the length of a frame is wrong for its type.
-    WrongLength,
-    /// 0A: a diplomacy message arrived before the representation message.
-    DmBeforeRm,
-    /// 0B: the server's first frame is not a representation message.
-    RmNotFirst,
-    /// 0C: the server sent more than one representation message.
-    SecondRm,
-    /// 0D: the client sent a representation message.
-    RmFromClient,
-    /// 0E: a diplomacy message has a token of an unknown category.
-    InvalidToken,
+    /// The initial message did not arrive in time.
+    ImTimeout = 0x01,
+    /// The client's first frame is not an initial message.
+    ImNotFirst = 0x02,
+    /// An initial message is in the other byte order.
+    WrongEndian = 0x03,
+    /// An initial message has another magic number.
+    WrongMagic = 0x04,
+    /// An initial message has another version of the protocol.
+    WrongVersion = 0x05,
+    /// The client sent more than one initial message.
+    SecondIm = 0x06,
+    /// The server sent an initial message.
+    ImFromServer = 0x07,
+    /// A frame has an unknown type, or is longer than the cap.
+    UnknownMessage = 0x08,
+    /// The length of a frame is wrong for its type.
+    WrongLength = 0x09,
+    /// A diplomacy message arrived before the representation message.
+    DmBeforeRm = 0x0A,
+    /// The server's first frame is not a representation message.
+    RmNotFirst = 0x0B,
+    /// The server sent more than one representation message.
+    SecondRm = 0x0C,
+    /// The client sent a representation message.
+    RmFromClient = 0x0D,
+    /// A diplomacy message has a token of an unknown category.
+    InvalidToken = 0x0E,
 }
 
 impl Code {
@@ -44,45 +47,15 @@ impl Code {
     pub fn number(self) -> u8
         ensures { result ≡ code_number self }
     {
-        match self {
-            Code::ImTimeout => 0x01,
-            Code::ImNotFirst => 0x02,
-            Code::WrongEndian => 0x03,
-            Code::WrongMagic => 0x04,
-            Code::WrongVersion => 0x05,
-            Code::SecondIm => 0x06,
-            Code::ImFromServer => 0x07,
-            Code::UnknownMessage => 0x08,
-            Code::WrongLength => 0x09,
-            Code::DmBeforeRm => 0x0A,
-            Code::RmNotFirst => 0x0B,
-            Code::SecondRm => 0x0C,
-            Code::RmFromClient => 0x0D,
-            Code::InvalidToken => 0x0E,
-        }
+        self as u8
     }
 
     /// Returns the number as text: two hexadecimal digits, with upper-case letters.
-    pub fn digits(self) -> &'static str
-        ensures digits { result.now ≡ code_digits self }
-        ensures two { length result.now ≡ 2 }
+    pub fn digits(self) -> [u8; 2]
+        ensures { result ≡ code_digits self }
     {
-        match self {
-            Code::ImTimeout => "01",
-            Code::ImNotFirst => "02",
-            Code::WrongEndian => "03",
-            Code::WrongMagic => "04",
-            Code::WrongVersion => "05",
-            Code::SecondIm => "06",
-            Code::ImFromServer => "07",
-            Code::UnknownMessage => "08",
-            Code::WrongLength => "09",
-            Code::DmBeforeRm => "0A",
-            Code::RmNotFirst => "0B",
-            Code::SecondRm => "0C",
-            Code::RmFromClient => "0D",
-            Code::InvalidToken => "0E",
-        }
+        let number = usize::from(self.number());
+        [DIGITS[number / 16], DIGITS[number % 16]]
     }
 
     /// Returns the meaning of the code, in a few words.

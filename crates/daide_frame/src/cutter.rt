@@ -4,7 +4,6 @@
 //! now. It allocates its memory in `new`; no later call allocates.
 
 ghost use Rattle.std.specs.Prelude.{◌≡◌, ◌+◌, ◌*◌, ◌<◌, ◌≤◌, [], ◌∷◌, ◌++◌, length, take, drop, slice_index, ◌⊎◌, IfOk, OnErr, None, true};
-ghost use Rattle.daide_token.specs.Token.{token_of_bytes};
 ghost use Rattle.daide_frame.specs.Frames.{alien_in, first_alien, shifted_place, last_items, fed, fed_items, step_of_events, items_of_step, IsFault, IsEnd, IsWholeBody, head_in, missing, announced};
 ghost use Rattle.daide_frame.specs.Cutter.{AreKnown, IsFed};
 ghost use Rattle.daide_frame.specs.declared.cutter.Step.TheVariants.{More, Bodied};
@@ -12,7 +11,7 @@ ghost use Rattle.daide_frame.specs.declared.cutter.Step.TheVariants.{More, Bodie
 use crate::code::Code;
 use crate::head::{Head, Kind, read_head};
 use crate::memory::Memory;
-use daide_token::token::Token;
+use daide_token::token_at;
 use std::alloc::{AllocError, Allocator, Global};
 use std::marker::Model;
 
@@ -74,14 +73,6 @@ fn put(header: &mut [u8; 4], have: usize, piece: &[u8])
     for k in 0..piece.len() {
         header[have + k] = piece[k];
     }
-}
-
-#[inline(always)]
-fn token_at(body: &[u8], place: usize) -> Token
-    requires { 2 * place + 1 < length body.now }
-    ensures { result ≡ token_of_bytes (slice_index body.now (2 * place) ∷ slice_index body.now (2 * place + 1) ∷ []) }
-{
-    Token::from_be([body[2 * place], body[2 * place + 1]])
 }
 
 /// Returns whether eight consecutive tokens of a body all have a known category. The loop has no early exit, so that

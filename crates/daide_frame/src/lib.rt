@@ -10,6 +10,7 @@ pub mod kind;
 mod law_facts;
 pub mod laws;
 pub mod memory;
+pub mod per_side;
 pub mod side;
 
 pub use code::Code;
@@ -17,4 +18,5 @@ pub use cutter::{Cutter, Step};
 pub use head::{Head, Kind, read_head, write_head};
 pub use initial_message::check_im;
 pub use memory::Memory;
-pub use side::Side;
+pub use per_side::PerSide;
+pub use side::{Side, other};

@@ -1,2 +1,4 @@
 pub mod Ports
 pub mod System
+pub mod Streams
+pub mod Network

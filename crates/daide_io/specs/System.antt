@@ -4,17 +4,18 @@ use Rattle.daide_io.specs.declared.system.Connect.{Connect}
 use Rattle.daide_io.specs.declared.system.Notice.{Notice}
 use Rattle.daide_io.specs.declared.system.SessionEnd.{SessionEnd}
 
--- One call with its result: the beginning of a round; the beginning of a turn, with the ports of its session before and
--- after; whether a bot arrived; the result of a connect; ports that were retired, with how their session ended; a line
--- that was logged; and a wait that ended.
+-- One call with its result: the beginning of a round; whether there is news for the ports of a session; the beginning
+-- of a turn, with the ports of its session before and after; whether a bot arrived; the result of a connect; ports that
+-- were retired, with how their session ended; a line that was logged; and a wait that ended.
 pub data SystemCall (P : Type 0) : Type 0 where
   Begins : SystemCall P
+  ReportsNews : (ports : P) → (news : Bool) → SystemCall P
   BeginsTurn : (before after : P) → SystemCall P
   Accepts : (came : Bool) → SystemCall P
   Connects : (connect : Connect P) → SystemCall P
   Retires : (ports : P) → (end : SessionEnd) → SystemCall P
   Notifies : (notice : Notice) → SystemCall P
-  Waits : (accepts : Bool) → SystemCall P
+  Waits : SystemCall P
 
 -- The system went from old to new by these calls; `transition` is the effect of one call with its result.
 abbrev pub TransitsBy : {P S : Type 0} → (S → SystemCall P → S → Type 0) → S → List (SystemCall P) → S → Type 0

@@ -1,14 +1,21 @@
 //! What a session and a run call in the outside world.
 //!
 //! `ports` is the trait of a session's two connections and its clock, `system` the trait of the operating system as the
-//! loop of a run calls it. Each trait has a ghost `transition`, the labelled transition relation of its implementation:
+//! loop of a run calls it. Below these, `network` is the trait of the operating system's sockets, and `duplex` that of a
+//! connection. Each of the first three has a ghost `transition`, the labelled transition relation of its implementation:
 //! the old value, one call with its result, and the new value. `specs/Ports` has the calls of ports, what a list of
 //! them does (`EvolvesBy`), and which events and which bytes of a wire it contains; `specs/System` the calls of a
-//! system.
+//! system, `specs/Network` those of a network, and `specs/Streams` those of a stream.
 #![tactic(auto)]
 
+pub mod duplex;
+pub mod network;
+pub mod outcome;
 pub mod ports;
 pub mod system;
 
+pub use duplex::Duplex;
+pub use network::{ConnectStatus, Network, SocketEvent};
+pub use outcome::IoResult;
 pub use ports::{Ports, Pull, Put};
 pub use system::{Cause, Connect, Notice, SessionEnd, System};

@@ -1,6 +1,6 @@
-//! The interface of the loop over sessions to the system. Its calls begin a round or a turn of a session, accept a bot,
-//! and return the result of a connect to the server. They also retire the ports of a closed session, with how it ended,
-//! log a line for the operator, and wait.
+//! The interface of the loop over sessions to the system. Its calls begin a round, report whether there is news for a
+//! session, begin a turn of it, accept a bot, and return the result of a connect to the server. They also retire the
+//! ports of a closed session, with how it ended, log a line for the operator, and wait.
 //!
 //! ```text
 //! accept --true--> pending connect --Ready--> a session's ports --over--> retire
@@ -8,8 +8,8 @@
 //! ```
 
 ghost use Rattle.daide_io.specs.Ports.{TurnBegins};
-ghost use Rattle.daide_io.specs.System.{SystemCall, Begins, BeginsTurn, Accepts, Connects, Retires, Notifies};
-ghost use Rattle.daide_io.specs.System.{Waits};
+ghost use Rattle.daide_io.specs.System.{SystemCall, Begins, ReportsNews, BeginsTurn, Accepts, Connects, Retires};
+ghost use Rattle.daide_io.specs.System.{Notifies, Waits};
 
 use crate::ports::Ports;
 use daide_protocol::ending::Ending;
@@ -70,6 +70,12 @@ pub trait System<P: Ports> {
     fn begin_round(&mut self)
         ensures { transition self.old Begins self.new };
 
+    /// Returns whether a turn of the session with these ports may do something: whether, since its last turn began, an
+    /// event came for one of its wires, or one of its deadlines expired. It is called for sessions whose last turn made
+    /// no progress. If it returns false, the session has no turn in this round.
+    fn has_news(&mut self, ports: &P) -> bool
+        ensures { transition self.old (ReportsNews ports.now result) self.new };
+
     /// Begins a turn of the session with these ports. It does what the ports have to do once a turn, such as counting
     /// the turn, writing bytes that were held for too long, and reading a deadline. So the calls of the ports only
     /// return results.
@@ -96,8 +102,8 @@ pub trait System<P: Ports> {
     fn tell(&mut self, notice: Notice)
         ensures { transition self.old (Notifies notice) self.new };
 
-    /// Waits until something may have changed: a wire that was idle or full, a pending connect, or the IM timer of a
-    /// session; and for a new bot if `accepts`. It may return earlier.
-    fn wait(&mut self, accepts: bool)
-        ensures { transition self.old (Waits accepts) self.new };
+    /// Waits until something may have changed: a wire that was idle or full, a pending connect, a new bot, or the IM
+    /// timer of a session. It may return earlier.
+    fn wait(&mut self)
+        ensures { transition self.old Waits self.new };
 }

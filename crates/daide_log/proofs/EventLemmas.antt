@@ -8,6 +8,7 @@ use Rattle.std.proofs.lemmas.List.{get_or-set_same, get_or-set_other}
 use Rattle.std.proofs.lemmas.List.{length-map, map-set, map-append, replicate_more}
 use Rattle.std.proofs.lemmas.Option.{slice_get-map, slice_get_read}
 use Rattle.std.specs.Io.KnownBytes.{Keeps, Appends}
+use Rattle.daide_frame.specs.declared.side.Side.TheVariants.{Bot, Server}
 use Rattle.daide_protocol.specs.Machine.{Limits, SessionState, initial_state}
 use Rattle.daide_protocol.specs.Wires.{SessionView, IsNew}
 use Rattle.daide_log.specs.declared.heading.Version.{Version}
@@ -33,6 +34,7 @@ use Rattle.daide_log.specs.Log.{Playing, event_in, source_in}
 use Rattle.daide_log_lines.specs.Reader.{Reader}
 use Rattle.daide_log_lines.specs.Lines.{IsFound, is_end_of_log, is_last_line}
 use Rattle.daide_protocol.specs.Summary.{IsMoreBy}
+use Rattle.daide_protocol.proofs.GrowthLemmas.{no_more, more_by, more_then}
 use Rattle.daide_log.specs.Reporting.{IsReady, IsQuietWith, IsCauseIn, IsLateFault, ReportsEvents, fault_of_unreported}
 use Rattle.daide_log.specs.Progress.{StartsReport, IsFaultOf, IsFaultAfter, IsFinished, Reported, IsPlaying, Judges, states_of}
 use Rattle.daide_log_lines.proofs.PageLemmas.{appends_and_keeps, keeps_appends}
@@ -69,25 +71,10 @@ refused_late form (Ok x) answer e h =
 refused_late form (Err f) answer e h =
     subst (λ (r : Result Unit LogFault). IfErr r (IsLateFault form)) (sym e) (late_of form f h)
 
--- a property of all sessions, after one of them moved
-pub all_idle : (P : SessionView → Type 0) (items : List SessionView) (i : ℕ) (new : SessionView) → All P items → P new →
-    All P (set items i new)
-all_idle P items i new idle h k d less = go k (cases_eq k i) less
-  where
-    size : length (set items i new) ≡ length items
-    size = length-set items i new
-
-    go : (k : ℕ) → (k ≡ i) ⊎ (k ≡ i → ⊥) → k < length (set items i new) → P (get_or (set items i new) k d)
-    go k (inl e) less =
-        let fits : i < length items = omega (arith, size, less, e) in
-        subst P (sym (ap (λ (j : ℕ). get_or (set items i new) j d) e ∙ get_or-set_same items i new d fits)) h
-    go k (inr other) less =
-        subst P (sym (get_or-set_other items i k new d other)) (idle k d (omega (arith, size, less)))
-
 pub new_is_ready : (config : Config) (words : List Word) (session : SessionView) → IsNew (limits_with config words) session →
     config_fault config ≡ Ok tt → IsReady config words session
 new_is_ready config words session new right = record {
-  idle = record { bot = new.to_bot; server = new.to_server };
+  idle = record { bot = new.quiet Bot; server = new.quiet Server };
   under = record { limits = ap (λ (s : SessionState). s.limits) new.state; accepted = right };
 }
 
@@ -200,7 +187,7 @@ module _ {Answer : Type 0} (form : ReportForm Answer) where
     ready = ready;
     size = refl;
     few = subst (IsMoreBy (1024 * number) nothing_counted) (sym e)
-        (record { relayed = omega arith; prn = omega arith; huh = omega arith; faults = omega arith });
+        (no_more (1024 * number) nothing_counted);
     fits = fits;
     playing = λ origin before h.
         record { reported = []; has_read = h.0; counts = e; written = keeps_appends before a h.1 };
@@ -208,7 +195,9 @@ module _ {Answer : Type 0} (form : ReportForm Answer) where
 
   more_few : (n : ℕ) (s t : Summary) → IsMoreBy (1024 * n) nothing_counted s → IsMoreBy 1024 s t →
       IsMoreBy (1024 * (n + 1)) nothing_counted t
-  more_few n s t h k = record { relayed = omega arith; prn = omega arith; huh = omega arith; faults = omega arith }
+  more_few n s t h k =
+      more_by (1024 * n + 1024) (1024 * (n + 1)) nothing_counted t (more_then (1024 * n) 1024 nothing_counted s t h k)
+      (omega arith)
 
   -- the counts so far, with the entries of one more line
   more_counts : (reported more : List form.Entry) (s t : Summary) → s ≡ counted_over form.counted reported nothing_counted → t ≡ counted_over form.counted more s →

@@ -3,7 +3,6 @@ pub mod ReportLemmas
 pub mod Played
 pub mod StandardFacts
 pub mod MatchFacts
-pub mod AnswerParts
 pub mod PageTexts
 pub mod PageLines
 pub mod TextLemmas

@@ -496,16 +496,3 @@ answered_alike form old new a b old2 new2 a2 b2 answer h e f k l = (
       (subst (λ (x : Reader). IsAnswered (form h.0) old x a2 b2 answer) f
       (subst (λ (x : Reader). IsAnswered (form h.0) x new2 a2 b2 answer) e h.1))),
 )
-
--- the same of the plain report, clause by clause
-pub plainly_reported : (old new : Reader) (a b : Option (List ℕ)) (old2 new2 : Reader) (a2 b2 : Option (List ℕ))
-    (answer : Result Summary LogFault) → (words : List Word) × IsAnswered plain old2 new2 a2 b2 answer → old2 ≡ old →
-    new2 ≡ new → a2 ≡ a → b2 ≡ b → IfOk answer (λ summary. Reported plain old new a b summary)
-plainly_reported old new a b old2 new2 a2 b2 answer h e f k l =
-    (answered_alike (λ words. plain) old new a b old2 new2 a2 b2 answer h e f k l).1.0
-
-pub plainly_refused : (old new : Reader) (a b : Option (List ℕ)) (old2 new2 : Reader) (a2 b2 : Option (List ℕ))
-    (answer : Result Summary LogFault) → (words : List Word) × IsAnswered plain old2 new2 a2 b2 answer → old2 ≡ old →
-    new2 ≡ new → a2 ≡ a → b2 ≡ b → IfErr answer (λ fault. IsFaultAfter plain old new a b fault)
-plainly_refused old new a b old2 new2 a2 b2 answer h e f k l =
-    (answered_alike (λ words. plain) old new a b old2 new2 a2 b2 answer h e f k l).1.1

@@ -8,7 +8,7 @@ use Rattle.daide_frame.specs.declared.code.Code.{Code}
 use Rattle.daide_frame.specs.Frames.{FrameEvent, Begun, Whole, Wrong, last_items, missing, fed, is_nothing}
 use Rattle.daide_protocol.specs.Events.{Event, Comes, bytes_come}
 use Rattle.daide_protocol.specs.Machine.{SessionState, Effect, Successor, Transition, Runs, coming, with_pending, is_over}
-use Rattle.daide_protocol.specs.Machine.{items_outcome}
+use Rattle.daide_protocol.specs.Machine.{items_outcome, level_in}
 use Rattle.daide_protocol.proofs.PieceRuns.{over_stays}
 use Rattle.daide_protocol.proofs.OneRun.{one_run}
 use Rattle.std.proofs.Common.{◌%◌, drop}
@@ -26,7 +26,7 @@ use Rattle.daide_frame.specs.Head.{is_im, has_right_length}
 use Rattle.daide_frame.specs.InitialMessage.{im_of}
 use Rattle.daide_reader.specs.declared.verdict.Verdict.{Verdict}
 use Rattle.daide_reader.specs.declared.verdict.Verdict.TheVariants.{Relay, Prn, Huh}
-use Rattle.daide_protocol.specs.declared.phase.Phase.{Phase}
+use Rattle.daide_protocol.specs.declared.phase.SessionPhase.{SessionPhase}
 use Rattle.daide_protocol.specs.declared.note.Note.{Note}
 use Rattle.daide_protocol.specs.declared.note.Note.TheVariants as Notes
 use Rattle.daide_protocol.specs.Machine.{Question, IsCorrectVerdict, is_dm, side2_of, question_of, asked_by, question, deed_of, is_sent}
@@ -39,7 +39,7 @@ use Rattle.daide_words.specs.declared.word.Word.{Word}
 use Rattle.daide_words.specs.Word.{grammar_words}
 use Rattle.daide_reader.proofs.BodyLemmas.{place_in}
 use Rattle.daide_protocol.specs.declared.config.Config.{Config}
-use Rattle.daide_protocol.specs.declared.phase.Phase.TheVariants.{WaitIm, WaitRm, Open, Over}
+use Rattle.daide_protocol.specs.declared.phase.SessionPhase.TheVariants.{WaitIm, WaitRm, Open, Over}
 use Rattle.daide_protocol.specs.Config.{limits_with}
 use Rattle.daide_protocol.specs.Events.{Ends, ImTimerExpired}
 use Rattle.daide_protocol.specs.Machine.{Limits, event_outcome, im_timer_expired}
@@ -222,7 +222,7 @@ dm_is Dm e = refl
 dm_is Fm e = absurd (cc)
 dm_is Em e = absurd (cc)
 
-fate : (before : SessionState) (side : Side) (bytes : List ℕ) (h : Head) (level : Level) (v : Verdict) (phase : Phase)
+fate : (before : SessionState) (side : Side) (bytes : List ℕ) (h : Head) (level : Level) (v : Verdict) (phase : SessionPhase)
     (to : Side) (deed : Deed) → IsWholeFrame before.limits.cap h (drop 4 bytes) →
     IsCorrectVerdict before.limits.words before.limits.max_depth (question_of side level h (drop 4 bytes)) v →
     deed ≡ deed_of (is_sent phase h.kind to) v →
@@ -302,7 +302,7 @@ noted_noted : (s : SessionState) (side : Side) (level : Level) → (coming (with
 noted_noted s Bot level = refl
 noted_noted s Server level = refl
 
-pending_level : (s : SessionState) (side : Side) (bytes : List ℕ) → (with_pending s side bytes).level ≡ s.level
+pending_level : (s : SessionState) (side : Side) (bytes : List ℕ) → level_in (with_pending s side bytes).phase ≡ (level_in s.phase)
 pending_level s Bot bytes = refl
 pending_level s Server bytes = refl
 
@@ -373,7 +373,7 @@ module _ (before : SessionState) (side : Side) (bytes : List ℕ) (v : Verdict) 
       of_whole next h (coming before side).noted rest (pending_noted before side bytes) same (rw next_live at e) w right
   by_items rest _ (Framed.at_once h w nil) same e right =
       go (untimely before.phase side h.kind)
-      (subst (λ (p : Phase).
+      (subst (λ (p : SessionPhase).
       ◌≡◌ {A = Successor}
       (record {
         state = (items_outcome (header_outcome next side (untimely p side h.kind)).state side (Whole h [] ∷ []) v).state;
@@ -390,13 +390,13 @@ module _ (before : SessionState) (side : Side) (bytes : List ℕ) (v : Verdict) 
           })
           (record { state = after; effects = move ∷ [] }) →
           IsCorrectVerdict before.limits.words before.limits.max_depth
-          (cond (is_some o) None (question_of side before.level h [])) v →
-          IsAsked before side bytes (cond (is_some o) None (question_of side before.level h [])) (coming after side).noted
+          (cond (is_some o) None (question_of side (level_in before.phase) h [])) v →
+          IsAsked before side bytes (cond (is_some o) None (question_of side (level_in before.phase) h [])) (coming after side).noted
           head deed
       go None e right =
-          of_whole (with_noted next side next.level) h before.level []
-          (noted_noted next side next.level ∙ pending_level before side bytes) (sym nil ∙ same)
-          (let k = rw (ap is_over (noted_phase next side next.level) ∙ next_live) at e in k) w right
+          of_whole (with_noted next side (level_in next.phase)) h (level_in before.phase) []
+          (noted_noted next side (level_in next.phase) ∙ pending_level before side bytes) (sym nil ∙ same)
+          (let k = rw (ap is_over (noted_phase next side (level_in next.phase)) ∙ next_live) at e in k) w right
       go (Some code) e right =
           let none : Notes.Fault code ≡ Notes.Frame head deed = ap (λ (o : Successor). first_reported o.effects) e ∙ reported in
           absurd (cc)
@@ -448,12 +448,12 @@ timer_reported old move new head deed run reported = by_phase old.phase effects
     effects = ap (λ (o : Successor). o.effects) run.3.outcome ∙ sym (append-nil run.1)
         ∙ ap (λ (m : List Effect). run.1 ++ m) (sym run.4.0) ∙ sym run.5
 
-    by_phase : (p : Phase) → (im_timer_expired p old).effects ≡ move ∷ [] → ⊥
+    by_phase : (p : SessionPhase) → (im_timer_expired p old).effects ≡ move ∷ [] → ⊥
     by_phase WaitIm e =
         let none : Notes.Fault ImTimeout ≡ Notes.Frame head deed = ap first_reported e ∙ reported in absurd (cc)
     by_phase WaitRm e = some_move move (sym e)
-    by_phase Open e = some_move move (sym e)
-    by_phase Over e = some_move move (sym e)
+    by_phase (Open level) e = some_move move (sym e)
+    by_phase (Over ending) e = some_move move (sym e)
 
 module _ (config : Config) (words : List Word) (old : SessionView) (side : Side) (new : SessionView)
     (under : IsUnder config words new) where

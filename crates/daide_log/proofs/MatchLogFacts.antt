@@ -13,11 +13,11 @@ use Rattle.daide_frame.specs.declared.head.Kind.TheVariants.{Im}
 use Rattle.daide_frame.specs.declared.code.Code.TheVariants.{ImTimeout}
 use Rattle.daide_protocol.specs.declared.note.Deed.TheVariants.{Relayed}
 use Rattle.daide_protocol.specs.declared.note.Note.TheVariants.{Frame, Fault}
-use Rattle.daide_protocol.specs.declared.phase.Phase.{Phase}
+use Rattle.daide_protocol.specs.declared.phase.SessionPhase.{SessionPhase}
 use Rattle.daide_protocol.specs.declared.ending.Ending.{Ending}
 use Rattle.daide_protocol.specs.declared.ending.Ending.TheVariants as Endings
-use Rattle.daide_protocol.specs.declared.phase.Phase.TheVariants.{WaitIm, WaitRm}
-use Rattle.daide_protocol.specs.Machine.{SessionState, over}
+use Rattle.daide_protocol.specs.declared.phase.SessionPhase.TheVariants.{WaitIm, WaitRm, Over}
+use Rattle.daide_protocol.specs.Machine.{SessionState}
 use Rattle.daide_protocol.specs.Config.{limits_with}
 use Rattle.daide_words.specs.declared.word.Word.{Word}
 use Rattle.daide_log_lines.specs.declared.fault.LogFault.TheVariants.{BadLine}
@@ -50,12 +50,12 @@ head_with words = record {
 }
 
 -- a session with these limits and the word, in a phase
-abbrev session_in : Phase → SessionState
+abbrev session_in : SessionPhase → SessionState
 session_in phase = state_at (limits_with limits (xyz ∷ [])) phase
 
 -- the session with these limits, which ended in this way
 abbrev session_ended : Ending → SessionState
-session_ended ending = over ending (session_in WaitIm)
+session_ended ending = session_in (Over ending)
 
 named : Reports (codes "daide-log 2" ++ 10 ∷ []) 1 [] (Opening (Named Match))
 unfolding has_no_feed

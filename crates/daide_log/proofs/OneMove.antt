@@ -19,12 +19,12 @@ use Rattle.daide_frame.proofs.ListLemmas.{eqb_same}
 use Rattle.daide_frame.proofs.FeedingLemmas.{is_dm, alien_in-push}
 use Rattle.daide_frame.proofs.OneByte.{byte_tells, ByteTells}
 use Rattle.daide_reader.specs.declared.verdict.Verdict.{Verdict}
-use Rattle.daide_protocol.specs.declared.phase.Phase.{Phase}
-use Rattle.daide_protocol.specs.declared.phase.Phase.TheVariants.{WaitIm, WaitRm, Open, Over}
+use Rattle.daide_protocol.specs.declared.phase.SessionPhase.{SessionPhase}
+use Rattle.daide_protocol.specs.declared.phase.SessionPhase.TheVariants.{WaitIm, WaitRm, Open, Over}
 use Rattle.daide_protocol.specs.Events.{Event, ImTimerExpired, bytes_come}
 use Rattle.daide_protocol.specs.Machine.{SessionState, Effect, Successor, Runs, coming, with_pending, with_noted}
 use Rattle.daide_protocol.specs.Machine.{items_outcome, is_over, untimely, frame_outcome, answered, header_outcome}
-use Rattle.daide_protocol.specs.Machine.{im_answered, im_timer_expired}
+use Rattle.daide_protocol.specs.Machine.{im_answered, im_timer_expired, level_in}
 use Rattle.daide_protocol.specs.Wires.{note_of}
 use Rattle.daide_protocol.proofs.PieceRuns.{over_stays}
 use Rattle.daide_protocol.proofs.OneRun.{one_run}
@@ -137,7 +137,7 @@ whole_single s side head body v = by_kind (is_im head.kind)
 alone : (o : Successor) → IsSingle o.effects → IsSingle (o.effects ++ [])
 alone o h = subst IsSingle (sym (append-nil o.effects)) h
 
-noted_live : (s : SessionState) (side : Side) → is_over s.phase ≡ false → is_over (with_noted s side s.level).phase ≡ false
+noted_live : (s : SessionState) (side : Side) → is_over s.phase ≡ false → is_over (with_noted s side (level_in s.phase)).phase ≡ false
 noted_live s Bot e = e
 noted_live s Server e = e
 
@@ -155,7 +155,7 @@ items_single limit b _ (empty head one) s side v live = rw live (go (untimely s.
     go : (o : Option Code) → IsSingle ((header_outcome s side o).effects
         ++ (items_outcome (header_outcome s side o).state side (Whole head [] ∷ []) v).effects)
     go None = rw (noted_live s side live)
-        (alone (frame_outcome (with_noted s side s.level) side head [] v) (whole_single (with_noted s side s.level) side head [] v))
+        (alone (frame_outcome (with_noted s side (level_in s.phase)) side head [] v) (whole_single (with_noted s side (level_in s.phase)) side head [] v))
     go (Some code) = (refl, λ e. absurd (cc))
 items_single limit b _ (full head body one) s side v live =
     rw live (alone (frame_outcome s side head body v) (whole_single s side head body v))
@@ -249,8 +249,8 @@ one_move_a_timer s moves new run =
     subst IsSingle (sym (run.5 ∙ ap (λ (m : List Effect). run.1 ++ m) run.4.0 ∙ append-nil run.1))
     (subst IsSingle (ap (λ (o : Successor). o.effects) run.3.outcome) (by_phase s.phase))
   where
-    by_phase : (p : Phase) → IsSingle (im_timer_expired p s).effects
+    by_phase : (p : SessionPhase) → IsSingle (im_timer_expired p s).effects
     by_phase WaitIm = (refl, λ e. absurd (cc))
     by_phase WaitRm = refl
-    by_phase Open = refl
-    by_phase Over = refl
+    by_phase (Open level) = refl
+    by_phase (Over ending) = refl

@@ -23,9 +23,6 @@ pub record PutsParts (all left : List Part) (count : ℕ) (a b : Option (List �
   pub whole : done ++ left ≡ all
   pub put : HasPut done count a b
 
-pub no_parts : (all : List Part) (a : Option (List ℕ)) → PutsParts all all 0 a a
-no_parts all a = record { done = []; whole = refl; put = (refl, appends_none a) }
-
 pub both_put : (one other : List Part) (m n : ℕ) (a b c : Option (List ℕ)) → HasPut one m a b → HasPut other n b c →
     HasPut (one ++ other) (m + n) a c
 both_put one other m n a b c h k = (
@@ -41,12 +38,6 @@ more_parts all left more after m n a b c p e h = record {
   whole = append_assoc p.done more after ∙ ap (λ (l : List Part). p.done ++ l) (sym e) ∙ p.whole;
   put = both_put p.done more m n a b c p.put h;
 }
-
-pub all_parts : (all left : List Part) (count : ℕ) (a b : Option (List ℕ)) → PutsParts all left count a b → left ≡ [] →
-    HasPut all count a b
-all_parts all left count a b p e =
-    subst (λ (l : List Part). HasPut l count a b)
-    (sym (append-nil p.done) ∙ ap (λ (l : List Part). p.done ++ l) (sym e) ∙ p.whole) p.put
 
 -- ---- one frame
 

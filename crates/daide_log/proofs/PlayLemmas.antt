@@ -9,7 +9,8 @@ use Rattle.daide_frame.specs.declared.side.Side.TheVariants.{Bot, Server}
 use Rattle.daide_frame.specs.Frames.{missing}
 use Rattle.daide_protocol.specs.declared.note.Note.{Note}
 use Rattle.daide_protocol.specs.declared.note.Note.TheVariants as Notes
-use Rattle.daide_protocol.specs.Events.{Event, Ends, ImTimerExpired, bytes_come, other}
+use Rattle.daide_frame.specs.Side.{other}
+use Rattle.daide_protocol.specs.Events.{Event, Ends, ImTimerExpired, bytes_come}
 use Rattle.daide_protocol.specs.Machine.{SessionState, Effect, Successor, Sent, Runs, coming, fm_to, is_over, event_outcome}
 use Rattle.daide_protocol.specs.Wires.{SessionView, Refines, ReceivesBytes, Holding, HoldsTheSame, holding, sent_to, queued}
 use Rattle.daide_protocol.specs.Wires.{room_of, is_awaited}
@@ -25,6 +26,7 @@ use Rattle.daide_protocol.proofs.LimitsKept.{runs_limits}
 use Rattle.daide_log.specs.ReportForm.{ReportForm, IsWritableForm}
 use Rattle.daide_log.specs.Report.{ReportEntry, move_line, entries_of, lines_of, counted_all, texts_of, counted_over}
 use Rattle.daide_protocol.specs.Summary.{HasRoom, IsMoreBy}
+use Rattle.daide_protocol.proofs.GrowthLemmas.{no_more, more_by, more_then, less_room, room_after}
 use Rattle.daide_log.specs.Reporting.{IsIdle, IsOneEffect, ReportsEvents, IsMade, IsReportedWith, IsReady, IsUnder}
 use Rattle.daide_log.specs.Reporting.{IsCaused}
 use Rattle.daide_log.proofs.OneMove.{one_move_a_piece, one_move_a_timer}
@@ -182,12 +184,6 @@ pub counted_over-append : {E : Type 0} → (count : E → Summary → Summary) (
 counted_over-append count [] b s = refl
 counted_over-append count (entry ∷ a) b s = counted_over-append count a b (count entry s)
 
-pub lines_of-append : (a b : List ReportEntry) → lines_of (a ++ b) ≡ lines_of a ++ lines_of b
-lines_of-append a b = texts_of-append (λ (e : ReportEntry). move_line e.source e.side e.reported) a b
-
-pub counted_all-append : (a b : List ReportEntry) (s : Summary) → counted_all (a ++ b) s ≡ counted_all b (counted_all a s)
-counted_all-append a b s = counted_over-append (λ (e : ReportEntry) (before : Summary). count_note e.reported before) a b s
-
 pub appends_more : (a b c : Option (List ℕ)) (x y : List ℕ) → Appends a b x → Appends b c y → Appends a c (x ++ y)
 appends_more None b c x y h k = tt
 appends_more (Some p) None c x y h k = absurd h
@@ -200,27 +196,6 @@ appends_none (Some p) = sym (append-nil p)
 
 pub idle_free : (g : SessionView) (side : Side) → IsIdle g → is_awaited (queued g) side ≡ false
 idle_free g side idle = rw (idle.bot, idle.server) refl
-
--- ---- counts
-
-pub more_by : (m n : ℕ) (r s : Summary) → IsMoreBy m r s → m ≤ n → IsMoreBy n r s
-more_by m n r s h less = record {
-  relayed = omega (arith, h.relayed, less);
-  prn = omega (arith, h.prn, less);
-  huh = omega (arith, h.huh, less);
-  faults = omega (arith, h.faults, less);
-}
-
-pub no_more : (n : ℕ) (s : Summary) → IsMoreBy n s s
-no_more n s = record { relayed = omega arith; prn = omega arith; huh = omega arith; faults = omega arith }
-
-pub less_room : (m n : ℕ) (s : Summary) → HasRoom n s → m ≤ n → HasRoom m s
-less_room m n s h less = record {
-  relayed = omega (arith, h.relayed, less);
-  prn = omega (arith, h.prn, less);
-  huh = omega (arith, h.huh, less);
-  faults = omega (arith, h.faults, less);
-}
 
 module _ {Answer : Type 0} (form : ReportForm Answer) where
   -- consecutive events
@@ -280,7 +255,7 @@ module _ {Answer : Type 0} (form : ReportForm Answer) where
     whole = refl;
     ready = ready;
     room = room;
-    few = record { relayed = omega arith; prn = omega arith; huh = omega arith; faults = omega arith };
+    few = no_more 0 s;
     reported = tells_none words lawful source side g.state g.state [] s a (refl, refl);
   }
 
@@ -298,8 +273,11 @@ module _ {Answer : Type 0} (form : ReportForm Answer) where
         done = h.done ++ piece;
         whole = append_assoc h.done piece more ∙ ap (λ (l : List ℕ). h.done ++ l) (sym split) ∙ h.whole;
         ready = ready;
-        room = record { relayed = omega arith; prn = omega arith; huh = omega arith; faults = omega arith };
-        few = record { relayed = omega arith; prn = omega arith; huh = omega arith; faults = omega arith };
+        room = room_after (length piece) (length more) s t
+            (less_room (length piece + length more) (length rest) s room (omega (arith, size)))
+            (more_by 1 (length piece) s t one some);
+        few = more_by (length h.done + 1) (length (h.done ++ piece)) r t (more_then (length h.done) 1 r s t few one)
+            (omega (arith, longer, some));
         reported = subst (λ (es : List Event). ReportsEvents form source side old es new.state r t a c)
             (sym (bytes_come-append side h.done piece))
             (tells_more words lawful source side old mid.state new.state (bytes_come side h.done) (bytes_come side piece)
@@ -336,9 +314,4 @@ module _ {Answer : Type 0} (form : ReportForm Answer) where
       0 < length rest → IsMoreBy 1 s t → IsMoreBy (length bytes) r t
   reported_few config words source side bytes rest old new r s t a b h some k =
       let size : length h.done + length rest ≡ length bytes = sym (length-append h.done rest) ∙ ap length h.whole in
-      record {
-        relayed = omega (arith, h.few.relayed, k.relayed, size, some);
-        prn = omega (arith, h.few.prn, k.prn, size, some);
-        huh = omega (arith, h.few.huh, k.huh, size, some);
-        faults = omega (arith, h.few.faults, k.faults, size, some);
-      }
+      more_by (length h.done + 1) (length bytes) r t (more_then (length h.done) 1 r s t h.few k) (omega (arith, size, some))

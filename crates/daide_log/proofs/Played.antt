@@ -8,13 +8,14 @@ use Rattle.std.proofs.lemmas.Bool.Decides.{eqb_tells}
 use Rattle.std.proofs.lemmas.List.{map-append}
 use Rattle.std.proofs.lemmas.Option.{same_Some}
 use Rattle.daide_frame.specs.declared.side.Side.{Side}
+use Rattle.daide_frame.specs.PerSide.{both}
 use Rattle.daide_grammar.specs.declared.level.Level.TheVariants.{L0}
 use Rattle.daide_grammar.specs.Words.{Words}
 use Rattle.daide_reader.specs.declared.verdict.Verdict.{Verdict}
 use Rattle.daide_reader.specs.declared.verdict.Verdict.TheVariants.{Relay}
 use Rattle.daide_reader.proofs.SomeVerdict.{plain_verdict, plain_verdict_right}
 use Rattle.daide_protocol.specs.declared.note.Note.{Note}
-use Rattle.daide_protocol.specs.declared.phase.Phase.{Phase}
+use Rattle.daide_protocol.specs.declared.phase.SessionPhase.{SessionPhase}
 use Rattle.daide_protocol.specs.Events.{Event}
 use Rattle.daide_protocol.specs.Machine.{Limits, SessionState, Effect, Successor, Question, Runs, IsCorrectVerdict, event_outcome}
 use Rattle.daide_protocol.specs.Machine.{question, side2_of}
@@ -26,14 +27,11 @@ use Rattle.daide_log.specs.Report.{ReportEntry, entries_of, events_of_line, side
 use Rattle.daide_log.specs.Log.{ReportsBy, Playing, Reports, event_in, source_in}
 
 -- a session between two messages, with both sides at level 0
-abbrev pub state_at : Limits → Phase → SessionState
+abbrev pub state_at : Limits → SessionPhase → SessionState
 state_at limits phase = record {
   limits = limits;
   phase = phase;
-  level = L0;
-  ending = None;
-  bot = record { pending = []; noted = L0 };
-  server = record { pending = []; noted = L0 };
+  sides = both (record { pending = []; noted = L0 }) (record { pending = []; noted = L0 });
 }
 
 -- ---- a run

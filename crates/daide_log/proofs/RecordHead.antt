@@ -18,7 +18,7 @@ use Rattle.daide_words.specs.declared.slot.Slot.TheVariants as slots
 use Rattle.daide_words.specs.declared.operand.Operand.{Operand}
 use Rattle.daide_words.specs.declared.operand.Operand.TheVariants as operands
 use Rattle.daide_words.specs.declared.word.Word.{Word}
-use Rattle.daide_words.specs.WordNames.{slot_named, operand_named}
+use Rattle.daide_words.specs.WordNames.{slot_name, slot_named, operand_name, operand_named, word_of_parts}
 use Rattle.daide_words.specs.Words.{word_at}
 use Rattle.daide_words.specs.Accepted.{is_capital}
 use Rattle.daide_protocol.specs.declared.config.Config.{Config}
@@ -27,11 +27,11 @@ use Rattle.daide_protocol.specs.declared.config.ConfigError.TheVariants as error
 use Rattle.daide_protocol.specs.Config.{config_fault, is_level, is_body, is_depth}
 use Rattle.daide_log_lines.specs.LogLine.{plain_number, number_on, parted_at_space, longest_line}
 use Rattle.daide_log_lines.specs.MatchLine.{within}
-use Rattle.daide_log_lines.specs.WordLine.{parse_name, parse_code, code_of_bytes, parse_level, level_of_option, word_of_line_parts, word_of_level}
+use Rattle.daide_log_lines.specs.WordLine.{parse_name, parse_code, code_of_bytes, parse_level, level_of_option, word_of_level}
 use Rattle.daide_log_lines.specs.WordLine.{word_of_slot, word_of_code, word_of_name, word_of_line}
 use Rattle.daide_log.specs.ConfigLine.{right_or_none, config_of_numbers, match_config_of_numbers, match_config_of_counts}
 use Rattle.daide_log.specs.ConfigLine.{match_config_of_depth, match_config_of_body, match_config_of_level, match_config_of_line}
-use Rattle.daide_log.specs.RecordText.{spaced, name_of_slot, name_of_operand, word_text, config_text, lines_of_words}
+use Rattle.daide_log.specs.RecordText.{spaced, word_text, config_text, lines_of_words}
 use Rattle.daide_log.proofs.ReportLemmas.{decimal_few}
 use Rattle.daide_log.proofs.RecordLines.{is_plain, is_visible, both_all, visible_plain, encode_visible, parted_word}
 
@@ -258,11 +258,11 @@ code_back code fits =
     ap (λ (n : ℕ). cond (n == 4) (code_of_bytes (decode_of (encode_upper (token_bytes code)))) None) (code_size code)
     ∙ ap code_of_bytes (decode_of-encode_upper (token_bytes code) (code_bytes code fits)) ∙ ap Some whole
 
-slot_back : (slot : Slot) → slot_named (name_of_slot slot) ≡ Some slot
+slot_back : (slot : Slot) → slot_named (slot_name slot) ≡ Some slot
 slot_back slots.Press = refl
 slot_back slots.Arrangement = refl
 
-operand_back : (operand : Operand) → operand_named (name_of_operand operand) ≡ Some operand
+operand_back : (operand : Operand) → operand_named (operand_name operand) ≡ Some operand
 operand_back operands.Power = refl
 operand_back operands.Powers = refl
 operand_back operands.Provinces = refl
@@ -292,11 +292,11 @@ level_back : (level : Level) → parse_level (decimal (level_number level)) ≡ 
 level_back level =
     ap level_of_option (number_back (level_number level) (omega (arith, level_small level))) ∙ level_same level
 
-slot_visible : (slot : Slot) → list_all is_visible (name_of_slot slot) ≡ true
+slot_visible : (slot : Slot) → list_all is_visible (slot_name slot) ≡ true
 slot_visible slots.Press = refl
 slot_visible slots.Arrangement = refl
 
-operand_visible : (operand : Operand) → list_all is_visible (name_of_operand operand) ≡ true
+operand_visible : (operand : Operand) → list_all is_visible (operand_name operand) ≡ true
 operand_visible operands.Power = refl
 operand_visible operands.Powers = refl
 operand_visible operands.Provinces = refl
@@ -308,9 +308,9 @@ pub word_back : (word : Word) → IsWord word → word_of_line (word_text word) 
 unfolding word_of_line word_text
 word_back word h =
     let code = encode_upper (token_bytes word.code) in
-    let slot = name_of_slot word.slot in
+    let slot = slot_name word.slot in
     let level = decimal (level_number word.level) in
-    let operand = name_of_operand word.operand in
+    let operand = operand_name word.operand in
     ap word_of_name
     (parted_word word.name (spaced (code ∷ slot ∷ level ∷ operand ∷ [])) (letters_visible word.name h.letters))
     ∙ ap (word_of_code word.name)
@@ -318,21 +318,21 @@ word_back word h =
     ∙ ap (word_of_slot word.name code) (parted_word slot (spaced (level ∷ operand ∷ [])) (slot_visible word.slot))
     ∙ ap (word_of_level word.name code slot)
     (parted_word level operand (decimal_visible (level_number word.level) (omega (arith, level_small word.level))))
-    ∙ ap (λ o. word_of_line_parts o (parse_code code) (slot_named slot) (parse_level level) (operand_named operand))
+    ∙ ap (λ o. word_of_parts o (parse_code code) (slot_named slot) (parse_level level) (operand_named operand))
     (name_back word.name h.three)
-    ∙ ap (λ o. word_of_line_parts (Some word.name) o (slot_named slot) (parse_level level) (operand_named operand))
+    ∙ ap (λ o. word_of_parts (Some word.name) o (slot_named slot) (parse_level level) (operand_named operand))
     (code_back word.code h.code)
-    ∙ ap (λ o. word_of_line_parts (Some word.name) (Some word.code) o (parse_level level) (operand_named operand)) (slot_back word.slot)
-    ∙ ap (λ o. word_of_line_parts (Some word.name) (Some word.code) (Some word.slot) o (operand_named operand)) (level_back word.level)
-    ∙ ap (λ o. word_of_line_parts (Some word.name) (Some word.code) (Some word.slot) (Some word.level) o) (operand_back word.operand)
+    ∙ ap (λ o. word_of_parts (Some word.name) (Some word.code) o (parse_level level) (operand_named operand)) (slot_back word.slot)
+    ∙ ap (λ o. word_of_parts (Some word.name) (Some word.code) (Some word.slot) o (operand_named operand)) (level_back word.level)
+    ∙ ap (λ o. word_of_parts (Some word.name) (Some word.code) (Some word.slot) (Some word.level) o) (operand_back word.operand)
 
 pub word_plain : (word : Word) → IsWord word → list_all is_plain (word_text word) ≡ true
 unfolding word_text
 word_plain word h =
     let code = encode_upper (token_bytes word.code) in
-    let slot = name_of_slot word.slot in
+    let slot = slot_name word.slot in
     let level = decimal (level_number word.level) in
-    let operand = name_of_operand word.operand in
+    let operand = operand_name word.operand in
     both_all is_plain word.name (32 ∷ spaced (code ∷ slot ∷ level ∷ operand ∷ []))
     (visible_plain word.name (letters_visible word.name h.letters))
     (both_all is_plain code (32 ∷ spaced (slot ∷ level ∷ operand ∷ []))
@@ -342,11 +342,11 @@ word_plain word h =
     (visible_plain level (decimal_visible (level_number word.level) (omega (arith, level_small word.level))))
     (visible_plain operand (operand_visible word.operand)))))
 
-slot_short : (slot : Slot) → length (name_of_slot slot) ≤ 11
+slot_short : (slot : Slot) → length (slot_name slot) ≤ 11
 slot_short slots.Press = omega arith
 slot_short slots.Arrangement = omega arith
 
-operand_short : (operand : Operand) → length (name_of_operand operand) ≤ 11
+operand_short : (operand : Operand) → length (operand_name operand) ≤ 11
 operand_short operands.Power = omega arith
 operand_short operands.Powers = omega arith
 operand_short operands.Provinces = omega arith
@@ -358,9 +358,9 @@ pub word_short : (word : Word) → IsWord word → length (word_text word) ≤ l
 unfolding word_text
 word_short word h =
     let code = encode_upper (token_bytes word.code) in
-    let slot = name_of_slot word.slot in
+    let slot = slot_name word.slot in
     let level = decimal (level_number word.level) in
-    let operand = name_of_operand word.operand in
+    let operand = operand_name word.operand in
     omega (
       arith,
       h.three,
@@ -411,8 +411,8 @@ no_word (first ∷ words) zero e = absurd (cc)
 no_word (first ∷ words) (suc place) e = omega (arith, no_word words place e)
 
 pub word_put : (word : Word) (old a b c d e f new bytes slot operand : List ℕ) (level : ℕ) → bytes ≡ token_bytes word.code →
-    slot ≡ 32 ∷ name_of_slot word.slot ++ 32 ∷ [] → level ≡ level_number word.level →
-    operand ≡ 32 ∷ name_of_operand word.operand ++ 10 ∷ [] → a ≡ old ++ codes "word " → b ≡ a ++ word.name →
+    slot ≡ 32 ∷ slot_name word.slot ++ 32 ∷ [] → level ≡ level_number word.level →
+    operand ≡ 32 ∷ operand_name word.operand ++ 10 ∷ [] → a ≡ old ++ codes "word " → b ≡ a ++ word.name →
     c ≡ b ++ codes " " → d ≡ c ++ encode_upper bytes → e ≡ d ++ slot → f ≡ e ++ decimal level → new ≡ f ++ operand →
     new ≡ old ++ word_text word ++ 10 ∷ []
 unfolding word_text
@@ -428,9 +428,9 @@ word_put word old a b c d e f new bytes slot operand level code_is slot_is level
     ∙ ap (λ (l : List ℕ). ((((((old ++ codes "word ") ++ word.name) ++ codes " ") ++ encode_upper (token_bytes word.code)) ++ l)
     ++ decimal level) ++ operand) slot_is
     ∙ ap (λ (n : ℕ). ((((((old ++ codes "word ") ++ word.name) ++ codes " ") ++ encode_upper (token_bytes word.code))
-    ++ (32 ∷ name_of_slot word.slot ++ 32 ∷ [])) ++ decimal n) ++ operand) level_is
+    ++ (32 ∷ slot_name word.slot ++ 32 ∷ [])) ++ decimal n) ++ operand) level_is
     ∙ ap (λ (l : List ℕ). ((((((old ++ codes "word ") ++ word.name) ++ codes " ") ++ encode_upper (token_bytes word.code))
-    ++ (32 ∷ name_of_slot word.slot ++ 32 ∷ [])) ++ decimal (level_number word.level)) ++ l) operand_is
+    ++ (32 ∷ slot_name word.slot ++ 32 ∷ [])) ++ decimal (level_number word.level)) ++ l) operand_is
     ∙ simp append_assoc
 
 -- the head, with the word at one more index

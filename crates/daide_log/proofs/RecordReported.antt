@@ -194,9 +194,6 @@ same_report bytes other number another reported more stage after b n t s h =
     (subst (λ (x : List ReportEntry). Reports other another x stage) t
     (subst (λ (x : ℕ). Reports other x reported stage) n (subst (λ (x : List ℕ). Reports x number reported stage) b h)))
 
-playing : SessionState → LogState
-playing state = Playing Match (state ∷ [])
-
 quiet_reported : (bytes : List ℕ) (number : ℕ) (reported : List ReportEntry) (side : Side) (old new : SessionState)
     (moves : List Effect) → Reports bytes number reported (Playing Match (old ∷ [])) → Runs old [] moves new →
     Reports (bytes ++ []) (number + 0) (reported ++ entries_of (source_in Match (number + 1) 1) side moves)

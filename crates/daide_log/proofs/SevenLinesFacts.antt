@@ -14,7 +14,8 @@ use Rattle.daide_protocol.specs.declared.note.Deed.TheVariants.{Relayed, Prn}
 use Rattle.daide_protocol.specs.declared.note.Note.{Note}
 use Rattle.daide_protocol.specs.declared.note.Note.TheVariants.{Frame}
 use Rattle.daide_protocol.specs.declared.ending.Ending.TheVariants as Endings
-use Rattle.daide_protocol.specs.declared.phase.Phase.TheVariants.{WaitIm, WaitRm, Open}
+use Rattle.daide_protocol.specs.declared.phase.SessionPhase.TheVariants.{WaitIm, WaitRm, Open}
+use Rattle.daide_grammar.specs.declared.level.Level.TheVariants.{L0}
 use Rattle.daide_log_lines.specs.LogLine.{LogEvent, Received, event_of_line}
 use Rattle.daide_log.specs.declared.heading.Version.TheVariants.{Single}
 use Rattle.daide_log.specs.Report.{ReportEntry, source_text, reported_text, move_line, summary_line, events_of_line}
@@ -39,13 +40,13 @@ fm : LogEvent
 fm = Received Server (3 ∷ 0 ∷ 0 ∷ 0 ∷ [])
 
 rm_passes : Played
-rm_passes = record { state = session_in Open; reported = Frame (record { kind = Rm; len = 0 }) Relayed ∷ [] }
+rm_passes = record { state = session_in (Open L0); reported = Frame (record { kind = Rm; len = 0 }) Relayed ∷ [] }
 
 gof_passes : Played
-gof_passes = record { state = session_in Open; reported = Frame (record { kind = Dm; len = 2 }) Relayed ∷ [] }
+gof_passes = record { state = session_in (Open L0); reported = Frame (record { kind = Dm; len = 2 }) Relayed ∷ [] }
 
 unclosed_gets_prn : Played
-unclosed_gets_prn = record { state = session_in Open; reported = Frame (record { kind = Dm; len = 4 }) Prn ∷ [] }
+unclosed_gets_prn = record { state = session_in (Open L0); reported = Frame (record { kind = Dm; len = 4 }) Prn ∷ [] }
 
 fm_passes : Played
 fm_passes =
@@ -55,17 +56,17 @@ rm_played : played (events_of_line rm) (session_in WaitRm) ≡ Some rm_passes
 unfolding rm rm_passes limits played verdict_on last_items first_items parse_head is_alien
 rm_played = refl
 
-gof_played : played (events_of_line gof) (session_in Open) ≡ Some gof_passes
+gof_played : played (events_of_line gof) (session_in (Open L0)) ≡ Some gof_passes
 unfolding gof gof_passes limits played verdict_on last_items first_items parse_head is_alien entries may_end_of slot_of
     table_answer class_of
 gof_played = refl
 
-unclosed_played : played (events_of_line unclosed) (session_in Open) ≡ Some unclosed_gets_prn
+unclosed_played : played (events_of_line unclosed) (session_in (Open L0)) ≡ Some unclosed_gets_prn
 unfolding unclosed unclosed_gets_prn limits played verdict_on last_items first_items parse_head is_alien entries may_end_of
     slot_of table_answer class_of
 unclosed_played = refl
 
-fm_played : played (events_of_line fm) (session_in Open) ≡ Some fm_passes
+fm_played : played (events_of_line fm) (session_in (Open L0)) ≡ Some fm_passes
 unfolding fm fm_passes limits played verdict_on last_items first_items parse_head is_alien
 fm_played = refl
 
@@ -107,14 +108,14 @@ log_read =
     (omega arith) (omega arith) refl im_played in
     let b = next_line to_im 3 (reported_by 3 Bot im_passes) (session_in WaitRm) a (codes "server 01000000") rm rm_passes
     refl (omega arith) (omega arith) refl rm_played in
-    let c = next_line to_rm 4 (reported_by 3 Bot im_passes ++ reported_by 4 Server rm_passes) (session_in Open) b
+    let c = next_line to_rm 4 (reported_by 3 Bot im_passes ++ reported_by 4 Server rm_passes) (session_in (Open L0)) b
     (codes "bot 020000024803") gof gof_passes refl (omega arith) (omega arith) refl gof_played in
     let d = next_line to_gof 5 (reported_by 3 Bot im_passes ++ reported_by 4 Server rm_passes ++ reported_by 5 Bot gof_passes)
-    (session_in Open) c (codes "bot 0200000448034000") unclosed unclosed_gets_prn refl (omega arith) (omega arith) refl
+    (session_in (Open L0)) c (codes "bot 0200000448034000") unclosed unclosed_gets_prn refl (omega arith) (omega arith) refl
     unclosed_played in
     next_line to_unclosed 6
     (reported_by 3 Bot im_passes ++ reported_by 4 Server rm_passes ++ reported_by 5 Bot gof_passes
-    ++ reported_by 6 Bot unclosed_gets_prn) (session_in Open) d (codes "server 03000000") fm fm_passes refl (omega arith)
+    ++ reported_by 6 Bot unclosed_gets_prn) (session_in (Open L0)) d (codes "server 03000000") fm fm_passes refl (omega arith)
     (omega arith) refl fm_played
 
 -- The initial message, the map and GOF are forwarded; a second GOF and an unclosed bracket get PRN; and the end is

@@ -13,11 +13,11 @@ use Rattle.daide_frame.specs.InitialMessage.{im_of}
 use Rattle.daide_frame.specs.Frames.{is_alien, first_items, last_items}
 use Rattle.daide_protocol.specs.declared.note.Deed.TheVariants.{Relayed, Dropped, Prn, Huh}
 use Rattle.daide_protocol.specs.declared.note.Note.TheVariants.{Nothing, Frame, Fault}
-use Rattle.daide_protocol.specs.declared.phase.Phase.{Phase}
+use Rattle.daide_protocol.specs.declared.phase.SessionPhase.{SessionPhase}
 use Rattle.daide_protocol.specs.declared.ending.Ending.{Ending}
 use Rattle.daide_protocol.specs.declared.ending.Ending.TheVariants as Endings
-use Rattle.daide_protocol.specs.declared.phase.Phase.TheVariants.{WaitIm, WaitRm}
-use Rattle.daide_protocol.specs.Machine.{SessionState, over}
+use Rattle.daide_protocol.specs.declared.phase.SessionPhase.TheVariants.{WaitIm, WaitRm, Over}
+use Rattle.daide_protocol.specs.Machine.{SessionState}
 use Rattle.daide_protocol.specs.declared.config.Config.{Config}
 use Rattle.daide_protocol.specs.Config.{limits_of}
 use Rattle.daide_log_lines.specs.declared.fault.LogFault.TheVariants.{BadLine}
@@ -73,12 +73,12 @@ unfoldable pub opening_lines : List ℕ
 opening_lines = (codes "daide-log 1" ++ 10 ∷ []) ++ codes "config 60 1024 16" ++ 10 ∷ []
 
 -- the session with these limits, in a phase
-abbrev pub session_in : Phase → SessionState
+abbrev pub session_in : SessionPhase → SessionState
 session_in phase = state_at (limits_of limits) phase
 
 -- the session with these limits, which ended in this way
 abbrev pub session_ended : Ending → SessionState
-session_ended ending = over ending (session_in WaitIm)
+session_ended ending = session_in (Over ending)
 
 named : Reports (codes "daide-log 1" ++ 10 ∷ []) 1 [] (Opening (Named Single))
 unfolding has_no_feed

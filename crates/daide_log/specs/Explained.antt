@@ -29,9 +29,9 @@ use Rattle.daide_protocol.specs.declared.ending.Ending.TheVariants as Endings
 use Rattle.daide_protocol.specs.declared.summary.Summary.{Summary}
 use Rattle.daide_protocol.specs.Answers.{answer_body}
 use Rattle.daide_protocol.specs.Events.{Event, Comes, Ends, Loses, ImTimerExpired}
-use Rattle.daide_protocol.specs.Machine.{SessionState, Effect, Question, Transition, coming, question, side2_of}
+use Rattle.daide_protocol.specs.Machine.{SessionState, Effect, Question, Transition, coming, question, side2_of, ending_in}
 use Rattle.daide_protocol.specs.Summary.{count_note}
-use Rattle.daide_protocol.specs.Wires.{same_side}
+use Rattle.daide_frame.specs.Side.{same_side}
 use Rattle.daide_log.specs.declared.explained.Explained.{Explained}
 use Rattle.daide_log.specs.declared.heading.Version.{Version}
 use Rattle.daide_log.specs.declared.heading.Version.TheVariants.{Single, Match}
@@ -207,8 +207,8 @@ session_number Match session = Some session
 -- the incomplete frames of a session, the bot's first
 abbrev pub unfinished_parts : Option ℕ → SessionState → List Part
 unfinished_parts session state =
-    part_of session Bot state.limits.cap (is_at_fault Bot state.ending) (coming state Bot).pending
-    ++ part_of session Server state.limits.cap (is_at_fault Server state.ending) (coming state Server).pending
+    part_of session Bot state.limits.cap (is_at_fault Bot (ending_in state.phase)) (coming state Bot).pending
+    ++ part_of session Server state.limits.cap (is_at_fault Server (ending_in state.phase)) (coming state Server).pending
 
 -- the incomplete frames of all sessions, from the session of this number on
 abbrev pub parts_from : Version → ℕ → List SessionState → List Part

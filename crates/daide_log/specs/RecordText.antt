@@ -6,11 +6,8 @@ use Rattle.hex.specs.Hex.{encode_upper}
 use Rattle.daide_token.specs.Token.{token_bytes}
 use Rattle.daide_frame.specs.declared.side.Side.{Side}
 use Rattle.daide_grammar.specs.Level.{level_number}
-use Rattle.daide_words.specs.declared.slot.Slot.{Slot}
-use Rattle.daide_words.specs.declared.slot.Slot.TheVariants as slots
-use Rattle.daide_words.specs.declared.operand.Operand.{Operand}
-use Rattle.daide_words.specs.declared.operand.Operand.TheVariants as operands
 use Rattle.daide_words.specs.declared.word.Word.{Word}
+use Rattle.daide_words.specs.WordNames.{operand_name, slot_name}
 use Rattle.daide_protocol.specs.declared.config.Config.{Config}
 use Rattle.daide_io.specs.declared.ports.Pull.TheVariants.{Got, Idle, Ended}
 use Rattle.daide_io.specs.declared.ports.Put.TheVariants.{Took, Failed}
@@ -83,24 +80,11 @@ spaced [] = []
 spaced (word ∷ []) = word
 spaced (word ∷ other ∷ words) = word ++ 32 ∷ spaced (other ∷ words)
 
--- the names of a slot and of an operand in the settings
-abbrev pub name_of_slot : Slot → List ℕ
-name_of_slot slots.Press = codes "press"
-name_of_slot slots.Arrangement = codes "arrangement"
-
-abbrev pub name_of_operand : Operand → List ℕ
-name_of_operand operands.Power = codes "power"
-name_of_operand operands.Powers = codes "powers"
-name_of_operand operands.Provinces = codes "provinces"
-name_of_operand operands.Order = codes "order"
-name_of_operand operands.Arrangement = codes "arrangement"
-name_of_operand operands.Press = codes "press"
-
 -- the line of a word of the operator's, without its line feed
 unfoldable pub word_text : Word → List ℕ
 word_text word =
-    spaced (codes "word" ∷ word.name ∷ encode_upper (token_bytes word.code) ∷ name_of_slot word.slot
-    ∷ decimal (level_number word.level) ∷ name_of_operand word.operand ∷ [])
+    spaced (codes "word" ∷ word.name ∷ encode_upper (token_bytes word.code) ∷ slot_name word.slot
+    ∷ decimal (level_number word.level) ∷ operand_name word.operand ∷ [])
 
 -- the lines of words, each with its line feed
 abbrev pub lines_of_words : List Word → List ℕ

@@ -12,7 +12,7 @@ use Rattle.daide_protocol.specs.declared.note.Note.{Note}
 use Rattle.daide_protocol.specs.declared.note.Note.TheVariants.{Nothing, Frame, Fault}
 use Rattle.daide_protocol.specs.Events.{Event, Ends, ImTimerExpired, bytes_come}
 use Rattle.daide_protocol.specs.Machine.{Effect}
-use Rattle.daide_protocol.specs.Summary.{count_note}
+use Rattle.daide_protocol.specs.Summary.{count_note, summary_text}
 use Rattle.daide_log.specs.declared.report.ReportKey.{ReportKey}
 use Rattle.daide_protocol.specs.declared.summary.Summary.{Summary}
 use Rattle.daide_log_lines.specs.LogLine.{LogEvent, Received, EndOf, ImTimerLine, Silence}
@@ -118,6 +118,4 @@ abbrev pub counted_all : List ReportEntry → Summary → Summary
 counted_all entries s = counted_over (λ entry before. count_note entry.reported before) entries s
 
 unfoldable pub summary_line : Summary → List ℕ
-summary_line s =
-    codes "relayed " ++ decimal s.relayed ++ codes " prn " ++ decimal s.prn ++ codes " huh " ++ decimal s.huh
-    ++ codes " faults " ++ decimal s.faults ++ 10 ∷ []
+summary_line s = summary_text s ++ 10 ∷ []

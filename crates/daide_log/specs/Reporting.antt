@@ -25,24 +25,14 @@ use Rattle.daide_log.specs.Report.{move_line, texts_of, counted_over}
 
 -- no frame is queued for either side
 pub record IsIdle (g : SessionView) : Type 0 where
-  pub bot : g.to_bot ≡ []
-  pub server : g.to_server ≡ []
+  pub bot : g.wires.bot ≡ []
+  pub server : g.wires.server ≡ []
 
 -- there is at most one move, and this is its note
 abbrev pub IsOneEffect : List Effect → Note → Type 0
 IsOneEffect [] reported = reported ≡ Notes.Nothing
 IsOneEffect (move ∷ []) reported = (move.reported ≡ reported) × (reported ≢ Notes.Nothing)
 IsOneEffect (move ∷ another ∷ moves) reported = ⊥
-
--- these events take the session to the new state with at most one move, and this is its note
-abbrev pub RunsWithOneEffect : SessionState → List Event → Note → SessionState → Type 0
-RunsWithOneEffect old events reported new = (moves : List Effect) × Runs old events moves new × IsOneEffect moves reported
-
--- the line of a note, if it is a move
-abbrev pub reported_lines : ReportKey → Side → Note → List ℕ
-reported_lines source side Notes.Nothing = []
-reported_lines source side (Notes.Frame head deed) = move_line source side (Notes.Frame head deed)
-reported_lines source side (Notes.Fault code) = move_line source side (Notes.Fault code)
 
 -- These events move the session; its moves are counted, and their entries written.
 abbrev pub ReportsEvents : {Answer : Type 0} → ReportForm Answer → ReportKey → Side → SessionState → List Event → SessionState → Summary →

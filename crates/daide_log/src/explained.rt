@@ -8,7 +8,6 @@ ghost use Rattle.daide_words.specs.Word.{grammar_words};
 ghost use Rattle.daide_words.specs.declared.word.Word.{Word};
 ghost use Rattle.daide_words.specs.Words.{words_of};
 ghost use Rattle.daide_reader.specs.Verdict.{HasVerdict, IsPlaceIn};
-ghost use Rattle.daide_protocol.specs.Answers.{answer_body};
 ghost use Rattle.daide_log_lines.specs.Output.{IsSameWriter, all_of};
 ghost use Rattle.daide_log_lines.specs.Reader.{silent};
 ghost use Rattle.daide_log.specs.Explained.{explained, is_remark, with_line_feed, message_text, pair, pairs, token_line, bytes_line, fault_lines};
@@ -17,7 +16,7 @@ ghost use Rattle.daide_log.specs.Explained.{part_of as spec_part_of, unfinished_
 ghost use Rattle.daide_log.specs.Explaining.{part_by, part_with, HasPut};
 ghost use Rattle.daide_frame.specs.Frames.{announced_by};
 ghost use Rattle.daide_protocol.specs.Bounds.{longest_body, most_sessions};
-ghost use Rattle.daide_protocol.specs.Machine.{coming, is_dm, side2_of};
+ghost use Rattle.daide_protocol.specs.Machine.{coming, is_dm, side2_of, ending_in};
 ghost use Rattle.daide_protocol.specs.declared.config.Config.{Config};
 ghost use Rattle.daide_protocol.specs.Wires.{holding, is_awaited, queued};
 ghost use Rattle.daide_log.specs.Explaining.{IsRuled, IsRightFate, IsRightlyReported, AreLinesBy};
@@ -32,7 +31,7 @@ use crate::record_text::DIGITS;
 use crate::report::Part;
 use crate::report_builder::ReportBuilder;
 use crate::style::Style;
-use daide_explain::{Rules, write_explained};
+use daide_explain::{Rules, answer_of, write_explained};
 use daide_frame::{Code, Head, Kind, Side};
 use daide_log_lines::LogFault;
 use daide_log_lines::block::Block;
@@ -41,14 +40,13 @@ use daide_log_lines::output::Output;
 use daide_log_lines::page::Page;
 use daide_log_lines::reader::LogReader;
 use daide_log_lines::text::Text;
-use daide_protocol::answers::{CLOSE_WORD, ERR_WORD, HUH_OPEN, PRN_OPEN};
 use daide_protocol::transitions::side2_of;
 use daide_protocol::{Deed, Note, Summary};
 use daide_reader::Verdict;
 use daide_session::{Ending, Session};
 use daide_token::write_text_with;
 use daide_words::Words;
-use std::alloc::{AllocError, Allocator};
+use std::alloc::Allocator;
 use std::io;
 use std::io::{Read, Write};
 
@@ -76,56 +74,6 @@ fn write_tokens<B: Allocator>(words: &Words, tokens: &[u8], text: &mut Vec<u8, B
 {
     write_text_with(words.names(), tokens, text)?;
     text.write_all(b"\n")
-}
-
-/// Returns a copy of a message that is relayed.
-fn answer_relay<B: Allocator>(alloc: B, body: &[u8]) -> Result<Vec<u8, B>, AllocError>
-    requires { length body.now % 2 ≡ 0 }
-    ensures even { IfOk result (λ answer. length answer.items % 2 ≡ 0) }
-    ensures body { IfOk result (λ answer. answer.items ≡ answer_body body.now Verdict.Relay) }
-{
-    let parts: [&[u8]; 1] = [body];
-    parts.concat(alloc)
-}
-
-/// Returns the answer to a message that is not paired.
-fn answer_prn<B: Allocator>(alloc: B, body: &[u8]) -> Result<Vec<u8, B>, AllocError>
-    requires { length body.now % 2 ≡ 0 }
-    ensures even { IfOk result (λ answer. length answer.items % 2 ≡ 0) }
-    ensures body { IfOk result (λ answer. answer.items ≡ answer_body body.now Verdict.Prn) }
-{
-    let parts: [&[u8]; 3] = [&PRN_OPEN, body, &CLOSE_WORD];
-    parts.concat(alloc)
-}
-
-/// Returns the answer to a message with an error place.
-fn answer_huh<B: Allocator>(alloc: B, place: u16, body: &[u8]) -> Result<Vec<u8, B>, AllocError>
-    requires even { length body.now % 2 ≡ 0 }
-    requires within { 2 * place ≤ length body.now }
-    ensures even { IfOk result (λ answer. length answer.items % 2 ≡ 0) }
-    ensures body { IfOk result (λ answer. answer.items ≡ answer_body body.now (Verdict.Huh place)) }
-{
-    let (before, after) = body.split_at(2 * place as usize);
-    let parts: [&[u8]; 5] = [&HUH_OPEN, before, &ERR_WORD, after, &CLOSE_WORD];
-    parts.concat(alloc)
-}
-
-/// Returns the body of the answer to a message.
-fn answer_of<B: Allocator>(
-    alloc: B,
-    verdict: Verdict,
-    body: &[u8],
-) -> Result<Vec<u8, B>, AllocError>
-    requires even { length body.now % 2 ≡ 0 }
-    requires within { IsPlaceIn body.now verdict }
-    ensures even { IfOk result (λ answer. length answer.items % 2 ≡ 0) }
-    ensures body { IfOk result (λ answer. answer.items ≡ answer_body body.now verdict) }
-{
-    match verdict {
-        Verdict::Relay => answer_relay(alloc, body),
-        Verdict::Prn => answer_prn(alloc, body),
-        Verdict::Huh(place) => answer_huh(alloc, place, body),
-    }
 }
 
 /// Writes the text of a refused message, its level, its answer and the reason.
@@ -382,7 +330,7 @@ fn part_in(header: usize, body: usize, at_fault: bool, announced: usize) -> Opti
 fn part_of<A: Allocator>(session: &Session<A>, side: Side) -> Option<Part>
     requires { is_awaited (queued session.now) side ≡ false }
     ensures { (number : Option ℕ) → part_with number side result ≡ spec_part_of number side session.now.state.limits.cap
-        (is_at_fault side session.now.state.ending) (coming session.now.state side).pending }
+        (is_at_fault side (ending_in session.now.state.phase)) (coming session.now.state side).pending }
 {
     let header = session.header(side);
     let body = session.body(side);
@@ -400,7 +348,7 @@ fn put_unfinished<A: Allocator, W: Write>(
 ) -> Result<u32, Unreported>
     requires { is_awaited (queued session.now) side ≡ false }
     ensures text { IfOk result (λ count. HasPut (spec_part_of number side session.now.state.limits.cap
-        (is_at_fault side session.now.state.ending) (coming session.now.state side).pending) count
+        (is_at_fault side (ending_in session.now.state.phase)) (coming session.now.state side).pending) count
         (all_of W.contents output.old) (all_of W.contents output.new)) }
     ensures few { IfOk result (λ count. count ≤ 1) }
     ensures same_writer { IsSameWriter output.old output.new }

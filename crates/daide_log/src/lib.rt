@@ -7,21 +7,21 @@
 
 pub mod check;
 pub mod config_line;
-pub mod explained;
-pub mod heading;
-pub mod judge;
+mod explained;
+mod heading;
+mod judge;
 mod law_facts;
 pub mod laws;
-pub mod opening;
-pub mod page;
-pub mod play;
+mod opening;
+mod page;
+mod play;
 pub mod record;
 mod record_text;
-pub mod recording;
-pub mod report;
-pub mod report_builder;
-pub mod sink;
-pub mod style;
+mod recording;
+mod report;
+mod report_builder;
+mod sink;
+mod style;
 
 pub use check::{check_log, check_stream};
 pub use daide_log_lines::LogFault;

@@ -11,7 +11,7 @@ ghost use Rattle.daide_words.specs.Words.{words_of};
 ghost use Rattle.daide_log.specs.Explained.{indented, indented_byte, with_line_feed, message_text};
 ghost use Rattle.daide_log.specs.Report.{line_room, move_line, part_line, summary_line};
 
-use crate::report::{LINE, Part, ReportKey, put, write_move, write_part, write_summary};
+use crate::report::{LINE, Part, ReportKey, last_line, put, write_move, write_part};
 use daide_frame::Side;
 use daide_log_lines::output::Output;
 use daide_protocol::{Note, Summary};
@@ -252,7 +252,8 @@ pub fn put_summary<W: Write>(summary: Summary, output: &mut Output<'_, W>) -> Re
     ensures refused { IfErr result (λ fault. fault ≡ Unreported.Write) }
     ensures same_writer { IsSameWriter output.old output.new }
 {
-    make_room(output)?;
-    write_summary(summary, &mut output.page);
-    Ok(())
+    match last_line(summary) {
+        Ok(line) => put_text(line.as_bytes(), output),
+        Err(_) => Err(Unreported::Write),
+    }
 }

@@ -6,14 +6,14 @@ ghost use Rattle.daide_words.specs.Words.{words_of};
 ghost use Rattle.daide_log_lines.specs.LogLine.{Received, EndOf, ImTimerLine, longest_piece};
 ghost use Rattle.daide_log_lines.specs.Output.{page_size};
 ghost use Rattle.daide_log.specs.Recording.{most_held};
-ghost use Rattle.daide_log.specs.RecordText.{event_line, name_of_slot, name_of_operand};
+ghost use Rattle.daide_log.specs.RecordText.{event_line};
 ghost use Rattle.daide_log.specs.RecordText.{word_text, config_text, head_text};
 
 use crate::report::{put, put_number, put_side};
 use daide_frame::Side;
 use daide_log_lines::page::Page;
 use daide_protocol::Config;
-use daide_words::{Operand, Slot, Word, Words};
+use daide_words::{Word, Words};
 
 /// The hexadecimal digits, in upper case.
 pub(crate) const DIGITS: &[u8; 16] = b"0123456789ABCDEF";
@@ -94,30 +94,15 @@ fn put_config(config: &Config, words: usize, line: &mut Page)
     put(b"\n", line);
 }
 
-/// Returns the name of a slot, with a space before and after it.
-fn name_of_slot(slot: Slot) -> &'static [u8]
-    ensures name { result.now ≡ 32 ∷ name_of_slot slot ++ 32 ∷ [] }
-    ensures few { length result.now ≤ 13 }
+/// Appends a name, with a space before it and a byte after it.
+fn put_name(name: &str, end: u8, line: &mut Page)
+    requires { length line.old.items + length name.now + 2 ≤ page_size }
+    ensures text { line.new.items ≡ line.old.items ++ 32 ∷ name.now ++ end ∷ [] }
+    ensures length { length line.new.items ≡ length line.old.items + length name.now + 2 }
 {
-    match slot {
-        Slot::Press => b" press ",
-        Slot::Arrangement => b" arrangement ",
-    }
-}
-
-/// Returns the name of an operand, with a space before it and a line feed after it.
-fn name_of_operand(operand: Operand) -> &'static [u8]
-    ensures name { result.now ≡ 32 ∷ name_of_operand operand ++ 10 ∷ [] }
-    ensures few { length result.now ≤ 13 }
-{
-    match operand {
-        Operand::Power => b" power\n",
-        Operand::Powers => b" powers\n",
-        Operand::Provinces => b" provinces\n",
-        Operand::Order => b" order\n",
-        Operand::Arrangement => b" arrangement\n",
-        Operand::Press => b" press\n",
-    }
+    line.push(b' ');
+    put(name.as_bytes(), line);
+    line.push(end);
 }
 
 /// Appends the line of a word.
@@ -131,9 +116,9 @@ fn put_word(word: Word, line: &mut Page)
     put(&word.name, line);
     put(b" ", line);
     put_bytes(&word.code.to_be(), line);
-    put(name_of_slot(word.slot), line);
+    put_name(word.slot.name(), b' ', line);
     put_number(word.level.number() as u64, line);
-    put(name_of_operand(word.operand), line);
+    put_name(word.operand.name(), b'\n', line);
 }
 
 /// Appends the head of a record.

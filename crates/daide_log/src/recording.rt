@@ -53,6 +53,13 @@ impl<P: Ports, W: Sink + Drop> Recording<P, W> {
         system.begin_turn(&mut self.ports);
     }
 
+    /// Returns the inner ports.
+    pub fn ports(&self) -> &P
+        ensures { result.now ≡ self.now.ports }
+    {
+        &self.ports
+    }
+
     /// Returns the record.
     pub fn record(&self) -> &Record<W>
         ensures { result.now ≡ self.now.record_of }

@@ -9,7 +9,7 @@ use Rattle.daide_grammar.specs.Level.{level_of_number}
 use Rattle.daide_words.specs.declared.slot.Slot.{Slot}
 use Rattle.daide_words.specs.declared.operand.Operand.{Operand}
 use Rattle.daide_words.specs.declared.word.Word.{Word}
-use Rattle.daide_words.specs.WordNames.{slot_named, operand_named}
+use Rattle.daide_words.specs.WordNames.{slot_named, operand_named, word_of_parts}
 use Rattle.daide_log_lines.specs.LogLine.{Parted, strip_prefix, plain_number, parted_at_space}
 
 -- a name has three bytes
@@ -32,15 +32,10 @@ level_of_option (Some number) = level_of_number number
 abbrev pub parse_level : List ℕ → Option Level
 parse_level digits = level_of_option (plain_number digits)
 
-abbrev pub word_of_line_parts : Option (List ℕ) → Option ℕ → Option Slot → Option Level → Option Operand → Option Word
-word_of_line_parts (Some name) (Some code) (Some slot) (Some level) (Some operand) =
-    Some (record { name = name; code = code; slot = slot; level = level; operand = operand })
-word_of_line_parts _ _ _ _ _ = None
-
 abbrev pub word_of_level : List ℕ → List ℕ → List ℕ → Option Parted → Option Word
 word_of_level name code slot None = None
 word_of_level name code slot (Some parted) =
-    word_of_line_parts (parse_name name) (parse_code code) (slot_named slot) (parse_level parted.word) (operand_named parted.rest)
+    word_of_parts (parse_name name) (parse_code code) (slot_named slot) (parse_level parted.word) (operand_named parted.rest)
 
 abbrev pub word_of_slot : List ℕ → List ℕ → Option Parted → Option Word
 word_of_slot name code None = None

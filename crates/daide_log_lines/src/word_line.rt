@@ -1,9 +1,9 @@
 //! The lines of a match's log that add the operator's words.
 
 ghost use Rattle.std.specs.Prelude.{◌≡◌};
-ghost use Rattle.daide_words.specs.WordNames.{slot_named, operand_named};
+ghost use Rattle.daide_words.specs.WordNames.{slot_named, operand_named, word_of_parts};
 ghost use Rattle.daide_log_lines.specs.LogLine.{plain_number};
-ghost use Rattle.daide_log_lines.specs.WordLine.{parse_name, parse_code, parse_level, word_of_line_parts, word_of_line};
+ghost use Rattle.daide_log_lines.specs.WordLine.{parse_name, parse_code, parse_level, word_of_line};
 
 use crate::parts::{parted_at_space, plain_number};
 use daide_grammar::level::Level;
@@ -34,19 +34,6 @@ fn code_of(digits: &[u8]) -> Option<Token>
     }
 }
 
-/// Parses the name of a slot.
-fn slot_of(name: &[u8]) -> Option<Slot>
-    ensures { result ≡ slot_named name.now }
-{
-    if name == b"press".as_slice() {
-        return Some(Slot::Press);
-    }
-    if name == b"arrangement".as_slice() {
-        return Some(Slot::Arrangement);
-    }
-    None
-}
-
 /// Parses the number of a level.
 fn level_of(digits: &[u8]) -> Option<Level>
     ensures { result ≡ parse_level digits.now }
@@ -54,42 +41,17 @@ fn level_of(digits: &[u8]) -> Option<Level>
     Level::of(plain_number(digits)?)
 }
 
-/// Parses the name of an operand.
-fn operand_of(name: &[u8]) -> Option<Operand>
-    ensures { result ≡ operand_named name.now }
-{
-    if name == b"power".as_slice() {
-        return Some(Operand::Power);
-    }
-    if name == b"powers".as_slice() {
-        return Some(Operand::Powers);
-    }
-    if name == b"provinces".as_slice() {
-        return Some(Operand::Provinces);
-    }
-    if name == b"order".as_slice() {
-        return Some(Operand::Order);
-    }
-    if name == b"arrangement".as_slice() {
-        return Some(Operand::Arrangement);
-    }
-    if name == b"press".as_slice() {
-        return Some(Operand::Press);
-    }
-    None
-}
-
 /// Parses the parts of a word's line. Returns `None` if any of them is wrong.
 fn word_of(name: &[u8], code: &[u8], slot: &[u8], level: &[u8], operand: &[u8]) -> Option<Word>
-    ensures { result ≡ word_of_line_parts (parse_name name.now) (parse_code code.now) (slot_named slot.now) (parse_level level.now)
+    ensures { result ≡ word_of_parts (parse_name name.now) (parse_code code.now) (slot_named slot.now) (parse_level level.now)
         (operand_named operand.now) }
 {
     Some(Word {
         name: name_of(name)?,
         code: code_of(code)?,
-        slot: slot_of(slot)?,
+        slot: Slot::by_name(slot)?,
         level: level_of(level)?,
-        operand: operand_of(operand)?,
+        operand: Operand::by_name(operand)?,
     })
 }
 

@@ -9,9 +9,10 @@ use Rattle.daide_frame.specs.Head.{is_im}
 use Rattle.daide_frame.specs.InitialMessage.{im_of}
 use Rattle.daide_frame.specs.Frames.{FrameEvent, Begun, Whole, Wrong, last_items}
 use Rattle.daide_reader.specs.declared.verdict.Verdict.{Verdict}
-use Rattle.daide_protocol.specs.declared.phase.Phase.{Phase}
-use Rattle.daide_protocol.specs.declared.phase.Phase.TheVariants.{WaitIm, WaitRm, Open, Over}
-use Rattle.daide_protocol.specs.Events.{Event, Comes, Ends, Loses, ImTimerExpired, other}
+use Rattle.daide_protocol.specs.declared.phase.SessionPhase.{SessionPhase}
+use Rattle.daide_protocol.specs.declared.phase.SessionPhase.TheVariants.{WaitIm, WaitRm, Open, Over}
+use Rattle.daide_frame.specs.Side.{other, same_side}
+use Rattle.daide_protocol.specs.Events.{Event, Comes, Ends, Loses, ImTimerExpired}
 use Rattle.daide_protocol.specs.Machine.{Coming, SessionState, Effect, Successor, Transition}
 use Rattle.daide_protocol.specs.Machine.{with_coming, with_pending, is_over, untimely, header_outcome}
 use Rattle.daide_protocol.specs.Machine.{answered}
@@ -20,7 +21,6 @@ use Rattle.daide_protocol.specs.Machine.{question}
 use Rattle.daide_protocol.specs.Machine.{end}
 use Rattle.daide_protocol.specs.declared.ending.Ending.{Ending}
 use Rattle.daide_protocol.specs.declared.ending.Ending.TheVariants.{Ended, Lost}
-use Rattle.daide_protocol.specs.Wires.{same_side}
 
 -- ---- events other than a side's bytes
 
@@ -114,13 +114,13 @@ byte_commutes side s c bytes items v =
     ap (λ (t : SessionState). items_outcome t (other side) items v) (bytes_commute side s c bytes)
     ∙ items_commute side (with_pending s (other side) bytes) c items v
 
-timer_commutes : (side : Side) (s : SessionState) (c : Coming) (phase : Phase) →
+timer_commutes : (side : Side) (s : SessionState) (c : Coming) (phase : SessionPhase) →
     im_timer_expired phase (with_coming s side c) ≡ put side c (im_timer_expired phase s)
 timer_commutes Bot s c WaitIm = refl
 timer_commutes Server s c WaitIm = refl
 timer_commutes side s c WaitRm = refl
-timer_commutes side s c Open = refl
-timer_commutes side s c Over = refl
+timer_commutes side s c (Open level) = refl
+timer_commutes side s c (Over ending) = refl
 
 end_commutes : (side from : Side) (ending : Ending) (s : SessionState) (c : Coming) →
     end (with_coming s side c) ending from ≡ put side c (end s ending from)
@@ -146,15 +146,15 @@ event_commutes Bot s c (Comes Server x) v e = go (is_over s.phase) refl
     go : (b : Bool) → is_over s.phase ≡ b →
         event_outcome (with_coming s Bot c) (Comes Server x) v ≡ put Bot c (event_outcome s (Comes Server x) v)
     go true o = rw o refl
-    go false o = rw o (byte_commutes Bot s c (s.server.pending ++ x ∷ [])
-        (last_items s.limits.cap (s.server.pending ++ x ∷ [])) v)
+    go false o = rw o (byte_commutes Bot s c (s.sides.server.pending ++ x ∷ [])
+        (last_items s.limits.cap (s.sides.server.pending ++ x ∷ [])) v)
 event_commutes Server s c (Comes Bot x) v e = go (is_over s.phase) refl
   where
     go : (b : Bool) → is_over s.phase ≡ b →
         event_outcome (with_coming s Server c) (Comes Bot x) v ≡ put Server c (event_outcome s (Comes Bot x) v)
     go true o = rw o refl
-    go false o = rw o (byte_commutes Server s c (s.bot.pending ++ x ∷ [])
-        (last_items s.limits.cap (s.bot.pending ++ x ∷ [])) v)
+    go false o = rw o (byte_commutes Server s c (s.sides.bot.pending ++ x ∷ [])
+        (last_items s.limits.cap (s.sides.bot.pending ++ x ∷ [])) v)
 event_commutes side s c (Ends from) v e = ends_commute side s c (Ended from) from (is_over s.phase) refl
 event_commutes side s c (Loses from) v e = ends_commute side s c (Lost from) from (is_over s.phase) refl
 event_commutes Bot s c ImTimerExpired v e = timer_commutes Bot s c s.phase

@@ -7,9 +7,10 @@ use Rattle.std.proofs.Math.Seq.{drop-append_seam}
 use Rattle.daide_frame.specs.declared.side.Side.{Side}
 use Rattle.daide_frame.specs.declared.side.Side.TheVariants.{Bot, Server}
 use Rattle.daide_protocol.specs.declared.note.Note.{Note}
-use Rattle.daide_protocol.specs.Events.{Event, Ends, Loses, ImTimerExpired, bytes_come, other}
+use Rattle.daide_frame.specs.Side.{other, same_side}
+use Rattle.daide_protocol.specs.Events.{Event, Ends, Loses, ImTimerExpired, bytes_come}
 use Rattle.daide_protocol.specs.Machine.{Limits, Sent, SessionState, Effect, Runs, is_over, initial_state}
-use Rattle.daide_protocol.specs.Wires.{SessionView, IsNew, Refines, Lost, Wrote, queued, same_side, sent_to, sent_bytes, without}
+use Rattle.daide_protocol.specs.Wires.{SessionView, IsNew, Refines, Lost, Wrote, queued, sent_to, sent_bytes, without}
 use Rattle.daide_protocol.specs.Calls.{Call, Feeds, Stops, TimesOut, Fails, Puts, first_bytes, IsCall, AreCalls}
 use Rattle.daide_protocol.specs.Calls.{events_of_calls, taken_by, some_call_fails, Delivers}
 use Rattle.daide_protocol.proofs.OneRun.{one_run, runs_join}
@@ -300,17 +301,13 @@ calls_deliver (call ∷ calls) old new (mid, one, more) =
 
 -- ---- from a session's start
 
-starts_empty : (limits : Limits) (g : SessionView) (side : Side) → IsNew limits g → queued g side ≡ []
-starts_empty limits g Bot new = new.to_bot
-starts_empty limits g Server new = new.to_server
-
 -- from the start, a wire gets the frames that are sent
 pub from_the_start : (limits : Limits) (old new : SessionView) (calls : List Call) (start : IsNew limits old)
     (d : Delivers old calls new) (side : Side) → some_call_fails side calls ≡ false →
     taken_by side calls ++ sent_bytes (queued new side) ≡ sent_bytes (sent_to side d.effects)
 from_the_start limits old new calls start d side live =
     d.delivered side live
-    ∙ ap (λ (x : List Sent). sent_bytes (x ++ sent_to side d.effects)) (starts_empty limits old side start)
+    ∙ ap (λ (x : List Sent). sent_bytes (x ++ sent_to side d.effects)) (start.quiet side)
 
 pub wires_get_answers : (limits : Limits) (old new : SessionView) (calls : List Call) → IsNew limits old →
     AreCalls old calls new → (effects : List Effect) × Runs (initial_state limits) (events_of_calls calls) effects new.state

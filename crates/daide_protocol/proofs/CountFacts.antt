@@ -14,9 +14,9 @@ use Rattle.daide_protocol.specs.declared.phase.Phase.TheVariants.{WaitIm, WaitRm
 use Rattle.daide_protocol.specs.declared.summary.Summary.{Summary}
 use Rattle.daide_protocol.specs.Answers.{answer_bytes}
 use Rattle.daide_protocol.specs.Events.{Event, Ends, Loses, ImTimerExpired, bytes_come}
-use Rattle.daide_protocol.specs.Machine.{SessionState, initial_state, in_phase}
+use Rattle.daide_protocol.specs.Machine.{SessionState, initial_state}
 use Rattle.daide_protocol.specs.Counts.{frames_counted}
-use Rattle.daide_protocol.proofs.SomeRun.{outcome_of}
+use Rattle.daide_protocol.proofs.SomeRun.{in_phase, outcome_of}
 
 -- a session in a phase, with nothing held
 abbrev standing : Phase → SessionState

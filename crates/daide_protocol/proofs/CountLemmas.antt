@@ -16,11 +16,12 @@ use Rattle.daide_reader.specs.declared.verdict.Verdict.TheVariants.{Relay, Prn, 
 use Rattle.daide_protocol.specs.declared.note.Deed.TheVariants as Deeds
 use Rattle.daide_protocol.specs.declared.note.Note.{Note}
 use Rattle.daide_protocol.specs.declared.note.Note.TheVariants as Notes
-use Rattle.daide_protocol.specs.declared.phase.Phase.{Phase}
-use Rattle.daide_protocol.specs.declared.phase.Phase.TheVariants.{WaitIm, WaitRm, Open, Over}
+use Rattle.daide_protocol.specs.declared.phase.SessionPhase.{SessionPhase}
+use Rattle.daide_protocol.specs.declared.phase.SessionPhase.TheVariants.{WaitIm, WaitRm, Open, Over}
 use Rattle.daide_protocol.specs.declared.summary.Summary.{Summary}
 use Rattle.daide_protocol.specs.Answers.{answer_body, answer_bytes, answer_head}
-use Rattle.daide_protocol.specs.Events.{Event, Comes, Ends, Loses, ImTimerExpired, other}
+use Rattle.daide_frame.specs.Side.{other}
+use Rattle.daide_protocol.specs.Events.{Event, Comes, Ends, Loses, ImTimerExpired}
 use Rattle.daide_protocol.specs.Machine.{SessionState, Sent, Effect, Successor, Runs, coming, with_pending, is_over, em_to}
 use Rattle.daide_protocol.specs.Machine.{fm_to, deed_of, destination, is_sent, reply_to, header_outcome, untimely}
 use Rattle.daide_protocol.specs.Machine.{answered, im_answered, item_outcome, items_outcome, im_timer_expired, event_outcome}
@@ -96,26 +97,26 @@ all_counted (effect ∷ effects) s h =
 
 -- ---- each kind of effect
 
-fm_counted : (phase : Phase) (side : Side) → IsCounted (record { reported = Notes.Nothing; sent = fm_to phase side })
+fm_counted : (phase : SessionPhase) (side : Side) → IsCounted (record { reported = Notes.Nothing; sent = fm_to phase side })
 fm_counted WaitIm Bot = refl
 fm_counted WaitIm Server = refl
 fm_counted WaitRm Bot = refl
 fm_counted WaitRm Server = refl
-fm_counted Open Bot = refl
-fm_counted Open Server = refl
-fm_counted Over Bot = refl
-fm_counted Over Server = refl
+fm_counted (Open level) Bot = refl
+fm_counted (Open level) Server = refl
+fm_counted (Over ending) Bot = refl
+fm_counted (Over ending) Server = refl
 
-fault_counted : (phase : Phase) (side : Side) (code : Code) →
+fault_counted : (phase : SessionPhase) (side : Side) (code : Code) →
     IsCounted (record { reported = Notes.Fault code; sent = em_to side code ∷ fm_to phase (other side) })
 fault_counted WaitIm Bot code = refl
 fault_counted WaitIm Server code = refl
 fault_counted WaitRm Bot code = refl
 fault_counted WaitRm Server code = refl
-fault_counted Open Bot code = refl
-fault_counted Open Server code = refl
-fault_counted Over Bot code = refl
-fault_counted Over Server code = refl
+fault_counted (Open level) Bot code = refl
+fault_counted (Open level) Server code = refl
+fault_counted (Over ending) Bot code = refl
+fault_counted (Over ending) Server code = refl
 
 -- a header has four bytes
 behind_head : (head : Head) (body : List ℕ) → drop 4 (head_bytes head ++ body) ≡ body
@@ -182,11 +183,11 @@ items_counted s side (item ∷ items) v =
     go false o later = rw o (count_note-append first.effects (items_outcome first.state side items v).effects
         (item_counted s side item v) later)
 
-im_timer_expired_counted : (phase : Phase) (s : SessionState) → AreCounted (im_timer_expired phase s).effects
+im_timer_expired_counted : (phase : SessionPhase) (s : SessionState) → AreCounted (im_timer_expired phase s).effects
 im_timer_expired_counted WaitIm s = (refl, tt)
 im_timer_expired_counted WaitRm s = tt
-im_timer_expired_counted Open s = tt
-im_timer_expired_counted Over s = tt
+im_timer_expired_counted (Open level) s = tt
+im_timer_expired_counted (Over ending) s = tt
 
 event_counted : (s : SessionState) (event : Event) (v : Verdict) → AreCounted (event_outcome s event v).effects
 event_counted s (Comes side x) v = go (is_over s.phase) refl

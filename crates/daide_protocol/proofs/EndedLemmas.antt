@@ -11,11 +11,11 @@ use Rattle.daide_frame.specs.InitialMessage.{im_of}
 use Rattle.daide_frame.specs.Frames.{FrameEvent, Whole, last_items}
 use Rattle.daide_grammar.specs.declared.level.Level.{Level}
 use Rattle.daide_reader.specs.declared.verdict.Verdict.{Verdict}
-use Rattle.daide_protocol.specs.declared.phase.Phase.{Phase}
-use Rattle.daide_protocol.specs.declared.phase.Phase.TheVariants.{WaitIm, WaitRm, Open, Over}
+use Rattle.daide_protocol.specs.declared.phase.SessionPhase.{SessionPhase}
+use Rattle.daide_protocol.specs.declared.phase.SessionPhase.TheVariants.{WaitIm, WaitRm, Open, Over}
 use Rattle.daide_protocol.specs.Events.{Event, Comes, Ends, Loses, ImTimerExpired}
 use Rattle.daide_protocol.specs.Machine.{SessionState, Effect, Successor, Transition, Runs, coming, with_pending, with_noted}
-use Rattle.daide_protocol.specs.Machine.{is_over, header_outcome, untimely, frame_outcome, answered, im_answered, items_outcome, im_timer_expired}
+use Rattle.daide_protocol.specs.Machine.{is_over, level_in, ending_in, phase_after, header_outcome, untimely, frame_outcome, answered, im_answered, items_outcome, im_timer_expired}
 use Rattle.daide_protocol.specs.Machine.{event_outcome}
 use Rattle.daide_protocol.specs.Fates.{EventCause, checked_frame, frame_cause, fault_or, items_cause, timeout_in}
 use Rattle.daide_protocol.specs.Ended.{cause_ending, ending_at, IsEndedBy}
@@ -23,13 +23,15 @@ use Rattle.daide_protocol.proofs.FrameShapes.{Shape, quiet, headed, at_once, sha
 use Rattle.daide_protocol.proofs.FrameShapes as Shapes
 use Rattle.daide_protocol.proofs.FramesHeard.{not_both}
 use Rattle.daide_protocol.proofs.OneRun.{one_run}
+use Rattle.daide_protocol.proofs.PhaseLemmas.{message_ends_nothing}
 use Rattle.daide_protocol.proofs.PieceRuns.{over_stays}
+use Rattle.daide_token.specs.Token.{tokens_of}
 
 -- ---- a whole frame
 
 -- if the session is over, this cause ended it
 abbrev EndsBy : Option EventCause → SessionState → Type 0
-EndsBy cause new = is_over new.phase ≡ true → new.ending ≡ cause_ending cause
+EndsBy cause new = is_over new.phase ≡ true → ending_in new.phase ≡ cause_ending cause
 
 frame_ends : (s : SessionState) (side : Side) (noted : Level) (kind : Kind) (len : ℕ) (body : List ℕ) (v : Verdict) →
     let head : Head = record { kind = kind; len = len } in is_over s.phase ≡ false →
@@ -44,7 +46,9 @@ frame_ends s side noted Im len body v o = checked (im_of body)
     checked (Ok u) = λ h. absurd (cc)
     checked (Err code) = λ h. refl
 frame_ends s side noted Rm len body v o = λ h. absurd (cc)
-frame_ends s side noted Dm len body v o = λ h. absurd (not_both (is_over s.phase) h o)
+frame_ends s side noted Dm len body v o = λ h.
+    absurd (not_both (is_over s.phase)
+    (sym (message_ends_nothing s.limits.top_level side v (tokens_of body) s.phase) ∙ h) o)
 frame_ends s side noted Fm len body v o = λ h. refl
 frame_ends s side noted Em len body v o = λ h. refl
 
@@ -55,26 +59,26 @@ noted_ends s Bot l o = λ h. absurd (not_both (is_over s.phase) h o)
 noted_ends s Server l o = λ h. absurd (not_both (is_over s.phase) h o)
 
 at_once_ends : (s : SessionState) (side : Side) (head : Head) (v : Verdict) → is_over s.phase ≡ false →
-    EndsBy (Some (frame_cause side s.level head []))
-    (items_outcome (with_noted s side s.level) side (Whole head [] ∷ []) v).state
-at_once_ends s Bot head v o = rw o (frame_ends (with_noted s Bot s.level) Bot s.level head.kind head.len [] v o)
+    EndsBy (Some (frame_cause side (level_in s.phase) head []))
+    (items_outcome (with_noted s side (level_in s.phase)) side (Whole head [] ∷ []) v).state
+at_once_ends s Bot head v o = rw o (frame_ends (with_noted s Bot (level_in s.phase)) Bot (level_in s.phase) head.kind head.len [] v o)
 at_once_ends s Server head v o = rw o (frame_ends
-    (with_noted s Server s.level) Server s.level head.kind head.len [] v o)
+    (with_noted s Server (level_in s.phase)) Server (level_in s.phase) head.kind head.len [] v o)
 
 items_end : (s : SessionState) (side : Side) (items : List FrameEvent) (v : Verdict) → Shape s.limits.cap items →
     is_over s.phase ≡ false →
-    EndsBy (items_cause side (coming s side).noted s.level (untimely s.phase side) items)
+    EndsBy (items_cause side (coming s side).noted (level_in s.phase) (untimely s.phase side) items)
     (items_outcome s side items v).state
 items_end s side items v quiet o = λ h. absurd (not_both (is_over s.phase) h o)
 items_end s side items v (headed head) o = rw o (go (untimely s.phase side head.kind))
   where
     go : (code : Option Code) → EndsBy (fault_or side code None) (header_outcome s side code).state
-    go None = noted_ends s side s.level o
+    go None = noted_ends s side (level_in s.phase) o
     go (Some code) = λ h. refl
 items_end s side items v (at_once head w) o = rw o (go (untimely s.phase side head.kind))
   where
     go : (code : Option Code) →
-        EndsBy (fault_or side code (Some (frame_cause side s.level head [])))
+        EndsBy (fault_or side code (Some (frame_cause side (level_in s.phase) head [])))
         (items_outcome (header_outcome s side code).state side (Whole head [] ∷ []) v).state
     go None = at_once_ends s side head v o
     go (Some code) = λ h. refl
@@ -85,31 +89,31 @@ items_end s side items v (Shapes.wrong code) o = rw o (λ h. refl)
 -- ---- one event
 
 byte_ends : (s : SessionState) (side : Side) (bytes : List ℕ) (v : Verdict) → is_over s.phase ≡ false →
-    EndsBy (items_cause side (coming s side).noted s.level (untimely s.phase side) (last_items s.limits.cap bytes))
+    EndsBy (items_cause side (coming s side).noted (level_in s.phase) (untimely s.phase side) (last_items s.limits.cap bytes))
     (items_outcome (with_pending s side bytes) side (last_items s.limits.cap bytes) v).state
 byte_ends s Bot bytes v o =
     items_end (with_pending s Bot bytes) Bot (last_items s.limits.cap bytes) v (shape s.limits.cap bytes) o
 byte_ends s Server bytes v o =
     items_end (with_pending s Server bytes) Server (last_items s.limits.cap bytes) v (shape s.limits.cap bytes) o
 
-timer_ends : (phase : Phase) (s : SessionState) → s.phase ≡ phase → is_over phase ≡ false →
+timer_ends : (phase : SessionPhase) (s : SessionState) → s.phase ≡ phase → is_over phase ≡ false →
     EndsBy (timeout_in phase) (im_timer_expired phase s).state
 timer_ends WaitIm s e o = λ h. refl
 timer_ends WaitRm s e o = λ h. absurd (not_both (is_over s.phase) h (ap is_over e))
-timer_ends Open s e o = λ h. absurd (not_both (is_over s.phase) h (ap is_over e))
-timer_ends Over s e o = λ h. absurd (cc)
+timer_ends (Open level) s e o = λ h. absurd (not_both (is_over s.phase) h (ap is_over e))
+timer_ends (Over ending) s e o = λ h. absurd (cc)
 
 event_ends : (s : SessionState) (event : Event) (v : Verdict) → is_over s.phase ≡ false →
-    let new = (event_outcome s event v).state in is_over new.phase ≡ true → new.ending ≡ ending_at s event
+    let new = (event_outcome s event v).state in is_over new.phase ≡ true → ending_in new.phase ≡ ending_at s event
 event_ends s (Comes side byte) v o = rw o (byte_ends s side ((coming s side).pending ++ byte ∷ []) v o)
 event_ends s (Ends side) v o = rw o (λ h. refl)
 event_ends s (Loses side) v o = rw o (λ h. refl)
 event_ends s ImTimerExpired v o = timer_ends s.phase s refl o
 
 step_ends : (s : SessionState) (event : Event) (moves : List Effect) (new : SessionState) → Transition s event moves new →
-    is_over s.phase ≡ false → is_over new.phase ≡ true → new.ending ≡ ending_at s event
+    is_over s.phase ≡ false → is_over new.phase ≡ true → ending_in new.phase ≡ ending_at s event
 step_ends s event moves new t o =
-    subst (λ (x : Successor). is_over x.state.phase ≡ true → x.state.ending ≡ ending_at s event) t.outcome
+    subst (λ (x : Successor). is_over x.state.phase ≡ true → ending_in x.state.phase ≡ ending_at s event) t.outcome
     (event_ends s event t.verdict o)
 
 -- ---- a run

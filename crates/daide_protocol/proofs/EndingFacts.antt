@@ -18,9 +18,9 @@ use Rattle.daide_protocol.specs.declared.phase.Phase.{Phase}
 use Rattle.daide_protocol.specs.declared.phase.Phase.TheVariants.{WaitIm, WaitRm, Open}
 use Rattle.daide_protocol.specs.declared.summary.Summary.{Summary}
 use Rattle.daide_protocol.specs.Events.{Event, Ends, Loses, ImTimerExpired, bytes_come}
-use Rattle.daide_protocol.specs.Machine.{SessionState, initial_state, in_phase}
+use Rattle.daide_protocol.specs.Machine.{SessionState, ending_in, initial_state}
 use Rattle.daide_protocol.specs.Summary.{count_note, counted_on}
-use Rattle.daide_protocol.proofs.SomeRun.{outcome_of}
+use Rattle.daide_protocol.proofs.SomeRun.{in_phase, outcome_of}
 
 -- a session in a phase, with nothing held
 abbrev standing : Phase → SessionState
@@ -28,7 +28,7 @@ standing phase = in_phase phase L0 (initial_state (record { cap = 512; top_level
 
 -- the ending after these events
 abbrev ending_by : Phase → List Event → Option Ending
-ending_by phase events = (outcome_of (standing phase) events).state.ending
+ending_by phase events = ending_in (outcome_of (standing phase) events).state.phase
 
 -- the ending after these bytes from a side
 abbrev ending_after_bytes : Phase → Side → List ℕ → Option Ending
@@ -42,8 +42,8 @@ fm = 0x03 ∷ 0x00 ∷ 0x00 ∷ 0x00 ∷ []
 abbrev em : List ℕ
 em = 0x04 ∷ 0x00 ∷ 0x00 ∷ 0x02 ∷ 0x00 ∷ 0x09 ∷ []
 
-none_at_first : (phase : Phase) → ending_by phase [] ≡ None
-none_at_first phase = refl
+none_at_first : (ending_by WaitIm [] ≡ None) × (ending_by WaitRm [] ≡ None) × (ending_by Open [] ≡ None)
+none_at_first = (refl, refl, refl)
 
 ends_and_lost_wires :
     (ending_by WaitIm (Ends Bot ∷ []) ≡ Some (Ended Bot)) × (ending_by WaitIm (Ends Server ∷ []) ≡ Some (Ended Server))

@@ -13,15 +13,15 @@ use Rattle.daide_frame.specs.Frames.{FrameEvent, Begun, Whole, Wrong, frame_even
 use Rattle.daide_grammar.specs.declared.level.Level.{Level}
 use Rattle.daide_reader.specs.declared.verdict.Verdict.{Verdict}
 use Rattle.daide_reader.specs.declared.verdict.Verdict.TheVariants.{Relay, Prn, Huh}
-use Rattle.daide_protocol.specs.declared.phase.Phase.{Phase}
-use Rattle.daide_protocol.specs.declared.phase.Phase.TheVariants.{WaitIm, WaitRm, Open, Over}
+use Rattle.daide_protocol.specs.declared.phase.SessionPhase.{SessionPhase}
+use Rattle.daide_protocol.specs.declared.phase.SessionPhase.TheVariants.{WaitIm, WaitRm, Open, Over}
 use Rattle.daide_protocol.specs.Answers.{answer_bytes}
 use Rattle.daide_protocol.specs.Events.{Event, Comes, Ends, Loses, ImTimerExpired}
 use Rattle.daide_protocol.specs.Machine.{Limits, SessionState, Effect, Successor, Transition, Runs, IsCorrectVerdict}
 use Rattle.daide_protocol.specs.Machine.{coming, with_pending, with_noted, is_over, untimely, answered, im_answered}
 use Rattle.daide_protocol.specs.Machine.{frame_outcome, items_outcome, reply_to, asked_by, question_of, event_outcome, im_timer_expired}
-use Rattle.daide_protocol.specs.Machine.{initial_state, header_outcome, question}
-use Rattle.daide_protocol.specs.Wires.{same_side}
+use Rattle.daide_protocol.specs.Machine.{initial_state, header_outcome, question, level_in}
+use Rattle.daide_frame.specs.Side.{same_side}
 use Rattle.daide_protocol.specs.Heard.{bytes_from, heard_at, items_heard}
 use Rattle.daide_protocol.specs.Fates.{EventCause, Frame, End, Came, checked_frame, frame_cause, fault_or}
 use Rattle.daide_protocol.specs.Fates.{items_cause, cause_at, timeout_in, came_in_phase, came_in}
@@ -35,7 +35,7 @@ use Rattle.daide_protocol.proofs.LimitsKept.{runs_limits}
 -- ---- a whole frame
 
 -- the input made of a frame, with its phase
-abbrev came : Phase → EventCause → List Came
+abbrev came : SessionPhase → EventCause → List Came
 came phase cause = record { phase = phase; cause = cause } ∷ []
 
 frame_fates : (t : SessionState) (side : Side) (noted : Level) (kind : Kind) (len : ℕ) (body : List ℕ) (v : Verdict) →
@@ -70,22 +70,22 @@ one_more limits c effects h = subst (HaveFates limits c) (sym (append-nil effect
 
 -- a frame whose header and body end with the same byte is judged by the current level
 at_once_fates : (t : SessionState) (side : Side) (head : Head) (v : Verdict) → is_over t.phase ≡ false →
-    IsCorrectVerdict t.limits.words t.limits.max_depth (question_of side t.level head []) v →
-    HaveFates t.limits (came t.phase (frame_cause side t.level head []))
-    (items_outcome (with_noted t side t.level) side (Whole head [] ∷ []) v).effects
+    IsCorrectVerdict t.limits.words t.limits.max_depth (question_of side (level_in t.phase) head []) v →
+    HaveFates t.limits (came t.phase (frame_cause side (level_in t.phase) head []))
+    (items_outcome (with_noted t side (level_in t.phase)) side (Whole head [] ∷ []) v).effects
 at_once_fates t Bot head v o r = rw o
-    (one_more t.limits (came t.phase (frame_cause Bot t.level head []))
-    (frame_outcome (with_noted t Bot t.level) Bot head [] v).effects
-    (frame_fates (with_noted t Bot t.level) Bot t.level head.kind head.len [] v r))
+    (one_more t.limits (came t.phase (frame_cause Bot (level_in t.phase) head []))
+    (frame_outcome (with_noted t Bot (level_in t.phase)) Bot head [] v).effects
+    (frame_fates (with_noted t Bot (level_in t.phase)) Bot (level_in t.phase) head.kind head.len [] v r))
 at_once_fates t Server head v o r = rw o
-    (one_more t.limits (came t.phase (frame_cause Server t.level head []))
-    (frame_outcome (with_noted t Server t.level) Server head [] v).effects
-    (frame_fates (with_noted t Server t.level) Server t.level head.kind head.len [] v r))
+    (one_more t.limits (came t.phase (frame_cause Server (level_in t.phase) head []))
+    (frame_outcome (with_noted t Server (level_in t.phase)) Server head [] v).effects
+    (frame_fates (with_noted t Server (level_in t.phase)) Server (level_in t.phase) head.kind head.len [] v r))
 
 items_fates : (t : SessionState) (side : Side) (items : List FrameEvent) (v : Verdict) → Shape t.limits.cap items →
     is_over t.phase ≡ false → IsCorrectVerdict t.limits.words t.limits.max_depth (asked_by t side items) v →
     HaveFates t.limits
-    (came_in_phase t.phase (items_cause side (coming t side).noted t.level (untimely t.phase side) items))
+    (came_in_phase t.phase (items_cause side (coming t side).noted (level_in t.phase) (untimely t.phase side) items))
     (items_outcome t side items v).effects
 items_fates t side items v quiet o r = refl
 items_fates t side items v (headed head) o r = rw o (go (untimely t.phase side head.kind))
@@ -99,7 +99,7 @@ items_fates t side items v (at_once head w) o r =
   where
     Goal : Option Code → Type 0
     Goal code =
-        HaveFates t.limits (came_in_phase t.phase (fault_or side code (Some (frame_cause side t.level head []))))
+        HaveFates t.limits (came_in_phase t.phase (fault_or side code (Some (frame_cause side (level_in t.phase) head []))))
         ((header_outcome t side code).effects ++ (items_outcome (header_outcome t side code).state side (Whole head [] ∷ []) v).effects)
 
     go : (code : Option Code) → untimely t.phase side head.kind ≡ code → Goal code
@@ -117,7 +117,7 @@ items_fates t side items v (Shapes.wrong code) o r = rw o (refl, refl)
 byte_fates : (s : SessionState) (side : Side) (bytes : List ℕ) (v : Verdict) → is_over s.phase ≡ false →
     IsCorrectVerdict s.limits.words s.limits.max_depth (asked_by s side (last_items s.limits.cap bytes)) v →
     HaveFates s.limits
-    (came_in_phase s.phase (items_cause side (coming s side).noted s.level (untimely s.phase side)
+    (came_in_phase s.phase (items_cause side (coming s side).noted (level_in s.phase) (untimely s.phase side)
     (last_items s.limits.cap bytes)))
     (items_outcome (with_pending s side bytes) side (last_items s.limits.cap bytes) v).effects
 byte_fates s Bot bytes v o r =
@@ -125,12 +125,12 @@ byte_fates s Bot bytes v o r =
 byte_fates s Server bytes v o r =
     items_fates (with_pending s Server bytes) Server (last_items s.limits.cap bytes) v (shape s.limits.cap bytes) o r
 
-timer_fates : (limits : Limits) (phase : Phase) (s : SessionState) →
+timer_fates : (limits : Limits) (phase : SessionPhase) (s : SessionState) →
     HaveFates limits (came_in_phase phase (timeout_in phase)) (im_timer_expired phase s).effects
 timer_fates limits WaitIm s = (refl, refl)
 timer_fates limits WaitRm s = refl
-timer_fates limits Open s = refl
-timer_fates limits Over s = refl
+timer_fates limits (Open level) s = refl
+timer_fates limits (Over ending) s = refl
 
 event_fates : (s : SessionState) (event : Event) (v : Verdict) →
     IsCorrectVerdict s.limits.words s.limits.max_depth (question s event) v →
@@ -204,11 +204,11 @@ over_causes s (Ends side) o = rw o refl
 over_causes s (Loses side) o = rw o refl
 over_causes s ImTimerExpired o = by_phase s.phase o
   where
-    by_phase : (phase : Phase) → is_over phase ≡ true → timeout_in phase ≡ None
+    by_phase : (phase : SessionPhase) → is_over phase ≡ true → timeout_in phase ≡ None
     by_phase WaitIm e = absurd (cc)
     by_phase WaitRm e = refl
-    by_phase Open e = refl
-    by_phase Over e = refl
+    by_phase (Open level) e = refl
+    by_phase (Over ending) e = refl
 
 -- there is no input once the session is over
 over_comes : (s : SessionState) (events : List Event) (effects : List Effect) (new : SessionState)
@@ -250,16 +250,16 @@ frame_comes t side noted Fm len body v = inl (own_frame side noted (record { kin
 frame_comes t side noted Em len body v = inl (own_frame side noted (record { kind = Em; len = len }) body)
 
 at_once_comes : (t : SessionState) (side : Side) (head : Head) (v : Verdict) → is_over t.phase ≡ false →
-    ComeHere side (Begun head ∷ Whole head [] ∷ []) (came t.phase (frame_cause side t.level head []))
-    (items_outcome (with_noted t side t.level) side (Whole head [] ∷ []) v).state
-at_once_comes t Bot head v o = rw o (frame_comes (with_noted t Bot t.level) Bot t.level head.kind head.len [] v)
+    ComeHere side (Begun head ∷ Whole head [] ∷ []) (came t.phase (frame_cause side (level_in t.phase) head []))
+    (items_outcome (with_noted t side (level_in t.phase)) side (Whole head [] ∷ []) v).state
+at_once_comes t Bot head v o = rw o (frame_comes (with_noted t Bot (level_in t.phase)) Bot (level_in t.phase) head.kind head.len [] v)
 at_once_comes t Server head v o = rw o (frame_comes
-    (with_noted t Server t.level) Server t.level head.kind head.len [] v)
+    (with_noted t Server (level_in t.phase)) Server (level_in t.phase) head.kind head.len [] v)
 
 items_come : (t : SessionState) (side : Side) (items : List FrameEvent) (v : Verdict) → Shape t.limits.cap items →
     is_over t.phase ≡ false →
     ComeHere side items
-    (came_in_phase t.phase (items_cause side (coming t side).noted t.level (untimely t.phase side) items))
+    (came_in_phase t.phase (items_cause side (coming t side).noted (level_in t.phase) (untimely t.phase side) items))
     (items_outcome t side items v).state
 items_come t side items v quiet o = inl refl
 items_come t side items v (headed head) o = go (untimely t.phase side head.kind)
@@ -273,7 +273,7 @@ items_come t side items v (at_once head w) o = rw o (go (untimely t.phase side h
   where
     go : (code : Option Code) →
         ComeHere side (Begun head ∷ Whole head [] ∷ [])
-        (came_in_phase t.phase (fault_or side code (Some (frame_cause side t.level head []))))
+        (came_in_phase t.phase (fault_or side code (Some (frame_cause side (level_in t.phase) head []))))
         (items_outcome (header_outcome t side code).state side (Whole head [] ∷ []) v).state
     go None = at_once_comes t side head v o
     go (Some code) = inr (refl, refl)
@@ -283,7 +283,7 @@ items_come t side items v (Shapes.wrong code) o = inl refl
 
 byte_comes : (s : SessionState) (side : Side) (bytes : List ℕ) (v : Verdict) → is_over s.phase ≡ false →
     ComeHere side (last_items s.limits.cap bytes)
-    (came_in_phase s.phase (items_cause side (coming s side).noted s.level (untimely s.phase side)
+    (came_in_phase s.phase (items_cause side (coming s side).noted (level_in s.phase) (untimely s.phase side)
     (last_items s.limits.cap bytes)))
     (items_outcome (with_pending s side bytes) side (last_items s.limits.cap bytes) v).state
 byte_comes s Bot bytes v o =
@@ -292,7 +292,7 @@ byte_comes s Server bytes v o =
     items_come (with_pending s Server bytes) Server (last_items s.limits.cap bytes) v (shape s.limits.cap bytes) o
 
 -- an input from the other side is no frame from this one
-beside_comes : (side from : Side) → same_side from side ≡ false → (phase : Phase) (noted now : Level)
+beside_comes : (side from : Side) → same_side from side ≡ false → (phase : SessionPhase) (noted now : Level)
     (refusal : Kind → Option Code) (items : List FrameEvent) →
     [] ≡ frames_from side (came_in_phase phase (items_cause from noted now refusal items))
 beside_comes side from e phase noted now refusal [] = refl
@@ -326,9 +326,9 @@ event_comes side s (Comes from x) v = go (is_over s.phase) refl
     by_side : (side from : Side) → is_over s.phase ≡ false → Goal side from
     by_side Bot Bot o = rw o (byte_comes s Bot ((coming s Bot).pending ++ x ∷ []) v o)
     by_side Server Server o = rw o (byte_comes s Server ((coming s Server).pending ++ x ∷ []) v o)
-    by_side Bot Server o = rw o (inl (beside_comes Bot Server refl s.phase (coming s Server).noted s.level
+    by_side Bot Server o = rw o (inl (beside_comes Bot Server refl s.phase (coming s Server).noted (level_in s.phase)
         (untimely s.phase Server) (last_items s.limits.cap ((coming s Server).pending ++ x ∷ []))))
-    by_side Server Bot o = rw o (inl (beside_comes Server Bot refl s.phase (coming s Bot).noted s.level
+    by_side Server Bot o = rw o (inl (beside_comes Server Bot refl s.phase (coming s Bot).noted (level_in s.phase)
         (untimely s.phase Bot) (last_items s.limits.cap ((coming s Bot).pending ++ x ∷ []))))
 
     go : (b : Bool) → is_over s.phase ≡ b → Goal side from
@@ -350,11 +350,11 @@ event_comes side s (Loses from) v = go (is_over s.phase)
     go false = inl refl
 event_comes side s ImTimerExpired v = go s.phase
   where
-    go : (phase : Phase) → ComeHere side [] (came_in_phase s.phase (timeout_in phase)) (event_outcome s ImTimerExpired v).state
+    go : (phase : SessionPhase) → ComeHere side [] (came_in_phase s.phase (timeout_in phase)) (event_outcome s ImTimerExpired v).state
     go WaitIm = inl refl
     go WaitRm = inl refl
-    go Open = inl refl
-    go Over = inl refl
+    go (Open level) = inl refl
+    go (Over ending) = inl refl
 
 -- a run's frames are those among its inputs, and then those after its end
 abbrev AreFrames : Side → (s : SessionState) (events : List Event) (effects : List Effect) (new : SessionState) →

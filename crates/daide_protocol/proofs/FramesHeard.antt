@@ -14,9 +14,10 @@ use Rattle.daide_frame.proofs.OneByte.{ByteTells, byte_tells}
 use Rattle.daide_frame.proofs.CutsAgree.{by_byte-cut}
 use Rattle.daide_reader.specs.declared.verdict.Verdict.{Verdict}
 use Rattle.daide_protocol.specs.declared.ending.Ending.TheVariants.{Ended, Lost}
-use Rattle.daide_protocol.specs.declared.phase.Phase.{Phase}
-use Rattle.daide_protocol.specs.declared.phase.Phase.TheVariants.{WaitIm, WaitRm, Open, Over}
-use Rattle.daide_protocol.specs.Events.{Event, Comes, Ends, Loses, ImTimerExpired, other}
+use Rattle.daide_protocol.specs.declared.phase.SessionPhase.{SessionPhase}
+use Rattle.daide_protocol.specs.declared.phase.SessionPhase.TheVariants.{WaitIm, WaitRm, Open, Over}
+use Rattle.daide_frame.specs.Side.{other}
+use Rattle.daide_protocol.specs.Events.{Event, Comes, Ends, Loses, ImTimerExpired}
 use Rattle.daide_protocol.specs.Machine.{Limits, SessionState, Effect, Successor, Transition, Runs, initial_state, coming}
 use Rattle.daide_frame.specs.Head.{is_im}
 use Rattle.daide_protocol.specs.Machine.{with_pending, is_over, fault, end, header_outcome, untimely, answered}
@@ -403,12 +404,12 @@ comes side k x s events effects new run o later = go (is_over run.0.phase) refl
         )
 
 -- the timer ends the session, or does nothing
-im_timer_expired_is : (phase : Phase) (s : SessionState) →
+im_timer_expired_is : (phase : SessionPhase) (s : SessionState) →
     (is_over (im_timer_expired phase s).state.phase ≡ true) ⊎ ((im_timer_expired phase s).state ≡ s)
 im_timer_expired_is WaitIm s = inl refl
 im_timer_expired_is WaitRm s = inr refl
-im_timer_expired_is Open s = inr refl
-im_timer_expired_is Over s = inr refl
+im_timer_expired_is (Open level) s = inr refl
+im_timer_expired_is (Over ending) s = inr refl
 
 pub pops : (s : SessionState) (effects : List Effect) (m : SessionState) → Transition s ImTimerExpired effects m →
     (is_over m.phase ≡ true) ⊎ (m ≡ s)

@@ -19,13 +19,15 @@ use Rattle.daide_reader.specs.declared.verdict.Verdict.TheVariants.{Relay, Prn, 
 use Rattle.daide_protocol.specs.declared.note.Note.{Note}
 use Rattle.daide_protocol.specs.declared.note.Note.TheVariants as Notes
 use Rattle.daide_protocol.specs.declared.ending.Ending.TheVariants as Endings
-use Rattle.daide_protocol.specs.Events.{Event, Comes, Ends, Loses, ImTimerExpired, other}
+use Rattle.daide_protocol.specs.declared.phase.SessionPhase.TheVariants.{Over}
+use Rattle.daide_frame.specs.Side.{other}
+use Rattle.daide_protocol.specs.Events.{Event, Comes, Ends, Loses, ImTimerExpired}
 use Rattle.daide_protocol.specs.Machine.{Coming, Limits, SessionState, Sent, Effect, Successor, Question, Transition, Runs}
 use Rattle.daide_protocol.specs.Machine.{coming, with_coming, with_pending, with_noted, is_over, untimely}
-use Rattle.daide_protocol.specs.Machine.{answered}
+use Rattle.daide_protocol.specs.Machine.{answered, level_in}
 use Rattle.daide_protocol.specs.Machine.{im_answered, frame_outcome, items_outcome, event_outcome, nothing}
 use Rattle.daide_protocol.specs.Machine.{question_of, question_in, asked_by, IsCorrectVerdict, deed_of, may_reach}
-use Rattle.daide_protocol.specs.Machine.{initial_state, fault, over}
+use Rattle.daide_protocol.specs.Machine.{initial_state, fault}
 use Rattle.daide_protocol.specs.Wires.{sent_to}
 use Rattle.daide_protocol.specs.Heard.{heard_at, items_heard}
 use Rattle.daide_protocol.specs.Fates.{frames_among}
@@ -63,7 +65,7 @@ leaves t side items v (headed head) o p f = go (untimely t.phase side head.kind)
     go : (code : Option Code) → untimely t.phase side head.kind ≡ code →
         ((items_outcome t side (Begun head ∷ []) v).effects ≡ [])
         × SameBut side (items_outcome t side (Begun head ∷ []) v).state t
-    go None e = rw (o, e) (refl, noting_same side t t.level)
+    go None e = rw (o, e) (refl, noting_same side t (level_in t.phase))
     go (Some code) e =
         absurd (let q : true ≡ false = (let h = rw (o, e) at p in h) in cc)
 leaves t side items v (at_once head w) o p f = absurd (cc)
@@ -136,19 +138,19 @@ alone_fresh : (side : Side) (new : Successor) (old : SessionState) → IsFresh s
 alone_fresh side new old f = (f.0, f.1, ap (sent_to (other side)) (append-nil new.effects) ∙ f.2)
 
 at_once_fresh : (t : SessionState) (side : Side) (head : Head) (v : Verdict) → is_over t.phase ≡ false →
-    IsCorrectVerdict t.limits.words t.limits.max_depth (question_of side t.level head []) v →
-    IsRefusal (reported_first (items_outcome (with_noted t side t.level) side (Whole head [] ∷ []) v).effects) →
-    IsFresh side (items_outcome (with_noted t side t.level) side (Whole head [] ∷ []) v) t
+    IsCorrectVerdict t.limits.words t.limits.max_depth (question_of side (level_in t.phase) head []) v →
+    IsRefusal (reported_first (items_outcome (with_noted t side (level_in t.phase)) side (Whole head [] ∷ []) v).effects) →
+    IsFresh side (items_outcome (with_noted t side (level_in t.phase)) side (Whole head [] ∷ []) v) t
 at_once_fresh t Bot head v o r h =
     let k = rw o at h in
-    let w = frame_outcome (with_noted t Bot t.level) Bot head [] v in
-    rw o (alone_fresh Bot w t (fresh_over Bot w (with_noted t Bot t.level) t (noting_same Bot t t.level)
-    (frame_fresh (with_noted t Bot t.level) Bot t.level head.kind head.len [] v r (reported_alone w.effects k))))
+    let w = frame_outcome (with_noted t Bot (level_in t.phase)) Bot head [] v in
+    rw o (alone_fresh Bot w t (fresh_over Bot w (with_noted t Bot (level_in t.phase)) t (noting_same Bot t (level_in t.phase))
+    (frame_fresh (with_noted t Bot (level_in t.phase)) Bot (level_in t.phase) head.kind head.len [] v r (reported_alone w.effects k))))
 at_once_fresh t Server head v o r h =
     let k = rw o at h in
-    let w = frame_outcome (with_noted t Server t.level) Server head [] v in
-    rw o (alone_fresh Server w t (fresh_over Server w (with_noted t Server t.level) t (noting_same Server t t.level)
-    (frame_fresh (with_noted t Server t.level) Server t.level head.kind head.len [] v r (reported_alone w.effects k))))
+    let w = frame_outcome (with_noted t Server (level_in t.phase)) Server head [] v in
+    rw o (alone_fresh Server w t (fresh_over Server w (with_noted t Server (level_in t.phase)) t (noting_same Server t (level_in t.phase))
+    (frame_fresh (with_noted t Server (level_in t.phase)) Server (level_in t.phase) head.kind head.len [] v r (reported_alone w.effects k))))
 
 items_fresh : (t : SessionState) (side : Side) (items : List FrameEvent) (v : Verdict) → Shape t.limits.cap items →
     is_over t.phase ≡ false → IsCorrectVerdict t.limits.words t.limits.max_depth (asked_by t side items) v →
@@ -407,22 +409,22 @@ early_too_bot t n items v (early_begun head rest) o = go (untimely t.phase Bot h
     go (Some code) e =
         let was : all ≡ fault t Bot code =
         rw (o, e) (ap (λ (q : Successor). record { state = q.state; effects = (fault t Bot code).effects ++ q.effects })
-        (over_items (over (Endings.Fault Bot code) t) Bot rest v refl)) in
+        (over_items (record t { phase = Over (Endings.Fault Bot code) }) Bot rest v refl)) in
         let is : items_outcome (with_noted t Bot n) Bot (Begun head ∷ rest) v ≡ fault (with_noted t Bot n) Bot code =
         rw (o, e) (ap (λ (q : Successor). record { state = q.state; effects = (fault t Bot code).effects ++ q.effects })
-        (over_items (over (Endings.Fault Bot code) (with_noted t Bot n)) Bot rest v refl)) in (
+        (over_items (record (with_noted t Bot n) { phase = Over (Endings.Fault Bot code) }) Bot rest v refl)) in (
           n,
           is ∙ ap (put_noted Bot n) (sym was),
           λ p l. absurd (let q : true ≡ false = sym (ap (λ (k : Successor). is_over k.state.phase) was) ∙ p in cc),
         )
 
 short_too_bot : (s : SessionState) (n : Level) (x : ℕ) (effects : List Effect) (m : SessionState) →
-    Transition s (Comes Bot x) effects m → is_over s.phase ≡ false → length s.bot.pending < 4 →
+    Transition s (Comes Bot x) effects m → is_over s.phase ≡ false → length s.sides.bot.pending < 4 →
     StepsToo Bot s n (Comes Bot x) effects m
 short_too_bot s n x effects m t o short = by_length (cases_lt (length b) 4)
   where
     b : List ℕ
-    b = s.bot.pending ++ x ∷ []
+    b = s.sides.bot.pending ++ x ∷ []
 
     came : items_outcome (with_pending s Bot b) Bot (last_items s.limits.cap b) t.verdict
         ≡ record { state = m; effects = effects }
@@ -431,8 +433,8 @@ short_too_bot s n x effects m t o short = by_length (cases_lt (length b) 4)
     right : IsCorrectVerdict s.limits.words s.limits.max_depth (asked_by s Bot (last_items s.limits.cap b)) t.verdict
     right = let r = t.right in let k = rw o at r in k
 
-    longer : length b ≡ length s.bot.pending + 1
-    longer = length-append s.bot.pending (x ∷ [])
+    longer : length b ≡ length s.sides.bot.pending + 1
+    longer = length-append s.sides.bot.pending (x ∷ [])
 
     by_length : (length b < 4) ⊎ (4 ≤ length b) → StepsToo Bot s n (Comes Bot x) effects m
     by_length (inl few) =
@@ -445,7 +447,7 @@ short_too_bot s n x effects m t o short = by_length (cases_lt (length b) 4)
             right = rw (o, none) (let h = rw none at right in h);
             outcome = rw (o, none) (ap (put_noted Bot n) quiet_one);
           },
-          λ p l. absurd (omega (arith, ap (λ (q : Successor). length q.state.bot.pending) quiet_one, few, l)),
+          λ p l. absurd (omega (arith, ap (λ (q : Successor). length q.state.sides.bot.pending) quiet_one, few, l)),
         )
     by_length (inr many) =
         let four : length b ≡ 4 = omega (arith, longer, short, many) in
@@ -456,7 +458,7 @@ short_too_bot s n x effects m t o short = by_length (cases_lt (length b) 4)
           record {
             verdict = t.verdict;
             right = rw o (subst (λ (q : Option Question). IsCorrectVerdict s.limits.words s.limits.max_depth q t.verdict)
-                (early_asks Bot s.bot.noted n s.level (untimely s.phase Bot) (last_items s.limits.cap b) early) right);
+                (early_asks Bot s.sides.bot.noted n (level_in s.phase) (untimely s.phase Bot) (last_items s.limits.cap b) early) right);
             outcome = rw o (e.1 ∙ ap (put_noted Bot e.0) came);
           },
           subst (λ (q : Successor). MayDiffer Bot q.state e.0) came e.2,
@@ -494,7 +496,7 @@ early_too_server t n items v (early_begun head rest) o = go (untimely t.phase Se
           effects =
               (fault t Server code).effects ++ q.effects;
         })
-        (over_items (over (Endings.Fault Server code) t) Server rest v refl)) in
+        (over_items (record t { phase = Over (Endings.Fault Server code) }) Server rest v refl)) in
         let is : items_outcome (with_noted t Server n) Server (Begun head ∷ rest) v ≡ fault
         (with_noted t Server n) Server code =
         rw (o, e) (ap (λ (q : Successor). record {
@@ -502,19 +504,19 @@ early_too_server t n items v (early_begun head rest) o = go (untimely t.phase Se
           effects =
               (fault t Server code).effects ++ q.effects;
         })
-        (over_items (over (Endings.Fault Server code) (with_noted t Server n)) Server rest v refl)) in (
+        (over_items (record (with_noted t Server n) { phase = Over (Endings.Fault Server code) }) Server rest v refl)) in (
           n,
           is ∙ ap (put_noted Server n) (sym was),
           λ p l. absurd (let q : true ≡ false = sym (ap (λ (k : Successor). is_over k.state.phase) was) ∙ p in cc),
         )
 
 short_too_server : (s : SessionState) (n : Level) (x : ℕ) (effects : List Effect) (m : SessionState) →
-    Transition s (Comes Server x) effects m → is_over s.phase ≡ false → length s.server.pending < 4 →
+    Transition s (Comes Server x) effects m → is_over s.phase ≡ false → length s.sides.server.pending < 4 →
     StepsToo Server s n (Comes Server x) effects m
 short_too_server s n x effects m t o short = by_length (cases_lt (length b) 4)
   where
     b : List ℕ
-    b = s.server.pending ++ x ∷ []
+    b = s.sides.server.pending ++ x ∷ []
 
     came : items_outcome (with_pending s Server b) Server (last_items s.limits.cap b) t.verdict
         ≡ record { state = m; effects = effects }
@@ -523,8 +525,8 @@ short_too_server s n x effects m t o short = by_length (cases_lt (length b) 4)
     right : IsCorrectVerdict s.limits.words s.limits.max_depth (asked_by s Server (last_items s.limits.cap b)) t.verdict
     right = let r = t.right in let k = rw o at r in k
 
-    longer : length b ≡ length s.server.pending + 1
-    longer = length-append s.server.pending (x ∷ [])
+    longer : length b ≡ length s.sides.server.pending + 1
+    longer = length-append s.sides.server.pending (x ∷ [])
 
     by_length : (length b < 4) ⊎ (4 ≤ length b) → StepsToo Server s n (Comes Server x) effects m
     by_length (inl few) =
@@ -537,7 +539,7 @@ short_too_server s n x effects m t o short = by_length (cases_lt (length b) 4)
             right = rw (o, none) (let h = rw none at right in h);
             outcome = rw (o, none) (ap (put_noted Server n) quiet_one);
           },
-          λ p l. absurd (omega (arith, ap (λ (q : Successor). length q.state.server.pending) quiet_one, few, l)),
+          λ p l. absurd (omega (arith, ap (λ (q : Successor). length q.state.sides.server.pending) quiet_one, few, l)),
         )
     by_length (inr many) =
         let four : length b ≡ 4 = omega (arith, longer, short, many) in
@@ -548,7 +550,7 @@ short_too_server s n x effects m t o short = by_length (cases_lt (length b) 4)
           record {
             verdict = t.verdict;
             right = rw o (subst (λ (q : Option Question). IsCorrectVerdict s.limits.words s.limits.max_depth q t.verdict)
-                (early_asks Server s.server.noted n s.level (untimely s.phase Server)
+                (early_asks Server s.sides.server.noted n (level_in s.phase) (untimely s.phase Server)
                 (last_items s.limits.cap b) early) right);
             outcome = rw o (e.1 ∙ ap (put_noted Server e.0) came);
           },
@@ -559,12 +561,12 @@ short_too_server s n x effects m t o short = by_length (cases_lt (length b) 4)
 too : (side : Side) (s : SessionState) (n : Level) (e : Event) (effects : List Effect) (m : SessionState) →
     Transition s e effects m → is_over s.phase ≡ false → MayDiffer side s n → StepsToo side s n e effects m
 too Bot s n (Comes Bot x) effects m t o may =
-    elim (cases_lt (length s.bot.pending) 4) [
+    elim (cases_lt (length s.sides.bot.pending) 4) [
       | inl few ↦ short_too_bot s n x effects m t o few
       | inr many ↦ long_too Bot s n (Comes Bot x) effects m t (may o many)
     ]
 too Server s n (Comes Server x) effects m t o may =
-    elim (cases_lt (length s.server.pending) 4) [
+    elim (cases_lt (length s.sides.server.pending) 4) [
       | inl few ↦ short_too_server s n x effects m t o few
       | inr many ↦ long_too Server s n (Comes Server x) effects m t (may o many)
     ]

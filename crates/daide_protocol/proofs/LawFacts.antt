@@ -22,10 +22,11 @@ use Rattle.daide_grammar.specs.declared.side.Side2.TheVariants.{ServerEnd}
 use Rattle.daide_grammar.specs.SideMessages.{IsMessage}
 use Rattle.daide_protocol.specs.declared.ending.Ending.TheVariants as Endings
 use Rattle.daide_protocol.specs.declared.note.Note.TheVariants as Notes
-use Rattle.daide_protocol.specs.declared.phase.Phase.TheVariants.{Over, WaitIm}
+use Rattle.daide_protocol.specs.declared.phase.Phase.TheVariants.{Over}
+use Rattle.daide_protocol.specs.declared.phase.SessionPhase.TheVariants as SessionPhases
 use Rattle.daide_protocol.specs.Events.{Event, Comes, Ends, ImTimerExpired, bytes_come}
 use Rattle.daide_protocol.specs.Machine.{SessionState, Sent, Effect, Transition, Runs, initial_state, is_over, em_to}
-use Rattle.daide_protocol.specs.Machine.{is_dm, with_pending}
+use Rattle.daide_protocol.specs.Machine.{ending_in, is_dm, plain_phase, with_pending}
 use Rattle.daide_protocol.specs.Summary.{nothing_counted, tallied}
 use Rattle.daide_protocol.specs.Wires.{SessionView, IsNew, queued, sent_to, sent_bytes}
 use Rattle.daide_protocol.specs.Calls.{AreCalls, Feeds, Puts, Fails}
@@ -61,11 +62,11 @@ has_a_run law = law (initial_state usual) session_events refl
 
 -- and only the one that was worked out
 one_run : AnswersAreUnique → (effects : List Effect) (new : SessionState) → Runs (initial_state usual) session_events effects new →
-    (sent_bytes (sent_to Server effects) ≡ im ++ message (0x480F ∷ [])) × (new.phase ≡ Over)
+    (sent_bytes (sent_to Server effects) ≡ im ++ message (0x480F ∷ [])) × (plain_phase new.phase ≡ Over)
 one_run law effects new run =
     let same = law (initial_state usual) session_events effects one_session.effects new one_session.new run one_session.run in (
       ap (λ (e : List Effect). sent_bytes (sent_to Server e)) same.0 ∙ one_session.server,
-      ap (λ (s : SessionState). s.phase) same.1 ∙ one_session.its_phase,
+      ap (λ (s : SessionState). plain_phase s.phase) same.1 ∙ one_session.its_phase,
     )
 
 -- a run of the IM and then one of the bot's end are a run of both
@@ -141,7 +142,7 @@ ended_by (first ∷ second ∷ before) event after moves old is run = absurd cc
 -- the timer is a fault of the bot, which ends the session
 timer_ends : EndingIsKnown → (effects : List Effect) (new : SessionState) →
     Runs (initial_state usual) (ImTimerExpired ∷ []) effects new → is_over new.phase ≡ true →
-    (is_some new.ending ≡ true) × (new.ending ≡ Some (Endings.Fault Bot ImTimeout))
+    (is_some (ending_in new.phase) ≡ true) × (ending_in new.phase ≡ Some (Endings.Fault Bot ImTimeout))
 timer_ends law effects new run over =
     let known = law usual (ImTimerExpired ∷ []) effects new run in
     let ended = known.1 over in (
@@ -175,13 +176,13 @@ im_heard law effects new run going =
 -- after three bytes of it more are missing
 waited_for : EachSideIsWaitedFor → (effects : List Effect) (new : SessionState) →
     Runs (initial_state usual) (bytes_come Bot (take 3 im)) effects new → is_over new.phase ≡ false →
-    0 < missing new.limits.cap new.bot.pending
+    0 < missing new.limits.cap new.sides.bot.pending
 waited_for law effects new = law Bot usual (bytes_come Bot (take 3 im)) effects new
 
 -- ---- fates
 
 -- at the timer the bot gets EM 01, and nothing else is sent
-one_effect : (effects : List Effect) → HaveFates usual (record { phase = WaitIm; cause = Timeout } ∷ []) effects →
+one_effect : (effects : List Effect) → HaveFates usual (record { phase = SessionPhases.WaitIm; cause = Timeout } ∷ []) effects →
     (effect : Effect) × (effects ≡ effect ∷ []) × (effect.sent ≡ em_to Bot ImTimeout ∷ [])
 one_effect [] h = absurd h
 one_effect (effect ∷ more) h = (effect, ap (λ (e : List Effect). effect ∷ e) h.1, h.0)

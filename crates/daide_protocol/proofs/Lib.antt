@@ -1,9 +1,11 @@
+pub mod PhaseLemmas
 pub mod PieceRuns
 pub mod OneRun
 pub mod SomeRun
 pub mod WireLemmas
 pub mod FramesHeard
 pub mod SummaryLemmas
+pub mod GrowthLemmas
 pub mod EndingLemmas
 pub mod CountLemmas
 pub mod CallLemmas

@@ -2,19 +2,19 @@
 use Rattle.std.proofs.Common.{◌≡◌, ℕ, Bool, true, false, List, [], ◌∷◌, ◌++◌, refl, sym, ap, ◌∙◌}
 use Rattle.daide_frame.specs.Frames.{last_items}
 use Rattle.daide_reader.specs.declared.verdict.Verdict.{Verdict}
-use Rattle.daide_protocol.specs.declared.phase.Phase.{Phase}
-use Rattle.daide_protocol.specs.declared.phase.Phase.TheVariants.{WaitIm, WaitRm, Open, Over}
+use Rattle.daide_protocol.specs.declared.phase.SessionPhase.{SessionPhase}
+use Rattle.daide_protocol.specs.declared.phase.SessionPhase.TheVariants.{WaitIm, WaitRm, Open, Over}
 use Rattle.daide_protocol.specs.Events.{Event, Comes, Ends, Loses, ImTimerExpired}
 use Rattle.daide_protocol.specs.Machine.{SessionState, Effect, Successor, Runs, event_outcome, with_pending, coming}
 use Rattle.daide_protocol.specs.Machine.{is_over, im_timer_expired}
 use Rattle.daide_protocol.proofs.FramesHeard.{items_limits}
 use Rattle.daide_protocol.proofs.PieceRuns.{limits_are}
 
-im_timer_expired_limits : (phase : Phase) (s : SessionState) → (im_timer_expired phase s).state.limits ≡ s.limits
+im_timer_expired_limits : (phase : SessionPhase) (s : SessionState) → (im_timer_expired phase s).state.limits ≡ s.limits
 im_timer_expired_limits WaitIm s = refl
 im_timer_expired_limits WaitRm s = refl
-im_timer_expired_limits Open s = refl
-im_timer_expired_limits Over s = refl
+im_timer_expired_limits (Open level) s = refl
+im_timer_expired_limits (Over ending) s = refl
 
 pub event_limits : (s : SessionState) (event : Event) (v : Verdict) → (event_outcome s event v).state.limits ≡ s.limits
 event_limits s (Comes side x) v = go (is_over s.phase) refl

@@ -28,14 +28,15 @@ use Rattle.daide_reader.specs.ErrorPlace.{IsErrorPlace}
 use Rattle.daide_reader.specs.Verdict.{HasVerdict, IsRelayed}
 use Rattle.daide_reader.specs.declared.verdict.Verdict.TheVariants as Verdicts
 use Rattle.daide_reader.proofs.BodyLemmas.{tokens_of-length}
-use Rattle.daide_protocol.specs.declared.phase.Phase.{Phase}
-use Rattle.daide_protocol.specs.declared.phase.Phase.TheVariants.{WaitIm, WaitRm, Open, Over}
+use Rattle.daide_protocol.specs.declared.phase.SessionPhase.{SessionPhase}
+use Rattle.daide_protocol.specs.declared.phase.SessionPhase.TheVariants.{WaitIm, WaitRm, Open, Over}
 use Rattle.daide_protocol.specs.Bounds.{longest_body}
 use Rattle.daide_protocol.specs.Answers.{answer_body, answer_bytes}
-use Rattle.daide_protocol.specs.Events.{Event, Comes, Ends, Loses, ImTimerExpired, other}
+use Rattle.daide_frame.specs.Side.{other, same_side}
+use Rattle.daide_protocol.specs.Events.{Event, Comes, Ends, Loses, ImTimerExpired}
 use Rattle.daide_protocol.specs.Machine.{Limits, SessionState, Sent, Effect, Runs, coming, is_over, untimely, is_dm}
-use Rattle.daide_protocol.specs.Machine.{may_reach, fm_bytes, em_bytes, fm_to, em_to, side2_of, initial_state}
-use Rattle.daide_protocol.specs.Wires.{same_side, frames_to, sent_to}
+use Rattle.daide_protocol.specs.Machine.{may_reach, fm_bytes, em_bytes, fm_to, em_to, side2_of, initial_state, level_in}
+use Rattle.daide_protocol.specs.Wires.{frames_to, sent_to}
 use Rattle.daide_protocol.specs.Fates.{EventCause, Frame, Fault, End, Timeout, Came, checked_frame, frame_cause, fault_or}
 use Rattle.daide_protocol.specs.Fates.{items_cause, cause_at, timeout_in, came_in_phase, came_in, passed_on, given_back}
 use Rattle.daide_protocol.specs.Fates.{IsMessageFate, is_passed_on, is_answered_prn, is_answered_huh, IsFrameFate}
@@ -70,7 +71,7 @@ checked_good : (cap : ℕ) (side : Side) (noted : Level) (head : Head) (body : L
 checked_good cap side noted head body (Ok u) w = w
 checked_good cap side noted head body (Err code) w = tt
 
-items_good : (cap : ℕ) (phase : Phase) (side : Side) (noted now : Level) (refusal : Kind → Option Code)
+items_good : (cap : ℕ) (phase : SessionPhase) (side : Side) (noted now : Level) (refusal : Kind → Option Code)
     (items : List FrameEvent) →
     Shape cap items → AreGood cap (came_in_phase phase (items_cause side noted now refusal items))
 items_good cap phase side noted now refusal items quiet = tt
@@ -97,10 +98,10 @@ event_good s (Comes side byte) = go (is_over s.phase)
 
     go : (b : Bool) →
         AreGood s.limits.cap (came_in_phase s.phase
-        (if b then None else items_cause side (coming s side).noted s.level (untimely s.phase side) items))
+        (if b then None else items_cause side (coming s side).noted (level_in s.phase) (untimely s.phase side) items))
     go true = tt
     go false =
-        items_good s.limits.cap s.phase side (coming s side).noted s.level (untimely s.phase side) items
+        items_good s.limits.cap s.phase side (coming s side).noted (level_in s.phase) (untimely s.phase side) items
         (shape s.limits.cap ((coming s side).pending ++ byte ∷ []))
 event_good s (Ends side) = go (is_over s.phase)
   where
@@ -114,11 +115,11 @@ event_good s (Loses side) = go (is_over s.phase)
     go false = (tt, tt)
 event_good s ImTimerExpired = go s.phase
   where
-    go : (phase : Phase) → AreGood s.limits.cap (came_in_phase s.phase (timeout_in phase))
+    go : (phase : SessionPhase) → AreGood s.limits.cap (came_in_phase s.phase (timeout_in phase))
     go WaitIm = (tt, tt)
     go WaitRm = tt
-    go Open = tt
-    go Over = tt
+    go (Open level) = tt
+    go (Over ending) = tt
 
 pub run_good : (s : SessionState) (events : List Event) (effects : List Effect) (new : SessionState)
     (run : Runs s events effects new) →
@@ -205,7 +206,7 @@ module _ (limits : Limits) (small : limits.cap ≤ longest_body) (all : List Cam
   abbrev May : Sent → Type 0
   May frame = MayBeSent limits all to frame.bytes
 
-  fm_may : (phase : Phase) (side : Side) → EachTo May to (fm_to phase side)
+  fm_may : (phase : SessionPhase) (side : Side) → EachTo May to (fm_to phase side)
   fm_may phase side = go (may_reach phase side)
     where
       go : (b : Bool) →
@@ -222,7 +223,7 @@ module _ (limits : Limits) (small : limits.cap ≤ longest_body) (all : List Cam
   other_frame side head body w n = (λ e. no_message head.kind body n (frame_whole limits.cap head body small w), tt)
 
   -- an FM or EM
-  last_frame : (phase : Phase) (side : Side) (head : Head) (body : List ℕ) → IsWholeFrame limits.cap head body →
+  last_frame : (phase : SessionPhase) (side : Side) (head : Head) (body : List ℕ) → IsWholeFrame limits.cap head body →
       is_dm head.kind ≡ false →
       EachTo May to (if may_reach phase (other side) then passed_on side head body ∷ [] else [])
   last_frame phase side head body w n = go (may_reach phase (other side))
@@ -321,7 +322,7 @@ module _ (limits : Limits) (small : limits.cap ≤ longest_body) (all : List Cam
     message_may sent (is_answered_prn v e) = subst (EachTo May to) (sym e) (prn_may v)
     message_may sent (is_answered_huh place v e) = subst (EachTo May to) (sym e) (huh_may place v)
 
-  frame_may : (phase : Phase) (side : Side) (noted : Level) (kind : Kind) (len : ℕ) (body : List ℕ) (sent : List Sent) →
+  frame_may : (phase : SessionPhase) (side : Side) (noted : Level) (kind : Kind) (len : ℕ) (body : List ℕ) (sent : List Sent) →
       IsWholeFrame limits.cap (record { kind = kind; len = len }) body →
       (◌≡◌ {A = EventCause} (Frame side noted (record { kind = kind; len = len }) body)
       (Frame side noted (record { kind = Dm; len = length body }) body) → HasCome all side noted body) →
@@ -339,7 +340,7 @@ module _ (limits : Limits) (small : limits.cap ≤ longest_body) (all : List Cam
   frame_may phase side noted Em len body sent w come e =
       subst (EachTo May to) (sym e) (last_frame phase side (record { kind = Em; len = len }) body w refl)
 
-  pub cause_may : (phase : Phase) (cause : EventCause) (sent : List Sent) → IsGood limits.cap cause →
+  pub cause_may : (phase : SessionPhase) (cause : EventCause) (sent : List Sent) → IsGood limits.cap cause →
       ((side : Side) (noted : Level) (body : List ℕ) →
       cause ≡ Frame side noted (record { kind = Dm; len = length body }) body → HasCome all side noted body) →
       IsFate limits phase cause sent → EachTo May to sent

@@ -7,8 +7,8 @@ use Rattle.daide_frame.specs.declared.side.Side.TheVariants.{Bot, Server}
 use Rattle.daide_frame.specs.Frames.{FrameEvent, last_items, is_nothing, fed, fed_items}
 use Rattle.daide_reader.specs.declared.verdict.Verdict.{Verdict}
 use Rattle.daide_reader.specs.declared.verdict.Verdict.TheVariants.{Relay}
-use Rattle.daide_protocol.specs.declared.phase.Phase.{Phase}
-use Rattle.daide_protocol.specs.declared.phase.Phase.TheVariants.{WaitIm, WaitRm, Open, Over}
+use Rattle.daide_protocol.specs.declared.phase.SessionPhase.{SessionPhase}
+use Rattle.daide_protocol.specs.declared.phase.SessionPhase.TheVariants.{WaitIm, WaitRm, Open, Over}
 use Rattle.daide_protocol.specs.Events.{Event, Comes, Ends, Loses, ImTimerExpired, bytes_come}
 use Rattle.daide_protocol.specs.Machine.{Limits, SessionState, Successor, Question, Transition, Runs, coming, with_pending}
 use Rattle.daide_protocol.specs.Machine.{items_outcome, asked_by, question, IsCorrectVerdict, event_outcome, nothing, is_over}
@@ -16,18 +16,18 @@ use Rattle.daide_protocol.specs.Machine.{im_timer_expired}
 
 -- ---- a session that is over
 
-over_is : (p : Phase) → is_over p ≡ true → p ≡ Over
-over_is WaitIm e = absurd (cc)
-over_is WaitRm e = absurd (cc)
-over_is Open e = absurd (cc)
-over_is Over e = refl
+timer_over : (p : SessionPhase) (s : SessionState) → is_over p ≡ true → im_timer_expired p s ≡ nothing s
+timer_over WaitIm s e = absurd (cc)
+timer_over WaitRm s e = absurd (cc)
+timer_over (Open level) s e = absurd (cc)
+timer_over (Over ending) s e = refl
 
 pub over_outcome : (s : SessionState) (e : Event) (v : Verdict) → is_over s.phase ≡ true →
     event_outcome s e v ≡ nothing s
 over_outcome s (Comes side byte) v h = rw h refl
 over_outcome s (Ends side) v h = rw h refl
 over_outcome s (Loses side) v h = rw h refl
-over_outcome s ImTimerExpired v h = ap (λ (p : Phase). im_timer_expired p s) (over_is s.phase h)
+over_outcome s ImTimerExpired v h = timer_over s.phase s h
 
 over_asks : (s : SessionState) (e : Event) → is_over s.phase ≡ true → question s e ≡ None
 over_asks s (Comes side byte) h = rw h refl
@@ -104,8 +104,8 @@ later_fed : (s : SessionState) (side : Side) (x : ℕ) (piece : List ℕ) → is
     fed (with_pending s side (with_byte s side x)).limits.cap
     (coming (with_pending s side (with_byte s side x)) side).pending piece
     ≡ (coming (with_pending s side (with_byte s side x)) side).pending ++ piece
-later_fed s Bot x piece n e = (let h = rw n at e in h) ∙ sym (append_assoc s.bot.pending (x ∷ []) piece)
-later_fed s Server x piece n e = (let h = rw n at e in h) ∙ sym (append_assoc s.server.pending (x ∷ []) piece)
+later_fed s Bot x piece n e = (let h = rw n at e in h) ∙ sym (append_assoc s.sides.bot.pending (x ∷ []) piece)
+later_fed s Server x piece n e = (let h = rw n at e in h) ∙ sym (append_assoc s.sides.server.pending (x ∷ []) piece)
 
 quiet_step : (s : SessionState) (side : Side) (x : ℕ) → is_over s.phase ≡ false → items_at s side x ≡ [] →
     Transition s (Comes side x) [] (with_pending s side (with_byte s side x))

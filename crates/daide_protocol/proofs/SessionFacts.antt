@@ -19,10 +19,10 @@ use Rattle.daide_protocol.specs.declared.note.Deed.TheVariants as Deeds
 use Rattle.daide_protocol.specs.declared.note.Note.TheVariants as Notes
 use Rattle.daide_protocol.specs.Events.{Event, Comes, Ends, Loses, ImTimerExpired, bytes_come}
 use Rattle.daide_protocol.specs.Answers.{answer_bytes}
-use Rattle.daide_protocol.specs.Machine.{Limits, SessionState, Effect, Successor, Runs, initial_state, in_phase, with_coming}
+use Rattle.daide_protocol.specs.Machine.{Limits, SessionState, Effect, Successor, Runs, initial_state, level_in, plain_phase, with_coming}
 use Rattle.daide_protocol.specs.Machine.{question}
 use Rattle.daide_protocol.specs.Wires.{sent_to, sent_bytes, note_of}
-use Rattle.daide_protocol.proofs.SomeRun.{outcome_of, run_of}
+use Rattle.daide_protocol.proofs.SomeRun.{in_phase, outcome_of, run_of}
 
 -- ---- the tokens that are used
 
@@ -103,8 +103,8 @@ pub record Plays (old : SessionState) (events : List Event) (to_bot to_server : 
   pub run : Runs old events effects new
   pub bot : sent_bytes (sent_to Bot effects) ≡ to_bot
   pub server : sent_bytes (sent_to Server effects) ≡ to_server
-  pub its_phase : new.phase ≡ phase
-  pub its_level : new.level ≡ level
+  pub its_phase : plain_phase new.phase ≡ phase
+  pub its_level : level_in new.phase ≡ level
 
 -- the same for the bytes from a side
 abbrev Hears : SessionState → Side → List ℕ → List ℕ → List ℕ → Phase → Level → Type 0
@@ -114,7 +114,7 @@ Hears old side bytes to_bot to_server phase level = Plays old (bytes_come side b
 computed : {old : SessionState} {events : List Event} {to_bot to_server : List ℕ} {phase : Phase} {level : Level} →
     old.limits.words ≡ [] → sent_bytes (sent_to Bot (outcome_of old events).effects) ≡ to_bot →
     sent_bytes (sent_to Server (outcome_of old events).effects) ≡ to_server →
-    (outcome_of old events).state.phase ≡ phase → (outcome_of old events).state.level ≡ level →
+    plain_phase (outcome_of old events).state.phase ≡ phase → level_in (outcome_of old events).state.phase ≡ level →
     Plays old events to_bot to_server phase level
 computed {old = old} {events = events} none bot server its_phase its_level = record {
   effects = (outcome_of old events).effects;
@@ -346,10 +346,10 @@ unfolding last_items first_items parse_head is_alien
 asked_of_the_server = (refl, refl, refl, refl, refl, refl, refl, refl)
 
 -- the server's header records the level for the server, and the bot's for the bot
-noted_at_the_header : ((after open_at_30 Server (0x02 ∷ 0x00 ∷ 0x00 ∷ 0x02 ∷ [])).state.server.noted ≡ L30)
-    × ((after open_at_30 Server (0x02 ∷ 0x00 ∷ 0x00 ∷ 0x02 ∷ [])).state.bot ≡ open_at_30.bot)
-    × ((after open_at_30 Bot (0x02 ∷ 0x00 ∷ 0x00 ∷ 0x02 ∷ [])).state.bot.noted ≡ L30)
-    × ((after open_at_30 Bot (0x02 ∷ 0x00 ∷ 0x00 ∷ 0x02 ∷ [])).state.server ≡ open_at_30.server)
+noted_at_the_header : ((after open_at_30 Server (0x02 ∷ 0x00 ∷ 0x00 ∷ 0x02 ∷ [])).state.sides.server.noted ≡ L30)
+    × ((after open_at_30 Server (0x02 ∷ 0x00 ∷ 0x00 ∷ 0x02 ∷ [])).state.sides.bot ≡ open_at_30.sides.bot)
+    × ((after open_at_30 Bot (0x02 ∷ 0x00 ∷ 0x00 ∷ 0x02 ∷ [])).state.sides.bot.noted ≡ L30)
+    × ((after open_at_30 Bot (0x02 ∷ 0x00 ∷ 0x00 ∷ 0x02 ∷ [])).state.sides.server ≡ open_at_30.sides.server)
 unfolding last_items first_items parse_head is_alien
 noted_at_the_header = (refl, refl, refl, refl)
 

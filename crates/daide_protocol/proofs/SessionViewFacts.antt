@@ -7,6 +7,7 @@ use Rattle.daide_frame.specs.declared.side.Side.TheVariants.{Bot, Server}
 use Rattle.daide_frame.specs.declared.head.Kind.TheVariants.{Dm, Fm}
 use Rattle.daide_frame.specs.declared.head.Head.{Head}
 use Rattle.daide_frame.specs.declared.code.Code.TheVariants.{WrongLength}
+use Rattle.daide_frame.specs.PerSide.{both}
 use Rattle.daide_frame.specs.Head.{parse_head}
 use Rattle.daide_frame.specs.Frames.{announced, head_in, missing, is_alien, first_items, last_items}
 use Rattle.daide_grammar.specs.declared.level.Level.TheVariants.{L0, L60}
@@ -15,10 +16,11 @@ use Rattle.daide_protocol.specs.declared.phase.Phase.TheVariants.{Open, Over}
 use Rattle.daide_protocol.specs.declared.note.Deed.TheVariants as Deeds
 use Rattle.daide_protocol.specs.declared.note.Note.TheVariants as Notes
 use Rattle.daide_protocol.specs.Summary.{nothing_counted}
-use Rattle.daide_protocol.specs.Machine.{Limits, Sent, fm_bytes, in_phase, initial_state, with_pending}
+use Rattle.daide_protocol.specs.Machine.{Limits, Sent, fm_bytes, initial_state, with_pending}
 use Rattle.daide_protocol.specs.Wires.{SessionView, Holding, queued, room_of, is_awaited, is_closed, without, first_len}
 use Rattle.daide_protocol.specs.Wires.{sent_bytes, held_after, grown, counts_from, asked_at_most, looked_at_most}
 use Rattle.daide_protocol.specs.Weight.{weight_of, weight_bound, steps_bound, IsKeptSmall}
+use Rattle.daide_protocol.proofs.SomeRun.{in_phase}
 
 -- ---- sessions with these values
 
@@ -37,12 +39,9 @@ holds bytes = record { held = bytes; entries = 4; total = 9; total_before = 5; l
 abbrev holding_both : Limits → List ℕ → List ℕ → SessionView
 holding_both limits from_bot from_server = record {
   state = with_pending (with_pending (in_phase Open L0 (initial_state limits)) Bot from_bot) Server from_server;
-  to_bot = [];
-  to_server = [];
-  bot_parts = [];
-  server_parts = [];
-  bot = holds from_bot;
-  server = holds from_server;
+  wires = both [] [];
+  parts = both [] [];
+  sides = both (holds from_bot) (holds from_server);
   summary = nothing_counted;
 }
 
@@ -58,12 +57,9 @@ ending to bytes = record { to = to; answers = None; bytes = bytes }
 abbrev answering_bot : Phase → List ℕ → List Sent → List Sent → SessionView
 answering_bot phase frame to_bot to_server = record {
   state = in_phase phase L0 (initial_state usual);
-  to_bot = to_bot;
-  to_server = to_server;
-  bot_parts = sent_bytes to_bot ∷ [];
-  server_parts = sent_bytes to_server ∷ [];
-  bot = holds frame;
-  server = holds [];
+  wires = both to_bot to_server;
+  parts = both (sent_bytes to_bot ∷ []) (sent_bytes to_server ∷ []);
+  sides = both (holds frame) (holds []);
   summary = nothing_counted;
 }
 
@@ -71,12 +67,9 @@ answering_bot phase frame to_bot to_server = record {
 abbrev answering_server : Phase → List ℕ → List Sent → List Sent → SessionView
 answering_server phase frame to_bot to_server = record {
   state = in_phase phase L0 (initial_state usual);
-  to_bot = to_bot;
-  to_server = to_server;
-  bot_parts = sent_bytes to_bot ∷ [];
-  server_parts = sent_bytes to_server ∷ [];
-  bot = holds [];
-  server = holds frame;
+  wires = both to_bot to_server;
+  parts = both (sent_bytes to_bot ∷ []) (sent_bytes to_server ∷ []);
+  sides = both (holds []) (holds frame);
   summary = nothing_counted;
 }
 

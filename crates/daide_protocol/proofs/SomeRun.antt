@@ -9,6 +9,13 @@ use Rattle.daide_reader.proofs.SomeVerdict.{plain_verdict, plain_verdict_right}
 use Rattle.daide_protocol.specs.Events.{Event}
 use Rattle.daide_protocol.specs.Machine.{Limits, SessionState, Effect, Successor, Question, Transition, Runs, IsCorrectVerdict, question}
 use Rattle.daide_protocol.specs.Machine.{side2_of, event_outcome, nothing}
+use Rattle.daide_frame.specs.declared.side.Side.TheVariants.{Bot}
+use Rattle.daide_grammar.specs.declared.level.Level.{Level}
+use Rattle.daide_protocol.specs.declared.ending.Ending.TheVariants.{Ended}
+use Rattle.daide_protocol.specs.declared.phase.Phase.{Phase}
+use Rattle.daide_protocol.specs.declared.phase.Phase.TheVariants as Plain
+use Rattle.daide_protocol.specs.declared.phase.SessionPhase.{SessionPhase}
+use Rattle.daide_protocol.specs.declared.phase.SessionPhase.TheVariants.{WaitIm, WaitRm, Open, Over}
 use Rattle.daide_protocol.proofs.LimitsKept.{event_limits}
 
 -- a message has the grammar's verdict; without a message it is Relay
@@ -59,3 +66,15 @@ run_of old (event ∷ events) none =
 pub some_run : (old : SessionState) (events : List Event) → old.limits.words ≡ [] →
     (effects : List Effect) × (new : SessionState) × Runs old events effects new
 some_run old events none = ((outcome_of old events).effects, (outcome_of old events).state, run_of old events none)
+
+-- ---- sessions of facts
+
+-- a phase: at this level, if it is open; by the end of the bot, if it is over
+abbrev pub phase_at : Phase → Level → SessionPhase
+phase_at Plain.WaitIm level = WaitIm
+phase_at Plain.WaitRm level = WaitRm
+phase_at Plain.Open level = Open level
+phase_at Plain.Over level = Over (Ended Bot)
+
+abbrev pub in_phase : Phase → Level → SessionState → SessionState
+in_phase phase level state = record state { phase = phase_at phase level }

@@ -14,17 +14,20 @@ use Rattle.daide_frame.specs.InitialMessage.{im_of}
 use Rattle.daide_reader.specs.declared.verdict.Verdict.{Verdict}
 use Rattle.daide_reader.specs.declared.verdict.Verdict.TheVariants.{Relay, Prn, Huh}
 use Rattle.daide_protocol.specs.declared.phase.Phase.{Phase}
+use Rattle.daide_protocol.specs.declared.phase.SessionPhase.{SessionPhase}
+use Rattle.daide_protocol.specs.declared.phase.SessionPhase.TheVariants as SessionPhases
 use Rattle.daide_protocol.specs.declared.phase.Phase.TheVariants.{WaitIm, WaitRm, Open, Over}
 use Rattle.daide_protocol.specs.declared.note.Deed.TheVariants as Deeds
 use Rattle.daide_protocol.specs.declared.note.Note.TheVariants as Notes
+use Rattle.daide_protocol.specs.declared.ending.Ending.{Ending}
 use Rattle.daide_protocol.specs.declared.ending.Ending.TheVariants.{Ended, Final, Error, Fault}
 use Rattle.daide_protocol.specs.Events.{Comes, Ends, Loses, ImTimerExpired}
 use Rattle.daide_protocol.specs.Answers.{prn_open, huh_open, err_bytes, close_bytes, answer_body, answer_bytes}
 use Rattle.daide_protocol.specs.declared.hlo.LvlScan.TheVariants.{NoToken, NoHlo, NoNumber, Number}
 use Rattle.daide_protocol.specs.HloLevel.{first_level, lvl_scan_of, level_reported}
-use Rattle.daide_protocol.specs.Machine.{Limits, SessionState, Successor, coming, initial_state, in_phase, nothing, header_outcome}
-use Rattle.daide_protocol.specs.Machine.{with_coming, untimely, frame_outcome, fault, end, level_after, event_outcome, question}
-use Rattle.daide_protocol.specs.Machine.{over, with_ending}
+use Rattle.daide_protocol.specs.Machine.{Limits, SessionState, Successor, coming, initial_state, nothing, header_outcome}
+use Rattle.daide_protocol.specs.Machine.{with_coming, untimely, frame_outcome, fault, end, phase_after, plain_phase, event_outcome, question}
+use Rattle.daide_protocol.proofs.SomeRun.{in_phase, phase_at}
 use Rattle.daide_protocol.specs.Wires.{sent_to, sent_bytes, note_of}
 
 -- a session in a phase at level 0, with nothing held
@@ -37,7 +40,11 @@ wire side outcome = sent_bytes (sent_to side outcome.effects)
 
 -- a header of this kind from a side, in this phase
 abbrev header : Limits → Phase → Side → Kind → Successor
-header limits phase side kind = header_outcome (standing limits phase) side (untimely phase side kind)
+header limits phase side kind = header_outcome (standing limits phase) side (untimely (phase_at phase L0) side kind)
+
+-- a session that is over by this ending, with nothing held
+abbrev over : Ending → SessionState → SessionState
+over ending state = record state { phase = SessionPhases.Over ending }
 
 abbrev fm : List ℕ
 fm = 0x03 ∷ 0x00 ∷ 0x00 ∷ 0x00 ∷ []
@@ -121,15 +128,15 @@ module _ (limits : Limits) where
       × ((header limits Open Bot Dm).effects ≡ []) × ((header limits Open Server Dm).effects ≡ [])
   goes_on = (refl, refl, refl, refl)
 
-  fm_goes_on : (phase : Phase) (side : Side) → (untimely phase side Fm ≡ None) × (untimely phase side Em ≡ None)
-  fm_goes_on WaitIm Bot = (refl, refl)
-  fm_goes_on WaitIm Server = (refl, refl)
-  fm_goes_on WaitRm Bot = (refl, refl)
-  fm_goes_on WaitRm Server = (refl, refl)
-  fm_goes_on Open Bot = (refl, refl)
-  fm_goes_on Open Server = (refl, refl)
-  fm_goes_on Over Bot = (refl, refl)
-  fm_goes_on Over Server = (refl, refl)
+  fm_goes_on : (phase : SessionPhase) (side : Side) → (untimely phase side Fm ≡ None) × (untimely phase side Em ≡ None)
+  fm_goes_on SessionPhases.WaitIm Bot = (refl, refl)
+  fm_goes_on SessionPhases.WaitIm Server = (refl, refl)
+  fm_goes_on SessionPhases.WaitRm Bot = (refl, refl)
+  fm_goes_on SessionPhases.WaitRm Server = (refl, refl)
+  fm_goes_on (SessionPhases.Open level) Bot = (refl, refl)
+  fm_goes_on (SessionPhases.Open level) Server = (refl, refl)
+  fm_goes_on (SessionPhases.Over ending) Bot = (refl, refl)
+  fm_goes_on (SessionPhases.Over ending) Server = (refl, refl)
 
   -- ---- frames, ends and the timer
 
@@ -234,11 +241,12 @@ module _ (limits : Limits) where
   lost_as_ended : (phase : Phase) (side : Side) →
       let lost = event_outcome (standing limits phase) (Loses side) Relay in
       let ended = event_outcome (standing limits phase) (Ends side) Relay in
-      (lost.effects ≡ ended.effects) × (with_ending None lost.state ≡ with_ending None ended.state)
-  lost_as_ended WaitIm side = (refl, refl)
-  lost_as_ended WaitRm side = (refl, refl)
-  lost_as_ended Open side = (refl, refl)
-  lost_as_ended Over side = (refl, refl)
+      (lost.effects ≡ ended.effects) × (plain_phase lost.state.phase ≡ plain_phase ended.state.phase)
+      × (over (Ended Bot) lost.state ≡ over (Ended Bot) ended.state)
+  lost_as_ended WaitIm side = (refl, refl, refl)
+  lost_as_ended WaitRm side = (refl, refl, refl)
+  lost_as_ended Open side = (refl, refl, refl)
+  lost_as_ended Over side = (refl, refl, refl)
 
   ended_twice : (side : Side) → event_outcome (standing limits Over) (Ends side) Relay ≡ nothing (standing limits Over)
   ended_twice side = refl
@@ -334,21 +342,23 @@ hlo_of_8191 : level_reported L60 (hlo_with 0x1FFF) L0 ≡ L60
 hlo_of_8191 = refl
 
 -- only a relayed HLO of the server sets it: not one of the bot, and not one that gets PRN or HUH
-hlo_sets : level_after L60 Dm Server Relay (hlo_with 10) L0 ≡ L10
+hlo_sets : phase_after L60 Dm Server Relay (hlo_with 10) (SessionPhases.Open L0) ≡ SessionPhases.Open L10
 hlo_sets = refl
 
-hlo_of_the_bot : level_after L60 Dm Bot Relay (hlo_with 10) L0 ≡ L0
+hlo_of_the_bot : phase_after L60 Dm Bot Relay (hlo_with 10) (SessionPhases.Open L0) ≡ SessionPhases.Open L0
 hlo_of_the_bot = refl
 
-hlo_answered : (level_after L60 Dm Server Prn (hlo_with 10) L30 ≡ L30)
-    × (level_after L60 Dm Server (Huh 1) (hlo_with 10) L30 ≡ L30)
+hlo_answered : (phase_after L60 Dm Server Prn (hlo_with 10) (SessionPhases.Open L30) ≡ SessionPhases.Open L30)
+    × (phase_after L60 Dm Server (Huh 1) (hlo_with 10) (SessionPhases.Open L30) ≡ SessionPhases.Open L30)
 hlo_answered = (refl, refl)
 
--- the level is 0 until the session is open, and again when it is over
-level_of_other_frames : (side : Side) →
-    (level_after L60 Im side Relay [] L30 ≡ L0) × (level_after L60 Rm side Relay [] L30 ≡ L0)
-    × (level_after L60 Fm side Relay [] L30 ≡ L0) × (level_after L60 Em side Relay [] L30 ≡ L0)
-level_of_other_frames side = (refl, refl, refl, refl)
+-- an RM opens a session at level 0, and every frame but a DM has one phase after it
+phase_after_other_frames : (phase : SessionPhase) (side : Side) →
+    (phase_after L60 Im side Relay [] phase ≡ SessionPhases.WaitRm)
+    × (phase_after L60 Rm side Relay [] phase ≡ SessionPhases.Open L0)
+    × (phase_after L60 Fm side Relay [] phase ≡ SessionPhases.Over (Final side))
+    × (phase_after L60 Em side Relay [] phase ≡ SessionPhases.Over (Error side))
+phase_after_other_frames phase side = (refl, refl, refl, refl)
 
 -- the first option with a number counts
 hlo_with_two : first_level (0x4000 ∷ 0x4903 ∷ 0x0014 ∷ 0x4001 ∷ 0x4000 ∷ 0x4903 ∷ 0x000A ∷ 0x4001 ∷ []) ≡ Some (pos 20)

@@ -4,7 +4,8 @@ use Rattle.daide_frame.specs.declared.side.Side.{Side}
 use Rattle.daide_frame.specs.declared.side.Side.TheVariants.{Bot, Server}
 use Rattle.daide_protocol.specs.Events.{Event, Comes, bytes_come}
 use Rattle.daide_protocol.specs.Machine.{Sent, Effect}
-use Rattle.daide_protocol.specs.Wires.{same_side, frames_to, sent_to, sent_bytes}
+use Rattle.daide_frame.specs.Side.{same_side}
+use Rattle.daide_protocol.specs.Wires.{frames_to, sent_to, sent_bytes}
 
 pub same_self : (side : Side) → same_side side side ≡ true
 same_self Bot = refl

@@ -6,7 +6,8 @@ use Rattle.daide_protocol.specs.declared.note.Note.{Note}
 use Rattle.daide_protocol.specs.Events.{Event, Ends, Loses, ImTimerExpired, bytes_come}
 use Rattle.daide_protocol.specs.Machine.{Sent, Effect, Runs}
 use Rattle.daide_protocol.specs.Summary.{tallied}
-use Rattle.daide_protocol.specs.Wires.{SessionView, Refines, Lost, Wrote, queued, same_side, sent_to, sent_bytes}
+use Rattle.daide_frame.specs.Side.{same_side}
+use Rattle.daide_protocol.specs.Wires.{SessionView, Refines, Lost, Wrote, queued, sent_to, sent_bytes}
 
 -- a call that changes a session
 pub data Call : Type 0 where

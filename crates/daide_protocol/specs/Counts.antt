@@ -7,7 +7,7 @@ use Rattle.daide_frame.specs.declared.side.Side.TheVariants.{Bot, Server}
 use Rattle.daide_frame.specs.declared.head.Kind.TheVariants.{Em}
 use Rattle.daide_frame.specs.Head.{kind_number}
 use Rattle.daide_protocol.specs.declared.summary.Summary.{Summary}
-use Rattle.daide_protocol.specs.Events.{other}
+use Rattle.daide_frame.specs.Side.{other}
 use Rattle.daide_protocol.specs.Machine.{Sent, Effect}
 use Rattle.daide_protocol.specs.Wires.{sent_to, is_answer}
 

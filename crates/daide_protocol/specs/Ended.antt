@@ -9,7 +9,7 @@ use Rattle.daide_frame.specs.declared.code.Code.TheVariants.{ImTimeout}
 use Rattle.daide_protocol.specs.declared.ending.Ending.{Ending}
 use Rattle.daide_protocol.specs.declared.ending.Ending.TheVariants as Endings
 use Rattle.daide_protocol.specs.Events.{Event, Comes, Ends, Loses, ImTimerExpired}
-use Rattle.daide_protocol.specs.Machine.{SessionState, Effect, Transition, Runs, is_over}
+use Rattle.daide_protocol.specs.Machine.{SessionState, Effect, Transition, Runs, is_over, ending_in}
 use Rattle.daide_protocol.specs.Fates.{EventCause, Frame, Fault, End, Timeout, cause_at}
 
 -- a whole frame from a side ends the session if it is an FM or an EM
@@ -49,4 +49,4 @@ pub record IsEndedBy (first : SessionState) (events : List Event) (new : Session
   pub not_over : is_over old.phase ≡ false
   pub moves : List Effect
   pub step : Transition old event moves new
-  pub ending : new.ending ≡ ending_at old event
+  pub ending : ending_in new.phase ≡ ending_at old event

@@ -1,7 +1,6 @@
 -- The events of a session, one for each byte, so that no definition depends on pieces or on their order.
 use Rattle.std.specs.Prelude.{ℕ, List, map}
 use Rattle.daide_frame.specs.declared.side.Side.{Side}
-use Rattle.daide_frame.specs.declared.side.Side.TheVariants.{Bot, Server}
 
 -- one event
 pub data Event : Type 0 where
@@ -13,8 +12,3 @@ pub data Event : Type 0 where
 -- the bytes from a side, one event each
 abbrev pub bytes_come : Side → List ℕ → List Event
 bytes_come side bytes = map (Comes side) bytes
-
--- the opposite side
-abbrev pub other : Side → Side
-other Bot = Server
-other Server = Bot

@@ -17,13 +17,13 @@ use Rattle.daide_grammar.specs.SideMessages.{IsMessageOver}
 use Rattle.daide_reader.specs.declared.verdict.Verdict.{Verdict}
 use Rattle.daide_reader.specs.declared.verdict.Verdict.TheVariants.{Relay, Prn, Huh}
 use Rattle.daide_reader.specs.Verdict.{HasVerdict}
-use Rattle.daide_protocol.specs.declared.phase.Phase.{Phase}
-use Rattle.daide_protocol.specs.declared.phase.Phase.TheVariants.{WaitIm, WaitRm, Open, Over}
+use Rattle.daide_protocol.specs.declared.phase.SessionPhase.{SessionPhase}
+use Rattle.daide_protocol.specs.declared.phase.SessionPhase.TheVariants.{WaitIm}
 use Rattle.daide_protocol.specs.Answers.{answer_bytes}
-use Rattle.daide_protocol.specs.Events.{Event, Comes, Ends, Loses, ImTimerExpired, other}
-use Rattle.daide_protocol.specs.Machine.{Limits, SessionState, Sent, Effect, Runs, coming, is_over, untimely, em_to}
+use Rattle.daide_frame.specs.Side.{other, same_side}
+use Rattle.daide_protocol.specs.Events.{Event, Comes, Ends, Loses, ImTimerExpired}
+use Rattle.daide_protocol.specs.Machine.{Limits, SessionState, Sent, Effect, Runs, coming, level_in, is_over, untimely, em_to}
 use Rattle.daide_protocol.specs.Machine.{fm_to, may_reach, side2_of, initial_state}
-use Rattle.daide_protocol.specs.Wires.{same_side}
 use Rattle.daide_protocol.specs.Heard.{bytes_from}
 
 -- ---- the inputs
@@ -41,7 +41,7 @@ pub data EventCause : Type 0 where
 
 -- an input, with the phase in which it arrives
 pub record Came : Type 0 where
-  pub phase : Phase
+  pub phase : SessionPhase
   pub cause : EventCause
 
 abbrev pub checked_frame : Side → Level → Head → List ℕ → Result (Unit {0}) Code → EventCause
@@ -64,23 +64,21 @@ items_cause side noted now refusal (Begun head ∷ items) =
 items_cause side noted now refusal (Whole head body ∷ items) = Some (frame_cause side noted head body)
 items_cause side noted now refusal (Wrong code ∷ items) = Some (Fault side code)
 
-abbrev pub timeout_in : Phase → Option EventCause
+abbrev pub timeout_in : SessionPhase → Option EventCause
 timeout_in WaitIm = Some Timeout
-timeout_in WaitRm = None
-timeout_in Open = None
-timeout_in Over = None
+timeout_in _ = None
 
 -- the input of an event, if it has one; none once the session is over
 abbrev pub cause_at : SessionState → Event → Option EventCause
 cause_at state (Comes side byte) =
     if is_over state.phase then None
-    else items_cause side (coming state side).noted state.level (untimely state.phase side)
+    else items_cause side (coming state side).noted (level_in state.phase) (untimely state.phase side)
     (last_items state.limits.cap ((coming state side).pending ++ byte ∷ []))
 cause_at state (Ends side) = if is_over state.phase then None else Some (End side)
 cause_at state (Loses side) = if is_over state.phase then None else Some (End side)
 cause_at state ImTimerExpired = timeout_in state.phase
 
-abbrev pub came_in_phase : Phase → Option EventCause → List Came
+abbrev pub came_in_phase : SessionPhase → Option EventCause → List Came
 came_in_phase phase None = []
 came_in_phase phase (Some cause) = record { phase = phase; cause = cause } ∷ []
 
@@ -118,7 +116,7 @@ pub data IsMessageFate (limits : Limits) (side : Side) (noted : Level) (head : H
       sent ≡ given_back side head body (Huh place) ∷ [] → IsMessageFate limits side noted head body sent
 
 -- every other frame is relayed, except for an FM or EM of the bot before the IM
-abbrev pub IsFrameFate : Kind → Limits → Phase → Side → Level → Head → List ℕ → List Sent → Type 0
+abbrev pub IsFrameFate : Kind → Limits → SessionPhase → Side → Level → Head → List ℕ → List Sent → Type 0
 IsFrameFate Im limits phase side noted head body sent = sent ≡ passed_on side head body ∷ []
 IsFrameFate Rm limits phase side noted head body sent = sent ≡ passed_on side head body ∷ []
 IsFrameFate Dm limits phase side noted head body sent = IsMessageFate limits side noted head body sent
@@ -129,7 +127,7 @@ IsFrameFate Em limits phase side noted head body sent =
 
 -- A side with a fault gets an EM, and the other side an FM. At an end the other side gets an FM. At the expiry of the
 -- IM timer the bot gets an EM. No FM is sent to the server before the IM.
-abbrev pub IsFate : Limits → Phase → EventCause → List Sent → Type 0
+abbrev pub IsFate : Limits → SessionPhase → EventCause → List Sent → Type 0
 IsFate limits phase (Frame side noted head body) sent = IsFrameFate head.kind limits phase side noted head body sent
 IsFate limits phase (Fault side code) sent = sent ≡ em_to side code ∷ fm_to phase (other side)
 IsFate limits phase (End side) sent = sent ≡ fm_to phase (other side)

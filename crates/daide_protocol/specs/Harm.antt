@@ -5,9 +5,10 @@ use Rattle.daide_grammar.specs.declared.level.Level.{Level}
 use Rattle.daide_protocol.specs.declared.note.Deed.TheVariants as Deeds
 use Rattle.daide_protocol.specs.declared.note.Note.{Note}
 use Rattle.daide_protocol.specs.declared.note.Note.TheVariants as Notes
-use Rattle.daide_protocol.specs.Events.{Event, Comes, Ends, Loses, ImTimerExpired, other}
+use Rattle.daide_frame.specs.Side.{other, same_side}
+use Rattle.daide_protocol.specs.Events.{Event, Comes, Ends, Loses, ImTimerExpired}
 use Rattle.daide_protocol.specs.Machine.{Limits, SessionState, Effect, Transition, Runs, coming, with_noted, initial_state}
-use Rattle.daide_protocol.specs.Wires.{same_side, sent_to}
+use Rattle.daide_protocol.specs.Wires.{sent_to}
 use Rattle.daide_protocol.specs.Heard.{items_heard}
 use Rattle.daide_protocol.specs.Fates.{frames_among}
 

@@ -3,7 +3,7 @@ use Rattle.std.specs.Prelude.{◌≡◌, ℕ, ◌<◌, true, false, List, [], �
 use Rattle.daide_frame.specs.declared.side.Side.{Side}
 use Rattle.daide_frame.specs.Frames.{FrameEvent, frame_events_of, cut, missing}
 use Rattle.daide_protocol.specs.Events.{Event, bytes_come}
-use Rattle.daide_protocol.specs.Machine.{Limits, SessionState, Effect, Transition, Runs, coming, is_over, initial_state}
+use Rattle.daide_protocol.specs.Machine.{Limits, SessionState, Effect, Transition, Runs, coming, is_over, initial_state, ending_in}
 use Rattle.daide_protocol.specs.Summary.{nothing_counted, tallied, reduced}
 use Rattle.daide_protocol.specs.Counts.{frames_counted}
 use Rattle.daide_protocol.specs.Wires.{SessionView, IsNew, queued, sent_to, sent_bytes}
@@ -72,7 +72,7 @@ NothingAfterTheEnd = (old new : SessionState) (events : List Event) (effects : L
 abbrev pub EndingIsKnown : Type 0
 EndingIsKnown = (limits : Limits) (events : List Event) (effects : List Effect) (new : SessionState) →
     Runs (initial_state limits) events effects new →
-    (is_some new.ending ≡ is_over new.phase)
+    (is_some (ending_in new.phase) ≡ is_over new.phase)
     × (is_over new.phase ≡ true → IsEndedBy (initial_state limits) events new)
 
 -- in any run a session counts the frames that it sent to both sides, modulo 2^64

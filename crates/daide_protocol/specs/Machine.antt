@@ -13,6 +13,7 @@ use Rattle.daide_frame.specs.declared.code.Code.{Code}
 use Rattle.daide_frame.specs.declared.code.Code.TheVariants.{ImTimeout, ImNotFirst, SecondIm, ImFromServer}
 use Rattle.daide_frame.specs.declared.code.Code.TheVariants.{UnknownMessage, DmBeforeRm, RmNotFirst, SecondRm}
 use Rattle.daide_frame.specs.declared.code.Code.TheVariants.{RmFromClient}
+use Rattle.daide_frame.specs.PerSide.{PerSide, at, both, put}
 use Rattle.daide_frame.specs.Code.{code_number}
 use Rattle.daide_frame.specs.Head.{is_im}
 use Rattle.daide_frame.specs.InitialMessage.{im_of}
@@ -27,14 +28,17 @@ use Rattle.daide_grammar.specs.SideMessages.{IsMessageOver}
 use Rattle.daide_grammar.specs.Words.{Words}
 use Rattle.daide_reader.specs.Verdict.{HasVerdict}
 use Rattle.daide_protocol.specs.declared.phase.Phase.{Phase}
-use Rattle.daide_protocol.specs.declared.phase.Phase.TheVariants.{WaitIm, WaitRm, Open, Over}
+use Rattle.daide_protocol.specs.declared.phase.Phase.TheVariants as Plain
+use Rattle.daide_protocol.specs.declared.phase.SessionPhase.{SessionPhase}
+use Rattle.daide_protocol.specs.declared.phase.SessionPhase.TheVariants.{WaitIm, WaitRm, Open, Over}
 use Rattle.daide_protocol.specs.declared.note.Deed.{Deed}
 use Rattle.daide_protocol.specs.declared.note.Deed.TheVariants as Deeds
 use Rattle.daide_protocol.specs.declared.note.Note.{Note}
 use Rattle.daide_protocol.specs.declared.note.Note.TheVariants as Notes
 use Rattle.daide_protocol.specs.declared.ending.Ending.{Ending}
 use Rattle.daide_protocol.specs.declared.ending.Ending.TheVariants as Endings
-use Rattle.daide_protocol.specs.Events.{Event, Comes, Ends, Loses, ImTimerExpired, other}
+use Rattle.daide_frame.specs.Side.{other}
+use Rattle.daide_protocol.specs.Events.{Event, Comes, Ends, Loses, ImTimerExpired}
 use Rattle.daide_protocol.specs.Answers.{answer_bytes}
 use Rattle.daide_protocol.specs.HloLevel.{level_reported}
 
@@ -56,83 +60,50 @@ pub record Coming : Type 0 where
 
 pub record SessionState : Type 0 where
   pub limits : Limits
-  pub phase : Phase
-  -- the level of press in the phase Open; level 0 in every other phase
-  pub level : Level
-  -- the event that ended the session: none before the phase Over, and that event from then on
-  pub ending : Option Ending
-  pub bot : Coming
-  pub server : Coming
+  pub phase : SessionPhase
+  pub sides : PerSide Coming
 
 abbrev pub coming : SessionState → Side → Coming
-coming state Bot = state.bot
-coming state Server = state.server
+coming state side = at state.sides side
 
 abbrev pub with_coming : SessionState → Side → Coming → SessionState
-with_coming state Bot c = record {
-  limits = state.limits;
-  phase = state.phase;
-  level = state.level;
-  ending = state.ending;
-  bot = c;
-  server = state.server;
-}
-with_coming state Server c = record {
-  limits = state.limits;
-  phase = state.phase;
-  level = state.level;
-  ending = state.ending;
-  bot = state.bot;
-  server = c;
-}
+with_coming state side c = record state { sides = put state.sides side c }
 
 -- the state with other bytes since the last whole frame
 abbrev pub with_pending : SessionState → Side → List ℕ → SessionState
-with_pending state side bytes = with_coming state side (record { pending = bytes; noted = (coming state side).noted })
+with_pending state side bytes = with_coming state side (record (coming state side) { pending = bytes })
 
 -- the state with another recorded level
 abbrev pub with_noted : SessionState → Side → Level → SessionState
-with_noted state side level = with_coming state side (record { pending = (coming state side).pending; noted = level })
+with_noted state side level = with_coming state side (record (coming state side) { noted = level })
 
-abbrev pub in_phase : Phase → Level → SessionState → SessionState
-in_phase phase level state = record {
-  limits = state.limits;
-  phase = phase;
-  level = level;
-  ending = state.ending;
-  bot = state.bot;
-  server = state.server;
-}
+-- the level of press: that of the phase Open, and level 0 before and after it
+abbrev pub level_in : SessionPhase → Level
+level_in (Open level) = level
+level_in _ = L0
 
-abbrev pub with_ending : Option Ending → SessionState → SessionState
-with_ending ending state = record {
-  limits = state.limits;
-  phase = state.phase;
-  level = state.level;
-  ending = ending;
-  bot = state.bot;
-  server = state.server;
-}
+abbrev pub is_over : SessionPhase → Bool
+is_over (Over ending) = true
+is_over _ = false
 
--- the state after this ending
-abbrev pub over : Ending → SessionState → SessionState
-over ending state = in_phase Over L0 (with_ending (Some ending) state)
+-- the event that ended the session: none before the phase Over
+abbrev pub ending_in : SessionPhase → Option Ending
+ending_in (Over ending) = Some ending
+ending_in _ = None
 
-abbrev pub is_over : Phase → Bool
-is_over WaitIm = false
-is_over WaitRm = false
-is_over Open = false
-is_over Over = true
+-- the phase without its level or its ending, as callers see it
+abbrev pub plain_phase : SessionPhase → Phase
+plain_phase WaitIm = Plain.WaitIm
+plain_phase WaitRm = Plain.WaitRm
+plain_phase (Open level) = Plain.Open
+plain_phase (Over ending) = Plain.Over
 
 -- the state before any event
 abbrev pub initial_state : Limits → SessionState
 initial_state limits = record {
   limits = limits;
   phase = WaitIm;
-  level = L0;
-  ending = None;
-  bot = record { pending = []; noted = L0 };
-  server = record { pending = []; noted = L0 };
+  sides = both (record { pending = []; noted = L0 }) (record { pending = []; noted = L0 });
 }
 
 -- ---- the frames that are sent
@@ -150,15 +121,12 @@ abbrev pub em_bytes : Code → List ℕ
 em_bytes code = 4 ∷ 0 ∷ 0 ∷ 2 ∷ 0 ∷ code_number code ∷ []
 
 -- before the IM was relayed nothing is sent to the server (own)
-abbrev pub may_reach : Phase → Side → Bool
-may_reach WaitIm Bot = true
+abbrev pub may_reach : SessionPhase → Side → Bool
 may_reach WaitIm Server = false
-may_reach WaitRm side = true
-may_reach Open side = true
-may_reach Over side = true
+may_reach _ _ = true
 
 -- an FM, if that side may be reached
-abbrev pub fm_to : Phase → Side → List Sent
+abbrev pub fm_to : SessionPhase → Side → List Sent
 fm_to phase side = if may_reach phase side then record { to = side; answers = None; bytes = fm_bytes } ∷ [] else []
 
 abbrev pub em_to : Side → Code → Sent
@@ -187,114 +155,67 @@ one_effect state reported sent = record { state = state; effects = record { repo
 -- a fault by a side: an EM to it, an FM to the other
 abbrev pub fault : SessionState → Side → Code → Successor
 fault state side code =
-    one_effect (over (Endings.Fault side code) state) (Notes.Fault code)
+    one_effect (record state { phase = Over (Endings.Fault side code) }) (Notes.Fault code)
     (em_to side code ∷ fm_to state.phase (other side))
 
 -- a side's stream ended or its wire failed: an FM to the other side; an incomplete frame is dropped
 abbrev pub end : SessionState → Ending → Side → Successor
-end state ending side = one_effect (over ending state) Notes.Nothing (fm_to state.phase (other side))
+end state ending side =
+    one_effect (record state { phase = Over ending }) Notes.Nothing (fm_to state.phase (other side))
 
 -- ---- a header
 
--- The code for a header that is not permitted now, by phase, side and kind. That an RM as the bot's first frame is 02
--- and not 0D, and an RM of the server before the IM is 08, is (own).
-abbrev pub untimely : Phase → Side → Kind → Option Code
-untimely WaitIm Bot Im = None
+-- The code for a header that is not permitted now, by phase, side and kind; every other header is permitted. That an RM
+-- as the bot's first frame is 02 and not 0D, and an RM of the server before the IM is 08, is (own).
+abbrev pub untimely : SessionPhase → Side → Kind → Option Code
 untimely WaitIm Bot Rm = Some ImNotFirst
 untimely WaitIm Bot Dm = Some ImNotFirst
-untimely WaitIm Bot Fm = None
-untimely WaitIm Bot Em = None
 untimely WaitIm Server Im = Some ImFromServer
 untimely WaitIm Server Rm = Some UnknownMessage
 untimely WaitIm Server Dm = Some RmNotFirst
-untimely WaitIm Server Fm = None
-untimely WaitIm Server Em = None
 untimely WaitRm Bot Im = Some SecondIm
 untimely WaitRm Bot Rm = Some RmFromClient
 untimely WaitRm Bot Dm = Some DmBeforeRm
-untimely WaitRm Bot Fm = None
-untimely WaitRm Bot Em = None
 untimely WaitRm Server Im = Some ImFromServer
-untimely WaitRm Server Rm = None
 untimely WaitRm Server Dm = Some RmNotFirst
-untimely WaitRm Server Fm = None
-untimely WaitRm Server Em = None
-untimely Open Bot Im = Some SecondIm
-untimely Open Bot Rm = Some RmFromClient
-untimely Open Bot Dm = None
-untimely Open Bot Fm = None
-untimely Open Bot Em = None
-untimely Open Server Im = Some ImFromServer
-untimely Open Server Rm = Some SecondRm
-untimely Open Server Dm = None
-untimely Open Server Fm = None
-untimely Open Server Em = None
-untimely Over Bot Im = None
-untimely Over Bot Rm = None
-untimely Over Bot Dm = None
-untimely Over Bot Fm = None
-untimely Over Bot Em = None
-untimely Over Server Im = None
-untimely Over Server Rm = None
-untimely Over Server Dm = None
-untimely Over Server Fm = None
-untimely Over Server Em = None
+untimely (Open level) Bot Im = Some SecondIm
+untimely (Open level) Bot Rm = Some RmFromClient
+untimely (Open level) Server Im = Some ImFromServer
+untimely (Open level) Server Rm = Some SecondRm
+untimely _ _ _ = None
 
 -- a whole header: it is a fault, or the current level is recorded, by which the message will be judged (own)
 abbrev pub header_outcome : SessionState → Side → Option Code → Successor
-header_outcome state side None = nothing (with_noted state side state.level)
+header_outcome state side None = nothing (with_noted state side (level_in state.phase))
 header_outcome state side (Some code) = fault state side code
 
 -- ---- a whole frame
 
 abbrev pub is_dm : Kind → Bool
-is_dm Im = false
-is_dm Rm = false
 is_dm Dm = true
-is_dm Fm = false
-is_dm Em = false
+is_dm _ = false
 
 -- the destination of the answer to a side's frame: the other side, or its sender
 abbrev pub destination : Side → Verdict → Side
 destination side Relay = other side
-destination side Prn = side
-destination side (Huh place) = side
+destination side _ = side
 
--- the phase after a frame of a kind was processed
-abbrev pub phase_after : Kind → Phase → Phase
-phase_after Im phase = WaitRm
-phase_after Rm phase = Open
-phase_after Dm phase = phase
-phase_after Fm phase = Over
-phase_after Em phase = Over
-
--- what ended the session after a side's frame of a kind was processed: only an FM or an EM ends it
-abbrev pub ending_after : Kind → Side → Option Ending → Option Ending
-ending_after Im side ending = ending
-ending_after Rm side ending = ending
-ending_after Dm side ending = ending
-ending_after Fm side ending = Some (Endings.Final side)
-ending_after Em side ending = Some (Endings.Error side)
-
--- the level after a side's frame of a kind was processed: a relayed HLO of the server sets it
-abbrev pub level_after : Level → Kind → Side → Verdict → List ℕ → Level → Level
-level_after top Im side verdict tokens level = L0
-level_after top Rm side verdict tokens level = L0
-level_after top Dm Bot verdict tokens level = level
-level_after top Dm Server Relay tokens level = level_reported top tokens level
-level_after top Dm Server Prn tokens level = level
-level_after top Dm Server (Huh place) tokens level = level
-level_after top Fm side verdict tokens level = L0
-level_after top Em side verdict tokens level = L0
+-- The phase after a side's frame of a kind was processed. An IM and an RM open the next one, the latter at level 0. A
+-- relayed HLO of the server sets the level. Only an FM or an EM ends the session.
+abbrev pub phase_after : Level → Kind → Side → Verdict → List ℕ → SessionPhase → SessionPhase
+phase_after top Im side verdict tokens phase = WaitRm
+phase_after top Rm side verdict tokens phase = Open L0
+phase_after top Dm Server Relay tokens (Open level) = Open (level_reported top tokens level)
+phase_after top Dm side verdict tokens phase = phase
+phase_after top Fm side verdict tokens phase = Over (Endings.Final side)
+phase_after top Em side verdict tokens phase = Over (Endings.Error side)
 
 -- whether the answer is sent: that to an FM or EM of the bot before the IM is not. (No RM or DM is whole then, since
 -- its header is untimely.)
-abbrev pub is_sent : Phase → Kind → Side → Bool
-is_sent phase Im to = true
-is_sent phase Rm to = true
-is_sent phase Dm to = true
+abbrev pub is_sent : SessionPhase → Kind → Side → Bool
 is_sent phase Fm to = may_reach phase to
 is_sent phase Em to = may_reach phase to
+is_sent phase _ to = true
 
 abbrev pub deed_of : Bool → Verdict → Deed
 deed_of false verdict = Deeds.Dropped
@@ -310,10 +231,8 @@ reply_to side head body verdict =
 abbrev pub answered : SessionState → Side → Head → List ℕ → Verdict → Successor
 answered state side head body verdict =
     let goes = is_sent state.phase head.kind (destination side verdict) in
-    let level = level_after state.limits.top_level head.kind side verdict (tokens_of body) state.level in
-    let ending = ending_after head.kind side state.ending in
-    one_effect (in_phase (phase_after head.kind state.phase) level (with_ending ending (with_pending state side [])))
-    (Notes.Frame head (deed_of goes verdict))
+    let phase = phase_after state.limits.top_level head.kind side verdict (tokens_of body) state.phase in
+    one_effect (record (with_pending state side []) { phase = phase }) (Notes.Frame head (deed_of goes verdict))
     (if goes then reply_to side head body verdict ∷ [] else [])
 
 -- an IM is checked first
@@ -348,12 +267,11 @@ byte_outcome state side bytes verdict =
     items_outcome (with_pending state side bytes) side (last_items state.limits.cap bytes) verdict
 
 -- the IM timer: in the phase WaitIm a fault of the bot
-abbrev pub im_timer_expired : Phase → SessionState → Successor
+abbrev pub im_timer_expired : SessionPhase → SessionState → Successor
 im_timer_expired WaitIm state =
-    one_effect (over (Endings.Fault Bot ImTimeout) state) (Notes.Fault ImTimeout) (em_to Bot ImTimeout ∷ [])
-im_timer_expired WaitRm state = nothing state
-im_timer_expired Open state = nothing state
-im_timer_expired Over state = nothing state
+    one_effect (record state { phase = Over (Endings.Fault Bot ImTimeout) }) (Notes.Fault ImTimeout)
+    (em_to Bot ImTimeout ∷ [])
+im_timer_expired _ state = nothing state
 
 abbrev pub event_outcome : SessionState → Event → Verdict → Successor
 event_outcome state (Comes side byte) verdict =
@@ -380,26 +298,21 @@ question_of side level head body =
 -- by the level recorded at the header, or by the current one if the header ends here too; a message with an untimely
 -- header is not judged
 abbrev pub question_in : Side → Level → Level → (Kind → Option Code) → List FrameEvent → Option Question
-question_in side noted now refusal [] = None
 question_in side noted now refusal (Whole head body ∷ items) = question_of side noted head body
 question_in side noted now refusal (Begun head ∷ Whole again body ∷ items) =
     if is_some (refusal head.kind) then None else question_of side now again body
-question_in side noted now refusal (Begun head ∷ []) = None
-question_in side noted now refusal (Begun head ∷ Begun again ∷ items) = None
-question_in side noted now refusal (Begun head ∷ Wrong code ∷ items) = None
-question_in side noted now refusal (Wrong code ∷ items) = None
+question_in side noted now refusal _ = None
 
 abbrev pub asked_by : SessionState → Side → List FrameEvent → Option Question
-asked_by state side items = question_in side (coming state side).noted state.level (untimely state.phase side) items
+asked_by state side items =
+    question_in side (coming state side).noted (level_in state.phase) (untimely state.phase side) items
 
 -- the message that is judged at an event, if any
 abbrev pub question : SessionState → Event → Option Question
 question state (Comes side byte) =
     if is_over state.phase then None
     else asked_by state side (last_items state.limits.cap ((coming state side).pending ++ byte ∷ []))
-question state (Ends side) = None
-question state (Loses side) = None
-question state ImTimerExpired = None
+question state _ = None
 
 -- the gateway is the server to the bot, and the client to the server
 abbrev pub side2_of : Side → Side2

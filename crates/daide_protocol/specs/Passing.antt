@@ -14,7 +14,8 @@ use Rattle.daide_grammar.specs.Paired.{IsPaired}
 use Rattle.daide_grammar.specs.Depth.{depth_of}
 use Rattle.daide_reader.specs.Verdict.{IsRelayed}
 use Rattle.daide_protocol.specs.Bounds.{longest_body}
-use Rattle.daide_protocol.specs.Events.{Event, other}
+use Rattle.daide_frame.specs.Side.{other}
+use Rattle.daide_protocol.specs.Events.{Event}
 use Rattle.daide_protocol.specs.Machine.{Limits, SessionState, Sent, Effect, Runs, is_dm, side2_of, initial_state}
 use Rattle.daide_protocol.specs.Wires.{sent_to}
 use Rattle.daide_protocol.specs.Fates.{Frame, Came, came_in}

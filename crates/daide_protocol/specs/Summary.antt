@@ -1,6 +1,7 @@
 -- The counts of a session's effects, by what was done with the frame. What is counted, and that it is counted modulo
 -- 2^64, is (own); `Counts` relates the counts to the frames that are sent.
-use Rattle.std.specs.Prelude.{ℕ, ◌+◌, ◌%◌, ◌^◌, ◌<◌, ◌≤◌, List, [], ◌∷◌}
+use Rattle.std.specs.Prelude.{ℕ, ◌+◌, ◌%◌, ◌^◌, ◌<◌, ◌≤◌, ◌==◌, ◌&&◌, Bool, List, [], ◌∷◌, ◌++◌, codes}
+use Rattle.std.specs.Fmt.{decimal}
 use Rattle.daide_protocol.specs.declared.note.Deed.TheVariants as Deeds
 use Rattle.daide_protocol.specs.declared.note.Note.{Note}
 use Rattle.daide_protocol.specs.declared.note.Note.TheVariants as Notes
@@ -61,3 +62,13 @@ pub record IsMoreBy (n : ℕ) (old new : Summary) : Type 0 where
   pub prn : new.prn ≤ old.prn + n
   pub huh : new.huh ≤ old.huh + n
   pub faults : new.faults ≤ old.faults + n
+
+-- no PRN, no HUH and no fault
+abbrev pub is_clean : Summary → Bool
+is_clean s = s.prn == 0 && s.huh == 0 && s.faults == 0
+
+-- the counts as text: each count after its name
+abbrev pub summary_text : Summary → List ℕ
+summary_text s =
+    codes "relayed " ++ decimal s.relayed ++ codes " prn " ++ decimal s.prn ++ codes " huh " ++ decimal s.huh
+    ++ codes " faults " ++ decimal s.faults

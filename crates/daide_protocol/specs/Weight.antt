@@ -10,8 +10,8 @@ use Rattle.daide_protocol.specs.Wires.{SessionView, Holding, holding, queued, is
 -- the lengths of the six collections: two bodies, two stacks, two send queues
 unfoldable pub weight_of : SessionView → ℕ
 weight_of g =
-    length (drop 4 g.bot.held) + g.bot.entries + (length (drop 4 g.server.held) + g.server.entries)
-    + (length g.to_bot + length g.to_server)
+    length (drop 4 g.sides.bot.held) + g.sides.bot.entries + (length (drop 4 g.sides.server.held) + g.sides.server.entries)
+    + (length g.wires.bot + length g.wires.server)
 
 -- the whole tokens of the message held from a side, if its frame is a message
 abbrev pub tokens_held : ℕ → List ℕ → List ℕ
@@ -23,7 +23,8 @@ direction_bound cap held = min (announced cap held) cap + 8 * open_brackets (tok
 
 -- both directions, and 64
 unfoldable pub weight_bound : SessionView → ℕ
-weight_bound g = direction_bound g.state.limits.cap g.bot.held + direction_bound g.state.limits.cap g.server.held + 64
+weight_bound g =
+    direction_bound g.state.limits.cap g.sides.bot.held + direction_bound g.state.limits.cap g.sides.server.held + 64
 
 -- one direction is within these bounds: the announced length, capped, and the entries
 pub record IsKeptSmall (cap : ℕ) (h : Holding) : Type 0 where

@@ -5,21 +5,17 @@ use Rattle.std.specs.Prelude.{List, [], ◌∷◌, ◌++◌, length, drop, Optio
 use Rattle.daide_frame.specs.declared.side.Side.{Side}
 use Rattle.daide_frame.specs.declared.side.Side.TheVariants.{Bot, Server}
 use Rattle.daide_frame.specs.declared.head.Head.{Head}
+use Rattle.daide_frame.specs.PerSide.{PerSide, at}
 use Rattle.daide_frame.specs.Frames.{fed, head_in, missing}
 use Rattle.daide_reader.specs.Reading.{IsRaised}
 use Rattle.daide_protocol.specs.declared.note.Deed.TheVariants as Deeds
 use Rattle.daide_protocol.specs.declared.note.Note.{Note}
 use Rattle.daide_protocol.specs.declared.note.Note.TheVariants as Notes
-use Rattle.daide_protocol.specs.Events.{Event, Loses, other}
+use Rattle.daide_frame.specs.Side.{other, same_side}
+use Rattle.daide_protocol.specs.Events.{Event, Loses}
 use Rattle.daide_protocol.specs.declared.summary.Summary.{Summary}
 use Rattle.daide_protocol.specs.Summary.{nothing_counted, tallied}
 use Rattle.daide_protocol.specs.Machine.{Sent, Effect, SessionState, Limits, Runs, coming, is_dm, is_over, initial_state}
-
-abbrev pub same_side : Side → Side → Bool
-same_side Bot Bot = true
-same_side Bot Server = false
-same_side Server Bot = false
-same_side Server Server = true
 
 -- ---- the frames on a wire
 
@@ -64,23 +60,19 @@ pub record Holding : Type 0 where
 pub record SessionView : Type 0 where
   pub state : SessionState
   -- the queued frames of each wire; the first may be partly sent
-  pub to_bot : List Sent
-  pub to_server : List Sent
+  pub wires : PerSide (List Sent)
   -- the rest of the first of them, in the parts in which it is handed over
-  pub bot_parts : List (List ℕ)
-  pub server_parts : List (List ℕ)
-  pub bot : Holding
-  pub server : Holding
+  pub parts : PerSide (List (List ℕ))
+  -- what is held of each side
+  pub sides : PerSide Holding
   -- the counts of its effects, modulo 2^64
   pub summary : Summary
 
 abbrev pub queued : SessionView → Side → List Sent
-queued g Bot = g.to_bot
-queued g Server = g.to_server
+queued g side = at g.wires side
 
 abbrev pub parts_of : SessionView → Side → List (List ℕ)
-parts_of g Bot = g.bot_parts
-parts_of g Server = g.server_parts
+parts_of g side = at g.parts side
 
 -- the first of these parts that is not empty
 abbrev pub next_part : List (List ℕ) → List ℕ
@@ -98,8 +90,7 @@ abbrev pub front_of : SessionView → Side → List ℕ
 front_of g side = next_part (parts_of g side)
 
 abbrev pub holding : SessionView → Side → Holding
-holding g Bot = g.bot
-holding g Server = g.server
+holding g side = at g.sides side
 
 abbrev pub is_answer : Side → Option Side → Bool
 is_answer side None = false
@@ -127,7 +118,7 @@ no_frame (frame ∷ frames) = false
 
 -- over, and both queues are empty
 abbrev pub is_closed : SessionView → Bool
-is_closed g = is_over g.state.phase && (no_frame g.to_bot && no_frame g.to_server)
+is_closed g = is_over g.state.phase && (no_frame g.wires.bot && no_frame g.wires.server)
 
 -- the queue after n bytes of its first frame were sent; a frame that was sent whole is removed
 abbrev pub without : ℕ → List Sent → List Sent
@@ -152,11 +143,10 @@ IsFrontOf xs (frame ∷ frames) = (0 < length xs) × ((rest : List ℕ) × (fram
 -- a new session: no event, nothing held, nothing queued, no look-up, no token examined and no effect counted
 pub record IsNew (limits : Limits) (g : SessionView) : Type 0 where
   pub state : g.state ≡ initial_state limits
-  pub to_bot : g.to_bot ≡ []
-  pub to_server : g.to_server ≡ []
-  pub held : (g.bot.held ≡ []) × (g.server.held ≡ [])
-  pub unasked : (g.bot.total ≡ 0) × (g.server.total ≡ 0)
-  pub unlooked : (g.bot.looked_at ≡ 0) × (g.server.looked_at ≡ 0)
+  pub quiet : (side : Side) → queued g side ≡ []
+  pub held : (side : Side) → (holding g side).held ≡ []
+  pub unasked : (side : Side) → (holding g side).total ≡ 0
+  pub unlooked : (side : Side) → (holding g side).looked_at ≡ 0
   pub uncounted : g.summary ≡ nothing_counted
 
 -- At these events the session goes from old to new and reports this note. The frames that they cause are appended to
@@ -252,12 +242,12 @@ pub record ReceivesBytes (old : SessionView) (side : Side) (piece : List ℕ) (r
 
 -- what is held is unchanged
 abbrev pub HoldsTheSame : SessionView → SessionView → Type 0
-HoldsTheSame old new = (new.bot ≡ old.bot) × (new.server ≡ old.server)
+HoldsTheSame old new = (new.sides.bot ≡ old.sides.bot) × (new.sides.server ≡ old.sides.server)
 
 -- no table made a look-up
 abbrev pub AsksNothing : SessionView → SessionView → Type 0
-AsksNothing old new = (new.bot.total ≡ old.bot.total) × (new.server.total ≡ old.server.total)
+AsksNothing old new = (side : Side) → (holding new side).total ≡ (holding old side).total
 
 -- no token was examined for the level of an HLO
 abbrev pub LooksAtNothing : SessionView → SessionView → Type 0
-LooksAtNothing old new = (new.bot.looked_at ≡ old.bot.looked_at) × (new.server.looked_at ≡ old.server.looked_at)
+LooksAtNothing old new = (side : Side) → (holding new side).looked_at ≡ (holding old side).looked_at

@@ -1,6 +1,6 @@
 //! The limits that the operator sets for a session.
 
-ghost use Rattle.std.specs.Prelude.{◌≡◌};
+ghost use Rattle.std.specs.Prelude.{◌≡◌, Ok, Err, IfOk, IfErr};
 ghost use Rattle.daide_protocol.specs.Config.{config_fault};
 
 use crate::bounds::{MAX_BODY, MAX_DEPTH, MIN_BODY, MIN_DEPTH};
@@ -28,6 +28,30 @@ pub enum ConfigError {
     Depth,
 }
 
+/// The limits of a session that were checked: no code below this type has an error for a wrong limit.
+#[derive(Clone, Copy, Debug, PartialEq, Eq)]
+pub struct SessionLimits {
+    config: Config,
+    pub ghost right: { config_fault config ≡ Ok tt },
+}
+
+impl SessionLimits {
+    /// Takes limits that are known to be right. `Config::limits` is the test.
+    pub fn of(config: Config) -> SessionLimits
+        requires { config_fault config ≡ Ok tt }
+        ensures { result.config ≡ config }
+    {
+        SessionLimits { config }
+    }
+
+    /// Returns the limits.
+    pub fn config(self) -> Config
+        ensures { result ≡ self.config }
+    {
+        self.config
+    }
+}
+
 impl Config {
     /// Checks the limits, and returns the first wrong one: `Level` for `top_level`, `Body` for `max_body`, `Depth` for
     /// `max_depth`.
@@ -44,5 +68,16 @@ impl Config {
             return Err(ConfigError::Depth);
         }
         Ok(())
+    }
+
+    /// Returns the limits as checked ones, or the first wrong one, as `check` does.
+    pub fn limits(&self) -> Result<SessionLimits, ConfigError>
+        ensures limits { IfOk result (λ limits. limits.config ≡ self.now) }
+        ensures refused { IfErr result (λ fault. config_fault self.now ≡ Err fault) }
+    {
+        match self.check() {
+            Ok(()) => Ok(SessionLimits::of(*self)),
+            Err(fault) => Err(fault),
+        }
     }
 }

@@ -12,19 +12,7 @@ ghost use Rattle.daide_protocol.specs.HloLevel.{option_number as number_of_optio
 ghost use Rattle.daide_protocol.specs.HloLevel.{level_reported as level_of_message};
 
 use daide_grammar::Level;
-use daide_token::Token;
-
-/// The token `(`.
-const BRA: u16 = 0x4000;
-
-/// The token `)`.
-const KET: u16 = 0x4001;
-
-/// The token `HLO`.
-const HLO: u16 = 0x4804;
-
-/// The token `LVL`.
-const LVL: u16 = 0x4903;
+use daide_token::{BRA, HLO, KET, LVL, Token, token_at};
 
 /// What was found in the tokens of a message so far.
 #[derive(Clone, Copy)]
@@ -146,15 +134,15 @@ impl HloScan {
             if self.found.is_settled() {
                 return;
             }
-            self.look(Token::from_be([body[2 * i], body[2 * i + 1]]));
+            self.look(token_at(body, i));
         }
     }
 
     /// Looks at the tokens of a body from the token `from` on, each once; those before it were looked at before. An odd
     /// byte at the end waits for its other half. The first token decides whether the message is an HLO.
     ///
-    /// `found`: what is found is that of all tokens so far (`lvl_scan_of`); from it `level_reported` and `level_after`
-    /// compute the level.
+    /// `found`: what is found is that of all tokens so far (`lvl_scan_of`); from it `level_reported` computes the
+    /// level.
     ///
     /// `looked_at`: each token that is looked at is counted, modulo 2^64.
     #[inline(always)]
@@ -168,7 +156,7 @@ impl HloScan {
         if let LvlScan::NoToken = self.found
             && from < body.len() / 2
         {
-            let first = Token::from_be([body[2 * from], body[2 * from + 1]]);
+            let first = token_at(body, from);
             if first.code() != HLO {
                 self.look(first);
                 return;

@@ -22,8 +22,8 @@ pub mod summary;
 pub mod transitions;
 
 pub use bounds::{MAX_BODY, MAX_DEPTH, MAX_SESSIONS, MIN_BODY, MIN_DEPTH, STACK_ENTRIES};
-pub use config::{Config, ConfigError};
+pub use config::{Config, ConfigError, SessionLimits};
 pub use ending::Ending;
 pub use note::{Deed, Note};
-pub use phase::Phase;
+pub use phase::{Phase, SessionPhase};
 pub use summary::Summary;

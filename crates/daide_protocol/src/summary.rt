@@ -1,9 +1,11 @@
-//! The counts of a session's effects.
+//! The counts of a session's effects, and their text.
 
-ghost use Rattle.std.specs.Prelude.{◌≡◌};
+ghost use Rattle.std.specs.Prelude.{◌≡◌, Some};
 ghost use Rattle.daide_protocol.specs.Summary.{count_note, counted_on, nothing_counted, HasRoom, IsMoreBy};
+ghost use Rattle.daide_protocol.specs.Summary.{is_clean, summary_text};
 
 use crate::note::{Deed, Note};
+use std::fmt;
 
 /// How many frames were relayed, how many got PRN and HUH, and how many faults there were.
 #[derive(Clone, Copy, Debug, PartialEq, Eq)]
@@ -19,6 +21,9 @@ pub struct Summary {
 }
 
 impl Summary {
+    /// The greatest length of the text: the names and spaces, and twenty digits for each of the four counts.
+    pub const LONGEST: usize = 26 + 4 * 20;
+
     /// Returns counts of 0.
     pub fn new() -> Summary
         ensures { result ≡ nothing_counted }
@@ -44,5 +49,26 @@ impl Summary {
             Note::Fault(_) => self.faults = self.faults.wrapping_add(1),
             Note::Nothing | Note::Frame(_, Deed::Dropped) => {}
         }
+    }
+
+    /// Returns whether there was no PRN, no HUH and no fault.
+    pub fn is_clean(&self) -> bool
+        ensures { result ≡ is_clean self.now }
+    {
+        self.prn == 0 && self.huh == 0 && self.faults == 0
+    }
+}
+
+impl fmt::Display for Summary {
+    ghost output = { λ summary. Some (summary_text summary) };
+
+    fn fmt<W: fmt::Write>(&self, f: &mut fmt::Formatter<W>) -> fmt::Result {
+        let Summary {
+            relayed,
+            prn,
+            huh,
+            faults,
+        } = *self;
+        write!(f, "relayed {relayed} prn {prn} huh {huh} faults {faults}")
     }
 }

@@ -6,6 +6,7 @@ use Rattle.std.proofs.Common.{ap, subst, arith, ◌⊎◌, inr, append_assoc, ap
 use Rattle.std.proofs.lemmas.List.{length-append, length-drop, take_all}
 use Rattle.std.proofs.Math.Seq.{drop-length, take-length}
 use Rattle.daide_token.specs.Token.{token_bytes, tokens_of}
+use Rattle.daide_token.proofs.TokenPlaces.{tokens_of-front}
 use Rattle.daide_token.specs.declared.class.Class.{Class}
 use Rattle.daide_grammar.specs.Table.Answers.{TableEntry}
 use Rattle.daide_grammar.specs.declared.symbol.Sym.{Sym}
@@ -26,43 +27,6 @@ use Rattle.daide_reader.proofs.OutlineLemmas.{outline-snoc, same_outline, outlin
 use Rattle.daide_reader.proofs.ErrorPlaceLemmas.{place_kept}
 use Rattle.daide_grammar.proofs.Counting.{excess_or_none-snoc}
 use Rattle.daide_reader.proofs.ReadingLemmas.{counted_now, counts_more, stands_report, stands_taken, stands_refused}
-
--- one more token of a body
-pub tokens_of-next : (i : ℕ) (b : List ℕ) → 2 * i + 1 < length b
-    → take (i + 1) (tokens_of b) ≡ take i (tokens_of b) ++ (get_or b (2 * i) 0 * 256 + get_or b (2 * i + 1) 0) ∷ []
-tokens_of-next zero [] h = absurd (omega arith)
-tokens_of-next zero (x ∷ []) h = absurd (omega arith)
-tokens_of-next zero (x ∷ y ∷ b) h = refl
-tokens_of-next (suc i) [] h = absurd (omega arith)
-tokens_of-next (suc i) (x ∷ []) h = absurd (omega arith)
-tokens_of-next (suc i) (x ∷ y ∷ b) h =
-    let next : suc i + 1 ≡ suc (i + 1) = omega arith in
-    let here : 2 * suc i ≡ suc (suc (2 * i)) = omega arith in
-    let low : 2 * suc i + 1 ≡ suc (suc (2 * i + 1)) = omega arith in
-    rw (next, low, here) (ap (λ (ts : List ℕ). (x * 256 + y) ∷ ts) (tokens_of-next i b (omega arith)))
-
--- the tokens from an index on
-pub tokens_of-rest : (i : ℕ) (b : List ℕ) → 2 * i + 1 < length b
-    → drop i (tokens_of b) ≡ (get_or b (2 * i) 0 * 256 + get_or b (2 * i + 1) 0) ∷ drop (i + 1) (tokens_of b)
-tokens_of-rest zero [] h = absurd (omega arith)
-tokens_of-rest zero (x ∷ []) h = absurd (omega arith)
-tokens_of-rest zero (x ∷ y ∷ b) h = refl
-tokens_of-rest (suc i) [] h = absurd (omega arith)
-tokens_of-rest (suc i) (x ∷ []) h = absurd (omega arith)
-tokens_of-rest (suc i) (x ∷ y ∷ b) h =
-    let next : suc i + 1 ≡ suc (i + 1) = omega arith in
-    let here : 2 * suc i ≡ suc (suc (2 * i)) = omega arith in
-    let low : 2 * suc i + 1 ≡ suc (suc (2 * i + 1)) = omega arith in
-    rw (next, low, here) (tokens_of-rest i b (omega arith))
-
--- the tokens of a body's first pairs
-pub tokens_of-front : (i : ℕ) (b : List ℕ) → tokens_of (take (2 * i) b) ≡ take i (tokens_of b)
-tokens_of-front zero b = refl
-tokens_of-front (suc i) [] = let next : 2 * suc i ≡ suc (suc (2 * i)) = omega arith in rw next refl
-tokens_of-front (suc i) (x ∷ []) = let next : 2 * suc i ≡ suc (suc (2 * i)) = omega arith in rw next refl
-tokens_of-front (suc i) (x ∷ y ∷ b) =
-    let next : 2 * suc i ≡ suc (suc (2 * i)) = omega arith in
-    rw next (ap (λ (ts : List ℕ). (x * 256 + y) ∷ ts) (tokens_of-front i b))
 
 -- a prefix of a list that does not begin with PRN does not begin with it either
 pub front_not_prn : (i : ℕ) (m : List ℕ) → begins_with_prn m ≡ false → begins_with_prn (take i m) ≡ false

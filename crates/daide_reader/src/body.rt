@@ -1,6 +1,6 @@
 //! A message in the body that contains its tokens, read in pieces or at once.
 
-ghost use Rattle.std.specs.Prelude.{◌≡◌, ◌-◌, ◌*◌, ◌/◌, ◌≤◌, ◌<◌, ◌+◌, ◌++◌, ◌∷◌, [], ℕ, false, true, length, take, drop};
+ghost use Rattle.std.specs.Prelude.{◌≡◌, ◌-◌, ◌*◌, ◌/◌, ◌≤◌, [], ℕ, false, true, length};
 ghost use Rattle.daide_token.specs.Token.{tokens_of};
 ghost use Rattle.daide_grammar.specs.declared.symbol.Sym.{Sym};
 ghost use Rattle.daide_grammar.specs.Words.{Words};
@@ -12,7 +12,6 @@ ghost use Rattle.daide_reader.specs.ViablePrefix.{IsMessageOf};
 use crate::reader::Reader;
 use crate::verdict::Verdict;
 use daide_grammar::predict::Predict;
-use daide_token::token::Token;
 
 impl<T: Predict, const N: usize> Reader<T, N> {
     /// Reads the message of a whole body, after `start`, and ends it: `read` and `finish` in one call. An odd byte at
@@ -37,15 +36,4 @@ impl<T: Predict, const N: usize> Reader<T, N> {
         self.read(body);
         self.finish()
     }
-}
-
-/// Returns the token at an index of a body: two bytes, high byte first.
-#[inline(always)]
-pub fn token_at(body: &[u8], place: usize) -> Token
-    requires inside { 2 * place + 1 < length body.now }
-    requires small { length body.now ≤ longest_message }
-    ensures front { take (place + 1) (tokens_of body.now) ≡ take place (tokens_of body.now) ++ result ∷ [] }
-    ensures rest { drop place (tokens_of body.now) ≡ result ∷ drop (place + 1) (tokens_of body.now) }
-{
-    Token::from_be([body[2 * place], body[2 * place + 1]])
 }

@@ -5,20 +5,20 @@
 
 ghost use Rattle.std.specs.Prelude.{◌≡◌, ◌≢◌, ◌≤◌, ◌<◌, ◌+◌, ◌-◌, ◌*◌, ◌/◌, ◌%◌, ◌^◌, ◌⊎◌, List, ℕ, None, Some, IsSome, IfSome, IfNone, take, drop, length, reverse, true};
 ghost use Rattle.daide_token.specs.Token.{tokens_of};
-ghost use Rattle.daide_grammar.specs.Table.Brackets.{is_bra as is_bra_token, is_ket as is_ket_token, count_one};
+ghost use Rattle.daide_grammar.specs.Table.Brackets.{is_bra, is_ket, count_one};
 ghost use Rattle.daide_grammar.specs.Table.Stacks.{stack_after};
 ghost use Rattle.daide_reader.specs.Bounds.{longest_message, most_symbols, most_tokens};
 ghost use Rattle.daide_reader.specs.Outline.{count_all};
 ghost use Rattle.daide_reader.specs.Slice.{ReadsTo, place_behind};
 ghost use Rattle.daide_reader.specs.Stack.{open_count, steps_at};
 
-use crate::body::token_at;
-use crate::brackets::{is_bra, is_ket, recount};
+use crate::brackets::recount;
 use crate::cells::{follow, follow_word, put};
 use daide_grammar::column::Column;
 use daide_grammar::predict::Predict;
 use daide_grammar::symbol::Symbol;
 use daide_token::token::Token;
+use daide_token::token_at;
 
 /// The progress over the tokens of a body: to its end, or to the first token that no message continues.
 #[derive(Clone, Copy)]
@@ -44,17 +44,17 @@ fn read_token<T: Predict, const N: usize>(
     requires size { N ≤ most_symbols }
     requires count { count ≤ N }
     requires low { opened.old < 65534 }
-    requires room { (is_bra_token token ≡ true → opened.old ≢ limit) →
+    requires room { (is_bra token ≡ true → opened.old ≢ limit) →
         IfSome (stack_after (T.moves (T.words table.old)) (T.class_of (T.words table.old) token)
         (reverse (take count cells.old))) (λ after. length after ≤ N) }
-    ensures fits { IsSome result → is_bra_token token ≡ true → opened.old ≢ limit }
+    ensures fits { IsSome result → is_bra token ≡ true → opened.old ≢ limit }
     ensures taken { IfSome result (λ r.
         stack_after (T.moves (T.words table.old)) (T.class_of (T.words table.old) token)
         (reverse (take count cells.old))
         ≡ Some (reverse (take r cells.new))) }
     ensures inside { IfSome result (λ r. r ≤ N) }
-    ensures counted { count_one (is_bra_token token) (is_ket_token token) (Some opened.old) ≡ open_count opened.new }
-    ensures reject_at { IfNone result (((is_bra_token token ≡ true) × (opened.old ≡ limit))
+    ensures counted { count_one (is_bra token) (is_ket token) (Some opened.old) ≡ open_count opened.new }
+    ensures reject_at { IfNone result (((is_bra token ≡ true) × (opened.old ≡ limit))
         ⊎ (stack_after (T.moves (T.words table.old)) (T.class_of (T.words table.old) token)
         (reverse (take count cells.old)) ≡ None)) }
     ensures words { T.words table.new ≡ T.words table.old }
@@ -217,9 +217,9 @@ pub fn count_from(unclosed: Option<u16>, body: &[u8], next: usize) -> Option<u16
     let mut opened = before;
     for i in next..body.len() / 2 {
         let token = token_at(body, i);
-        if is_bra(token) {
+        if token.is_bra() {
             opened += 1;
-        } else if is_ket(token) {
+        } else if token.is_ket() {
             if opened == 0 {
                 return None;
             }

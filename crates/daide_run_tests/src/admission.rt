@@ -1,14 +1,17 @@
 //! Accepted bots and connects to the server, in cases that only a test inside the program can produce: a failed accept,
 //! a pending connect, and small writes.
 
-use crate::doors::{any_port, two_doors};
+use crate::doors::any_port;
+use crate::wires::row_of;
 use daide_gate::settings::{Settings, read_settings};
 use daide_gate::system::{Connect, System};
-use daide_sockets::Interest;
 use daide_sockets::admission::Acceptor;
-use daide_sockets::poller::{Flags, Poller};
+use daide_sockets::connection::Connection;
+use daide_sockets::os_network::{NetworkError, OsNetwork};
+use daide_sockets::poller::{EVENTS, Poller};
 use daide_sockets::ports::SocketPorts;
 use daide_sockets::system::Sockets;
+use daide_sockets::table::{Flags, SocketTable};
 use daide_test_support::rows::holds;
 use std::alloc::Global;
 use std::io::ErrorKind;
@@ -16,38 +19,46 @@ use std::net::{SocketAddr, TcpListener, TcpStream};
 use std::test::Fail;
 use std::time::Duration;
 
+/// The sockets of a run at the machine's own network.
+type HostSockets<'w, 't> = Sockets<'w, OsNetwork<'w, HostRuntime>, &'t mut Vec<u8>>;
+
+/// Returns the machine's own network, with this listener.
+fn network_of(
+    rt: &HostRuntime,
+    listener: daide_sockets::TcpListener,
+) -> Result<OsNetwork<'_, HostRuntime>, NetworkError> {
+    OsNetwork::new(rt.alloc(), rt, listener, EVENTS)
+}
+
 /// Checks that after a failed accept no accept is tried for a while, and that the bot is then accepted and no deadline
 /// is left.
-fn check_acceptor(
-    poller: &Poller<&HostRuntime>,
-    acceptor: &mut Acceptor<'_>,
+fn check_acceptor<'w>(
+    poller: &mut Poller<'w, OsNetwork<'w, HostRuntime>>,
+    acceptor: &mut Acceptor<'w>,
     flags: &Flags,
 ) -> Result<(), Fail> {
     poller.wait();
-    acceptor.pause(poller.after(Duration::ZERO), ErrorKind::Other);
+    acceptor.pause(poller.table().after(Duration::ZERO), ErrorKind::Other);
     holds(acceptor.accept(poller).is_none(), "none is made")?;
     poller.wait();
     holds(acceptor.accept(poller).is_some(), "the bot that came")?;
     holds(flags.due.get().is_none(), "the pause is over")
 }
 
-/// Returns the first entry of a table, which stays free.
-fn first_row<'w>(
-    poller: &'w Poller<&'w HostRuntime>,
-    acceptor: &mut daide_sockets::TcpListener,
-) -> Option<&'w Flags> {
-    let place = poller.follow(acceptor, Interest::READABLE)?;
-    Some(place.flags)
-}
-
 /// The same for a listener, in the only entry of a table.
-fn check_listener(rt: &HostRuntime, listener: daide_sockets::TcpListener) -> Result<(), Fail> {
-    let poller = Poller::new(rt.alloc(), rt, rt, 1)?;
-    let mut other = daide_sockets::TcpListener::bind(rt, any_port())?;
-    let row = first_row(&poller, &mut other);
-    match (Acceptor::new(&poller, listener), row) {
-        (Some(mut acceptor), Some(flags)) => check_acceptor(&poller, &mut acceptor, flags),
-        _ => Err(Fail::new("no row")),
+fn check_listener<'w>(
+    rt: &'w HostRuntime,
+    table: &'w SocketTable,
+    listener: daide_sockets::TcpListener,
+) -> Result<(), Fail> {
+    let flags = row_of(table)?.flags;
+    let Ok(network) = network_of(rt, listener) else {
+        return Err(Fail::new("no network"));
+    };
+    let mut poller = Poller::new(rt.alloc(), network, table)?;
+    match Acceptor::new(&mut poller) {
+        Some(mut acceptor) => check_acceptor(&mut poller, &mut acceptor, flags),
+        None => Err(Fail::new("no row")),
     }
 }
 
@@ -56,7 +67,7 @@ fn check_listener(rt: &HostRuntime, listener: daide_sockets::TcpListener) -> Res
 fn failed_accept_is_made_again(rt: HostRuntime) -> Result<(), Fail> {
     let listener = daide_sockets::TcpListener::bind(&rt, any_port())?;
     let _bot = TcpStream::connect(&rt, listener.local_addr()?)?;
-    check_listener(&rt, listener)
+    check_listener(&rt, &SocketTable::new(rt.alloc(), 1)?, listener)
 }
 
 /// The number of connections that fill the queue of a listener.
@@ -83,9 +94,7 @@ fn full_listener(rt: &HostRuntime) -> Result<daide_sockets::TcpListener, Fail> {
 const MOST_WAITS: usize = 1_000;
 
 /// Returns the ports of the first bot, once it is connected to the server.
-fn first_ports<'w>(
-    system: &mut Sockets<'w, HostRuntime, &mut Vec<u8>>,
-) -> Option<SocketPorts<'w, &'w HostRuntime>> {
+fn first_ports<'w>(system: &mut HostSockets<'w, '_>) -> Option<SocketPorts<'w, Connection>> {
     let mut came = false;
     for _ in 0..MOST_WAITS {
         system.begin_round();
@@ -95,7 +104,7 @@ fn first_ports<'w>(
                 return Some(ports);
             }
         }
-        system.wait(true);
+        system.wait();
     }
     None
 }
@@ -103,21 +112,14 @@ fn first_ports<'w>(
 /// Returns a run's sockets with this listener and these server addresses.
 fn sockets_of<'w, 't>(
     rt: &'w HostRuntime,
-    poller: &'w Poller<&'w HostRuntime>,
+    table: &'w SocketTable,
     (listener, servers): (daide_sockets::TcpListener, &'w [SocketAddr]),
     settings: &Settings,
     told: &'t mut Vec<u8>,
-) -> Option<Sockets<'w, HostRuntime, &'t mut Vec<u8>>> {
+) -> Option<HostSockets<'w, 't>> {
     let time = Duration::from_secs(5);
-    Sockets::new(
-        rt.alloc(),
-        rt,
-        poller,
-        (listener, servers),
-        settings,
-        time,
-        told,
-    )
+    let network = network_of(rt, listener).ok()?;
+    Sockets::new(rt.alloc(), (network, servers, table), settings, time, told)
 }
 
 /// Returns a listener with a bot in its queue, and the bot.
@@ -135,7 +137,7 @@ fn plain_settings(alloc: Global) -> Result<Settings, Fail> {
 }
 
 /// Returns whether both sockets of a session send small writes without delay.
-fn are_undelayed<'w>(ports: SocketPorts<'w, &'w HostRuntime>) -> bool {
+fn are_undelayed(ports: SocketPorts<'_, Connection>) -> bool {
     let (bot, server) = ports.into_sockets();
     let both = (
         bot.connection().0.nodelay(),
@@ -145,7 +147,7 @@ fn are_undelayed<'w>(ports: SocketPorts<'w, &'w HostRuntime>) -> bool {
 }
 
 /// The same for the first bot.
-fn are_first_undelayed<'w>(system: &mut Sockets<'w, HostRuntime, &mut Vec<u8>>) -> bool {
+fn are_first_undelayed(system: &mut HostSockets<'_, '_>) -> bool {
     match first_ports(system) {
         Some(ports) => are_undelayed(ports),
         None => false,
@@ -155,60 +157,43 @@ fn are_first_undelayed<'w>(system: &mut Sockets<'w, HostRuntime, &mut Vec<u8>>) 
 /// The same for the first bot at this listener, with these server addresses.
 fn sends_at_once<'w>(
     rt: &'w HostRuntime,
-    poller: &'w Poller<&'w HostRuntime>,
+    table: &'w SocketTable,
     ends: (daide_sockets::TcpListener, &'w [SocketAddr]),
     settings: &Settings,
 ) -> bool {
     let mut told = Vec::new(rt.alloc());
-    match sockets_of(rt, poller, ends, settings, &mut told) {
+    match sockets_of(rt, table, ends, settings, &mut told) {
         Some(mut system) => are_first_undelayed(&mut system),
         None => false,
     }
 }
 
-/// Returns the flags of the third entry of a table without registrations, if it has three.
-fn third_free<'w>(
-    poller: &'w Poller<&'w HostRuntime>,
-    acceptors: &mut (daide_sockets::TcpListener, daide_sockets::TcpListener),
-    acceptor: &mut daide_sockets::TcpListener,
-) -> Option<&'w Flags> {
-    let _first = poller.follow(&mut acceptors.0, Interest::READABLE)?;
-    let _second = poller.follow(&mut acceptors.1, Interest::READABLE)?;
-    let third = poller.follow(acceptor, Interest::READABLE)?;
-    Some(third.flags)
-}
-
-/// The same with listeners of its own.
-fn third_row<'w>(
-    rt: &HostRuntime,
-    poller: &'w Poller<&'w HostRuntime>,
-) -> Result<Option<&'w Flags>, Fail> {
-    let mut acceptors = two_doors(rt)?;
-    let mut acceptor = daide_sockets::TcpListener::bind(rt, any_port())?;
-    Ok(third_free(poller, &mut acceptors, &mut acceptor))
+/// Returns the flags of the third entry of a table without registrations.
+fn third_row(table: &SocketTable) -> Result<&Flags, Fail> {
+    let _first = row_of(table)?;
+    let _second = row_of(table)?;
+    Ok(row_of(table)?.flags)
 }
 
 /// Returns whether both sockets of the first bot's session send small writes without delay, in this table without
 /// registrations; and whether the third entry then has no deadline.
 fn sends_at_once_at<'w>(
     rt: &'w HostRuntime,
-    poller: &'w Poller<&'w HostRuntime>,
+    table: &'w SocketTable,
     servers: &'w [SocketAddr],
     settings: &Settings,
 ) -> Result<(bool, bool), Fail> {
-    let Some(flags) = third_row(rt, poller)? else {
-        return Err(Fail::new("no row"));
-    };
+    let flags = third_row(table)?;
     let (listener, _bot) = door_with_bot(rt)?;
-    let at_once = sends_at_once(rt, poller, (listener, servers), settings);
+    let at_once = sends_at_once(rt, table, (listener, servers), settings);
     Ok((at_once, flags.due.get().is_none()))
 }
 
 /// The same in a table of its own.
 fn sends_at_once_towards(rt: &HostRuntime, servers: &[SocketAddr]) -> Result<(bool, bool), Fail> {
     let settings = plain_settings(rt.alloc())?;
-    let poller = Poller::new(rt.alloc(), rt, rt, 3)?;
-    sends_at_once_at(rt, &poller, servers, &settings)
+    let table = SocketTable::new(rt.alloc(), 3)?;
+    sends_at_once_at(rt, &table, servers, &settings)
 }
 
 /// The system does not delay a short frame until the frame before it was acknowledged. The server is at the second of
@@ -227,14 +212,14 @@ fn small_writes_are_not_delayed(rt: HostRuntime) -> Result<(), Fail> {
 
 /// Returns whether a connect is pending although its socket, in the entry after the acceptor's and the bot's, is
 /// flagged as writable.
-fn is_under_way(system: &mut Sockets<'_, HostRuntime, &mut Vec<u8>>, flags: &Flags) -> bool {
+fn is_under_way(system: &mut HostSockets<'_, '_>, flags: &Flags) -> bool {
     for _ in 0..MOST_WAITS {
         system.begin_round();
         if system.accept() {
             flags.note(false, true);
             return matches!(system.connected(), Connect::Pending);
         }
-        system.wait(true);
+        system.wait();
     }
     false
 }
@@ -242,13 +227,13 @@ fn is_under_way(system: &mut Sockets<'_, HostRuntime, &mut Vec<u8>>, flags: &Fla
 /// The same for the first bot at this listener, with these server addresses.
 fn is_first_under_way<'w>(
     rt: &'w HostRuntime,
-    poller: &'w Poller<&'w HostRuntime>,
+    table: &'w SocketTable,
     ends: (daide_sockets::TcpListener, &'w [SocketAddr]),
     settings: &Settings,
     flags: &Flags,
 ) -> bool {
     let mut told = Vec::new(rt.alloc());
-    match sockets_of(rt, poller, ends, settings, &mut told) {
+    match sockets_of(rt, table, ends, settings, &mut told) {
         Some(mut system) => is_under_way(&mut system, flags),
         None => false,
     }
@@ -257,23 +242,21 @@ fn is_first_under_way<'w>(
 /// The same in this table without registrations.
 fn is_under_way_at<'w>(
     rt: &'w HostRuntime,
-    poller: &'w Poller<&'w HostRuntime>,
+    table: &'w SocketTable,
     servers: &'w [SocketAddr],
     settings: &Settings,
 ) -> Result<bool, Fail> {
-    let Some(flags) = third_row(rt, poller)? else {
-        return Err(Fail::new("no row"));
-    };
+    let flags = third_row(table)?;
     let (listener, _bot) = door_with_bot(rt)?;
     let ends = (listener, servers);
-    Ok(is_first_under_way(rt, poller, ends, settings, flags))
+    Ok(is_first_under_way(rt, table, ends, settings, flags))
 }
 
 /// The same in a table of its own.
 fn is_under_way_towards(rt: &HostRuntime, servers: &[SocketAddr]) -> Result<bool, Fail> {
     let settings = plain_settings(rt.alloc())?;
-    let poller = Poller::new(rt.alloc(), rt, rt, 3)?;
-    is_under_way_at(rt, &poller, servers, &settings)
+    let table = SocketTable::new(rt.alloc(), 3)?;
+    is_under_way_at(rt, &table, servers, &settings)
 }
 
 /// A pending connect is no connection, whatever the poller reports of its socket.

@@ -9,8 +9,6 @@ mod addresses;
 #[cfg(test)]
 mod admission;
 #[cfg(test)]
-mod closings;
-#[cfg(test)]
 mod doors;
 #[cfg(test)]
 mod frames;
@@ -26,7 +24,5 @@ mod session_lines;
 mod settings;
 #[cfg(test)]
 mod streams;
-#[cfg(test)]
-mod waits;
 #[cfg(test)]
 mod wires;

@@ -6,12 +6,12 @@
 
 use crate::frames::{FM, IM, ITS_PRN, OBS, RM, UNCLOSED};
 use crate::wires::two_rows;
-use daide_buffered_io::duplex::Duplex;
 use daide_driver::relaying::{RelayEnd, relay};
+use daide_io::duplex::Duplex;
 use daide_protocol::config::Config;
 use daide_session::session::Session;
-use daide_sockets::poller::{Flags, Poller, Registration};
 use daide_sockets::ports::{Socket, SocketPorts};
+use daide_sockets::table::{Flags, Registration, SocketTable};
 use daide_test_support::rows::same;
 use std::alloc::{Allocator, Global};
 use std::io;
@@ -151,7 +151,7 @@ struct Talk {
 /// Makes turns until the session is closed, and returns whether it is. Before each turn all streams are ready.
 fn relay_to_the_end<'w, A: Allocator>(
     session: &mut Session<A>,
-    ports: &mut SocketPorts<'w, &HostRuntime, Line>,
+    ports: &mut SocketPorts<'w, Line>,
     bot: &Flags,
     server: &Flags,
 ) -> bool {
@@ -190,22 +190,22 @@ fn has_taken(line: &Line, wanted: &[&[u8]]) -> bool {
 /// Returns the ports of a session between the two ends of a conversation, with these table entries.
 fn ports_of<'w>(
     alloc: Global,
-    poller: &'w Poller<&'w HostRuntime>,
+    table: &'w SocketTable,
     flags: (&'w Flags, &'w Flags),
     talk: &Talk,
-) -> SocketPorts<'w, &'w HostRuntime, Line> {
+) -> SocketPorts<'w, Line> {
     let bot = Line::new(alloc, talk.bot, talk.is_slow);
     let server = Line::new(alloc, talk.server, talk.is_slow);
     SocketPorts::new(
-        poller,
-        Socket::over(poller, bot, Registration { flags: flags.0 }),
-        Socket::over(poller, server, Registration { flags: flags.1 }),
+        table,
+        Socket::over(table, bot, Registration { flags: flags.0 }),
+        Socket::over(table, server, Registration { flags: flags.1 }),
     )
 }
 
 /// Returns whether the bot's end and the server's accepted exactly these frames, after the write buffers are written.
 fn have_taken<'w>(
-    ports: SocketPorts<'w, &'w HostRuntime, Line>,
+    ports: SocketPorts<'w, Line>,
     to_bot: &[&[u8]],
     to_server: &[&[u8]],
 ) -> (bool, bool) {
@@ -222,7 +222,7 @@ fn have_taken<'w>(
 /// frames.
 fn is_talked<'w>(
     session: &mut Session,
-    ports: SocketPorts<'w, &'w HostRuntime, Line>,
+    ports: SocketPorts<'w, Line>,
     flags: (&'w Flags, &'w Flags),
     talk: &Talk,
 ) -> (bool, (bool, bool)) {
@@ -232,14 +232,10 @@ fn is_talked<'w>(
 }
 
 /// Checks a session between the two ends of a conversation until it is closed, with entries of this table.
-fn talks_at<'w>(
-    rt: &HostRuntime,
-    poller: &'w Poller<&'w HostRuntime>,
-    talk: &Talk,
-) -> Result<(), Fail> {
-    let flags = two_rows(rt, poller)?;
+fn talks_at<'w>(rt: &HostRuntime, table: &'w SocketTable, talk: &Talk) -> Result<(), Fail> {
+    let flags = two_rows(table)?;
     let mut session = Session::new(rt.alloc(), CONFIG)?;
-    let ports = ports_of(rt.alloc(), poller, flags, talk);
+    let ports = ports_of(rt.alloc(), table, flags, talk);
     let told = is_talked(&mut session, ports, flags, talk);
     same(
         &told,
@@ -250,8 +246,8 @@ fn talks_at<'w>(
 
 /// The same in a table of its own.
 fn talks(rt: &HostRuntime, talk: &Talk) -> Result<(), Fail> {
-    let poller = Poller::new(rt.alloc(), rt, rt, 2)?;
-    talks_at(rt, &poller, talk)
+    let table = SocketTable::new(rt.alloc(), 2)?;
+    talks_at(rt, &table, talk)
 }
 
 /// A message with an unclosed bracket is returned to the bot in a `PRN`, and the server gets no byte of it.

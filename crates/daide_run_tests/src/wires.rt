@@ -1,45 +1,21 @@
 //! Sockets over streams in memory that accept what a row allows: the time of each write, and the readiness after each
 //! call.
 //!
-//! All of them have entries in one small table with a clock of its own. `closings` and `waits` use both.
+//! All of them have entries in one small table.
 
 ghost use Rattle.std.specs.Prelude.{◌≡◌, IfOk};
 
-use crate::doors::{any_port, two_doors};
 use crate::wires::Step::{Idles, Puts, Turns};
-use daide_buffered_io::duplex::Duplex;
 use daide_buffered_io::readiness::Readiness;
 use daide_frame::side::Side;
+use daide_io::duplex::Duplex;
 use daide_io::ports::{Ports, Pull, Put};
-use daide_sockets::poller::{Flags, Poller, Registration};
 use daide_sockets::ports::{Socket, SocketPorts};
-use daide_sockets::{Interest, TcpListener};
+use daide_sockets::table::{Flags, Registration, SocketTable};
 use daide_test_support::rows::{holds, same};
-use std::cell::Cell;
 use std::io;
 use std::io::ErrorKind;
-use std::rt::Clock;
 use std::test::Fail;
-use std::time::Duration;
-
-/// The milliseconds that pass between two reads of the clock.
-pub const STEP: u64 = 400;
-
-/// A clock that advances at each read.
-#[derive(Drop)]
-pub struct Steps(Cell<u64>);
-
-impl Clock for Steps {
-    fn monotonic(&self) -> io::Result<Duration> {
-        let step = self.0.get();
-        self.0.set(step.saturating_add(1));
-        Ok(Duration::from_millis(step.saturating_mul(STEP)))
-    }
-
-    fn since_1970(&self) -> io::Result<Duration> {
-        self.monotonic()
-    }
-}
 
 /// A stream in memory.
 #[derive(Drop)]
@@ -107,53 +83,31 @@ impl Duplex for Wire {
 }
 
 /// The ports of a session over two such streams.
-pub type WirePorts<'w> = SocketPorts<'w, Steps, Wire>;
+pub type WirePorts<'w> = SocketPorts<'w, Wire>;
 
-/// Returns a table entry for a stream in memory. It is a listener's, because the poller needs a socket of the system.
-pub fn row_for<'w, R: Clock>(
-    poller: &'w Poller<R>,
-    acceptor: &mut TcpListener,
-) -> Result<Registration<'w>, Fail> {
-    match poller.follow(acceptor, Interest::READABLE) {
-        Some(place) => Ok(place),
+/// Takes the first free entry of a table.
+pub fn row_of(table: &SocketTable) -> Result<Registration<'_>, Fail> {
+    match table.take_row() {
+        Some((_key, row)) => Ok(row),
         None => Err(Fail::new("no row")),
     }
 }
 
-/// Returns the next two entries of a table, which stay free, if there are two.
-pub fn free_rows<'w, R: Clock>(
-    poller: &'w Poller<R>,
-    acceptors: &mut (TcpListener, TcpListener),
-) -> Option<(&'w Flags, &'w Flags)> {
-    let first = poller.follow(&mut acceptors.0, Interest::READABLE)?;
-    let second = poller.follow(&mut acceptors.1, Interest::READABLE)?;
-    Some((first.flags, second.flags))
-}
-
-/// The same with listeners of its own.
-pub fn two_rows<'w, R: Clock>(
-    rt: &HostRuntime,
-    poller: &'w Poller<R>,
-) -> Result<(&'w Flags, &'w Flags), Fail> {
-    let mut acceptors = two_doors(rt)?;
-    match free_rows(poller, &mut acceptors) {
-        Some(flags) => Ok(flags),
-        None => Err(Fail::new("no rows")),
-    }
+/// Returns the next two entries of a table, which stay free.
+pub fn two_rows(table: &SocketTable) -> Result<(&Flags, &Flags), Fail> {
+    let first = row_of(table)?;
+    let second = row_of(table)?;
+    Ok((first.flags, second.flags))
 }
 
 /// Creates a table for three sockets.
-pub fn table(rt: &HostRuntime) -> Result<Poller<Steps>, Fail> {
-    Ok(Poller::new(rt.alloc(), Steps(Cell::new(0)), rt, 3)?)
+pub fn table(rt: &HostRuntime) -> Result<SocketTable, Fail> {
+    Ok(SocketTable::new(rt.alloc(), 3)?)
 }
 
 /// Returns a socket over this stream, with this table entry.
-pub fn socket_over<'w, R: Clock>(
-    poller: &'w Poller<R>,
-    wire: Wire,
-    flags: &'w Flags,
-) -> Socket<'w, Wire> {
-    Socket::over(poller, wire, Registration { flags })
+pub fn socket_over<'w>(table: &'w SocketTable, wire: Wire, flags: &'w Flags) -> Socket<'w, Wire> {
+    Socket::over(table, wire, Registration { flags })
 }
 
 /// Returns a stream whose writes fail.
@@ -161,16 +115,6 @@ pub fn broken() -> Wire {
     let mut wire = Wire::new(ALL, 0);
     wire.fails = true;
     wire
-}
-
-/// Takes an entry with a past deadline, so that no wait blocks.
-pub fn hurries<'w>(
-    poller: &'w Poller<Steps>,
-    acceptor: &mut TcpListener,
-) -> Result<Registration<'w>, Fail> {
-    let place = row_for(poller, acceptor)?;
-    place.flags.due.set(poller.after(Duration::ZERO));
-    Ok(place)
 }
 
 /// A call of a session's ports.
@@ -364,14 +308,14 @@ fn does_all(ports: &mut WirePorts<'_>, flags: (&Flags, &Flags), steps: &[Step]) 
 
 /// Returns the bytes that the streams of a row accepted, if all results are right.
 fn took_of<'w>(
-    poller: &'w Poller<Steps>,
+    table: &'w SocketTable,
     flags: (&'w Flags, &'w Flags),
     written: &Written,
 ) -> Option<(usize, usize)> {
     let (bot_takes, server_takes, steps, _) = *written;
-    let bot = socket_over(poller, Wire::new(bot_takes, 0), flags.0);
-    let server = socket_over(poller, Wire::new(server_takes, 0), flags.1);
-    let mut ports = SocketPorts::new(poller, bot, server);
+    let bot = socket_over(table, Wire::new(bot_takes, 0), flags.0);
+    let server = socket_over(table, Wire::new(server_takes, 0), flags.1);
+    let mut ports = SocketPorts::new(table, bot, server);
     let are_right = does_all(&mut ports, flags, steps);
     let (bot, server) = ports.into_sockets();
     let took = (bot.connection().took, server.connection().took);
@@ -379,18 +323,17 @@ fn took_of<'w>(
 }
 
 /// Checks each row, with entries of this table.
-fn are_written(rt: &HostRuntime, poller: &Poller<Steps>) -> Result<(), Fail> {
-    let flags = two_rows(rt, poller)?;
+fn are_written(table: &SocketTable) -> Result<(), Fail> {
+    let flags = two_rows(table)?;
     for (row, written) in WRITTEN.iter().enumerate() {
-        same(&took_of(poller, flags, written), &Some(written.3), &row)?;
+        same(&took_of(table, flags, written), &Some(written.3), &row)?;
     }
     Ok(())
 }
 
 #[test]
 fn bytes_are_held_and_written_by_rows(rt: HostRuntime) -> Result<(), Fail> {
-    let poller = table(&rt)?;
-    are_written(&rt, &poller)
+    are_written(&table(&rt)?)
 }
 
 /// A call of one socket: a put, a flush or a pull.
@@ -444,12 +387,12 @@ fn calls(socket: &mut Socket<'_, Wire>, call: Call) -> usize {
 
 /// Returns the readiness after the calls of a row, and the number of bytes pulled.
 fn known_of<'w>(
-    poller: &'w Poller<Steps>,
+    table: &'w SocketTable,
     flags: &'w Flags,
     flagged: &Flagged,
 ) -> (bool, bool, usize) {
     let (takes, gives, done, _) = *flagged;
-    let mut socket = socket_over(poller, Wire::new(takes, gives), flags);
+    let mut socket = socket_over(table, Wire::new(takes, gives), flags);
     flags.readiness.set(Readiness::UNKNOWN);
     flags.note(true, true);
     let mut pulled: usize = 0;
@@ -461,18 +404,17 @@ fn known_of<'w>(
 }
 
 /// Checks each row, with entries of this table.
-fn are_flagged(rt: &HostRuntime, poller: &Poller<Steps>) -> Result<(), Fail> {
-    let (flags, _) = two_rows(rt, poller)?;
+fn are_flagged(table: &SocketTable) -> Result<(), Fail> {
+    let (flags, _) = two_rows(table)?;
     for (row, flagged) in FLAGGED.iter().enumerate() {
-        same(&known_of(poller, flags, flagged), &flagged.3, &row)?;
+        same(&known_of(table, flags, flagged), &flagged.3, &row)?;
     }
     Ok(())
 }
 
 #[test]
 fn flags_by_rows(rt: HostRuntime) -> Result<(), Fail> {
-    let poller = table(&rt)?;
-    are_flagged(&rt, &poller)
+    are_flagged(&table(&rt)?)
 }
 
 /// Puts, flushes and puts again. Returns the result of each put, and whether the write buffer may be written then.
@@ -484,61 +426,32 @@ fn puts_of(socket: &mut Socket<'_, Wire>) -> ((Put, bool), (Put, bool)) {
 }
 
 /// The same for a stream whose writes fail.
-fn failing_puts(
-    rt: &HostRuntime,
-    poller: &Poller<Steps>,
-) -> Result<((Put, bool), (Put, bool)), Fail> {
-    let (flags, _) = two_rows(rt, poller)?;
+fn failing_puts(table: &SocketTable) -> Result<((Put, bool), (Put, bool)), Fail> {
+    let (flags, _) = two_rows(table)?;
     flags.note(true, true);
-    Ok(puts_of(&mut socket_over(poller, broken(), flags)))
+    Ok(puts_of(&mut socket_over(table, broken(), flags)))
 }
 
 /// The put after a failed write returns `Failed`, and the rest of the write buffer is not written again.
 #[test]
 fn failed_flush_is_told_by_the_next_put(rt: HostRuntime) -> Result<(), Fail> {
-    let poller = table(&rt)?;
-    let told = failing_puts(&rt, &poller)?;
+    let told = failing_puts(&table(&rt)?)?;
     let wanted = ((Put::Took(3), true), (Put::Failed, false));
     holds(told == wanted, "held and may be written, then the failure")
 }
 
 /// Returns the results of a put of many bytes, which are written at once, and of a small put after it, for a stream
 /// whose writes fail.
-fn failing_many(rt: &HostRuntime, poller: &Poller<Steps>) -> Result<(Put, Put), Fail> {
-    let (flags, _) = two_rows(rt, poller)?;
+fn failing_many(table: &SocketTable) -> Result<(Put, Put), Fail> {
+    let (flags, _) = two_rows(table)?;
     flags.note(true, true);
-    let mut socket = socket_over(poller, broken(), flags);
+    let mut socket = socket_over(table, broken(), flags);
     Ok((socket.put(BYTES), socket.put(b"d")))
 }
 
 /// Every put after a failure returns `Failed`.
 #[test]
 fn failure_is_told_again(rt: HostRuntime) -> Result<(), Fail> {
-    let poller = table(&rt)?;
-    let told = failing_many(&rt, &poller)?;
+    let told = failing_many(&table(&rt)?)?;
     holds(told == (Put::Failed, Put::Failed), "the failure, twice")
-}
-
-/// Returns whether an entry that is taken again has no flags of the socket before.
-fn is_taken_anew(poller: &Poller<Steps>, acceptors: &mut (TcpListener, TcpListener)) -> bool {
-    let Some(first) = poller.follow(&mut acceptors.0, Interest::READABLE) else {
-        return false;
-    };
-    first.flags.note(true, true);
-    first.flags.due.set(poller.after(Duration::ZERO));
-    drop(first);
-    let Some(second) = poller.follow(&mut acceptors.1, Interest::READABLE) else {
-        return false;
-    };
-    second.flags.readiness.get() == Readiness::UNKNOWN && second.flags.due.get().is_none()
-}
-
-#[test]
-fn row_of_the_table_is_taken_anew(rt: HostRuntime) -> Result<(), Fail> {
-    let mut acceptors = two_doors(&rt)?;
-    let poller = table(&rt)?;
-    holds(
-        is_taken_anew(&poller, &mut acceptors),
-        "no flag and no moment is left",
-    )
 }

@@ -8,16 +8,16 @@ use Rattle.daide_grammar.specs.declared.level.Level.TheVariants.{L0}
 use Rattle.daide_protocol.specs.declared.ending.Ending.{Ending}
 use Rattle.daide_protocol.specs.declared.ending.Ending.TheVariants as Endings
 use Rattle.daide_protocol.specs.declared.note.Note.TheVariants as Notes
-use Rattle.daide_protocol.specs.declared.phase.Phase.TheVariants.{Over}
+use Rattle.daide_protocol.specs.declared.phase.SessionPhase.TheVariants.{Over}
 use Rattle.daide_protocol.specs.declared.summary.Summary.{Summary}
 use Rattle.daide_protocol.specs.Summary.{counted_on}
-use Rattle.daide_protocol.specs.Events.{other}
+use Rattle.daide_frame.specs.Side.{other, same_side}
 use Rattle.daide_protocol.specs.Machine.{Sent, Coming, fault, fm_to, em_to, coming, is_over}
 use Rattle.std.specs.Prelude.{◌==◌}
 use Rattle.daide_frame.specs.Frames.{missing}
-use Rattle.daide_protocol.specs.Wires.{SessionView, queued, same_side, frames_to, is_awaited, room_of}
+use Rattle.daide_protocol.specs.Wires.{SessionView, queued, frames_to, is_awaited, room_of}
 use Rattle.daide_session.specs.declared.protocol_state.ProtocolState.{ProtocolState}
-use Rattle.daide_channels.specs.PerSide.{PerSide, at}
+use Rattle.daide_frame.specs.PerSide.{PerSide, at}
 use Rattle.daide_channels.specs.Channels.{Channels, posted, final_frame_to, pending}
 use Rattle.daide_session.specs.Session.{state_of, view_of}
 use Rattle.daide_session.specs.FrameEvents.{Emits, KeepsSides}
@@ -25,8 +25,7 @@ use Rattle.daide_session.specs.FrameEvents.{Emits, KeepsSides}
 -- ---- the value by its parts
 
 pub waiting_at : (t : Channels) (s : ProtocolState) (wire : Side) → queued (view_of t s) wire ≡ at t.queued wire
-waiting_at t s Bot = refl
-waiting_at t s Server = refl
+waiting_at t s wire = refl
 
 -- the queued frames of a session are the same if those of its channels are
 pub waits_same : (t u : Channels) (s r : ProtocolState) (wire : Side) → u.queued ≡ t.queued →
@@ -70,8 +69,6 @@ abbrev pub with_counts : ProtocolState → Summary → ProtocolState
 with_counts protocol summary = record {
   top_level = protocol.top_level;
   phase = protocol.phase;
-  level = protocol.level;
-  ending = protocol.ending;
   summary = summary;
 }
 
@@ -79,9 +76,7 @@ with_counts protocol summary = record {
 abbrev pub ended_by : Ending → ProtocolState → ProtocolState
 ended_by ending protocol = record {
   top_level = protocol.top_level;
-  phase = Over;
-  level = L0;
-  ending = Some ending;
+  phase = Over ending;
   summary = protocol.summary;
 }
 

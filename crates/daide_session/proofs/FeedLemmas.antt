@@ -16,7 +16,8 @@ use Rattle.daide_reader.specs.Reading.{IsRaised}
 use Rattle.daide_reader.proofs.ReadingLemmas.{raised_more, raised_none}
 use Rattle.daide_protocol.specs.declared.note.Note.{Note}
 use Rattle.daide_protocol.specs.declared.note.Note.TheVariants as Notes
-use Rattle.daide_protocol.specs.Events.{other, bytes_come}
+use Rattle.daide_frame.specs.Side.{other}
+use Rattle.daide_protocol.specs.Events.{bytes_come}
 use Rattle.daide_protocol.specs.Machine.{Sent, Successor, SessionState, Coming, Runs, IsCorrectVerdict, coming}
 use Rattle.daide_protocol.specs.Machine.{with_pending}
 use Rattle.daide_protocol.specs.Machine.{is_over, items_outcome, asked_by}
@@ -25,7 +26,7 @@ use Rattle.daide_protocol.specs.Wires.{SessionView, Holding, queued, holding, se
 use Rattle.daide_protocol.specs.Wires.{is_dm_head, asked_at_most, looked_at_most, Refines, ReceivesBytes}
 use Rattle.daide_protocol.proofs.PieceRuns.{piece_runs, piece_outcome, IsTaken}
 use Rattle.daide_session.specs.declared.protocol_state.ProtocolState.{ProtocolState}
-use Rattle.daide_channels.specs.PerSide.{at}
+use Rattle.daide_frame.specs.PerSide.{at}
 use Rattle.daide_channels.specs.Channels.{ReceiveState, Channels, Keeps, IsGrown, pending}
 use Rattle.daide_session.specs.Session.{state_of, view_of}
 use Rattle.daide_session.specs.FrameEvents.{Asks, HasNoMessageBytes, HandlesFrameEvents}

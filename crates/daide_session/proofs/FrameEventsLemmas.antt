@@ -16,17 +16,17 @@ use Rattle.daide_grammar.specs.declared.level.Level.{Level}
 use Rattle.daide_grammar.specs.declared.level.Level.TheVariants.{L0}
 use Rattle.daide_protocol.specs.declared.note.Deed.TheVariants.{Dropped}
 use Rattle.daide_protocol.specs.declared.ending.Ending.{Ending}
-use Rattle.daide_protocol.specs.declared.phase.Phase.{Phase}
+use Rattle.daide_protocol.specs.declared.phase.SessionPhase.{SessionPhase}
 use Rattle.daide_reader.specs.declared.verdict.Verdict.{Verdict}
 use Rattle.daide_reader.specs.declared.verdict.Verdict.TheVariants.{Relay, Prn, Huh}
 use Rattle.daide_reader.proofs.ReadingLemmas.{raised_none}
 use Rattle.daide_reader.specs.Reading.{IsRaised}
 use Rattle.daide_protocol.specs.declared.note.Note.{Note}
 use Rattle.daide_protocol.specs.declared.note.Note.TheVariants as Notes
-use Rattle.daide_protocol.specs.Events.{other}
+use Rattle.daide_frame.specs.Side.{other}
 use Rattle.daide_protocol.specs.Machine.{Sent, Effect, Successor, SessionState, Coming, with_noted}
-use Rattle.daide_protocol.specs.Machine.{is_over, is_dm, is_sent, level_after, phase_after, in_phase, with_pending}
-use Rattle.daide_protocol.specs.Machine.{untimely, frame_outcome, answered, im_answered, with_ending, ending_after}
+use Rattle.daide_protocol.specs.Machine.{is_over, is_dm, is_sent, level_in, phase_after, with_pending}
+use Rattle.daide_protocol.specs.Machine.{untimely, frame_outcome, answered, im_answered}
 use Rattle.daide_protocol.specs.Machine.{one_effect, reply_to, destination, deed_of}
 use Rattle.daide_protocol.specs.declared.summary.Summary.{Summary}
 use Rattle.daide_protocol.specs.Summary.{tallied, counted_on}
@@ -37,7 +37,7 @@ use Rattle.daide_protocol.specs.Wires.{SessionView, Holding, queued, holding, se
 use Rattle.daide_protocol.specs.Weight.{tokens_held}
 use Rattle.daide_protocol.specs.Wires.{is_dm_head, frames_to}
 use Rattle.daide_session.specs.declared.protocol_state.ProtocolState.{ProtocolState}
-use Rattle.daide_channels.specs.PerSide.{PerSide, at}
+use Rattle.daide_frame.specs.PerSide.{PerSide, at}
 use Rattle.daide_channels.specs.Receiver.{ReaderLimits}
 use Rattle.daide_channels.specs.Channels.{Channels, ReceiveState, IsAnswered, IsCleared, Keeps, pending, posted}
 use Rattle.daide_session.specs.Session.{state_of, view_of}
@@ -63,10 +63,10 @@ noted_phase s Server level = refl
 -- a timely header, and its empty body
 empty_outcome : (s : SessionState) (side : Side) (head : Head) (v : Verdict) → is_over s.phase ≡ false →
     untimely s.phase side head.kind ≡ None →
-    items_outcome s side (Begun head ∷ Whole head [] ∷ []) v ≡ frame_outcome (with_noted s side s.level) side head [] v
+    items_outcome s side (Begun head ∷ Whole head [] ∷ []) v ≡ frame_outcome (with_noted s side (level_in s.phase)) side head [] v
 empty_outcome s side head v live timely =
-    rw (live, timely) (rw (ap is_over (noted_phase s side s.level) ∙ live)
-    (same_outcome (frame_outcome (with_noted s side s.level) side head [] v)))
+    rw (live, timely) (rw (ap is_over (noted_phase s side (level_in s.phase)) ∙ live)
+    (same_outcome (frame_outcome (with_noted s side (level_in s.phase)) side head [] v)))
 
 -- ---- the value by its parts
 
@@ -83,8 +83,8 @@ holding_same t u s r side e =
 -- ---- a header
 
 noted_state : (t u : Channels) (s : ProtocolState) (side : Side) → Keeps side t u →
-    (at u.sides side).coming ≡ record { pending = (at t.sides side).coming.pending; noted = s.level } →
-    state_of u s ≡ with_noted (state_of t s) side s.level
+    (at u.sides side).coming ≡ record { pending = (at t.sides side).coming.pending; noted = (level_in s.phase) } →
+    state_of u s ≡ with_noted (state_of t s) side (level_in s.phase)
 noted_state t u s Bot keeps e = rw (keeps.cap, keeps.rules, keeps.other_side, e) refl
 noted_state t u s Server keeps e = rw (keeps.cap, keeps.rules, keeps.other_side, e) refl
 
@@ -185,7 +185,7 @@ begun_and_empty t u v s r q side head items_of_step live timely bodiless b h = r
   other_side = h.other_side ∙ holding_same t u s r (other side) b.keeps.other_side;
 }
   where
-    mid : state_of u r ≡ with_noted (state_of t s) side s.level
+    mid : state_of u r ≡ with_noted (state_of t s) side (level_in s.phase)
     mid = ap (state_of u) b.protocol_kept ∙ noted_state t u s side b.keeps b.started.coming
 
     after : Successor
@@ -196,8 +196,8 @@ begun_and_empty t u v s r q side head items_of_step live timely bodiless b h = r
         ∙ (ap (λ (x : SessionState). frame_outcome x side head [] h.verdict) mid
         ∙ sym (empty_outcome (state_of t s) side head h.verdict live timely))
 
-    right : IsCorrectVerdict t.rules.words t.rules.max_depth (question_of side s.level head []) h.verdict
-    right = subst (λ (r : ReaderLimits). IsCorrectVerdict r.words r.max_depth (question_of side s.level head []) h.verdict) b.keeps.rules
+    right : IsCorrectVerdict t.rules.words t.rules.max_depth (question_of side (level_in s.phase) head []) h.verdict
+    right = subst (λ (r : ReaderLimits). IsCorrectVerdict r.words r.max_depth (question_of side (level_in s.phase) head []) h.verdict) b.keeps.rules
         (subst (λ (l : Level). IsCorrectVerdict u.rules.words u.rules.max_depth (question_of side l head []) h.verdict)
         (ap (λ (c : Coming). c.noted) (coming_at u r side ∙ b.started.coming)) h.right)
 
@@ -227,48 +227,45 @@ begun_and_empty t u v s r q side head items_of_step live timely bodiless b h = r
 -- ---- a whole frame that is dropped
 
 -- only an FM or EM can be unsent
-record IsLast (kind : Kind) (top : Level) (side : Side) (tokens : List ℕ) (level : Level) : Type 0 where
+record IsLast (kind : Kind) (top : Level) (side : Side) (found tokens : List ℕ) (phase : SessionPhase) : Type 0 where
   not_dm : is_dm kind ≡ false
   not_im : is_im kind ≡ false
-  ends : level_after top kind side Relay tokens level ≡ L0
+  ends : phase_after top kind side Relay found phase ≡ phase_after top kind side Relay tokens phase
 
-last_of : (phase : Phase) (kind : Kind) (to : Side) (top : Level) (side : Side) (tokens : List ℕ) (level : Level) →
-    is_sent phase kind to ≡ false → IsLast kind top side tokens level
-last_of phase Im to top side tokens level e = absurd (cc)
-last_of phase Rm to top side tokens level e = absurd (cc)
-last_of phase Dm to top side tokens level e = absurd (cc)
-last_of phase Fm to top side tokens level e = record { not_dm = refl; not_im = refl; ends = refl }
-last_of phase Em to top side tokens level e = record { not_dm = refl; not_im = refl; ends = refl }
+last_of : (phase : SessionPhase) (kind : Kind) (to : Side) (top : Level) (side : Side) (found tokens : List ℕ) →
+    is_sent phase kind to ≡ false → IsLast kind top side found tokens phase
+last_of phase Im to top side found tokens e = absurd (cc)
+last_of phase Rm to top side found tokens e = absurd (cc)
+last_of phase Dm to top side found tokens e = absurd (cc)
+last_of phase Fm to top side found tokens e = record { not_dm = refl; not_im = refl; ends = refl }
+last_of phase Em to top side found tokens e = record { not_dm = refl; not_im = refl; ends = refl }
 
--- a protocol state after a frame was dropped
-abbrev dropped_protocol : ProtocolState → Phase → Option Ending → ProtocolState
-dropped_protocol s phase ending =
-    record { top_level = s.top_level; phase = phase; level = L0; ending = ending; summary = s.summary }
+-- a protocol state in another phase, with these counts
+abbrev in_phase : ProtocolState → SessionPhase → Summary → ProtocolState
+in_phase s phase counts = record { top_level = s.top_level; phase = phase; summary = counts }
 
-cleared_state : (t u : Channels) (s : ProtocolState) (side : Side) (phase : Phase) (ending : Option Ending) → Keeps side t u →
+-- the machine's state in another phase, with nothing of the next frame
+moved_state : (t u : Channels) (s : ProtocolState) (side : Side) (phase : SessionPhase) (counts : Summary) →
+    Keeps side t u →
     (at u.sides side).coming ≡ record { pending = []; noted = (at t.sides side).coming.noted } →
-    state_of u (dropped_protocol s phase ending)
-    ≡ in_phase phase L0 (with_ending ending (with_pending (state_of t s) side []))
-cleared_state t u s Bot phase ending keeps e = rw (keeps.cap, keeps.rules, keeps.other_side, e) refl
-cleared_state t u s Server phase ending keeps e = rw (keeps.cap, keeps.rules, keeps.other_side, e) refl
+    state_of u (in_phase s phase counts) ≡ record (with_pending (state_of t s) side []) { phase = phase }
+moved_state t u s Bot phase counts keeps e = rw (keeps.cap, keeps.rules, keeps.other_side, e) refl
+moved_state t u s Server phase counts keeps e = rw (keeps.cap, keeps.rules, keeps.other_side, e) refl
 
-pub dropped_whole : (t u : Channels) (s : ProtocolState) (side : Side) (head : Head) (body : List ℕ) (phase : Phase)
-    (ending : Option Ending) →
+pub dropped_whole : (t u : Channels) (s : ProtocolState) (side : Side) (head : Head) (body : List ℕ)
+    (phase : SessionPhase) →
     is_over s.phase ≡ false → is_sent s.phase head.kind (other side) ≡ false →
     (at t.sides side).holding.held ≡ pending t side → head_in t.cap (pending t side) ≡ Some head →
-    phase ≡ phase_after head.kind s.phase → ending ≡ ending_after head.kind side s.ending → Keeps side t u →
-    u.queued ≡ t.queued →
+    phase ≡ phase_after s.top_level head.kind side Relay [] s.phase → Keeps side t u → u.queued ≡ t.queued →
     IsCleared (at t.sides side) (at u.sides side) →
     HandlesFrameEvents (view_of t s) side (Whole head body ∷ []) (Notes.Frame head Dropped)
-    (view_of u (dropped_protocol s phase ending))
-dropped_whole t u s side head body phase ending live unsent tied head_is now by keeps waits cleared = record {
+    (view_of u (in_phase s phase s.summary))
+dropped_whole t u s side head body phase live unsent tied head_is now keeps waits cleared = record {
   verdict = Relay;
   right = rw last.not_dm refl;
   moves = record {
-    state = rw (live, last.not_im, last.ends) (cleared_state t u s side phase ending keeps cleared.coming
-        ∙ (ap (λ (p : Phase). in_phase p L0 (with_ending ending (with_pending (state_of t s) side []))) now
-        ∙ ap (λ (o : Option Ending). in_phase (phase_after head.kind s.phase) L0
-        (with_ending o (with_pending (state_of t s) side []))) by));
+    state = rw (live, last.not_im) (moved_state t u s side phase s.summary keeps cleared.coming
+        ∙ ap (λ (p : SessionPhase). record (with_pending (state_of t s) side []) { phase = p }) (now ∙ last.ends));
     counts = rw (live, last.not_im, unsent) refl;
     sent = λ wire. rw (live, last.not_im, unsent)
         (waits_same t u s later wire waits ∙ sym (append-nil (queued (view_of t s) wire)));
@@ -289,25 +286,16 @@ dropped_whole t u s side head body phase ending live unsent tied head_is now by 
   other_side = holding_same t u s later (other side) keeps.other_side;
 }
   where
-    last : IsLast head.kind s.top_level side (tokens_of body) s.level
-    last = last_of s.phase head.kind (other side) s.top_level side (tokens_of body) s.level unsent
+    last : IsLast head.kind s.top_level side [] (tokens_of body) s.phase
+    last = last_of s.phase head.kind (other side) s.top_level side [] (tokens_of body) unsent
 
     later : ProtocolState
-    later = dropped_protocol s phase ending
+    later = in_phase s phase s.summary
 
     total : (holding (view_of u later) side).total ≡ (holding (view_of t s) side).total
     total = rw (holding_at u later side, holding_at t s side) cleared.total
 
 -- ---- the frame events of a step
-
-pub reported_empty : (head : Head) (body : List ℕ) → length body ≡ head.len → head.len ≡ 0 →
-    items_of_step Bodied (Some head) body ≡ Begun head ∷ Whole head [] ∷ []
-reported_empty head [] e z = refl
-reported_empty head (x ∷ body) e z = absurd (omega (arith, e, z))
-
-pub no_body : (head : Head) (body : List ℕ) → length body ≡ head.len → head.len ≡ 0 → body ≡ []
-no_body head [] e z = refl
-no_body head (x ∷ body) e z = absurd (omega (arith, e, z))
 
 pub no_code : (code : Option Code) → Notes.Nothing ≡ note_by code → code ≡ None
 no_code None e = refl
@@ -327,7 +315,7 @@ whole_good s side Fm len body v good = refl
 whole_good s side Em len body v good = refl
 
 -- only a message can be returned to its sender
-goes_out : (phase : Phase) (side : Side) (noted : Level) (kind : Kind) (len : ℕ) (body : List ℕ) (v : Verdict)
+goes_out : (phase : SessionPhase) (side : Side) (noted : Level) (kind : Kind) (len : ℕ) (body : List ℕ) (v : Verdict)
     (words : Words) (depth : ℕ) →
     IsCorrectVerdict words depth (question_of side noted (record { kind = kind; len = len }) body) v →
     is_sent phase kind (other side) ≡ true → is_sent phase kind (destination side v) ≡ true
@@ -342,41 +330,28 @@ held_on head Relay bytes = refl
 held_on head Prn bytes = refl
 held_on head (Huh place) bytes = refl
 
--- the level depends on the tokens of a message only
-level_of_held : (cap : ℕ) (held : List ℕ) (top : Level) (kind : Kind) (len : ℕ) (side : Side) (v : Verdict) (level : Level) →
-    head_in cap held ≡ Some (record { kind = kind; len = len }) →
-    level_after top kind side v (tokens_held cap held) level ≡ level_after top kind side v (tokens_of (drop 4 held)) level
-level_of_held cap held top Im len side v level e = refl
-level_of_held cap held top Rm len side v level e = refl
-level_of_held cap held top Dm len side v level e = rw e refl
-level_of_held cap held top Fm len side v level e = refl
-level_of_held cap held top Em len side v level e = refl
+-- the phase depends on the tokens of a message only
+phase_of_held : (cap : ℕ) (held : List ℕ) (top : Level) (kind : Kind) (len : ℕ) (side : Side) (v : Verdict)
+    (phase : SessionPhase) → head_in cap held ≡ Some (record { kind = kind; len = len }) →
+    phase_after top kind side v (tokens_held cap held) phase ≡ phase_after top kind side v (tokens_of (drop 4 held)) phase
+phase_of_held cap held top Im len side v phase e = refl
+phase_of_held cap held top Rm len side v phase e = refl
+phase_of_held cap held top Dm len side v phase e = rw e refl
+phase_of_held cap held top Fm len side v phase e = refl
+phase_of_held cap held top Em len side v phase e = refl
 
-pub level_held : (t u : Channels) (side : Side) (top : Level) (head : Head) (v : Verdict) (level : Level) →
+pub phase_held : (t u : Channels) (side : Side) (top : Level) (head : Head) (v : Verdict) (phase : SessionPhase) →
     Keeps side t u → IsAnswered (at t.sides side) (at u.sides side) →
     (at t.sides side).holding.held ≡ pending t side → head_in t.cap (pending t side) ≡ Some head →
-    level_after top head.kind side v (tokens_held u.cap (at u.sides side).holding.held) level
-    ≡ level_after top head.kind side v (tokens_of (drop 4 (pending t side))) level
-level_held t u side top head v level keeps answered_by tied head_is =
-    ap (λ (n : ℕ). level_after top head.kind side v (tokens_held n (at u.sides side).holding.held) level) keeps.cap
-    ∙ (ap (λ (b : List ℕ). level_after top head.kind side v (tokens_held t.cap b) level) (answered_by.held ∙ tied)
-    ∙ level_of_held t.cap (pending t side) top head.kind head.len side v level head_is)
-
--- a protocol state after the answer to a frame is queued
-abbrev answered_protocol : ProtocolState → Phase → Level → Option Ending → Summary → ProtocolState
-answered_protocol s phase level ending counts =
-    record { top_level = s.top_level; phase = phase; level = level; ending = ending; summary = counts }
-
-answered_state : (t u : Channels) (s : ProtocolState) (side : Side) (phase : Phase) (level : Level) (ending : Option Ending)
-    (counts : Summary) → Keeps side t u →
-    (at u.sides side).coming ≡ record { pending = []; noted = (at t.sides side).coming.noted } →
-    state_of u (answered_protocol s phase level ending counts)
-    ≡ in_phase phase level (with_ending ending (with_pending (state_of t s) side []))
-answered_state t u s Bot phase level ending counts keeps e = rw (keeps.cap, keeps.rules, keeps.other_side, e) refl
-answered_state t u s Server phase level ending counts keeps e = rw (keeps.cap, keeps.rules, keeps.other_side, e) refl
+    phase_after top head.kind side v (tokens_held u.cap (at u.sides side).holding.held) phase
+    ≡ phase_after top head.kind side v (tokens_of (drop 4 (pending t side))) phase
+phase_held t u side top head v phase keeps answered_by tied head_is =
+    ap (λ (n : ℕ). phase_after top head.kind side v (tokens_held n (at u.sides side).holding.held) phase) keeps.cap
+    ∙ (ap (λ (b : List ℕ). phase_after top head.kind side v (tokens_held t.cap b) phase) (answered_by.held ∙ tied)
+    ∙ phase_of_held t.cap (pending t side) top head.kind head.len side v phase head_is)
 
 pub answered_whole : (t u : Channels) (s : ProtocolState) (side : Side) (head : Head) (body : List ℕ) (verdict : Verdict)
-    (phase : Phase) (level : Level) (ending : Option Ending) (counts : Summary) (items_of_step : Note) →
+    (phase : SessionPhase) (counts : Summary) (items_of_step : Note) →
     is_over s.phase ≡ false → is_sent s.phase head.kind (other side) ≡ true → check_of head.kind body ≡ Ok tt →
     (at t.sides side).holding.held ≡ pending t side → head_in t.cap (pending t side) ≡ Some head →
     IsCorrectVerdict t.rules.words t.rules.max_depth (question_of side (at t.sides side).coming.noted head body) verdict →
@@ -384,25 +359,18 @@ pub answered_whole : (t u : Channels) (s : ProtocolState) (side : Side) (head : 
     IsAnswered (at t.sides side) (at u.sides side) →
     IsRaised 4 (at t.sides side).holding.total (at u.sides side).holding.total →
     (is_dm head.kind ≡ false → (at u.sides side).holding.total ≡ (at t.sides side).holding.total) →
-    phase ≡ phase_after head.kind s.phase →
-    level ≡ level_after s.top_level head.kind side verdict (tokens_of body) s.level →
-    ending ≡ ending_after head.kind side s.ending → items_of_step ≡ Notes.Frame head (deed_of true verdict) →
+    phase ≡ phase_after s.top_level head.kind side verdict (tokens_of body) s.phase → items_of_step ≡ Notes.Frame head (deed_of true verdict) →
     counts ≡ counted_on items_of_step s.summary →
-    HandlesFrameEvents (view_of t s) side (Whole head body ∷ []) items_of_step (view_of u (answered_protocol s phase level ending counts))
-answered_whole t u s side head body verdict phase level ending counts items_of_step live sent good tied head_is right keeps
-    waits answered_by raised no_message its_phase its_level its_ending its_note counted = record {
+    HandlesFrameEvents (view_of t s) side (Whole head body ∷ []) items_of_step (view_of u (in_phase s phase counts))
+answered_whole t u s side head body verdict phase counts items_of_step live sent good tied head_is right keeps
+    waits answered_by raised no_message its_phase its_note counted = record {
       verdict = verdict;
       right = subst (λ (c : Coming). IsCorrectVerdict t.rules.words t.rules.max_depth (question_of side c.noted head body) verdict)
           (sym (coming_at t s side)) right;
       moves = record {
-        state = answered_state t u s side phase level ending counts keeps answered_by.coming
-            ∙ (ap (λ (p : Phase). in_phase p level (with_ending ending (with_pending (state_of t s) side []))) its_phase
-            ∙ (ap (λ (l : Level). in_phase (phase_after head.kind s.phase) l
-            (with_ending ending (with_pending (state_of t s) side []))) its_level
-            ∙ (ap (λ (o : Option Ending). in_phase (phase_after head.kind s.phase)
-            (level_after s.top_level head.kind side verdict (tokens_of body) s.level)
-            (with_ending o (with_pending (state_of t s) side []))) its_ending
-            ∙ sym (ap (λ (o : Successor). o.state) same))));
+        state = moved_state t u s side phase counts keeps answered_by.coming
+            ∙ (ap (λ (p : SessionPhase). record (with_pending (state_of t s) side []) { phase = p }) its_phase
+            ∙ sym (ap (λ (o : Successor). o.state) same));
         sent = λ wire. waiting_at u later wire
             ∙ (ap (λ (w : PerSide (List Sent)). at w wire) waits
             ∙ (posted_at t.queued frame wire
@@ -428,16 +396,15 @@ answered_whole t u s side head body verdict phase level ending counts items_of_s
     }
   where
     later : ProtocolState
-    later = answered_protocol s phase level ending counts
+    later = in_phase s phase counts
 
     frame : Sent
     frame = reply_to side head body verdict
 
     made : Successor
-    made = one_effect (in_phase (phase_after head.kind s.phase)
-        (level_after s.top_level head.kind side verdict (tokens_of body) s.level)
-        (with_ending (ending_after head.kind side s.ending) (with_pending (state_of t s) side [])))
-        (Notes.Frame head (deed_of true verdict)) (frame ∷ [])
+    made = one_effect (record (with_pending (state_of t s) side []) {
+      phase = phase_after s.top_level head.kind side verdict (tokens_of body) s.phase;
+    }) (Notes.Frame head (deed_of true verdict)) (frame ∷ [])
 
     goes : is_sent s.phase head.kind (destination side verdict) ≡ true
     goes = goes_out s.phase side (at t.sides side).coming.noted head.kind head.len body verdict t.rules.words

@@ -21,7 +21,7 @@ use Rattle.daide_reader.specs.declared.verdict.Verdict.TheVariants.{Relay, Prn, 
 use Rattle.daide_words.specs.Table.OverWords.{are_free}
 use Rattle.daide_words.proofs.WordsGrow.{levels-only-add-over}
 use Rattle.daide_words.proofs.PairedOverWords.{huh-err-over}
-use Rattle.daide_protocol.specs.Events.{other}
+use Rattle.daide_frame.specs.Side.{other}
 use Rattle.daide_protocol.specs.Machine.{Limits, Sent, is_dm, side2_of}
 use Rattle.daide_protocol.specs.Fates.{Came, IsJudged}
 use Rattle.daide_protocol.specs.Passing.{IsFrame, HasCome, IsPassed, IsWithinPrn, IsWithinHuh, MayBeSent, no_message}

@@ -23,12 +23,12 @@ use Rattle.daide_grammar.specs.declared.level.Level.{Level}
 use Rattle.daide_reader.specs.declared.verdict.Verdict.{Verdict}
 use Rattle.daide_reader.specs.declared.verdict.Verdict.TheVariants.{Relay, Prn, Huh}
 use Rattle.daide_words.specs.declared.word.Word.{Word}
-use Rattle.daide_protocol.specs.declared.phase.Phase.{Phase}
+use Rattle.daide_protocol.specs.declared.phase.SessionPhase.{SessionPhase}
 use Rattle.daide_protocol.specs.Bounds.{longest_body}
 use Rattle.daide_protocol.specs.Answers.{answer_bytes}
-use Rattle.daide_protocol.specs.Events.{other}
+use Rattle.daide_frame.specs.Side.{other, same_side}
 use Rattle.daide_protocol.specs.Machine.{Limits, Sent, Effect, initial_state, reply_to}
-use Rattle.daide_protocol.specs.Wires.{same_side, sent_to, sent_bytes}
+use Rattle.daide_protocol.specs.Wires.{sent_to, sent_bytes}
 use Rattle.daide_protocol.specs.Heard.{bytes_from}
 use Rattle.daide_protocol.specs.Fates.{EventCause, Frame, Fault, End, Timeout, Came, came_in, whole_frame_from, frames_among}
 use Rattle.daide_protocol.specs.Fates.{frames_from, IsJudged, IsMessageFate, is_passed_on, is_answered_prn}
@@ -279,7 +279,7 @@ module _ (limits : Limits) (small : limits.cap ≤ longest_body) (one : List Cam
       go (is_answered_prn j s) = (Prn, judged_next Prn j, s)
       go (is_answered_huh place j s) = (Huh place, judged_next (Huh place) j, s)
 
-  frame_fate : (phase : Phase) (side : Side) (noted : Level) (kind : Kind) (len : ℕ) (body : List ℕ)
+  frame_fate : (phase : SessionPhase) (side : Side) (noted : Level) (kind : Kind) (len : ℕ) (body : List ℕ)
       (sent : List Sent) → IsWholeFrame limits.cap (record { kind = kind; len = len }) body →
       IsFrameFate kind limits phase side noted (record { kind = kind; len = len }) body sent →
       (side ≡ other to → Next (head_bytes (record { kind = kind; len = len }) ++ body)) →
@@ -292,7 +292,7 @@ module _ (limits : Limits) (small : limits.cap ≤ longest_body) (one : List Cam
   frame_fate phase side noted Em len body sent w f next e k = absurd (cc)
 
   -- the messages from the side of the first gateway
-  cause_fate : (phase : Phase) (cause : EventCause) (sent : List Sent) → IsGood limits.cap cause →
+  cause_fate : (phase : SessionPhase) (cause : EventCause) (sent : List Sent) → IsGood limits.cap cause →
       IsFate limits phase cause sent → EachNext (whole_frame_from (other to) cause) →
       IsFateAtNext (IsVerdictOfNext limits one to) to cause sent
   cause_fate phase (Frame side noted head body) sent g f next =

@@ -16,10 +16,11 @@ use Rattle.daide_grammar.specs.Level.{level_number}
 use Rattle.daide_grammar.specs.Depth.{depth_of}
 use Rattle.daide_reader.specs.declared.verdict.Verdict.{Verdict}
 use Rattle.daide_reader.specs.declared.verdict.Verdict.TheVariants.{Relay}
-use Rattle.daide_protocol.specs.Events.{Event, other}
+use Rattle.daide_frame.specs.Side.{other}
+use Rattle.daide_protocol.specs.Events.{Event}
 use Rattle.daide_protocol.specs.Machine.{Limits, SessionState, Sent, Effect, Runs, initial_state, reply_to}
 use Rattle.daide_protocol.specs.Wires.{sent_to}
-use Rattle.daide_protocol.specs.declared.phase.Phase.{Phase}
+use Rattle.daide_protocol.specs.declared.phase.SessionPhase.{SessionPhase}
 use Rattle.daide_protocol.specs.Fates.{Came, Frame, IsJudged, came_in, frames_from}
 use Rattle.daide_protocol.specs.Passing.{HasCome, IsFrame}
 use Rattle.daide_session.specs.InARow.{IsVerdictAtOneLevel, IsVerdictOfNext, TwoSessionsInARow, passes, too_deep, lower}
@@ -70,7 +71,7 @@ next_passes_on law events effects new run shallow k d less body verdict frame ju
 -- ---- joined
 
 -- the first cause of the next
-module _ (phase : Phase) (noted : Level) (head : Head) (body : List ℕ) where
+module _ (phase : SessionPhase) (noted : Level) (head : Head) (body : List ℕ) where
   abbrev HasFirst : Side → List Came → Type 0
   HasFirst side came = (more : List Came)
       × (came ≡ record { phase = phase; cause = Frame side noted head body } ∷ more)
@@ -93,7 +94,7 @@ module _ (phase : Phase) (noted : Level) (head : Head) (body : List ℕ) where
 
 -- A server's message that is the first input of the next, nearer the bot, with level 60 noted. It is the first frame
 -- that the first gateway sent, and is relayed.
-first_passed_on : JoinedSessions → (phase : Phase) (head : Head) (body : List ℕ) (events next_events : List Event)
+first_passed_on : JoinedSessions → (phase : SessionPhase) (head : Head) (body : List ℕ) (events next_events : List Event)
     (effects next_effects : List Effect) (new next_new : SessionState) (run : Runs (initial_state usual) events effects new)
     (next_run : Runs (initial_state usual) next_events next_effects next_new) → AreJoined Bot effects next_events →
     AreShallow (came_in (initial_state usual) events effects new run) Bot →
@@ -135,7 +136,7 @@ heard_in_order law head body more events next_events effects next_effects new ne
 -- ---- toward the bot
 
 -- if the next is nearer the bot, it relays the message at level 0 too
-first_passed_on_to_the_bot : LevelsAgreeTowardTheBot → (phase : Phase) (head : Head) (body : List ℕ)
+first_passed_on_to_the_bot : LevelsAgreeTowardTheBot → (phase : SessionPhase) (head : Head) (body : List ℕ)
     (events next_events : List Event) (effects next_effects : List Effect) (new next_new : SessionState)
     (run : Runs (initial_state usual) events effects new)
     (next_run : Runs (initial_state usual) next_events next_effects next_new) → AreJoined Bot effects next_events →

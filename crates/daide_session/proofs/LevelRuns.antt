@@ -19,11 +19,12 @@ use Rattle.daide_frame.proofs.FramesLemmas.{last_items-head4, last_items-body4, 
 use Rattle.daide_grammar.specs.declared.level.Level.{Level}
 use Rattle.daide_grammar.specs.declared.level.Level.TheVariants.{L0}
 use Rattle.daide_reader.specs.declared.verdict.Verdict.{Verdict}
-use Rattle.daide_protocol.specs.declared.phase.Phase.{Phase}
-use Rattle.daide_protocol.specs.declared.phase.Phase.TheVariants.{WaitIm, WaitRm, Open, Over}
+use Rattle.daide_reader.specs.declared.verdict.Verdict.TheVariants.{Relay, Prn, Huh}
+use Rattle.daide_protocol.specs.declared.phase.SessionPhase.{SessionPhase}
+use Rattle.daide_protocol.specs.declared.phase.SessionPhase.TheVariants.{WaitIm, WaitRm, Open, Over}
 use Rattle.daide_protocol.specs.Events.{Event, Comes, Ends, Loses, ImTimerExpired}
 use Rattle.daide_protocol.specs.Machine.{Limits, SessionState, Sent, Effect, Successor, Transition, Runs, IsCorrectVerdict}
-use Rattle.daide_protocol.specs.Machine.{with_pending, with_noted, is_over, untimely, level_after, reply_to, answered}
+use Rattle.daide_protocol.specs.Machine.{with_pending, with_noted, is_over, untimely, level_in, phase_after, reply_to, answered}
 use Rattle.daide_protocol.specs.Machine.{im_answered, frame_outcome, header_outcome, items_outcome, im_timer_expired, event_outcome, asked_by}
 use Rattle.daide_protocol.specs.Machine.{question_of, question, initial_state}
 use Rattle.daide_protocol.specs.Fates.{EventCause, Frame, Fault, End, Timeout, Came, checked_frame, frame_cause, fault_or}
@@ -110,15 +111,8 @@ turn cap (p ∷ q ∷ r ∷ s ∷ y ∷ w) x =
 
 -- ---- facts about a state that is not over
 
--- level 0, except in the phase Open
-abbrev IsCalm : Phase → Level → Type 0
-IsCalm WaitIm level = level ≡ L0
-IsCalm WaitRm level = level ≡ L0
-IsCalm Open level = Unit {0}
-IsCalm Over level = Unit {0}
-
 -- a header received from a side is timely in this phase
-abbrev IsTimely : Phase → Side → Option Head → Type 0
+abbrev IsTimely : SessionPhase → Side → Option Head → Type 0
 IsTimely phase side header = (head : Head) → header ≡ Some head → untimely phase side head.kind ≡ None
 
 -- the level was noted at the server's header
@@ -126,15 +120,14 @@ abbrev IsNoted : Option Head → Level → Level → Type 0
 IsNoted header noted level = (head : Head) → header ≡ Some head → noted ≡ level
 
 pub record Ready (s : SessionState) : Type 0 where
-  calm : IsCalm s.phase s.level
-  bot : IsTimely s.phase Bot (head_in s.limits.cap s.bot.pending)
-  server : IsTimely s.phase Server (head_in s.limits.cap s.server.pending)
-  noted : IsNoted (head_in s.limits.cap s.server.pending) s.server.noted s.level
+  bot : IsTimely s.phase Bot (head_in s.limits.cap s.sides.bot.pending)
+  server : IsTimely s.phase Server (head_in s.limits.cap s.sides.server.pending)
+  noted : IsNoted (head_in s.limits.cap s.sides.server.pending) s.sides.server.noted (level_in s.phase)
 
 no_head : (cap : ℕ) → head_in cap [] ≡ None
 no_head cap = head_in-short cap [] (omega arith)
 
-none_timely : (cap : ℕ) (phase : Phase) (side : Side) → IsTimely phase side (head_in cap [])
+none_timely : (cap : ℕ) (phase : SessionPhase) (side : Side) → IsTimely phase side (head_in cap [])
 none_timely cap phase side head e = (let bad = sym (no_head cap) ∙ e in absurd (cc))
 
 none_noted : (cap : ℕ) (noted level : Level) → IsNoted (head_in cap []) noted level
@@ -142,7 +135,6 @@ none_noted cap noted level head e = (let bad = sym (no_head cap) ∙ e in absurd
 
 pub ready_first : (limits : Limits) → Ready (initial_state limits)
 ready_first limits = record {
-  calm = refl;
   bot = none_timely limits.cap WaitIm Bot;
   server = none_timely limits.cap WaitIm Server;
   noted = none_noted limits.cap L0 L0;
@@ -156,14 +148,26 @@ still_timely Dm e = absurd (cc)
 still_timely Fm e = refl
 still_timely Em e = refl
 
-and_then : (kind : Kind) → untimely WaitRm Bot kind ≡ None → untimely Open Bot kind ≡ None
+and_then : (kind : Kind) → untimely WaitRm Bot kind ≡ None → untimely (Open L0) Bot kind ≡ None
 and_then Im e = absurd (cc)
 and_then Rm e = absurd (cc)
 and_then Dm e = refl
 and_then Fm e = refl
 and_then Em e = refl
 
+-- what is timely from the bot in an open session is timely after a message of the server
+open_still : (top : Level) (v : Verdict) (tokens : List ℕ) (level : Level) (kind : Kind) →
+    untimely (Open level) Bot kind ≡ None →
+    untimely (phase_after top Dm Server v tokens (Open level)) Bot kind ≡ None
+open_still top Relay tokens level kind u = u
+open_still top Prn tokens level kind u = u
+open_still top (Huh place) tokens level kind u = u
+
 -- ---- the frames received, and the level
+
+-- the level after a message of the server in an open session
+abbrev pub level_then : Level → Verdict → List ℕ → Level → Level
+level_then top verdict tokens level = level_in (phase_after top Dm Server verdict tokens (Open level))
 
 -- a message of the server is judged by the present level; the frames sent and the new level are these
 abbrev pub IsLevelled : Kind → Limits → Level → Level → Head → List ℕ → List Sent → Level → Type 0
@@ -171,7 +175,7 @@ IsLevelled Im limits level noted head body sent then = then ≡ level
 IsLevelled Rm limits level noted head body sent then = then ≡ level
 IsLevelled Dm limits level noted head body sent then =
     (verdict : Verdict) × (noted ≡ level) × IsJudged limits Server level body verdict
-    × (then ≡ level_after limits.top_level Dm Server verdict (tokens_of body) level)
+    × (then ≡ level_then limits.top_level verdict (tokens_of body) level)
     × (sent ≡ reply_to Server head body verdict ∷ [])
 IsLevelled Fm limits level noted head body sent then = then ≡ level
 IsLevelled Em limits level noted head body sent then = then ≡ level
@@ -202,7 +206,7 @@ levels_join limits (c ∷ a) b (e ∷ x) y l m n h k = (h.0, h.1, levels_join li
 record Follows (limits : Limits) (level : Level) (came : List Came) (o : Successor) : Type 0 where
   next : Level
   levels : HaveLevels limits level came o.effects next
-  ready : is_over o.state.phase ≡ false → (o.state.level ≡ next) × Ready o.state
+  ready : is_over o.state.phase ≡ false → (level_in o.state.phase ≡ next) × Ready o.state
 
 -- the session is over
 over_follows : (limits : Limits) (level : Level) (came : List Came) (o : Successor) → is_over o.state.phase ≡ true →
@@ -215,94 +219,92 @@ over_follows limits level came o e h = record {
 
 -- ---- a whole frame
 
-abbrev one : Phase → EventCause → List Came
+abbrev one : SessionPhase → EventCause → List Came
 one phase cause = record { phase = phase; cause = cause } ∷ []
 
 abbrev made : Kind → ℕ → Head
 made kind len = record { kind = kind; len = len }
 
 -- of the bot, whose IM comes first
-bot_frame : (phase : Phase) (t : SessionState) (noted : Level) (kind : Kind) (len : ℕ) (body : List ℕ) (v : Verdict) →
-    t.phase ≡ phase → is_over phase ≡ false → untimely phase Bot kind ≡ None → IsCalm phase t.level →
-    IsTimely phase Server (head_in t.limits.cap t.server.pending) →
-    IsNoted (head_in t.limits.cap t.server.pending) t.server.noted t.level →
-    Follows t.limits t.level (one t.phase (frame_cause Bot noted (made kind len) body))
+bot_frame : (phase : SessionPhase) (t : SessionState) (noted : Level) (kind : Kind) (len : ℕ) (body : List ℕ) (v : Verdict) →
+    t.phase ≡ phase → is_over phase ≡ false → untimely phase Bot kind ≡ None →
+    IsTimely phase Server (head_in t.limits.cap t.sides.server.pending) →
+    IsNoted (head_in t.limits.cap t.sides.server.pending) t.sides.server.noted (level_in t.phase) →
+    Follows t.limits (level_in t.phase) (one t.phase (frame_cause Bot noted (made kind len) body))
     (frame_outcome t Bot (made kind len) body v)
-bot_frame WaitIm t noted Im len body v e o u c s n = checked (im_of body)
+bot_frame WaitIm t noted Im len body v e o u s n = checked (im_of body)
   where
     checked : (r : Result (Unit {0}) Code) →
-        Follows t.limits t.level (one t.phase (checked_frame Bot noted (made Im len) body r))
+        Follows t.limits (level_in t.phase) (one t.phase (checked_frame Bot noted (made Im len) body r))
         (im_answered (answered t Bot (made Im len) body v) t Bot r)
     checked (Ok ok) = record {
-      next = t.level;
-      levels = (t.level, refl, (refl, refl));
+      next = (level_in t.phase);
+      levels = ((level_in t.phase), refl, (refl, refl));
       ready = λ live. (
-        sym c,
+        sym (ap level_in e),
         record {
-          calm = refl;
           bot = none_timely t.limits.cap WaitRm Bot;
           server = λ head h. still_timely head.kind (s head h);
-          noted = λ head h. n head h ∙ c;
+          noted = λ head h. n head h ∙ ap level_in e;
         },
       );
     }
-    checked (Err code) = over_follows t.limits t.level _ _ refl (t.level, refl, (refl, refl))
-bot_frame WaitRm t noted Im len body v e o u c s n = absurd (cc)
-bot_frame Open t noted Im len body v e o u c s n = absurd (cc)
-bot_frame Over t noted Im len body v e o u c s n = absurd (cc)
-bot_frame WaitIm t noted Rm len body v e o u c s n = absurd (cc)
-bot_frame WaitRm t noted Rm len body v e o u c s n = absurd (cc)
-bot_frame Open t noted Rm len body v e o u c s n = absurd (cc)
-bot_frame Over t noted Rm len body v e o u c s n = absurd (cc)
-bot_frame phase t noted Dm len body v e o u c s n = record {
-  next = t.level;
-  levels = (t.level, refl, (refl, refl));
+    checked (Err code) = over_follows t.limits (level_in t.phase) _ _ refl ((level_in t.phase), refl, (refl, refl))
+bot_frame WaitRm t noted Im len body v e o u s n = absurd (cc)
+bot_frame (Open level) t noted Im len body v e o u s n = absurd (cc)
+bot_frame (Over ending) t noted Im len body v e o u s n = absurd (cc)
+bot_frame WaitIm t noted Rm len body v e o u s n = absurd (cc)
+bot_frame WaitRm t noted Rm len body v e o u s n = absurd (cc)
+bot_frame (Open level) t noted Rm len body v e o u s n = absurd (cc)
+bot_frame (Over ending) t noted Rm len body v e o u s n = absurd (cc)
+bot_frame phase t noted Dm len body v e o u s n = record {
+  next = (level_in t.phase);
+  levels = ((level_in t.phase), refl, (refl, refl));
   ready = λ live. (
     refl,
     record {
-      calm = subst (λ (p : Phase). IsCalm p t.level) (sym e) c;
       bot = none_timely t.limits.cap t.phase Bot;
-      server = subst (λ (p : Phase). IsTimely p Server (head_in t.limits.cap t.server.pending)) (sym e) s;
+      server = subst (λ (p : SessionPhase). IsTimely p Server (head_in t.limits.cap t.sides.server.pending)) (sym e) s;
       noted = n;
     },
   );
 }
-bot_frame phase t noted Fm len body v e o u c s n =
-    over_follows t.limits t.level _ _ refl (t.level, refl, (refl, refl))
-bot_frame phase t noted Em len body v e o u c s n =
-    over_follows t.limits t.level _ _ refl (t.level, refl, (refl, refl))
+bot_frame phase t noted Fm len body v e o u s n =
+    over_follows t.limits (level_in t.phase) _ _ refl ((level_in t.phase), refl, (refl, refl))
+bot_frame phase t noted Em len body v e o u s n =
+    over_follows t.limits (level_in t.phase) _ _ refl ((level_in t.phase), refl, (refl, refl))
 
 -- of the server
-server_frame : (phase : Phase) (t : SessionState) (noted : Level) (kind : Kind) (len : ℕ) (body : List ℕ)
+server_frame : (phase : SessionPhase) (t : SessionState) (noted : Level) (kind : Kind) (len : ℕ) (body : List ℕ)
     (v : Verdict) → t.phase ≡ phase → is_over phase ≡ false → untimely phase Server kind ≡ None →
-    IsCalm phase t.level → IsTimely phase Bot (head_in t.limits.cap t.bot.pending) → noted ≡ t.level →
+    IsTimely phase Bot (head_in t.limits.cap t.sides.bot.pending) → noted ≡ (level_in t.phase) →
     IsCorrectVerdict t.limits.words t.limits.max_depth (question_of Server noted (made kind len) body) v →
-    Follows t.limits t.level (one t.phase (frame_cause Server noted (made kind len) body))
+    Follows t.limits (level_in t.phase) (one t.phase (frame_cause Server noted (made kind len) body))
     (frame_outcome t Server (made kind len) body v)
-server_frame WaitIm t noted Im len body v e o u c b n r = absurd (cc)
-server_frame WaitRm t noted Im len body v e o u c b n r = absurd (cc)
-server_frame Open t noted Im len body v e o u c b n r = absurd (cc)
-server_frame Over t noted Im len body v e o u c b n r = absurd (cc)
-server_frame WaitIm t noted Rm len body v e o u c b n r = absurd (cc)
-server_frame WaitRm t noted Rm len body v e o u c b n r = record {
-  next = t.level;
-  levels = (t.level, refl, (refl, refl));
+server_frame WaitIm t noted Im len body v e o u b n r = absurd (cc)
+server_frame WaitRm t noted Im len body v e o u b n r = absurd (cc)
+server_frame (Open level) t noted Im len body v e o u b n r = absurd (cc)
+server_frame (Over ending) t noted Im len body v e o u b n r = absurd (cc)
+server_frame WaitIm t noted Rm len body v e o u b n r = absurd (cc)
+server_frame WaitRm t noted Rm len body v e o u b n r = record {
+  next = (level_in t.phase);
+  levels = ((level_in t.phase), refl, (refl, refl));
   ready = λ live. (
-    sym c,
+    sym (ap level_in e),
     record {
-      calm = tt;
       bot = λ head h. and_then head.kind (b head h);
-      server = none_timely t.limits.cap Open Server;
-      noted = none_noted t.limits.cap t.server.noted L0;
+      server = none_timely t.limits.cap (Open L0) Server;
+      noted = none_noted t.limits.cap t.sides.server.noted L0;
     },
   );
 }
-server_frame Open t noted Rm len body v e o u c b n r = absurd (cc)
-server_frame Over t noted Rm len body v e o u c b n r = absurd (cc)
-server_frame WaitIm t noted Dm len body v e o u c b n r = absurd (cc)
-server_frame WaitRm t noted Dm len body v e o u c b n r = absurd (cc)
-server_frame Open t noted Dm len body v e o u c b n r =
-    let after = level_after t.limits.top_level Dm Server v (tokens_of body) t.level in
+server_frame (Open level) t noted Rm len body v e o u b n r = absurd (cc)
+server_frame (Over ending) t noted Rm len body v e o u b n r = absurd (cc)
+server_frame WaitIm t noted Dm len body v e o u b n r = absurd (cc)
+server_frame WaitRm t noted Dm len body v e o u b n r = absurd (cc)
+server_frame (Open level) t noted Dm len body v e o u b n r =
+    let top = t.limits.top_level in
+    let after = level_then top v (tokens_of body) (level_in t.phase) in
     record {
       next = after;
       levels = (
@@ -311,20 +313,22 @@ server_frame Open t noted Dm len body v e o u c b n r =
         (refl, refl),
       );
       ready = λ live. (
-        refl,
+        rw e refl,
         record {
-          calm = subst (λ (p : Phase). IsCalm p after) (sym e) tt;
-          bot = subst (λ (p : Phase). IsTimely p Bot (head_in t.limits.cap t.bot.pending)) (sym e) b;
-          server = none_timely t.limits.cap t.phase Server;
-          noted = none_noted t.limits.cap t.server.noted after;
+          bot = subst (λ (p : SessionPhase). IsTimely (phase_after top Dm Server v (tokens_of body) p) Bot
+              (head_in t.limits.cap t.sides.bot.pending)) (sym e)
+              (λ head h. open_still top v (tokens_of body) level head.kind (b head h));
+          server = none_timely t.limits.cap (phase_after top Dm Server v (tokens_of body) t.phase) Server;
+          noted = none_noted t.limits.cap t.sides.server.noted
+              (level_in (phase_after top Dm Server v (tokens_of body) t.phase));
         },
       );
     }
-server_frame Over t noted Dm len body v e o u c b n r = absurd (cc)
-server_frame phase t noted Fm len body v e o u c b n r =
-    over_follows t.limits t.level _ _ refl (t.level, refl, (refl, refl))
-server_frame phase t noted Em len body v e o u c b n r =
-    over_follows t.limits t.level _ _ refl (t.level, refl, (refl, refl))
+server_frame (Over ending) t noted Dm len body v e o u b n r = absurd (cc)
+server_frame phase t noted Fm len body v e o u b n r =
+    over_follows t.limits (level_in t.phase) _ _ refl ((level_in t.phase), refl, (refl, refl))
+server_frame phase t noted Em len body v e o u b n r =
+    over_follows t.limits (level_in t.phase) _ _ refl ((level_in t.phase), refl, (refl, refl))
 
 -- ---- the frame events that end with one byte
 
@@ -346,23 +350,22 @@ same_head : (header : Option Head) (head other_head : Head) → header ≡ Some 
 unfolding head_or
 same_head header head other_head a b = ap (head_or head) (sym a ∙ b)
 
-now_timely : (phase : Phase) (side : Side) (header : Option Head) (head : Head) → header ≡ Some head →
+now_timely : (phase : SessionPhase) (side : Side) (header : Option Head) (head : Head) → header ≡ Some head →
     untimely phase side head.kind ≡ None → IsTimely phase side header
 now_timely phase side header head a e other_head b =
     subst (λ (h : Head). untimely phase side h.kind ≡ None) (same_head header head other_head a b) e
 
 bot_items : (s : SessionState) (bytes : List ℕ) (items : List FrameEvent) (v : Verdict) → is_over s.phase ≡ false → Ready s →
-    Turn (head_in s.limits.cap s.bot.pending) (head_in s.limits.cap bytes) items →
-    Follows s.limits s.level
-    (came_in_phase s.phase (items_cause Bot s.bot.noted s.level (untimely s.phase Bot) items))
+    Turn (head_in s.limits.cap s.sides.bot.pending) (head_in s.limits.cap bytes) items →
+    Follows s.limits (level_in s.phase)
+    (came_in_phase s.phase (items_cause Bot s.sides.bot.noted (level_in s.phase) (untimely s.phase Bot) items))
     (items_outcome (with_pending s Bot bytes) Bot items v)
 bot_items s bytes items v o h (quiet e) = record {
-  next = s.level;
+  next = (level_in s.phase);
   levels = (refl, refl);
   ready = λ live. (
     refl,
     record {
-      calm = h.calm;
       bot = λ head k. h.bot head (sym e ∙ k);
       server = h.server;
       noted = h.noted;
@@ -375,57 +378,55 @@ bot_items s bytes items v o h (headed head a) = rw o (go (untimely s.phase Bot h
     t = with_pending s Bot bytes
 
     go : (code : Option Code) → untimely s.phase Bot head.kind ≡ code →
-        Follows s.limits s.level (came_in_phase s.phase (fault_or Bot code None))
+        Follows s.limits (level_in s.phase) (came_in_phase s.phase (fault_or Bot code None))
         (record { state = (header_outcome t Bot code).state; effects = (header_outcome t Bot code).effects ++ [] })
     go None e = record {
-      next = s.level;
+      next = (level_in s.phase);
       levels = (refl, refl);
       ready = λ live. (
         refl,
         record {
-          calm = h.calm;
           bot = now_timely s.phase Bot (head_in s.limits.cap bytes) head a e;
           server = h.server;
           noted = h.noted;
         },
       );
     }
-    go (Some code) e = over_follows s.limits s.level _ _ refl (s.level, refl, (refl, refl))
+    go (Some code) e = over_follows s.limits (level_in s.phase) _ _ refl ((level_in s.phase), refl, (refl, refl))
 bot_items s bytes items v o h (at_once head) = rw o (go (untimely s.phase Bot head.kind) refl)
   where
     t : SessionState
     t = with_pending s Bot bytes
 
     go : (code : Option Code) → untimely s.phase Bot head.kind ≡ code →
-        Follows s.limits s.level
-        (came_in_phase s.phase (fault_or Bot code (Some (frame_cause Bot s.level head []))))
+        Follows s.limits (level_in s.phase)
+        (came_in_phase s.phase (fault_or Bot code (Some (frame_cause Bot (level_in s.phase) head []))))
         (let more = items_outcome (header_outcome t Bot code).state Bot (Whole head [] ∷ []) v in
         record { state = more.state; effects = (header_outcome t Bot code).effects ++ more.effects })
     go None e =
-        alone s.limits s.level (one s.phase (frame_cause Bot s.level head [])) (with_noted t Bot s.level) Bot head [] v o
-        (bot_frame s.phase (with_noted t Bot s.level) s.level head.kind head.len [] v refl o e h.calm h.server h.noted)
-    go (Some code) e = over_follows s.limits s.level _ _ refl (s.level, refl, (refl, refl))
+        alone s.limits (level_in s.phase) (one s.phase (frame_cause Bot (level_in s.phase) head [])) (with_noted t Bot (level_in s.phase)) Bot head [] v o
+        (bot_frame s.phase (with_noted t Bot (level_in s.phase)) (level_in s.phase) head.kind head.len [] v refl o e h.server h.noted)
+    go (Some code) e = over_follows s.limits (level_in s.phase) _ _ refl ((level_in s.phase), refl, (refl, refl))
 bot_items s bytes items v o h (ended head body b) =
-    alone s.limits s.level (one s.phase (frame_cause Bot s.bot.noted head body)) (with_pending s Bot bytes) Bot head body
+    alone s.limits (level_in s.phase) (one s.phase (frame_cause Bot s.sides.bot.noted head body)) (with_pending s Bot bytes) Bot head body
     v o
-    (bot_frame s.phase (with_pending s Bot bytes) s.bot.noted head.kind head.len body v refl o (h.bot head b) h.calm
+    (bot_frame s.phase (with_pending s Bot bytes) s.sides.bot.noted head.kind head.len body v refl o (h.bot head b)
     h.server h.noted)
 bot_items s bytes items v o h (wrong code) =
-    rw o (over_follows s.limits s.level _ _ refl (s.level, refl, (refl, refl)))
+    rw o (over_follows s.limits (level_in s.phase) _ _ refl ((level_in s.phase), refl, (refl, refl)))
 
 server_items : (s : SessionState) (bytes : List ℕ) (items : List FrameEvent) (v : Verdict) → is_over s.phase ≡ false →
-    Ready s → Turn (head_in s.limits.cap s.server.pending) (head_in s.limits.cap bytes) items →
+    Ready s → Turn (head_in s.limits.cap s.sides.server.pending) (head_in s.limits.cap bytes) items →
     IsCorrectVerdict s.limits.words s.limits.max_depth (asked_by s Server items) v →
-    Follows s.limits s.level
-    (came_in_phase s.phase (items_cause Server s.server.noted s.level (untimely s.phase Server) items))
+    Follows s.limits (level_in s.phase)
+    (came_in_phase s.phase (items_cause Server s.sides.server.noted (level_in s.phase) (untimely s.phase Server) items))
     (items_outcome (with_pending s Server bytes) Server items v)
 server_items s bytes items v o h (quiet e) r = record {
-  next = s.level;
+  next = (level_in s.phase);
   levels = (refl, refl);
   ready = λ live. (
     refl,
     record {
-      calm = h.calm;
       bot = h.bot;
       server = λ head k. h.server head (sym e ∙ k);
       noted = λ head k. h.noted head (sym e ∙ k);
@@ -438,76 +439,75 @@ server_items s bytes items v o h (headed head a) r = rw o (go (untimely s.phase 
     t = with_pending s Server bytes
 
     go : (code : Option Code) → untimely s.phase Server head.kind ≡ code →
-        Follows s.limits s.level (came_in_phase s.phase (fault_or Server code None))
+        Follows s.limits (level_in s.phase) (came_in_phase s.phase (fault_or Server code None))
         (record { state = (header_outcome t Server code).state; effects = (header_outcome t Server code).effects ++ [] })
     go None e = record {
-      next = s.level;
+      next = (level_in s.phase);
       levels = (refl, refl);
       ready = λ live. (
         refl,
         record {
-          calm = h.calm;
           bot = h.bot;
           server = now_timely s.phase Server (head_in s.limits.cap bytes) head a e;
           noted = λ other_head b. refl;
         },
       );
     }
-    go (Some code) e = over_follows s.limits s.level _ _ refl (s.level, refl, (refl, refl))
+    go (Some code) e = over_follows s.limits (level_in s.phase) _ _ refl ((level_in s.phase), refl, (refl, refl))
 server_items s bytes items v o h (at_once head) r = rw o (go (untimely s.phase Server head.kind) refl)
   where
     t : SessionState
     t = with_pending s Server bytes
 
     go : (code : Option Code) → untimely s.phase Server head.kind ≡ code →
-        Follows s.limits s.level
-        (came_in_phase s.phase (fault_or Server code (Some (frame_cause Server s.level head []))))
+        Follows s.limits (level_in s.phase)
+        (came_in_phase s.phase (fault_or Server code (Some (frame_cause Server (level_in s.phase) head []))))
         (let more = items_outcome (header_outcome t Server code).state Server (Whole head [] ∷ []) v in
         record { state = more.state; effects = (header_outcome t Server code).effects ++ more.effects })
     go None e =
-        alone s.limits s.level (one s.phase (frame_cause Server s.level head [])) (with_noted t Server s.level) Server
+        alone s.limits (level_in s.phase) (one s.phase (frame_cause Server (level_in s.phase) head [])) (with_noted t Server (level_in s.phase)) Server
         head [] v o
-        (server_frame s.phase (with_noted t Server s.level) s.level head.kind head.len [] v refl o e h.calm h.bot refl
+        (server_frame s.phase (with_noted t Server (level_in s.phase)) (level_in s.phase) head.kind head.len [] v refl o e h.bot refl
         (let q = rw e at r in q))
-    go (Some code) e = over_follows s.limits s.level _ _ refl (s.level, refl, (refl, refl))
+    go (Some code) e = over_follows s.limits (level_in s.phase) _ _ refl ((level_in s.phase), refl, (refl, refl))
 server_items s bytes items v o h (ended head body b) r =
-    alone s.limits s.level (one s.phase (frame_cause Server s.server.noted head body)) (with_pending s Server bytes)
+    alone s.limits (level_in s.phase) (one s.phase (frame_cause Server s.sides.server.noted head body)) (with_pending s Server bytes)
     Server head body v o
-    (server_frame s.phase (with_pending s Server bytes) s.server.noted head.kind head.len body v refl o (h.server head b)
-    h.calm h.bot (h.noted head b) r)
+    (server_frame s.phase (with_pending s Server bytes) s.sides.server.noted head.kind head.len body v refl o (h.server head b)
+    h.bot (h.noted head b) r)
 server_items s bytes items v o h (wrong code) r =
-    rw o (over_follows s.limits s.level _ _ refl (s.level, refl, (refl, refl)))
+    rw o (over_follows s.limits (level_in s.phase) _ _ refl ((level_in s.phase), refl, (refl, refl)))
 
 -- ---- one event
 
-timer_follows : (phase : Phase) (s : SessionState) → Ready s →
-    Follows s.limits s.level (came_in_phase s.phase (timeout_in phase)) (im_timer_expired phase s)
-timer_follows WaitIm s h = over_follows s.limits s.level _ _ refl (s.level, refl, (refl, refl))
-timer_follows WaitRm s h = record { next = s.level; levels = (refl, refl); ready = λ live. (refl, h) }
-timer_follows Open s h = record { next = s.level; levels = (refl, refl); ready = λ live. (refl, h) }
-timer_follows Over s h = record { next = s.level; levels = (refl, refl); ready = λ live. (refl, h) }
+timer_follows : (phase : SessionPhase) (s : SessionState) → Ready s →
+    Follows s.limits (level_in s.phase) (came_in_phase s.phase (timeout_in phase)) (im_timer_expired phase s)
+timer_follows WaitIm s h = over_follows s.limits (level_in s.phase) _ _ refl ((level_in s.phase), refl, (refl, refl))
+timer_follows WaitRm s h = record { next = (level_in s.phase); levels = (refl, refl); ready = λ live. (refl, h) }
+timer_follows (Open level) s h = record { next = (level_in s.phase); levels = (refl, refl); ready = λ live. (refl, h) }
+timer_follows (Over ending) s h = record { next = (level_in s.phase); levels = (refl, refl); ready = λ live. (refl, h) }
 
 event_follows : (s : SessionState) (event : Event) (v : Verdict) → is_over s.phase ≡ false → Ready s →
     IsCorrectVerdict s.limits.words s.limits.max_depth (question s event) v →
-    Follows s.limits s.level (came_in_phase s.phase (cause_at s event)) (event_outcome s event v)
+    Follows s.limits (level_in s.phase) (came_in_phase s.phase (cause_at s event)) (event_outcome s event v)
 event_follows s (Comes Bot x) v o h r =
-    let bytes = s.bot.pending ++ x ∷ [] in
-    rw o (bot_items s bytes (last_items s.limits.cap bytes) v o h (turn s.limits.cap s.bot.pending x))
+    let bytes = s.sides.bot.pending ++ x ∷ [] in
+    rw o (bot_items s bytes (last_items s.limits.cap bytes) v o h (turn s.limits.cap s.sides.bot.pending x))
 event_follows s (Comes Server x) v o h r =
-    let bytes = s.server.pending ++ x ∷ [] in
-    rw o (server_items s bytes (last_items s.limits.cap bytes) v o h (turn s.limits.cap s.server.pending x)
+    let bytes = s.sides.server.pending ++ x ∷ [] in
+    rw o (server_items s bytes (last_items s.limits.cap bytes) v o h (turn s.limits.cap s.sides.server.pending x)
     (let q = rw o at r in q))
 event_follows s (Ends side) v o h r =
-    rw o (over_follows s.limits s.level _ _ refl (s.level, refl, (refl, refl)))
+    rw o (over_follows s.limits (level_in s.phase) _ _ refl ((level_in s.phase), refl, (refl, refl)))
 event_follows s (Loses side) v o h r =
-    rw o (over_follows s.limits s.level _ _ refl (s.level, refl, (refl, refl)))
+    rw o (over_follows s.limits (level_in s.phase) _ _ refl ((level_in s.phase), refl, (refl, refl)))
 event_follows s ImTimerExpired v o h r = timer_follows s.phase s h
 
 step_follows : (s : SessionState) (event : Event) (effects : List Effect) (m : SessionState) → Transition s event effects m →
     is_over s.phase ≡ false → Ready s →
-    Follows s.limits s.level (came_in_phase s.phase (cause_at s event)) (record { state = m; effects = effects })
+    Follows s.limits (level_in s.phase) (came_in_phase s.phase (cause_at s event)) (record { state = m; effects = effects })
 step_follows s event effects m t o h =
-    subst (Follows s.limits s.level (came_in_phase s.phase (cause_at s event))) t.outcome
+    subst (Follows s.limits (level_in s.phase) (came_in_phase s.phase (cause_at s event))) t.outcome
     (event_follows s event t.verdict o h t.right)
 
 -- ---- a run
@@ -528,12 +528,12 @@ over_levels s events effects new run limits level e =
 
 pub run_levels : (s : SessionState) (events : List Event) (effects : List Effect) (new : SessionState)
     (run : Runs s events effects new) → is_over s.phase ≡ false → Ready s →
-    (queue_final : Level) × HaveLevels s.limits s.level (came_in s events effects new run) effects queue_final
-run_levels s [] effects new run o h = (s.level, (run.0, refl))
+    (queue_final : Level) × HaveLevels s.limits (level_in s.phase) (came_in s events effects new run) effects queue_final
+run_levels s [] effects new run o h = ((level_in s.phase), (run.0, refl))
 run_levels s (event ∷ events) effects new run o h =
     go (is_over run.0.phase) refl (λ e k. run_levels run.0 events run.2 new run.4 e k)
   where
-    f : Follows s.limits s.level (came_in_phase s.phase (cause_at s event)) (record { state = run.0; effects = run.1 })
+    f : Follows s.limits (level_in s.phase) (came_in_phase s.phase (cause_at s event)) (record { state = run.0; effects = run.1 })
     f = step_follows s event run.1 run.0 run.3 o h
 
     kept : run.0.limits ≡ s.limits
@@ -544,21 +544,21 @@ run_levels s (event ∷ events) effects new run o h =
     later = came_in run.0 events run.2 new run.4
 
     both : (queue_final : Level) → HaveLevels s.limits f.next later run.2 queue_final →
-        (queue_final : Level) × HaveLevels s.limits s.level (came_in s (event ∷ events) effects new run) effects queue_final
+        (queue_final : Level) × HaveLevels s.limits (level_in s.phase) (came_in s (event ∷ events) effects new run) effects queue_final
     both queue_final k = (
       queue_final,
-      subst (λ (es : List Effect). HaveLevels s.limits s.level (came_in s (event ∷ events) effects new run) es queue_final)
+      subst (λ (es : List Effect). HaveLevels s.limits (level_in s.phase) (came_in s (event ∷ events) effects new run) es queue_final)
           (sym run.5)
-          (levels_join s.limits (came_in_phase s.phase (cause_at s event)) later run.1 run.2 s.level f.next queue_final f.levels
+          (levels_join s.limits (came_in_phase s.phase (cause_at s event)) later run.1 run.2 (level_in s.phase) f.next queue_final f.levels
           k),
     )
 
     go : (b : Bool) → is_over run.0.phase ≡ b → (is_over run.0.phase ≡ false → Ready run.0 →
-        (queue_final : Level) × HaveLevels run.0.limits run.0.level later run.2 queue_final) →
-        (queue_final : Level) × HaveLevels s.limits s.level (came_in s (event ∷ events) effects new run) effects queue_final
+        (queue_final : Level) × HaveLevels run.0.limits (level_in run.0.phase) later run.2 queue_final) →
+        (queue_final : Level) × HaveLevels s.limits (level_in s.phase) (came_in s (event ∷ events) effects new run) effects queue_final
     go true e rest = both f.next (over_levels run.0 events run.2 new run.4 s.limits f.next e)
     go false e rest =
         let ready = f.ready e in
         let r = rest e ready.1 in
         both r.0 (subst (λ (l : Level). HaveLevels s.limits l later run.2 r.0) ready.0
-        (subst (λ (l : Limits). HaveLevels l run.0.level later run.2 r.0) kept r.1))
+        (subst (λ (l : Limits). HaveLevels l (level_in run.0.phase) later run.2 r.0) kept r.1))

@@ -19,12 +19,13 @@ use Rattle.daide_words.specs.Accepted.{are_accepted}
 use Rattle.daide_words.specs.Word.{grammar_words}
 use Rattle.daide_words.specs.Table.OverWords.{are_free}
 use Rattle.daide_words.proofs.AcceptedCodes.{accepted_free}
-use Rattle.daide_protocol.specs.declared.phase.Phase.{Phase}
+use Rattle.daide_protocol.specs.declared.phase.SessionPhase.{SessionPhase}
 use Rattle.daide_protocol.specs.Bounds.{longest_body}
 use Rattle.daide_protocol.specs.Answers.{answer_bytes}
-use Rattle.daide_protocol.specs.Machine.{Limits, Sent, Effect, initial_state, is_dm, level_after, reply_to}
-use Rattle.daide_protocol.specs.Machine.{side2_of}
-use Rattle.daide_protocol.specs.Wires.{same_side, frames_to, sent_to}
+use Rattle.daide_protocol.specs.Machine.{Limits, Sent, Effect, initial_state, is_dm, reply_to}
+use Rattle.daide_protocol.specs.Machine.{side2_of, level_in}
+use Rattle.daide_frame.specs.Side.{same_side}
+use Rattle.daide_protocol.specs.Wires.{frames_to, sent_to}
 use Rattle.daide_protocol.specs.Fates.{EventCause, Frame, Fault, End, Timeout, Came, came_in, frames_from, IsJudged, IsFate}
 use Rattle.daide_protocol.specs.Fates.{HaveFates}
 use Rattle.daide_protocol.specs.Passing.{IsFrame, HasCome, IsWithinPrn, IsWithinHuh, MayBeSent, no_message, passed}
@@ -36,7 +37,7 @@ use Rattle.daide_session.specs.InARow.{IsVerdictAtOneLevel, passes}
 use Rattle.daide_session.specs.Joined.{AreFirst, IsFateAtNext, HaveFatesAtNext, JoinedSessionsOver}
 use Rattle.daide_session.specs.Joined.{LevelsAgreeTowardTheBotOver}
 use Rattle.daide_session.proofs.InARowLemmas.{same_frame, no_dm, prn_next, huh_next}
-use Rattle.daide_session.proofs.LevelRuns.{IsLevelled, LevelAt, HaveLevels, run_levels, ready_first}
+use Rattle.daide_session.proofs.LevelRuns.{IsLevelled, LevelAt, HaveLevels, run_levels, ready_first, level_then}
 
 -- the cause is a message of the server
 abbrev is_message : EventCause → Bool
@@ -55,7 +56,7 @@ module _ (words : Words) (free : are_free words ≡ true) (limits : Limits) (sam
   record IsSentAt (level : Level) (bytes : List ℕ) (then : Level) : Type 0 where
     message : (body : List ℕ) (v : Verdict) → IsFrame Dm body bytes → IsJudged limits Server level body v →
         IsVerdictAtOneLevel limits all Bot body v
-        × (then ≡ level_after limits.top_level Dm Server v (tokens_of body) level)
+        × (then ≡ level_then limits.top_level v (tokens_of body) level)
     other_kind : (kind : Kind) (body : List ℕ) → is_dm kind ≡ false → IsFrame kind body bytes → then ≡ level
 
   abbrev AreSentAt : Level → List Sent → Type 0
@@ -69,7 +70,7 @@ module _ (words : Words) (free : are_free words ≡ true) (limits : Limits) (sam
 
   -- a message that the first gateway relayed at this level
   passed_at : (level : Level) (body bytes : List ℕ) → IsFrame Dm body bytes → IsJudged limits Server level body Relay →
-      IsSentAt level bytes (level_after limits.top_level Dm Server Relay (tokens_of body) level)
+      IsSentAt level bytes (level_then limits.top_level Relay (tokens_of body) level)
   passed_at level body bytes f j = record {
     message = λ body_too v g k.
         (let body_is = (same_frame Dm Dm body body_too bytes f g).1 in
@@ -78,15 +79,15 @@ module _ (words : Words) (free : are_free words ≡ true) (limits : Limits) (sam
         verdict_is_one (IsMessageOver limits.words (side2_of Server) level) limits.max_depth (tokens_of body_too) v Relay
         k relays in (
           passes v_is,
-          ap (λ (b : List ℕ). level_after limits.top_level Dm Server Relay (tokens_of b) level) body_is
-              ∙ ap (λ (w : Verdict). level_after limits.top_level Dm Server w (tokens_of body_too) level) (sym v_is),
+          ap (λ (b : List ℕ). level_then limits.top_level Relay (tokens_of b) level) body_is
+              ∙ ap (λ (w : Verdict). level_then limits.top_level w (tokens_of body_too) level) (sym v_is),
         ));
     other_kind = λ kind other_body n g. absurd (not_both_kinds kind other_body body bytes n g f);
   }
 
   -- PRN and HUH set no level
   no_hlo : (level : Level) (v : Verdict) (token : ℕ) (m : List ℕ) → (token == hlo) ≡ false →
-      level ≡ level_after limits.top_level Dm Server v (token ∷ m) level
+      level ≡ level_then limits.top_level v (token ∷ m) level
   no_hlo level Relay token m e = rw e refl
   no_hlo level Prn token m e = refl
   no_hlo level (Huh place) token m e = refl
@@ -139,7 +140,7 @@ module _ (words : Words) (free : are_free words ≡ true) (limits : Limits) (sam
           (level, quiet_at level came frame.bytes q come (h.0 (is_bot frame.to e)), more)
       go false e more = more
 
-  quiet_cause : (level next : Level) (phase : Phase) (cause : EventCause) (sent rest : List Sent) → next ≡ level →
+  quiet_cause : (level next : Level) (phase : SessionPhase) (cause : EventCause) (sent rest : List Sent) → next ≡ level →
       is_message cause ≡ false → IsGood limits.cap cause → IsFate limits phase cause sent →
       ((noted : Level) (own : List ℕ) → HasCome (record { phase = phase; cause = cause } ∷ []) Bot noted own →
       HasCome all Bot noted own) → AreSentAt next rest → AreSentAt level (frames_to Bot sent ++ rest)
@@ -152,7 +153,7 @@ module _ (words : Words) (free : are_free words ≡ true) (limits : Limits) (sam
   -- a message of the server
   message_sent : (level next noted : Level) (len : ℕ) (body : List ℕ) (v : Verdict) (rest : List Sent) →
       IsGood limits.cap (Frame Server noted (record { kind = Dm; len = len }) body) →
-      IsJudged limits Server level body v → next ≡ level_after limits.top_level Dm Server v (tokens_of body) level →
+      IsJudged limits Server level body v → next ≡ level_then limits.top_level v (tokens_of body) level →
       AreSentAt next rest →
       AreSentAt level (frames_to Bot (reply_to Server (record { kind = Dm; len = len }) body v ∷ []) ++ rest)
   unfolding answer_bytes
@@ -167,7 +168,7 @@ module _ (words : Words) (free : are_free words ≡ true) (limits : Limits) (sam
   message_sent level next noted len body (Huh place) rest good j e later =
       subst (λ (l : Level). AreSentAt l rest) e later
 
-  server_sent : (level next : Level) (phase : Phase) (noted : Level) (kind : Kind) (len : ℕ) (body : List ℕ)
+  server_sent : (level next : Level) (phase : SessionPhase) (noted : Level) (kind : Kind) (len : ℕ) (body : List ℕ)
       (sent rest : List Sent) → IsLevelled kind limits level noted (record { kind = kind; len = len }) body sent next →
       IsGood limits.cap (Frame Server noted (record { kind = kind; len = len }) body) →
       IsFate limits phase (Frame Server noted (record { kind = kind; len = len }) body) sent →
@@ -190,7 +191,7 @@ module _ (words : Words) (free : are_free words ≡ true) (limits : Limits) (sam
       quiet_cause level next phase (Frame Server noted (record { kind = Em; len = len }) body) sent rest h refl good fate
       come later
 
-  cause_sent : (level next : Level) (phase : Phase) (cause : EventCause) (sent rest : List Sent) →
+  cause_sent : (level next : Level) (phase : SessionPhase) (cause : EventCause) (sent rest : List Sent) →
       LevelAt limits level cause sent next → IsGood limits.cap cause → IsFate limits phase cause sent →
       ((noted : Level) (own : List ℕ) → HasCome (record { phase = phase; cause = cause } ∷ []) Bot noted own →
       HasCome all Bot noted own) → AreSentAt next rest → AreSentAt level (frames_to Bot sent ++ rest)
@@ -259,7 +260,7 @@ module _ (words : Words) (free : are_free words ≡ true) (limits : Limits) (sam
     (sent, first, subst (λ (l : Level). AreSentAt l sent) (at.other_kind Em body refl f ∙ sym h) later),
   )
 
-  cause_heard : (level next : Level) (phase : Phase) (cause : EventCause) (moves : List Sent) (more : List Came)
+  cause_heard : (level next : Level) (phase : SessionPhase) (cause : EventCause) (moves : List Sent) (more : List Came)
       (sent : List Sent) → LevelAt limits level cause moves next → IsGood limits.cap cause →
       AreFirst (frames_from Server (record { phase = phase; cause = cause } ∷ more)) sent → AreSentAt level sent →
       IsFateHere cause moves × RefinesOn more next
@@ -299,7 +300,7 @@ levels_agree words accepted joined limits events next_events effects next_effect
     let a = run_levels first events effects new run refl (ready_first limits) in
     let b = run_levels first next_events next_effects next_new next_run refl (ready_first limits) in
     let heard = joined limits Bot events next_events effects next_effects new next_new run next_run same small together in
-    all_heard (grammar_words words) free limits same small one first.level b.0 next next_effects (sent_to Bot effects) b.1
+    all_heard (grammar_words words) free limits same small one (level_in first.phase) b.0 next next_effects (sent_to Bot effects) b.1
     (run_good first next_events next_effects next_new next_run) heard.in_order
-    (all_sent (grammar_words words) free limits same small one first.level a.0 one effects a.1
+    (all_sent (grammar_words words) free limits same small one (level_in first.phase) a.0 one effects a.1
     (run_good first events effects new run) (run_fates first events effects new run) (λ noted own k. k))

@@ -9,13 +9,14 @@ use Rattle.daide_frame.specs.Head.{is_im}
 use Rattle.daide_frame.specs.InitialMessage.{im_of}
 use Rattle.daide_frame.specs.Frames.{FrameEvent, Begun, Whole, Wrong, last_items}
 use Rattle.daide_reader.specs.declared.verdict.Verdict.{Verdict}
-use Rattle.daide_protocol.specs.declared.phase.Phase.{Phase}
-use Rattle.daide_protocol.specs.declared.phase.Phase.TheVariants.{WaitIm, WaitRm, Open, Over}
+use Rattle.daide_protocol.specs.declared.phase.SessionPhase.{SessionPhase}
+use Rattle.daide_protocol.specs.declared.phase.SessionPhase.TheVariants.{WaitIm, WaitRm, Open, Over}
 use Rattle.daide_protocol.specs.Events.{Event, Comes, Ends, Loses, ImTimerExpired}
 use Rattle.daide_protocol.specs.Machine.{Sent, Effect, Successor, SessionState, Transition, Runs, coming, with_pending, is_over}
 use Rattle.daide_protocol.specs.Machine.{header_outcome, untimely, answered, im_answered, destination, is_sent}
 use Rattle.daide_protocol.specs.Machine.{reply_to, item_outcome, items_outcome, im_timer_expired, event_outcome}
-use Rattle.daide_protocol.specs.Wires.{same_side, sent_to}
+use Rattle.daide_frame.specs.Side.{same_side}
+use Rattle.daide_protocol.specs.Wires.{sent_to}
 use Rattle.daide_protocol.proofs.WireLemmas.{sent_to-append}
 use Rattle.daide_protocol.proofs.FramesHeard.{not_both, over_for_good, ended, lost}
 use Rattle.daide_channels.specs.Channels.{is_final_frame, has_final_frame}
@@ -130,12 +131,12 @@ step_sends s ImTimerExpired effects m t o p =
     subst NoEnd (ap (λ (q : Successor). q.effects) t.outcome)
     (timer s.phase s (ap (λ (q : Successor). is_over q.state.phase) t.outcome ∙ p))
   where
-    timer : (phase : Phase) (s : SessionState) → is_over (im_timer_expired phase s).state.phase ≡ false →
+    timer : (phase : SessionPhase) (s : SessionState) → is_over (im_timer_expired phase s).state.phase ≡ false →
         NoEnd (im_timer_expired phase s).effects
     timer WaitIm s q wire = absurd (cc)
     timer WaitRm s q wire = refl
-    timer Open s q wire = refl
-    timer Over s q wire = refl
+    timer (Open level) s q wire = refl
+    timer (Over ending) s q wire = refl
 
 pub run_sends : (s : SessionState) (events : List Event) (effects : List Effect) (new : SessionState) →
     Runs s events effects new → is_over new.phase ≡ false → NoEnd effects

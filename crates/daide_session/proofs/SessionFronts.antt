@@ -4,10 +4,10 @@ use Rattle.std.proofs.Common.{arith}
 use Rattle.std.proofs.lemmas.Bool.Decides.{nat_tests}
 use Rattle.daide_frame.specs.declared.side.Side.{Side}
 use Rattle.daide_frame.specs.declared.side.Side.TheVariants.{Bot, Server}
-use Rattle.daide_protocol.specs.Events.{other}
+use Rattle.daide_frame.specs.Side.{other}
 use Rattle.daide_protocol.specs.Machine.{Sent}
 use Rattle.daide_protocol.specs.Wires.{SessionView, IsFrontOf, frames_to, no_frame, parts_of}
-use Rattle.daide_channels.specs.PerSide.{PerSide, at, put}
+use Rattle.daide_frame.specs.PerSide.{PerSide, at, put}
 use Rattle.daide_channels.specs.Fronts.{AreFresh, ArePartsKept, KeepsFront, KeepsFronts}
 use Rattle.daide_channels.specs.Channels.{Channels, posted}
 use Rattle.daide_channels.proofs.FrontsKept.{fronts_stay}
@@ -72,8 +72,7 @@ gateway_stays g side = record {
 }
 
 pub parts_at : (t : Channels) (s : ProtocolState) (side : Side) → parts_of (view_of t s) side ≡ at t.parts side
-parts_at t s Bot = refl
-parts_at t s Server = refl
+parts_at t s side = refl
 
 pub fronts_seen : (t u : Channels) (s r : ProtocolState) → KeepsFronts t u → (side : Side) →
     KeepsFront (view_of t s) side (view_of u r)

@@ -14,13 +14,13 @@ use Rattle.daide_grammar.specs.Level.{level_of_number}
 use Rattle.daide_reader.specs.declared.verdict.Verdict.TheVariants.{Relay}
 use Rattle.daide_protocol.specs.declared.note.Note.{Note}
 use Rattle.daide_protocol.specs.declared.note.Note.TheVariants as Notes
-use Rattle.daide_protocol.specs.declared.phase.Phase.TheVariants.{WaitIm}
-use Rattle.daide_protocol.specs.Events.{Event, ImTimerExpired, other}
+use Rattle.daide_protocol.specs.declared.phase.SessionPhase.TheVariants.{WaitIm}
+use Rattle.daide_frame.specs.Side.{other}
+use Rattle.daide_protocol.specs.Events.{Event, ImTimerExpired}
 use Rattle.daide_protocol.specs.Machine.{Sent, Successor, SessionState, Question, Runs, IsCorrectVerdict, question, coming}
 use Rattle.daide_protocol.specs.Machine.{is_over, fault, im_timer_expired, event_outcome, initial_state}
-use Rattle.daide_protocol.specs.Wires.{SessionView, queued, sent_to, note_of, without, IsNew, Refines, Wrote}
+use Rattle.daide_protocol.specs.Wires.{SessionView, queued, sent_to, note_of, without, IsNew, Refines, Wrote, Holding, holding}
 use Rattle.daide_protocol.proofs.FramesHeard.{not_both, over_for_good, run_waits}
-use Rattle.daide_protocol.proofs.EndingLemmas.{IsTold, runs_reported}
 use Rattle.daide_protocol.specs.declared.ending.Ending.{Ending}
 use Rattle.daide_protocol.specs.declared.summary.Summary.{Summary}
 use Rattle.daide_protocol.specs.Summary.{nothing_counted}
@@ -29,12 +29,13 @@ use Rattle.daide_protocol.specs.declared.config.Config.{Config}
 use Rattle.daide_words.specs.declared.word.Word.{Word}
 use Rattle.daide_words.specs.Word.{grammar_words}
 use Rattle.daide_channels.specs.Receiver.{ReaderLimits}
-use Rattle.daide_channels.specs.Channels.{Channels, IsQuiet, is_final_frame, has_final_frame}
+use Rattle.daide_channels.specs.Channels.{Channels, IsQuiet, is_final_frame, has_final_frame, side_holding}
 use Rattle.daide_protocol.specs.Config.{limits_with}
 use Rattle.daide_session.specs.Session.{IsConsistentSession, state_of, view_of, Dropped}
 use Rattle.daide_session.specs.FrameEvents.{Emits, stopped}
 use Rattle.daide_session.proofs.EmitsLemmas.{waiting_at}
 use Rattle.daide_session.proofs.OpenRuns.{run_sends, has_final_frame-append}
+use Rattle.daide_session.proofs.FrameEventsLemmas.{holding_at}
 
 -- ---- one event
 
@@ -94,7 +95,6 @@ standing_on g n events reported goes standing = record {
   wanted = λ live. run_waits g.state events goes.effects n.state goes.run live (standing.wanted (before live));
   no_end = λ live wire. rw (goes.kept wire) (has_final_frame-append (queued g wire) (sent_to wire goes.effects)
       (standing.no_end (before live) wire) (run_sends g.state events goes.effects n.state goes.run live wire));
-  ending = runs_reported g.state events goes.effects n.state goes.run standing.ending;
 }
   where
     before : is_over n.state.phase ≡ false → is_over g.state.phase ≡ false
@@ -105,11 +105,10 @@ standing_on g n events reported goes standing = record {
         go true e = absurd (not_both (is_over n.state.phase)
             (over_for_good g.state events goes.effects n.state goes.run e) live)
 
-pub standing_over : (g : SessionView) → is_over g.state.phase ≡ true → IsTold g.state → IsConsistentSession g
-standing_over g over reported = record {
+pub standing_over : (g : SessionView) → is_over g.state.phase ≡ true → IsConsistentSession g
+standing_over g over = record {
   wanted = λ live. absurd (not_both (is_over g.state.phase) over live);
   no_end = λ live. absurd (not_both (is_over g.state.phase) over live);
-  ending = reported;
 }
 
 has_final_frame-without : (n : ℕ) (xs : List Sent) → has_final_frame xs ≡ false → has_final_frame (without n xs) ≡ false
@@ -128,7 +127,6 @@ pub standing_wrote : (g n : SessionView) (side : Side) (k : ℕ) → Wrote g sid
 standing_wrote g n side k w standing = record {
   wanted = λ live. rw w.same_state (standing.wanted (before live));
   no_end = λ live wire. by_wire side wire w.taken w.other_wire (standing.no_end (before live));
-  ending = subst IsTold (sym w.same_state) standing.ending;
 }
   where
     before : is_over n.state.phase ≡ false → is_over g.state.phase ≡ false
@@ -146,7 +144,6 @@ pub standing_dropped : (g n : SessionView) (side : Side) → Dropped g side n �
 standing_dropped g n side d standing = record {
   wanted = λ live. rw d.same_state (standing.wanted (before live));
   no_end = λ live wire. by_wire side wire d.dropped d.other_wire (standing.no_end (before live));
-  ending = subst IsTold (sym d.same_state) standing.ending;
 }
   where
     before : is_over n.state.phase ≡ false → is_over g.state.phase ≡ false
@@ -165,7 +162,7 @@ standing_dropped g n side d standing = record {
 -- nothing received, and nothing counted
 abbrev new_protocol : Level → Summary → ProtocolState
 new_protocol level counts =
-    record { top_level = level; phase = WaitIm; level = L0; ending = None; summary = counts }
+    record { top_level = level; phase = WaitIm; summary = counts }
 
 quiet_state : (cap : ℕ) (rules : ReaderLimits) (t : Channels) (level : Level) (counts : Summary) → IsQuiet cap rules t →
     state_of t (new_protocol level counts)
@@ -188,13 +185,15 @@ new_of config words t level counts q e none = record {
         max_depth = config.max_depth;
         words = grammar_words words;
       })) e;
-  to_bot = q.queued Bot;
-  to_server = q.queued Server;
-  held = (q.held Bot, q.held Server);
-  unasked = (q.unasked Bot, q.unasked Server);
-  unlooked = (q.unlooked Bot, q.unlooked Server);
+  quiet = q.queued;
+  held = λ side. ap (λ (h : Holding). h.held) (seen side) ∙ q.held side;
+  unasked = λ side. ap (λ (h : Holding). h.total) (seen side) ∙ q.unasked side;
+  unlooked = λ side. ap (λ (h : Holding). h.looked_at) (seen side) ∙ q.unlooked side;
   uncounted = none;
 }
+  where
+    seen : (side : Side) → holding (view_of t (new_protocol level counts)) side ≡ side_holding t side
+    seen side = holding_at t (new_protocol level counts) side
 
 pub standing_new : (cap : ℕ) (rules : ReaderLimits) (t : Channels) (level : Level) (counts : Summary) → IsQuiet cap rules t →
     IsConsistentSession (view_of t (new_protocol level counts))
@@ -202,7 +201,6 @@ standing_new cap rules t level counts q = record {
   wanted = λ live side. subst (λ (s : SessionState). 0 < missing s.limits.cap (coming s side).pending)
       (sym (quiet_state cap rules t level counts q)) (by_side side);
   no_end = λ live wire. ap has_final_frame (waiting_at t (new_protocol level counts) wire ∙ q.queued wire);
-  ending = refl;
 }
   where
     by_side : (side : Side) → 0 < missing cap (coming (initial_state

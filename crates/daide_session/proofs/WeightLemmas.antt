@@ -13,7 +13,7 @@ use Rattle.daide_reader.proofs.BodyLemmas.{tokens_of-length}
 use Rattle.daide_protocol.specs.Wires.{Holding, queued, is_awaited, is_dm_head}
 use Rattle.daide_protocol.specs.Weight.{tokens_held, direction_bound, weight_of, weight_bound, steps_bound, IsTied}
 use Rattle.daide_session.specs.declared.protocol_state.ProtocolState.{ProtocolState}
-use Rattle.daide_channels.specs.PerSide.{at}
+use Rattle.daide_frame.specs.PerSide.{at}
 use Rattle.daide_channels.specs.Channels.{Channels, pending}
 use Rattle.daide_session.specs.Session.{view_of}
 use Rattle.daide_session.proofs.FrameEventsLemmas.{holding_at}
@@ -94,8 +94,3 @@ steps_few t s side steps few =
     subst (λ (h : Holding).
     steps ≤ 4 * length (tokens_held t.cap h.held) + cond (is_awaited (queued (view_of t s)) side) 4 0)
     (sym (holding_at t s side)) few
-
--- a statement that holds for both sides holds for each side
-pub on_both : (P : Side → Type 0) → P Bot → P Server → (side : Side) → P side
-on_both P bot server Bot = bot
-on_both P bot server Server = server

@@ -63,8 +63,7 @@ paid_held a b limits same Server = paid_same Server a b limits same.1
 
 pub paid_freed : (a b : SessionView) → b.state.limits ≡ a.state.limits → AsksNothing a b → HoldsNoMore a b →
     (side : Side) → IsPaidBy 0 side a b
-paid_freed a b limits asked held Bot = paid_idle Bot a b limits asked.0 (held Bot)
-paid_freed a b limits asked held Server = paid_idle Server a b limits asked.1 (held Server)
+paid_freed a b limits asked held side = paid_idle side a b limits (asked side) (held side)
 
 -- ---- one part of a run after another
 

@@ -8,15 +8,16 @@ use Rattle.daide_frame.specs.declared.side.Side.TheVariants.{Bot, Server}
 use Rattle.daide_protocol.specs.declared.note.Note.TheVariants as Notes
 use Rattle.daide_protocol.specs.declared.ending.Ending.{Ending}
 use Rattle.daide_protocol.specs.declared.ending.Ending.TheVariants as Endings
-use Rattle.daide_protocol.specs.Events.{Loses, other}
+use Rattle.daide_frame.specs.Side.{other, same_side}
+use Rattle.daide_protocol.specs.Events.{Loses}
 use Rattle.daide_protocol.specs.Machine.{Sent, SessionState, Runs, is_over, fm_to, may_reach}
-use Rattle.daide_protocol.specs.Wires.{Holding, holding, is_answer, has_answer, is_awaited, queued, same_side}
+use Rattle.daide_protocol.specs.Wires.{Holding, holding, is_answer, has_answer, is_awaited, queued}
 use Rattle.daide_protocol.specs.Wires.{frames_to, sent_to, sent_bytes, without, Refines, Lost, Wrote, Releases}
 use Rattle.daide_session.specs.declared.protocol_state.ProtocolState.{ProtocolState}
-use Rattle.daide_channels.specs.PerSide.{PerSide, at, put}
+use Rattle.daide_frame.specs.PerSide.{PerSide, at, put}
 use Rattle.daide_channels.specs.Channels.{Channels, ReceiveState}
 use Rattle.daide_channels.specs.Channels.{ReleasesFrames as ReleasesChannels}
-use Rattle.daide_channels.proofs.PerSideLemmas.{at_put, put_there}
+use Rattle.daide_frame.proofs.PerSideLemmas.{at_put, put_there, on_both}
 use Rattle.daide_channels.proofs.FrontsKept.{fronts_stay}
 use Rattle.daide_session.specs.Session.{state_of, view_of, Dropped}
 use Rattle.daide_session.specs.Work.{HoldsNoMore}
@@ -141,8 +142,10 @@ dropped_of t v s side l wait parts = record {
       ∙ (put_there t.queued side [] ∙ sym (waiting_at t s (other side))));
   other_front = other_front t t v s s side [] (fronts_stay t) wait parts;
   held = lets_go t t v s s (λ one. refl) refl l;
-  asks_nothing = (l.total Bot, l.total Server);
-  looks_at_nothing = (l.looked_at Bot, l.looked_at Server);
+  asks_nothing = on_both (λ (side : Side). (holding (view_of v s) side).total ≡ (holding (view_of t s) side).total)
+      (l.total Bot) (l.total Server);
+  looks_at_nothing = on_both (λ (side : Side). (holding (view_of v s) side).looked_at ≡ (holding (view_of t s) side).looked_at)
+      (l.looked_at Bot) (l.looked_at Server);
 }
 
 pub lost_of : (t u v : Channels) (s r : ProtocolState) (side : Side) →

@@ -9,7 +9,7 @@ pub record IsWithinBounds (g : SessionView) : Type 0 where
   -- plus sixteen
   pub each_direction : (side : Side) → IsKeptSmall g.state.limits.cap (holding g side)
   -- 64 further entries in all
-  pub further : length g.to_bot + length g.to_server ≤ 64
+  pub further : length g.wires.bot + length g.wires.server ≤ 64
   pub weight : weight_of g ≤ weight_bound g
   -- four table steps a token, and four at its end
   pub steps : (side : Side) → steps_of (holding g side) ≤ steps_bound g side

@@ -12,12 +12,12 @@ use Rattle.daide_reader.specs.Reading.{IsRaised}
 use Rattle.daide_protocol.specs.declared.note.Note.{Note}
 use Rattle.daide_protocol.specs.declared.note.Note.TheVariants as Notes
 use Rattle.daide_protocol.specs.declared.ending.Ending.{Ending}
-use Rattle.daide_protocol.specs.Events.{other}
-use Rattle.daide_protocol.specs.Machine.{SessionState, Successor, IsCorrectVerdict, asked_by, items_outcome, is_over, nothing, end}
+use Rattle.daide_frame.specs.Side.{other}
+use Rattle.daide_protocol.specs.Machine.{SessionState, Successor, IsCorrectVerdict, asked_by, items_outcome, is_over, level_in, nothing, end}
 use Rattle.daide_protocol.specs.Summary.{tallied}
 use Rattle.daide_protocol.specs.Wires.{SessionView, Holding, queued, holding, sent_to, note_of, held_after, is_dm_head}
 use Rattle.daide_session.specs.declared.protocol_state.ProtocolState.{ProtocolState}
-use Rattle.daide_channels.specs.PerSide.{at}
+use Rattle.daide_frame.specs.PerSide.{at}
 use Rattle.daide_channels.specs.Channels.{Channels, Keeps, IsStarted}
 
 -- The session made the moves of an outcome: its state, its frames appended to the queues, and its moves counted.
@@ -67,7 +67,7 @@ pub record StartsMessage (side : Side) (old : Channels) (protocol : ProtocolStat
   pub keeps : Keeps side old new
   pub queued : new.queued ≡ old.queued
   pub fronts : new.parts ≡ old.parts
-  pub started : IsStarted (at old.sides side) protocol.level (at new.sides side)
+  pub started : IsStarted (at old.sides side) (level_in protocol.phase) (at new.sides side)
 
 -- The session handled the frame events that end with a side's last byte.
 pub record HandlesFrameEvents (old : SessionView) (side : Side) (items : List FrameEvent) (reported : Note) (new : SessionView) : Type 0 where

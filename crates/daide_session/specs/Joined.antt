@@ -12,7 +12,8 @@ use Rattle.daide_words.specs.declared.word.Word.{Word}
 use Rattle.daide_words.specs.Accepted.{are_accepted}
 use Rattle.daide_words.specs.Word.{grammar_words}
 use Rattle.daide_protocol.specs.Bounds.{longest_body}
-use Rattle.daide_protocol.specs.Events.{Event, other}
+use Rattle.daide_frame.specs.Side.{other}
+use Rattle.daide_protocol.specs.Events.{Event}
 use Rattle.daide_protocol.specs.Machine.{Limits, SessionState, Sent, Effect, Runs, initial_state, reply_to}
 use Rattle.daide_protocol.specs.Wires.{sent_to, sent_bytes}
 use Rattle.daide_protocol.specs.Heard.{bytes_from}

@@ -1,13 +1,10 @@
 -- The abstraction function of a session, and its invariant between calls.
-use Rattle.std.specs.Prelude.{◌≡◌, ℕ, ◌<◌, [], false, is_some, Ok, Err}
+use Rattle.std.specs.Prelude.{◌≡◌, ℕ, ◌<◌, [], false, Ok, Err}
 use Rattle.daide_frame.specs.declared.side.Side.{Side}
+use Rattle.daide_frame.specs.PerSide.{both}
 use Rattle.daide_frame.specs.Frames.{missing}
-use Rattle.daide_grammar.specs.declared.level.Level.{Level}
-use Rattle.daide_grammar.specs.declared.level.Level.TheVariants.{L0}
-use Rattle.daide_protocol.specs.declared.phase.Phase.{Phase}
-use Rattle.daide_protocol.specs.declared.phase.Phase.TheVariants.{WaitIm, WaitRm, Open, Over}
 use Rattle.daide_protocol.specs.Machine.{SessionState, coming, is_over}
-use Rattle.daide_protocol.specs.Events.{other}
+use Rattle.daide_frame.specs.Side.{other}
 use Rattle.daide_protocol.specs.Wires.{SessionView, queued, Releases, AsksNothing, LooksAtNothing}
 use Rattle.daide_protocol.specs.declared.config.Config.{Config}
 use Rattle.daide_session.specs.declared.session.SessionError.{SessionError}
@@ -30,41 +27,27 @@ state_of t protocol = record {
     words = t.rules.words;
   };
   phase = protocol.phase;
-  level = protocol.level;
-  ending = protocol.ending;
-  bot = t.sides.bot.coming;
-  server = t.sides.server.coming;
+  sides = both t.sides.bot.coming t.sides.server.coming;
 }
 
 -- that state, the queued frames for each wire, the held bytes from each side, and the counts
 abbrev pub view_of : Channels → ProtocolState → SessionView
 view_of t protocol = record {
   state = state_of t protocol;
-  to_bot = t.queued.bot;
-  to_server = t.queued.server;
-  bot_parts = t.parts.bot;
-  server_parts = t.parts.server;
-  bot = t.sides.bot.holding;
-  server = t.sides.server.holding;
+  wires = t.queued;
+  parts = t.parts;
+  sides = both t.sides.bot.holding t.sides.server.holding;
   summary = protocol.summary;
 }
-
--- the level in the phase Open, level 0 in every other phase
-abbrev pub level_in : Phase → Level → Level
-level_in WaitIm level = L0
-level_in WaitRm level = L0
-level_in Open level = level
-level_in Over level = L0
 
 -- ---- between calls
 
 -- While a session is not over, each side's next frame lacks bytes, so no whole frame is held unanswered; and no queued
--- frame ends the session. The ending is known exactly if the session is over.
+-- frame ends the session.
 pub record IsConsistentSession (g : SessionView) : Type 0 where
   pub wanted : is_over g.state.phase ≡ false → (side : Side) →
       0 < missing g.state.limits.cap (coming g.state side).pending
   pub no_end : is_over g.state.phase ≡ false → (wire : Side) → has_final_frame (queued g wire) ≡ false
-  pub ending : is_some g.state.ending ≡ is_over g.state.phase
 
 -- ---- what is dropped
 

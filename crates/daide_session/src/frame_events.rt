@@ -8,7 +8,7 @@ ghost use Rattle.daide_frame.specs.declared.cutter.Step.TheVariants.{Headed, Bod
 ghost use Rattle.daide_frame.specs.Frames.{Begun, Whole, head_in, items_of_step, IsWholeBody};
 ghost use Rattle.daide_protocol.specs.Machine.{untimely as untimely_code, is_over as is_over_phase};
 ghost use Rattle.daide_protocol.specs.Wires.{is_awaited};
-ghost use Rattle.daide_channels.specs.PerSide.{at};
+ghost use Rattle.daide_frame.specs.PerSide.{at};
 ghost use Rattle.daide_channels.specs.Fronts.{KeepsFronts};
 ghost use Rattle.daide_channels.specs.Channels.{pending, side_holding, has_final_frame};
 ghost use Rattle.daide_session.specs.Session.{view_of};
@@ -20,12 +20,11 @@ use daide_frame::code::Code;
 use daide_frame::cutter::Step;
 use daide_frame::head::{Head, Kind};
 use daide_frame::initial_message::check_im;
-use daide_frame::side::Side;
-use daide_grammar::level::Level;
+use daide_frame::side::{Side, other};
+use daide_protocol::hlo::LvlScan;
 use daide_protocol::note::{Deed, Note};
-use daide_protocol::transitions::{
-    deed_of, ending_after, is_sent, level_after, other, phase_after, untimely,
-};
+use daide_protocol::transitions::{deed_of, is_sent, untimely};
+use daide_reader::Verdict;
 use std::alloc::Allocator;
 
 /// Checks the body of a whole frame: an IM must have the protocol's magic number and version.
@@ -65,7 +64,7 @@ fn begin<A: Allocator>(
     if let Some(code) = untimely(protocol.phase, side, head.kind) {
         return fail(channels, protocol, side, code);
     }
-    channels.begin(side, protocol.level);
+    channels.begin(side, protocol.phase.level());
     Note::Nothing
 }
 
@@ -90,22 +89,23 @@ fn answer<A: Allocator>(
     // Only an FM or EM can be unsent here, and both are relayed.
     if !is_sent(protocol.phase, head.kind, other(side)) {
         channels.clear(side);
-        protocol.phase = phase_after(head.kind, protocol.phase);
-        protocol.level = Level::L0;
-        protocol.ending = ending_after(head.kind, side, protocol.ending);
+        protocol.phase = protocol.phase.after(
+            protocol.top_level,
+            head.kind,
+            side,
+            Verdict::Relay,
+            LvlScan::NoToken,
+        );
         return Note::Frame(head, Deed::Dropped);
     }
     let verdict = channels.reply(side, head);
-    protocol.level = level_after(
+    protocol.phase = protocol.phase.after(
         protocol.top_level,
         head.kind,
         side,
         verdict,
         channels.found(side),
-        protocol.level,
     );
-    protocol.phase = phase_after(head.kind, protocol.phase);
-    protocol.ending = ending_after(head.kind, side, protocol.ending);
     let note = Note::Frame(head, deed_of(true, verdict));
     protocol.summary.count(note);
     note

@@ -11,5 +11,5 @@ pub mod laws;
 mod protocol_state;
 pub mod session;
 
-pub use daide_protocol::config::{Config, ConfigError};
+pub use daide_protocol::config::{Config, ConfigError, SessionLimits};
 pub use session::{Deed, Ending, Note, Phase, Session, SessionError};

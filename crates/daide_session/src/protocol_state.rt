@@ -1,17 +1,16 @@
 //! The protocol state of a session, and how the session ends: by a side's fault, or by a side's end.
 //!
-//! Only this module and `frame_events` change the phase or the level, and count moves.
+//! Only this module and `frame_events` change the phase, and count moves.
 
-ghost use Rattle.std.specs.Prelude.{◌≡◌, ◌++◌, false, Some};
+ghost use Rattle.std.specs.Prelude.{◌≡◌, ◌++◌, false};
 ghost use Rattle.daide_frame.specs.declared.side.Side.{Side};
-ghost use Rattle.daide_grammar.specs.declared.level.Level.TheVariants.{L0};
 ghost use Rattle.daide_protocol.specs.declared.ending.Ending.TheVariants as Endings;
-ghost use Rattle.daide_protocol.specs.declared.phase.Phase.TheVariants.{Over};
+ghost use Rattle.daide_protocol.specs.declared.phase.SessionPhase.TheVariants.{Over};
 ghost use Rattle.daide_protocol.specs.declared.note.Note.TheVariants as Notes;
-ghost use Rattle.daide_protocol.specs.Events.{other as other_side};
+ghost use Rattle.daide_frame.specs.Side.{other as other_side};
 ghost use Rattle.daide_protocol.specs.Machine.{fault, fm_to, is_over as is_over_phase};
 ghost use Rattle.daide_protocol.specs.Wires.{frames_to};
-ghost use Rattle.daide_channels.specs.PerSide.{at};
+ghost use Rattle.daide_frame.specs.PerSide.{at};
 ghost use Rattle.daide_channels.specs.Channels.{has_final_frame};
 ghost use Rattle.daide_channels.specs.Fronts.{KeepsFronts};
 ghost use Rattle.daide_session.specs.Session.{state_of, view_of, IsConsistentSession};
@@ -19,27 +18,22 @@ ghost use Rattle.daide_session.specs.FrameEvents.{Emits, KeepsSides, stopped};
 
 use daide_channels::channels::Channels;
 use daide_frame::code::Code;
-use daide_frame::side::Side;
+use daide_frame::side::{Side, other};
 use daide_grammar::level::Level;
 use daide_protocol::ending::Ending;
 use daide_protocol::note::Note;
-use daide_protocol::phase::Phase;
+use daide_protocol::phase::SessionPhase;
 use daide_protocol::summary::Summary;
-use daide_protocol::transitions::{may_reach, other};
+use daide_protocol::transitions::may_reach;
 use std::alloc::Allocator;
 
-/// The phase of a session, its level of press, the highest level that an HLO may set, the event that ended it, and its
-/// counted moves.
+/// The phase of a session with its level or its ending, the highest level that an HLO may set, and its counted moves.
 #[derive(Clone, Copy, Debug, PartialEq, Eq)]
 pub struct ProtocolState {
     /// The highest level that an HLO may set.
     pub top_level: Level,
     /// The phase of the session.
-    pub phase: Phase,
-    /// The level of press in the phase Open; level 0 in every other phase.
-    pub level: Level,
-    /// The event that ended the session; `None` unless the phase is Over.
-    pub ending: Option<Ending>,
+    pub phase: SessionPhase,
     /// The counted moves of the session.
     pub summary: Summary,
 }
@@ -48,7 +42,7 @@ impl ProtocolState {
     pub fn is_over(&self) -> bool
         ensures { result ≡ is_over_phase self.now.phase }
     {
-        self.phase == Phase::Over
+        self.phase.is_over()
     }
 }
 
@@ -62,9 +56,7 @@ fn terminate<A: Allocator>(
     requires { has_final_frame (at channels.old.queued (other_side side)) ≡ false }
     ensures protocol { protocol.new ≡ record {
       top_level = protocol.old.top_level;
-      phase = Over;
-      level = L0;
-      ending = Some ending;
+      phase = Over ending;
       summary = protocol.old.summary;
     } }
     ensures keeps { KeepsSides channels.old channels.new }
@@ -75,9 +67,7 @@ fn terminate<A: Allocator>(
     if may_reach(protocol.phase, other(side)) {
         channels.queue_final(other(side), None);
     }
-    protocol.phase = Phase::Over;
-    protocol.level = Level::L0;
-    protocol.ending = Some(ending);
+    protocol.phase = SessionPhase::Over(ending);
 }
 
 /// Handles a side's end, by its stream or its wire. Has no effect if the session is over.

@@ -453,7 +453,8 @@ fn hub_in<'a>(
         ..WIDEST
     };
     if has_words {
-        return Hub::with_words(heap, config, 2, two_words());
+        let limits = config.limits().map_err(HubError::Config)?;
+        return Hub::with_limits(heap, limits, 2, two_words()).map_err(|_| HubError::Memory);
     }
     Hub::new(heap, config, 2)
 }

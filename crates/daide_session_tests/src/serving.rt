@@ -11,7 +11,6 @@ use daide_frame::side::Side::{Bot, Server};
 use daide_gate::serving::{ServeFault, serve};
 use daide_gate::settings::{Settings, read_settings};
 use daide_gate::system::{Cause, Connect, Notice, SessionEnd, System};
-use daide_protocol::config::ConfigError;
 use daide_protocol::ending::Ending;
 use daide_test_support::memory_ports::{Acceptance, MemoryPorts, Script, ScriptedRead};
 use daide_test_support::rows::{holds, same};
@@ -32,6 +31,8 @@ enum Fate {
 #[derive(Clone, Copy, PartialEq, Eq)]
 enum Event {
     Begun,
+    News,
+    NoNews,
     TurnBegun,
     Came,
     NoneCame,
@@ -40,15 +41,16 @@ enum Event {
     Pending,
     Retired,
     ParsedEvent(Notice),
-    Waited(bool),
+    Waited,
 }
 
 /// The script of a run. After the last accept each further one returns a bot; after the last fate each connect
-/// succeeds.
+/// succeeds; after the last report there is news each time.
 #[derive(Clone, Copy)]
 struct Scene {
     accepts: &'static [bool],
     fates: &'static [Fate],
+    news: &'static [bool],
     bot: Script<'static>,
 }
 
@@ -59,6 +61,7 @@ struct Harness {
     scene: Scene,
     accepts: usize,
     fates: usize,
+    news: usize,
     /// The number of bots that are connected, and the greatest number of them so far.
     held: usize,
     most: usize,
@@ -76,6 +79,7 @@ impl Harness {
             scene,
             accepts: 0,
             fates: 0,
+            news: 0,
             held: 0,
             most: 0,
             events: Vec::new(alloc),
@@ -97,6 +101,13 @@ impl System<MemoryPorts<'static>> for Harness {
 
     fn begin_round(&mut self) {
         self.note(Event::Begun);
+    }
+
+    fn has_news(&mut self, _ports: &MemoryPorts<'static>) -> bool {
+        let news = self.scene.news.get(self.news).is_none_or(|news| *news);
+        self.news = self.news.saturating_add(1);
+        self.note(if news { Event::News } else { Event::NoNews });
+        news
     }
 
     fn begin_turn(&mut self, ports: &mut MemoryPorts<'static>) {
@@ -152,8 +163,8 @@ impl System<MemoryPorts<'static>> for Harness {
         self.note(Event::ParsedEvent(notice));
     }
 
-    fn wait(&mut self, accepts: bool) {
-        self.note(Event::Waited(accepts));
+    fn wait(&mut self) {
+        self.note(Event::Waited);
     }
 }
 
@@ -179,6 +190,7 @@ const OPENS_ALONE: Script<'static> = Script {
 const ENDING: Scene = Scene {
     accepts: &[],
     fates: &[],
+    news: &[],
     bot: ENDS,
 };
 
@@ -188,11 +200,11 @@ type Limits = (usize, u32, u64);
 /// Returns settings with these limits.
 fn settings(alloc: Global, limits: Limits) -> Result<Settings, Fail> {
     let (max_sessions, sessions, turns) = limits;
-    let mut settings = read_settings(alloc, "listen = \"a\"\nserver = \"b\"\nmax_body = 512\n")?;
-    settings.max_sessions = max_sessions;
-    settings.sessions = sessions;
-    settings.turns = turns;
-    Ok(settings)
+    let text = format!(in alloc;
+        "listen = \"a\"\nserver = \"b\"\nmax_body = 512
+        max_sessions = {max_sessions}\nsessions = {sessions}\nturns = {turns}\n"
+    )?;
+    Ok(read_settings(alloc, text.as_str())?)
 }
 
 /// A scene | its limits | the calls of the system.
@@ -202,19 +214,20 @@ const RUNS: &[(Scene, Limits, &[Event])] = &[
         Scene {
             accepts: &[false],
             fates: &[Fate::Pending, Fate::Pending],
+            news: &[],
             bot: ENDS,
         },
         (16, 1, 9),
         &[
             Event::Begun,
             Event::NoneCame,
-            Event::Waited(true),
+            Event::Waited,
             Event::Begun,
             Event::Came,
             Event::Pending,
             Event::Begun,
             Event::Pending,
-            Event::Waited(false),
+            Event::Waited,
             Event::Begun,
             Event::Ready,
             Event::TurnBegun,
@@ -226,6 +239,7 @@ const RUNS: &[(Scene, Limits, &[Event])] = &[
         Scene {
             accepts: &[],
             fates: &[Fate::Failed],
+            news: &[],
             bot: ENDS,
         },
         (1, 1, 9),
@@ -241,6 +255,7 @@ const RUNS: &[(Scene, Limits, &[Event])] = &[
         Scene {
             accepts: &[],
             fates: &[],
+            news: &[],
             bot: ENDS_LATER,
         },
         (1, 2, 9),
@@ -250,6 +265,7 @@ const RUNS: &[(Scene, Limits, &[Event])] = &[
             Event::Ready,
             Event::TurnBegun,
             Event::Begun,
+            Event::News,
             Event::TurnBegun,
             Event::Retired,
             Event::Begun,
@@ -257,6 +273,7 @@ const RUNS: &[(Scene, Limits, &[Event])] = &[
             Event::Ready,
             Event::TurnBegun,
             Event::Begun,
+            Event::News,
             Event::TurnBegun,
             Event::Retired,
         ],
@@ -266,6 +283,7 @@ const RUNS: &[(Scene, Limits, &[Event])] = &[
         Scene {
             accepts: &[],
             fates: &[Fate::Pending, Fate::Pending, Fate::Failed],
+            news: &[],
             bot: ENDS,
         },
         (1, 2, 9),
@@ -275,7 +293,7 @@ const RUNS: &[(Scene, Limits, &[Event])] = &[
             Event::Pending,
             Event::Begun,
             Event::Pending,
-            Event::Waited(false),
+            Event::Waited,
             Event::Begun,
             Event::Failed,
             Event::ParsedEvent(Notice::CannotReach),
@@ -291,6 +309,7 @@ const RUNS: &[(Scene, Limits, &[Event])] = &[
         Scene {
             accepts: &[],
             fates: &[Fate::Pending],
+            news: &[],
             bot: ENDS_LATER,
         },
         (2, 2, 9),
@@ -304,10 +323,12 @@ const RUNS: &[(Scene, Limits, &[Event])] = &[
             Event::TurnBegun,
             Event::Begun,
             Event::Ready,
+            Event::News,
             Event::TurnBegun,
             Event::TurnBegun,
             Event::Retired,
             Event::Begun,
+            Event::News,
             Event::TurnBegun,
             Event::Retired,
         ],
@@ -317,6 +338,7 @@ const RUNS: &[(Scene, Limits, &[Event])] = &[
         Scene {
             accepts: &[],
             fates: &[],
+            news: &[],
             bot: QUIET,
         },
         (1, 1, 3),
@@ -326,13 +348,76 @@ const RUNS: &[(Scene, Limits, &[Event])] = &[
             Event::Ready,
             Event::TurnBegun,
             Event::Begun,
+            Event::News,
             Event::TurnBegun,
-            Event::Waited(false),
+            Event::Waited,
             Event::Begun,
+            Event::News,
             Event::TurnBegun,
-            Event::Waited(false),
+            Event::Waited,
             Event::Begun,
+            Event::News,
             Event::ParsedEvent(Notice::TurnsSpent),
+            Event::Retired,
+        ],
+    ),
+    // without news a session whose last turn made no progress has no turn, and uses none of its quota
+    (
+        Scene {
+            accepts: &[],
+            fates: &[],
+            news: &[false, false],
+            bot: QUIET,
+        },
+        (1, 1, 2),
+        &[
+            Event::Begun,
+            Event::Came,
+            Event::Ready,
+            Event::TurnBegun,
+            Event::Begun,
+            Event::NoNews,
+            Event::Waited,
+            Event::Begun,
+            Event::NoNews,
+            Event::Waited,
+            Event::Begun,
+            Event::News,
+            Event::TurnBegun,
+            Event::Waited,
+            Event::Begun,
+            Event::News,
+            Event::ParsedEvent(Notice::TurnsSpent),
+            Event::Retired,
+        ],
+    ),
+    // the first of two sessions is passed over, and the second has its turn
+    (
+        Scene {
+            accepts: &[],
+            fates: &[],
+            news: &[false, false],
+            bot: ENDS_LATER,
+        },
+        (2, 2, 9),
+        &[
+            Event::Begun,
+            Event::Came,
+            Event::Ready,
+            Event::TurnBegun,
+            Event::Begun,
+            Event::Came,
+            Event::Ready,
+            Event::NoNews,
+            Event::TurnBegun,
+            Event::Begun,
+            Event::NoNews,
+            Event::News,
+            Event::TurnBegun,
+            Event::Retired,
+            Event::Begun,
+            Event::News,
+            Event::TurnBegun,
             Event::Retired,
         ],
     ),
@@ -374,8 +459,9 @@ const SPENT: &[Event] = &[
     Event::TurnBegun,
     Event::Begun,
     Event::TurnBegun,
-    Event::Waited(false),
+    Event::Waited,
     Event::Begun,
+    Event::News,
     Event::Begun,
     Event::ParsedEvent(Notice::TurnsSpent),
     Event::Retired,
@@ -465,6 +551,7 @@ fn system_is_told_how_a_session_ended(rt: HostRuntime) -> Result<(), Fail> {
 const HUNDRED: Scene = Scene {
     accepts: &[true, false, true, false],
     fates: &[Fate::Failed, Fate::Pending, Fate::Failed],
+    news: &[],
     bot: QUIET,
 };
 
@@ -518,22 +605,6 @@ fn want_of_memory_ends_a_run(rt: HostRuntime) -> Result<(), Fail> {
         try_within(rt.alloc(), 32 * step, &settings, &mut seen)?;
     }
     seen.assert_all()
-}
-
-/// Checks the fault of a run with these settings, and that it makes no call of the system.
-fn assert_fault(alloc: Global, settings: &Settings, want: ServeFault) -> Result<(), Fail> {
-    let mut stage = Harness::new(alloc, ENDING);
-    let fault = serve(alloc, settings, &mut stage).err();
-    same(&fault, &Some(want), &"the fault")?;
-    holds(stage.events.is_empty(), "nobody was asked")
-}
-
-#[test]
-fn faults_of_a_run_before_anybody_is_asked(rt: HostRuntime) -> Result<(), Fail> {
-    let mut wrong = settings(rt.alloc(), (0, 1, 9))?;
-    assert_fault(rt.alloc(), &wrong, ServeFault::Sessions)?;
-    wrong.config.max_depth = 255;
-    assert_fault(rt.alloc(), &wrong, ServeFault::Config(ConfigError::Depth))
 }
 
 /// Checks the text of a fault or a notice.

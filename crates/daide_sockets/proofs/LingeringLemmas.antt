@@ -12,7 +12,8 @@ use Rattle.daide_io.specs.declared.ports.Pull.{Pull}
 use Rattle.daide_io.specs.declared.ports.Pull.TheVariants.{Got}
 use Rattle.daide_buffered_io.specs.declared.readiness.Readiness.{Readiness}
 use Rattle.daide_buffered_io.specs.Buffers.{Buffer, Passes, WritesNothing, IsBufferedPull, IsFlushed}
-use Rattle.daide_buffered_io.specs.Calls.{StreamCall, is_last_piece}
+use Rattle.daide_buffered_io.specs.Calls.{is_last_piece}
+use Rattle.daide_io.specs.Streams.{StreamCall}
 use Rattle.daide_sockets.specs.Pairing.{with_room}
 use Rattle.daide_sockets.specs.Times.{StallsNext, has_stalled, is_time_over}
 use Rattle.daide_sockets.specs.Lingering.{ClosingStream, ClosingList, Discards, Lingers, Leaves, IsLookedAt, LooksAtOne}

@@ -1,9 +1,10 @@
 -- Each session number is given once.
 use Rattle.std.proofs.Common.{◌≡◌, ◌≤◌, ℕ, ◌+◌, Bool, true, false, List, [], ◌∷◌, ◌++◌, Option, ap, ◌∙◌, arith}
 use Rattle.std.specs.Prelude.{nat_lt, if◌then◌else◌}
-use Rattle.daide_io.specs.System.{SystemCall, Begins, BeginsTurn, Accepts, Connects, Retires, Notifies, Waits, TransitsBy}
+use Rattle.daide_io.specs.System.{SystemCall, Begins, ReportsNews, BeginsTurn, Accepts, Connects, Retires, Notifies}
+use Rattle.daide_io.specs.System.{Waits, TransitsBy}
 use Rattle.daide_io.specs.declared.system.Connect.TheVariants.{Ready, Failed, Pending}
-use Rattle.daide_buffered_io.specs.Calls.{StreamCall}
+use Rattle.daide_io.specs.Streams.{StreamCall}
 use Rattle.daide_sockets.specs.Pairing.{Arriving, Paired, RunSockets, AllStayPending, ChecksArrivals, TakesOut, Transits}
 use Rattle.daide_sockets.specs.PairedOnce.{is_same, handed}
 
@@ -74,6 +75,7 @@ module _ {S : Type 0} (n : ℕ) where
     one : (answer : SystemCall P) (old new : RunSockets S) → Transits to_give taken calls pair old answer new →
         handed pair n (answer ∷ []) + left new ≤ left old
     one Begins old new h = let e = kept old new h.0 h.1 in omega (arith, e)
+    one (ReportsNews ports news) old new h = let e : left new ≡ left old = ap left h in omega (arith, e)
     one (BeginsTurn before after) old new h = let e : left new ≡ left old = ap left h in omega (arith, e)
     one (Accepts true) old new h =
         let a : numbered new.arrivals ≡ numbered (old.arrivals ++ h.arrival ∷ []) = ap numbered h.arrivals in
@@ -99,11 +101,12 @@ module _ {S : Type 0} (n : ℕ) where
         omega (arith, a, c)
     one (Retires ports end) old new h = let e = kept old new h.1 h.2 in omega (arith, e)
     one (Notifies notice) old new h = let e : left new ≡ left old = ap left h in omega (arith, e)
-    one (Waits more) old new h = let e : left new ≡ left old = ap left h in omega (arith, e)
+    one Waits old new h = let e : left new ≡ left old = ap left h in omega (arith, e)
 
     handed_first : (answer : SystemCall P) (answers : List (SystemCall P)) →
         handed pair n (answer ∷ answers) ≡ handed pair n (answer ∷ []) + handed pair n answers
     handed_first Begins answers = omega (arith)
+    handed_first (ReportsNews ports news) answers = omega (arith)
     handed_first (BeginsTurn before after) answers = omega (arith)
     handed_first (Accepts came) answers = omega (arith)
     handed_first (Connects (Ready ports)) answers = omega (arith)
@@ -111,7 +114,7 @@ module _ {S : Type 0} (n : ℕ) where
     handed_first (Connects Pending) answers = omega (arith)
     handed_first (Retires ports end) answers = omega (arith)
     handed_first (Notifies notice) answers = omega (arith)
-    handed_first (Waits more) answers = omega (arith)
+    handed_first Waits answers = omega (arith)
 
     all : (answers : List (SystemCall P)) (old new : RunSockets S) →
         TransitsBy (Transits to_give taken calls pair) old answers new → handed pair n answers ≤ left old

@@ -8,7 +8,8 @@ use Rattle.daide_io.specs.declared.ports.Pull.{Pull}
 use Rattle.daide_io.specs.declared.ports.Pull.TheVariants.{Got}
 use Rattle.daide_buffered_io.specs.declared.readiness.Readiness.{Readiness}
 use Rattle.daide_buffered_io.specs.Buffers.{Buffer, Passes, ReadsNothing, WritesNothing, IsBufferedPull, IsFlushed}
-use Rattle.daide_buffered_io.specs.Calls.{StreamCall, is_last_piece}
+use Rattle.daide_buffered_io.specs.Calls.{is_last_piece}
+use Rattle.daide_io.specs.Streams.{StreamCall}
 use Rattle.daide_sockets.specs.Times.{IsAfter, StallsNext, has_stalled, is_time_over}
 
 -- a closing stream: its peer's stall timeout, and when that expires; how many more bytes may be dropped; and the

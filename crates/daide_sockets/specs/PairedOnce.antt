@@ -1,9 +1,9 @@
 -- Each session gets its ports once. (own)
 use Rattle.std.specs.Prelude.{◌≡◌, ◌≤◌, ℕ, ◌+◌, nat_eq, List, [], ◌∷◌, Option, if◌then◌else◌}
-use Rattle.daide_io.specs.System.{SystemCall, Begins, BeginsTurn, Accepts, Connects, Retires, Notifies, Waits}
-use Rattle.daide_io.specs.System.{TransitsBy}
+use Rattle.daide_io.specs.System.{SystemCall, Begins, ReportsNews, BeginsTurn, Accepts, Connects, Retires, Notifies}
+use Rattle.daide_io.specs.System.{Waits, TransitsBy}
 use Rattle.daide_io.specs.declared.system.Connect.TheVariants.{Ready, Failed, Pending}
-use Rattle.daide_buffered_io.specs.Calls.{StreamCall}
+use Rattle.daide_io.specs.Streams.{StreamCall}
 use Rattle.daide_sockets.specs.Pairing.{Paired, RunSockets, Transits}
 
 -- 1 if two numbers are the same, else 0
@@ -17,11 +17,12 @@ handed pair n (Connects (Ready ports) ∷ answers) = is_same (pair ports).number
 handed pair n (Connects Failed ∷ answers) = handed pair n answers
 handed pair n (Connects Pending ∷ answers) = handed pair n answers
 handed pair n (Begins ∷ answers) = handed pair n answers
+handed pair n (ReportsNews ports news ∷ answers) = handed pair n answers
 handed pair n (BeginsTurn before after ∷ answers) = handed pair n answers
 handed pair n (Accepts came ∷ answers) = handed pair n answers
 handed pair n (Retires ports end ∷ answers) = handed pair n answers
 handed pair n (Notifies notice ∷ answers) = handed pair n answers
-handed pair n (Waits more ∷ answers) = handed pair n answers
+handed pair n (Waits ∷ answers) = handed pair n answers
 
 -- Sockets of a run with no bot yet: by any trace of system calls, no session gets its ports twice.
 abbrev pub SessionsComeOnce : (P : Type 0) → {S : Type 0} → (S → Option (List ℕ)) → (S → Option (List ℕ)) →

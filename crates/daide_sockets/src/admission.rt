@@ -7,17 +7,15 @@ ghost use Rattle.std.specs.Prelude.{◌≡◌, ◌≢◌, ◌+◌, Some, None, E
 ghost use Rattle.daide_sockets.specs.Accepting.{is_accept_made, Pauses};
 ghost use Rattle.daide_sockets.specs.Pairing.{StaysPending, IsFreshConnect, IsFresh, IsJoined};
 
-use crate::connection::Connection;
-use crate::poller::{Poller, Registration, after, is_past};
+use crate::poller::Poller;
 use crate::ports::{Socket, SocketPorts};
+use crate::table::{Registration, SocketTable, after, is_past};
 use daide_buffered_io::readiness::Readiness;
-use mio::Interest;
-use mio::net::{TcpListener, TcpStream};
-use std::io;
+use daide_io::duplex::Duplex;
+use daide_io::network::{ConnectStatus, Network};
 use std::io::ErrorKind;
 use std::marker::Model;
-use std::net::{Net, SocketAddr};
-use std::rt::Clock;
+use std::net::SocketAddr;
 use std::time::{Duration, Instant};
 
 /// The pause after a failed accept, for example for lack of descriptors, in milliseconds.
@@ -32,10 +30,9 @@ pub(crate) enum Declined {
     Failed(ErrorKind),
 }
 
-/// A listening socket with a pause after a failed accept.
+/// The state of the network's listener, with a pause after a failed accept.
 #[derive(Drop)]
 pub struct Acceptor<'w> {
-    listener: TcpListener,
     registration: Registration<'w>,
     /// The end of the pause after a failed accept; `None` if there is no pause.
     resumes_at: Option<Instant>,
@@ -44,14 +41,12 @@ pub struct Acceptor<'w> {
 }
 
 impl<'w> Acceptor<'w> {
-    /// Registers a listener. Returns `None` if the table has no free row, or the system refuses the registration.
-    pub fn new<R: Clock>(poller: &'w Poller<R>, listener: TcpListener) -> Option<Acceptor<'w>>
+    /// Has the listener followed. Returns `None` if the table has no free row, or the system refuses.
+    pub fn new<N: Network>(poller: &mut Poller<'w, N>) -> Option<Acceptor<'w>>
         ensures { IfSome result (λ acceptor. (acceptor.came ≡ 0) × (acceptor.resumes_at ≡ None)) }
     {
-        let mut listener = listener;
-        let registration = poller.follow(&mut listener, Interest::READABLE)?;
+        let registration = poller.listen()?;
         Some(Acceptor {
-            listener,
             registration,
             resumes_at: None,
             came: 0,
@@ -59,10 +54,10 @@ impl<'w> Acceptor<'w> {
     }
 
     /// Ends the pause after a failed accept, if its time is over.
-    pub(crate) fn reopen<R: Clock>(&mut self, poller: &Poller<R>)
+    pub(crate) fn reopen(&mut self, table: &SocketTable)
         ensures { self.new.came ≡ self.old.came }
     {
-        if is_past(poller.now().get(), self.resumes_at) {
+        if is_past(table.now().get(), self.resumes_at) {
             self.resumes_at = None;
             self.registration.flags.due.set(None);
             self.registration.flags.note(true, false);
@@ -79,12 +74,16 @@ impl<'w> Acceptor<'w> {
 
     /// Accepts a connection, and returns it with its address. Returns `None` if there is none. Makes no system call
     /// during the pause after a failed accept.
-    pub fn accept<R: Clock>(&mut self, poller: &Poller<R>) -> Option<(TcpStream, SocketAddr)>
+    pub fn accept<N: Network>(
+        &mut self,
+        poller: &mut Poller<'w, N>,
+    ) -> Option<(N::Connection, SocketAddr)>
         ensures { self.new.came ≡ self.old.came }
     {
         let flags = self.registration.flags;
         let mut readiness = flags.readiness.get();
-        let accepted = self.accept_at(poller, poller.now().get(), &mut readiness);
+        let now = poller.table().now().get();
+        let accepted = self.accept_at(poller.network(), now, &mut readiness);
         flags.readiness.set(readiness);
         flags.due.set(self.resumes_at);
         accepted.ok()
@@ -98,12 +97,12 @@ impl<'w> Acceptor<'w> {
     ///
     /// `failed`: one that would have blocked begins no pause, and any other failure begins one of 100 ms. After either
     /// the listener counts as not ready.
-    fn accept_at<R: Clock>(
+    fn accept_at<N: Network>(
         &mut self,
-        poller: &Poller<R>,
+        network: &mut N,
         now: Option<Instant>,
         readiness: &mut Readiness,
-    ) -> Result<(TcpStream, SocketAddr), Declined>
+    ) -> Result<(N::Connection, SocketAddr), Declined>
         ensures not_made { is_accept_made now readiness.old.may_read self.old.resumes_at ≡ false →
             (result ≡ Err Declined.NotMade) × (self.new.resumes_at ≡ self.old.resumes_at)
             × (readiness.new ≡ readiness.old) }
@@ -121,7 +120,7 @@ impl<'w> Acceptor<'w> {
         if !is_made {
             return Err(Declined::NotMade);
         }
-        match self.take(poller) {
+        match network.accept() {
             Ok(accepted) => {
                 readiness.may_read = true;
                 self.resumes_at = None;
@@ -133,12 +132,6 @@ impl<'w> Acceptor<'w> {
                 Err(Declined::Failed(error.kind()))
             }
         }
-    }
-
-    /// Accepts a connection, if a further descriptor is left for the bot's connect to the server.
-    fn take<R: Clock>(&self, poller: &Poller<R>) -> io::Result<(TcpStream, SocketAddr)> {
-        let _spare = poller.spare()?;
-        self.listener.accept()
     }
 
     /// Starts the pause after an accept that failed for this reason; `WouldBlock` is not a failure.
@@ -153,43 +146,37 @@ impl<'w> Acceptor<'w> {
     }
 
     /// Returns the next bot that came: its session's number, its socket and its address. Returns `None` if none came,
-    /// if the system refuses to follow it, or if all numbers are given.
+    /// if the system refuses to follow it, or if all numbers are given. After a refusal a pause begins, as after a failed
+    /// accept: the system does not report again the bots that wait behind it.
     ///
     /// `one`: exactly one bot was accepted, is followed, and is counted.
     ///
     /// `none`: no bot is counted.
     ///
     /// Not said: that the system refused to follow a connection that was accepted and closed.
-    pub(crate) fn next_bot<R: Clock>(
+    pub(crate) fn next_bot<N: Network>(
         &mut self,
-        poller: &'w Poller<R>,
-    ) -> Option<(u32, Socket<'w>, SocketAddr)>
+        poller: &mut Poller<'w, N>,
+    ) -> Option<(u32, Socket<'w, N::Connection>, SocketAddr)>
         ensures one { IfSome result (λ bot. (self.new.came ≡ self.old.came + 1) × (bot.0 ≡ self.new.came)
             × IsFresh bot.1.stream) }
         ensures none { IfNone result (self.new.came ≡ self.old.came) }
     {
         let number = self.came.checked_add(1)?;
         let (stream, address) = self.accept(poller)?;
-        let bot = Socket::new(poller, stream)?;
+        let Some(bot) = Socket::new(poller, stream) else {
+            self.pause(poller.table().now().get(), ErrorKind::Other);
+            self.registration.flags.due.set(self.resumes_at);
+            return None;
+        };
         self.came = number;
         Some((number, bot, address))
     }
 }
 
-/// The state of the connect to one address.
-#[derive(Clone, Copy)]
-enum Progress {
-    /// The server is connected.
-    Connected,
-    /// The connect failed, or there is none.
-    Failed,
-    /// The system has not reported a result yet.
-    Pending,
-}
-
 /// A bot whose connect to the server is under way.
 #[derive(Drop)]
-pub(crate) struct PendingConnection<'w, S: Drop = Connection> {
+pub(crate) struct PendingConnection<'w, S: Drop> {
     /// The number of its session.
     number: u32,
     bot: Socket<'w, S>,
@@ -220,26 +207,25 @@ impl<'w, S: Drop> Model for PendingConnection<'w, S> {
 
 /// A bot with no server reached before the deadline: the number of its session, and its socket.
 #[derive(Drop)]
-pub(crate) struct Unreached<'w, S: Drop = Connection> {
+pub(crate) struct Unreached<'w, S: Drop> {
     pub number: u32,
     pub bot: Socket<'w, S>,
 }
 
 /// Starts a connect for the session with this number, to the next address that permits one. Returns its socket, with
 /// the deadline `gives_up`; `None` if no address is left.
-fn begun<'w, R: Clock, N: Net>(
-    poller: &'w Poller<R>,
-    net: &N,
+fn begun<'w, N: Network>(
+    poller: &mut Poller<'w, N>,
     servers: &[SocketAddr],
     tried: &mut usize,
     number: u32,
     gives_up: Option<Instant>,
-) -> Option<Socket<'w>>
+) -> Option<Socket<'w, N::Connection>>
     ensures { IfSome result (λ socket. IsFresh socket.stream × (socket.made_for ≡ number)) }
 {
     for address in servers.iter().skip(*tried) {
         *tried = tried.saturating_add(1);
-        let Ok(stream) = TcpStream::connect(net, *address) else {
+        let Ok(stream) = poller.network().connect(*address) else {
             continue;
         };
         if let Some(socket) = Socket::new(poller, stream) {
@@ -250,25 +236,24 @@ fn begun<'w, R: Clock, N: Net>(
     None
 }
 
-impl<'w> PendingConnection<'w> {
+impl<'w, S: Duplex + Drop> PendingConnection<'w, S> {
     /// Starts the connect of a newly accepted bot.
-    pub(crate) fn new<R: Clock, N: Net>(
-        poller: &'w Poller<R>,
-        net: &N,
+    pub(crate) fn new<N: Network<Connection = S>>(
+        poller: &mut Poller<'w, N>,
         servers: &[SocketAddr],
-        came: (u32, Socket<'w>),
+        came: (u32, Socket<'w, S>),
         times: (Duration, Duration),
-    ) -> PendingConnection<'w>
+    ) -> PendingConnection<'w, S>
         ensures number { result.number ≡ came.entry.0 }
         ensures bot { result.bot ≡ came.entry.1.stream }
         ensures server { IsFreshConnect result.server }
     {
         let (number, bot) = came;
         let (im_time, connect_time) = times;
-        let gives_up = poller.after(connect_time);
-        let im_timer_expired = poller.after(im_time);
+        let gives_up = poller.table().after(connect_time);
+        let im_timer_expired = poller.table().after(im_time);
         let mut tried = 0;
-        let server = begun(poller, net, servers, &mut tried, number, gives_up);
+        let server = begun(poller, servers, &mut tried, number, gives_up);
         PendingConnection {
             number,
             bot,
@@ -280,54 +265,41 @@ impl<'w> PendingConnection<'w> {
     }
 
     /// Returns the state of the connect to the present address.
-    fn progress(&self) -> Progress {
+    fn progress<N: Network<Connection = S>>(&self, network: &mut N) -> ConnectStatus {
         let Some(server) = &self.server else {
-            return Progress::Failed;
+            return ConnectStatus::Failed;
         };
         let flags = server.registration.flags;
         if !flags.readiness.get().may_write {
-            return Progress::Pending;
+            return ConnectStatus::Pending;
         }
-        let connection = &server.connection().0;
-        match connection.take_error() {
-            Ok(None) => {}
-            _ => return Progress::Failed,
+        let status = network.connect_status(server.connection());
+        if status == ConnectStatus::Pending {
+            flags.took_nothing();
         }
-        if connection.peer_addr().is_ok() {
-            return Progress::Connected;
-        }
-        flags.took_nothing();
-        Progress::Pending
+        status
     }
 
     /// Advances the connect without blocking. Returns true if it is still under way; otherwise the server is connected,
     /// or no address is left, or the deadline is over.
-    pub(crate) fn advances<R: Clock, N: Net>(
+    pub(crate) fn advances<N: Network<Connection = S>>(
         &mut self,
-        poller: &'w Poller<R>,
-        net: &N,
+        poller: &mut Poller<'w, N>,
         servers: &[SocketAddr],
     ) -> bool
         ensures goes_on { StaysPending self.old self.new }
         ensures reached { result ≡ false → IsSome self.new.server → self.new ≡ self.old }
     {
-        match self.progress() {
-            Progress::Connected => return false,
-            Progress::Failed => {
+        match self.progress(poller.network()) {
+            ConnectStatus::Connected => return false,
+            ConnectStatus::Failed => {
                 // This frees the row of the failed connect for the next one.
                 drop(self.server.take());
-                self.server = begun(
-                    poller,
-                    net,
-                    servers,
-                    &mut self.tried,
-                    self.number,
-                    self.gives_up,
-                );
+                self.server = begun(poller, servers, &mut self.tried, self.number, self.gives_up);
             }
-            Progress::Pending => {}
+            ConnectStatus::Pending => {}
         }
-        if poller.is_over(self.gives_up) {
+        if poller.table().is_over(self.gives_up) {
             drop(self.server.take());
         }
         self.server.is_some()
@@ -339,11 +311,11 @@ impl<'w, S: Drop> PendingConnection<'w, S> {
     /// second their stall timeout; `None` for no timeout.
     ///
     /// Fails with the bot if the server was not reached.
-    pub(crate) fn join<R: Clock>(
+    pub(crate) fn join(
         self,
-        poller: &'w Poller<R>,
+        table: &'w SocketTable,
         times: (Option<Duration>, Option<Duration>),
-    ) -> Result<SocketPorts<'w, R, S>, Unreached<'w, S>>
+    ) -> Result<SocketPorts<'w, S>, Unreached<'w, S>>
         ensures joined { IfOk result (λ ports. IsJoined self.entry (record {
           number = ports.number;
           bot = ports.bot.stream;
@@ -365,7 +337,7 @@ impl<'w, S: Drop> PendingConnection<'w, S> {
         };
         server.registration.flags.due.set(None);
         bot.registration.flags.due.set(im_timer_expired);
-        let ports = SocketPorts::new(poller, bot, server);
+        let ports = SocketPorts::new(table, bot, server);
         Ok(ports.of_session(number, times))
     }
 

@@ -5,8 +5,11 @@ ghost use Rattle.daide_sockets.specs.Lingering.{no_closing};
 ghost use Rattle.daide_sockets.specs.Times.{IsSeconds, IsIdleTime};
 
 use crate::lingering_close::MOST_CLOSING;
-use crate::poller::{Poller, PollerError};
+use crate::os_network::{NetworkError, OsNetwork};
+use crate::poller::EVENTS;
 use crate::system::{Sockets, most_sockets};
+use crate::table::SocketTable;
+use daide_io::network::Network;
 use daide_settings::Settings;
 use mio::net::TcpListener;
 use std::alloc::{AllocError, Global};
@@ -61,13 +64,13 @@ fn servers_at<R: Net>(
 
 /// The resources of a run: its listener, the addresses of the server, and the table of its sockets.
 #[derive(Drop)]
-pub struct BoundSockets<'r, R: Clock> {
-    /// The listener for bots.
-    pub listener: TcpListener,
+pub struct BoundSockets<'r, R: Clock + Net> {
+    /// The network of the operating system, with the listener for bots.
+    pub network: OsNetwork<'r, R>,
     /// The addresses of the server.
     pub servers: Vec<SocketAddr>,
     /// The table of the sockets.
-    pub poller: Poller<&'r R>,
+    pub table: SocketTable,
 }
 
 /// Binds the listen address of the settings, and resolves the server's. The table has a row for each socket of the run.
@@ -80,7 +83,7 @@ pub fn bind_sockets<'r, R: AllocGlobal + Clock + Net>(
     settings: &Settings,
 ) -> Result<BoundSockets<'r, R>, BindError>
     ensures rows { IfOk result (λ ground. settings.now.max_sessions < 2 ^ 62 →
-        vec_len ground.poller.flags ≡ 2 * settings.now.max_sessions + MOST_CLOSING + 1) }
+        vec_len ground.table.flags ≡ 2 * settings.now.max_sessions + MOST_CLOSING + 1) }
 {
     let Some(listener) = listener_at(rt, settings.listen.as_str()) else {
         return Err(BindError::Listen);
@@ -88,26 +91,30 @@ pub fn bind_sockets<'r, R: AllocGlobal + Clock + Net>(
     let Ok(servers) = servers_at(rt.alloc(), rt, settings.server.as_str()) else {
         return Err(BindError::Memory);
     };
-    match Poller::new(rt.alloc(), rt, rt, most_sockets(settings.max_sessions)) {
-        Ok(poller) => Ok(BoundSockets {
-            listener,
+    let network = match OsNetwork::new(rt.alloc(), rt, listener, EVENTS) {
+        Ok(network) => network,
+        Err(NetworkError::System) => return Err(BindError::Listen),
+        Err(NetworkError::Memory) => return Err(BindError::Memory),
+    };
+    match SocketTable::new(rt.alloc(), most_sockets(settings.max_sessions)) {
+        Ok(table) => Ok(BoundSockets {
+            network,
             servers,
-            poller,
+            table,
         }),
-        Err(PollerError::System) => Err(BindError::Listen),
-        Err(PollerError::Memory) => Err(BindError::Memory),
+        Err(_) => Err(BindError::Memory),
     }
 }
 
-/// Creates the sockets of a run, with these settings and resources. Their log lines are written to `errors`. Returns
-/// `None` if memory is refused or the listener cannot be registered. No bot is accepted yet, and sessions are not
-/// logged.
-pub fn sockets_on<'w, R: AllocGlobal + Clock + Net, E: Write + Drop>(
-    rt: &'w R,
+/// Creates the sockets of a run over a network, with these settings and the addresses of the server. Their log lines are
+/// written to `errors`. Returns `None` if memory is refused or the listener cannot be followed. No bot is accepted yet,
+/// and sessions are not logged.
+pub fn sockets_on<'w, N: Network, E: Write + Drop>(
+    alloc: Global,
     settings: &Settings,
-    ground: (TcpListener, &'w [SocketAddr], &'w Poller<&'w R>),
+    ground: (N, &'w [SocketAddr], &'w SocketTable),
     errors: E,
-) -> Option<Sockets<'w, R, E>>
+) -> Option<Sockets<'w, N, E>>
     ensures none_came { IfSome result (λ sockets. (sockets.acceptor.came ≡ 0) × (sockets.is_verbose ≡ false)) }
     ensures none_held { IfSome result (λ sockets. (sockets.arrivals.items ≡ [])
         × (sockets.closings ≡ no_closing sockets.stall_time)) }
@@ -117,12 +124,9 @@ pub fn sockets_on<'w, R: AllocGlobal + Clock + Net, E: Write + Drop>(
         × (sockets.stall_seconds ≡ settings.now.stall_seconds)) }
     ensures connect_time { IfSome result (λ sockets. IsSeconds CONNECT_SECONDS sockets.connect_time) }
 {
-    let (listener, servers, poller) = ground;
     Sockets::new(
-        rt.alloc(),
-        rt,
-        poller,
-        (listener, servers),
+        alloc,
+        ground,
         settings,
         Duration::from_secs(CONNECT_SECONDS),
         errors,

@@ -1,6 +1,6 @@
 //! A connection of the operating system, as a full-duplex byte stream.
 
-use daide_buffered_io::duplex::Duplex;
+use daide_io::duplex::Duplex;
 use mio::net::TcpStream;
 use std::io;
 use std::io::{Read, Write};

@@ -2,7 +2,7 @@
 
 ghost use Rattle.daide_sockets.specs.PairedOnce.{SessionsComeOnce};
 
-use daide_buffered_io::duplex::Duplex;
+use daide_io::duplex::Duplex;
 use daide_io::ports::Ports;
 
 /// Over any calls of the sockets of a run, no session's ports come twice. Each bot that came is joined at most once, by

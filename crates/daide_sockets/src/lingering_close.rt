@@ -9,20 +9,20 @@ ghost use Rattle.std.specs.Prelude.{IfOk};
 ghost use Rattle.daide_io.specs.declared.ports.Pull.{Pull};
 ghost use Rattle.daide_io.specs.Ports.{AppendsTo};
 ghost use Rattle.daide_buffered_io.specs.Buffers.{Passes, ReadsNothing, WritesNothing};
-ghost use Rattle.daide_buffered_io.specs.Calls.{StreamCall, WritingEnded};
+ghost use Rattle.daide_io.specs.Streams.{StreamCall, WritingEnded};
 ghost use Rattle.daide_sockets.specs.Lingering.{ClosingStream, ClosingList, begins_closing, no_closing, TriesWriting, WritesOut};
 ghost use Rattle.daide_sockets.specs.Lingering.{Discards, is_released, Lingers, Leaves, LooksAtOne, LooksAlong, in_pass};
 ghost use Rattle.daide_sockets.specs.Lingering.{LooksAround, ClosingsGoOn, GoOnFor};
 ghost use Rattle.daide_sockets.specs.Pairing.{Closes, ClosesBoth, with_room};
 
-use crate::connection::Connection;
-use crate::poller::{Poller, after, is_time_over};
+use crate::poller::Poller;
 use crate::ports::{Socket, SocketPorts};
+use crate::table::{SocketTable, after, is_time_over};
 use daide_buffered_io::dropping::Dropping;
-use daide_buffered_io::duplex::Duplex;
+use daide_io::duplex::Duplex;
+use daide_io::network::Network;
 use std::alloc::{AllocError, Global};
 use std::marker::Model;
-use std::rt::Clock;
 use std::time::{Duration, Instant};
 
 /// The most bytes that are read from one socket and dropped.
@@ -39,7 +39,7 @@ pub const MOST_CLOSING: usize = 256;
 
 /// A closing socket. Its writing is over once no buffered byte may still be written.
 #[derive(Drop)]
-struct LingeringClose<'w, S: Duplex + Drop = Connection> {
+struct LingeringClose<'w, S: Duplex + Drop> {
     socket: Socket<'w, S>,
     /// The bytes that may still be dropped.
     rest: Dropping,
@@ -185,7 +185,7 @@ impl<'w, S: Duplex + Drop> LingeringClose<'w, S> {
 
 /// The closing sockets, oldest first, with room for all.
 #[derive(Drop)]
-struct ClosingSockets<'w, S: Duplex + Drop = Connection> {
+struct ClosingSockets<'w, S: Duplex + Drop> {
     sockets: Vec<LingeringClose<'w, S>>,
 }
 
@@ -270,7 +270,7 @@ impl<'w, S: Duplex + Drop> ClosingSockets<'w, S> {
 /// The closing sockets, in the order in which they began: 256 at most. A further one closes the oldest as it is
 /// (`with_room`). They are advanced in passes, so that none waits for those that come after it (`in_pass`).
 #[derive(Drop)]
-pub struct Closings<'w, S: Duplex + Drop = Connection> {
+pub struct Closings<'w, S: Duplex + Drop> {
     sockets: ClosingSockets<'w, S>,
     /// The position of the next to advance.
     next: usize,
@@ -323,18 +323,18 @@ impl<'w, S: Duplex + Drop> Closings<'w, S> {
     }
 
     /// Begins to close a socket. If there are `MOST_CLOSING` already, the oldest is closed.
-    pub fn begin<R: Clock>(&mut self, poller: &Poller<R>, socket: Socket<'w, S>)
+    pub fn begin(&mut self, table: &SocketTable, socket: Socket<'w, S>)
         ensures { Closes S.to_give S.taken S.calls self.old socket.entry.stream self.new }
     {
         self.make_room();
         let mut closing = LingeringClose::new(socket, self.stall_time);
-        let now = poller.now().get();
+        let now = table.now().get();
         closing.end_writing(now);
         self.sockets.push(closing);
     }
 
     /// Begins to close both sockets of a session.
-    pub fn begin_both<R: Clock>(&mut self, poller: &Poller<R>, ports: SocketPorts<'w, R, S>)
+    pub fn begin_both(&mut self, table: &SocketTable, ports: SocketPorts<'w, S>)
         ensures { ClosesBoth S.to_give S.taken S.calls self.old (record {
           number = ports.entry.number;
           bot = ports.entry.bot.stream;
@@ -342,8 +342,8 @@ impl<'w, S: Duplex + Drop> Closings<'w, S> {
         }) self.new }
     {
         let (bot, server) = ports.into_sockets();
-        self.begin(poller, bot);
-        self.begin(poller, server);
+        self.begin(table, bot);
+        self.begin(table, server);
     }
 
     /// Begins the next pass, if all of the last one were advanced.
@@ -368,20 +368,20 @@ impl<'w, S: Duplex + Drop> Closings<'w, S> {
     }
 
     /// Advances the next few: eight of the pass, or those that are left of it (`LooksAround`).
-    pub fn advance<R: Clock>(&mut self, poller: &Poller<R>)
+    pub fn advance(&mut self, table: &SocketTable)
         ensures { ClosingsGoOn S.to_give S.taken S.calls self.old self.new }
     {
-        self.look_around(poller.now().get());
+        self.look_around(table.now().get());
     }
 
     /// Makes the same rounds until no socket closes, or until 2^64 - 1 rounds were made, and waits between them
     /// (`GoOnFor`). So at the end of a run too no buffered byte is dropped before its writing is over.
-    pub fn finish<R: Clock>(&mut self, poller: &Poller<R>)
+    pub fn finish<N: Network>(&mut self, poller: &mut Poller<'w, N>)
         ensures { (rounds : ℕ) × GoOnFor S.to_give S.taken S.calls rounds self.old self.new
             × ((self.new.streams ≡ []) ⊎ (rounds ≡ u64.MAX)) }
     {
         for _round in 0..u64::MAX {
-            self.advance(poller);
+            self.advance(poller.table());
             if self.is_empty() {
                 return;
             }
@@ -390,7 +390,7 @@ impl<'w, S: Duplex + Drop> Closings<'w, S> {
     }
 
     /// Waits for events, unless a socket may make progress at once.
-    pub fn rest<R: Clock>(&self, poller: &Poller<R>) {
+    pub fn rest<N: Network>(&self, poller: &mut Poller<'w, N>) {
         if self.is_ready() {
             poller.look();
         } else {

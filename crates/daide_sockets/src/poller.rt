@@ -1,381 +1,100 @@
-//! The cached readiness of each socket, and the deadlines of the run.
-//!
-//! The table is shared by `&`, so that the ports in a hub see the events that the loop's wait received. An idle session
-//! reads two flags of it, and makes no system call. The pool of the sockets' buffers is kept with the table.
+//! The network of a run, polled into its table.
 
-ghost use Rattle.std.specs.Duration.{as_nanos};
-ghost use Rattle.std.specs.Prelude.{◌≡◌, IsNone, IfOk, false, vec_len};
-ghost use Rattle.daide_sockets.specs.Times.{IsAfter, IsStallEnd, StallsNext, is_past, is_time_over};
-
-use daide_buffered_io::pool::Pool;
-use daide_buffered_io::readiness::Readiness;
-use mio::event::{Event, Source};
-use mio::{Events, Interest, Poll, Registry, Token};
+use crate::table::{Registration, SocketTable};
+use daide_io::network::{Network, SocketEvent};
 use std::alloc::{AllocError, Global};
-use std::cell::{Cell, RefCell};
-use std::io;
-use std::net::Net;
-use std::rt::Clock;
-use std::time::{Duration, Instant};
+use std::time::Duration;
 
 /// The most events that one poll receives; further ones are received by the next.
-const EVENTS: usize = 256;
+pub const EVENTS: usize = 256;
 
-/// After this many turns the system is polled again even if progress is made. So this many turns share the cost of a
-/// poll. An event is received at most this many turns late, or one round if that is longer.
-const MOST_TURNS: u64 = 32;
-
-/// The cached state of one socket.
+/// The network of a run, with the table of its sockets, and what the last poll reported.
 #[derive(Drop)]
-pub struct Flags {
-    is_taken: Cell<bool>,
-    /// Whether a read, or a listener's accept, may succeed, and whether a write may accept bytes.
-    pub readiness: Cell<Readiness>,
-    /// The deadline of the socket.
-    pub due: Cell<Option<Instant>>,
-    /// The moment at which the idle timeout of the peer expires, unless it sends something before; `None` for never.
-    pub(crate) silent_from: Cell<Option<Instant>>,
-    /// A copy of the moment at which the stall timeout of the socket's peer expires. It ends a wait.
-    pub(crate) stalls_at: Cell<Option<Instant>>,
+pub struct Poller<'w, N: Network> {
+    network: N,
+    table: &'w SocketTable,
+    news: Vec<SocketEvent>,
 }
 
-/// The table of a run, with the time of the last poll.
-#[derive(Drop)]
-pub struct Poller<R: Clock> {
-    clock: R,
-    registry: Registry,
-    waiter: RefCell<Waiter>,
-    /// `None` if the clock cannot be read: then no timeout expires.
-    now: Cell<Option<Instant>>,
-    /// The number of turns begun since the last poll.
-    turns: Cell<u64>,
-    /// The number of rows, from the first on, that were ever taken.
-    used: Cell<usize>,
-    /// Whether a poll received events since the last wait, which port calls before the poll may have missed.
-    has_news: Cell<bool>,
-    pool: Pool,
-    flags: Vec<Flags>,
-}
-
-/// The operating system's side of the table.
-#[derive(Drop)]
-struct Waiter {
-    poll: Poll,
-    events: Events,
-}
-
-/// Why no table was created.
-#[derive(Clone, Copy, Debug)]
-pub enum PollerError {
-    /// The system has no descriptor for it.
-    System,
-    /// The allocator refused it.
-    Memory,
-}
-
-/// Returns true if a moment is past at the last reading of the clock; false without a moment.
-pub(crate) fn is_past(now: Option<Instant>, moment: Option<Instant>) -> bool
-    ensures never { IsNone moment → result ≡ false }
-    ensures past { result ≡ is_past now moment }
-{
-    match (now, moment) {
-        (Some(now), Some(moment)) => now.checked_duration_since(moment).is_some(),
-        _ => false,
-    }
-}
-
-/// Returns true if a time that ends at this moment is over at the last reading of the clock; true without a moment.
-pub(crate) fn is_time_over(now: Option<Instant>, moment: Option<Instant>) -> bool
-    ensures { result ≡ is_time_over now moment }
-{
-    moment.is_none() || is_past(now, moment)
-}
-
-/// Returns the moment this long after a reading of the clock; `None` without a reading, or if the moment is out of
-/// range.
-pub(crate) fn after(now: Option<Instant>, duration: Duration) -> Option<Instant>
-    ensures { IsAfter now (as_nanos duration) result }
-{
-    match now {
-        None => None,
-        Some(now) => now.checked_add(duration),
-    }
-}
-
-/// Returns the moment at which the stall timeout expires if bytes are queued from this reading of the clock on. Returns
-/// `None` for never.
-fn stall_end(now: Option<Instant>, time: Option<Duration>) -> Option<Instant>
-    ensures { IsStallEnd now time result }
-{
-    match time {
-        None => None,
-        Some(time) => after(now, time),
-    }
-}
-
-/// Returns the moment at which the stall timeout expires after a write that leaves bytes queued. The timeout starts
-/// again if the peer took a byte, or if no byte was queued before.
-pub(crate) fn stalls_next(
-    time: Option<Duration>,
-    now: Option<Instant>,
-    before: Option<Instant>,
-    took: bool,
-) -> Option<Instant>
-    ensures { StallsNext time now before took result }
-{
-    match before {
-        None => stall_end(now, time),
-        Some(moment) => {
-            if took {
-                stall_end(now, time)
-            } else {
-                Some(moment)
-            }
-        }
-    }
-}
-
-/// Returns the earlier of two moments; one or both may be missing.
-fn earlier(one: Option<Instant>, other: Option<Instant>) -> Option<Instant> {
-    match (one, other) {
-        (Some(one), Some(other)) => Some(one.min(other)),
-        (one, None) => one,
-        (None, other) => other,
-    }
-}
-
-/// The row of a socket in the table. Dropping it frees the row.
-pub struct Registration<'w> {
-    /// The cached state of the socket.
-    pub flags: &'w Flags,
-}
-
-impl Drop for Registration<'_> {
-    fn drop(self) {
-        self.flags.is_taken.set(false);
-        let Registration { flags: _ } = self;
-    }
-}
-
-impl Flags {
-    /// Creates a free row.
-    fn new() -> Flags {
-        Flags {
-            is_taken: Cell::new(false),
-            readiness: Cell::new(Readiness::UNKNOWN),
-            due: Cell::new(None),
-            silent_from: Cell::new(None),
-            stalls_at: Cell::new(None),
-        }
+impl<'w, N: Network> Poller<'w, N> {
+    /// Creates the poller of a network, and reads the clock. Fails if its memory is refused.
+    pub fn new(
+        alloc: Global,
+        network: N,
+        table: &'w SocketTable,
+    ) -> Result<Poller<'w, N>, AllocError> {
+        let news = Vec::with_capacity(alloc, EVENTS)?;
+        let mut poller = Poller {
+            network,
+            table,
+            news,
+        };
+        table.note_now(poller.network.now());
+        Ok(poller)
     }
 
-    /// Creates `count` free rows.
-    fn free_rows(alloc: Global, count: usize) -> Result<Vec<Flags>, AllocError>
-        ensures { IfOk result (λ rows. vec_len rows ≡ count) }
-    {
-        let mut rows = Vec::with_capacity(alloc, count)?;
-        for _ in 0..count {
-            rows.push(Flags::new())?;
-        }
-        Ok(rows)
+    /// Returns the table.
+    pub fn table(&self) -> &'w SocketTable {
+        self.table
     }
 
-    /// Takes the row for a socket whose readiness is unknown.
-    fn take(&self) {
-        self.is_taken.set(true);
-        self.readiness.set(Readiness::UNKNOWN);
-        self.due.set(None);
-        self.silent_from.set(None);
-        self.stalls_at.set(None);
-    }
-
-    /// Sets the flag of a read or a write that may succeed. Clears neither flag.
-    pub fn note(&self, is_readable: bool, is_writable: bool) {
-        let mut readiness = self.readiness.get();
-        readiness.may_read = readiness.may_read || is_readable;
-        readiness.may_write = readiness.may_write || is_writable;
-        self.readiness.set(readiness);
-    }
-
-    /// Records that a read would find nothing.
-    pub(crate) fn found_nothing(&self) {
-        let mut readiness = self.readiness.get();
-        readiness.may_read = false;
-        self.readiness.set(readiness);
-    }
-
-    /// Records that a connect is still pending.
-    pub(crate) fn took_nothing(&self) {
-        let mut readiness = self.readiness.get();
-        readiness.may_write = false;
-        self.readiness.set(readiness);
-    }
-
-    /// Records an event of the socket. The next call returns an end or a failure, and a read stops before an urgent
-    /// byte. The system reports neither again, so from then on a short read does not clear `may_read`.
-    fn note_event(&self, event: &Event) {
-        self.note(
-            event.is_readable() || event.is_read_closed() || event.is_error(),
-            event.is_writable() || event.is_write_closed() || event.is_error(),
-        );
-        if event.is_read_closed() || event.is_error() || event.is_priority() {
-            let mut readiness = self.readiness.get();
-            readiness.reads_on = true;
-            self.readiness.set(readiness);
-        }
-    }
-
-    /// Returns the next deadline of a taken row. An idle timeout that already expired is no deadline, since the next
-    /// pull reports it. Without room in the session there is no pull, and nothing to do.
-    fn awaited(&self, now: Instant) -> Option<Instant> {
-        if !self.is_taken.get() {
+    /// Returns a row in which the network follows its listener. Returns `None` if the table has no free row, or the
+    /// system refuses.
+    pub(crate) fn listen(&mut self) -> Option<Registration<'w>> {
+        let (key, registration) = self.table.take_row()?;
+        if !self.network.listen(key) {
             return None;
         }
-        let silent_from = self.silent_from.get().filter(|moment| *moment > now);
-        earlier(earlier(self.due.get(), self.stalls_at.get()), silent_from)
-    }
-}
-
-impl<R: Clock + Drop> Poller<R> {
-    /// Creates a table of `sockets` free rows. Allocates its descriptors and its memory at once.
-    ///
-    /// Fails with `System`, then with `Memory`.
-    pub fn new<N: Net>(
-        alloc: Global,
-        clock: R,
-        net: &N,
-        sockets: usize,
-    ) -> Result<Poller<R>, PollerError>
-        ensures rows { IfOk result (λ poller. vec_len poller.flags ≡ sockets) }
-    {
-        let Ok(poll) = Poll::new(net) else {
-            return Err(PollerError::System);
-        };
-        let Ok(registry) = poll.registry().try_clone() else {
-            return Err(PollerError::System);
-        };
-        let Ok(events) = Events::with_capacity(alloc, EVENTS) else {
-            return Err(PollerError::Memory);
-        };
-        let Ok(flags) = Flags::free_rows(alloc, sockets) else {
-            return Err(PollerError::Memory);
-        };
-        let now = Instant::now(&clock).ok();
-        Ok(Poller {
-            clock,
-            registry,
-            waiter: RefCell::new(Waiter { poll, events }),
-            now: Cell::new(now),
-            turns: Cell::new(0),
-            used: Cell::new(0),
-            has_news: Cell::new(false),
-            pool: Pool::new(alloc),
-            flags,
-        })
-    }
-}
-
-impl<R: Clock> Poller<R> {
-    /// Returns the pool of the sockets' buffers.
-    pub fn pool(&self) -> &Pool {
-        &self.pool
+        Some(registration)
     }
 
-    /// Returns the last reading of the clock; `None` if it cannot be read.
-    pub(crate) fn now(&self) -> &Cell<Option<Instant>> {
-        &self.now
-    }
-
-    /// Returns the moment this long after the last poll; `None` if the clock cannot be read, or if the moment is out of
-    /// range.
-    pub fn after(&self, duration: Duration) -> Option<Instant> {
-        after(self.now.get(), duration)
-    }
-
-    /// Returns true if a moment is past; false without a moment.
-    pub fn is_over(&self, moment: Option<Instant>) -> bool
-        ensures { IsNone moment → result ≡ false }
-    {
-        is_past(self.now.get(), moment)
-    }
-
-    /// Registers a socket. Returns `None` if the table has no free row, or the system refuses the registration.
-    pub fn follow<S: Source>(
-        &self,
-        source: &mut S,
-        interest: Interest,
-    ) -> Option<Registration<'_>> {
-        for (token, flags) in self.flags.iter().enumerate() {
-            if !flags.is_taken.get() {
-                flags.take();
-                self.used.set(self.used.get().max(token.saturating_add(1)));
-                let registration = Registration { flags };
-                self.registry.register(source, Token(token), interest).ok()?;
-                return Some(registration);
-            }
+    /// Returns a row in which the network follows a connection. Returns `None` if the table has no free row, or the
+    /// system refuses.
+    pub(crate) fn follow(&mut self, connection: &mut N::Connection) -> Option<Registration<'w>> {
+        let (key, registration) = self.table.take_row()?;
+        if !self.network.follow(connection, key) {
+            return None;
         }
-        None
+        Some(registration)
     }
 
-    /// Returns a spare descriptor, which stays reserved until it is dropped.
-    pub(crate) fn spare(&self) -> io::Result<Registry> {
-        self.registry.try_clone()
+    /// Returns the network.
+    pub fn network(&mut self) -> &mut N {
+        &mut self.network
     }
 
-    /// Returns the time until the next deadline; `None` if there is none.
-    fn idle(&self) -> Option<Duration> {
-        let now = self.now.get()?;
-        let used = self.flags.iter().take(self.used.get());
-        let nearest = used.filter_map(|flags| flags.awaited(now)).min()?;
-        Some(nearest.saturating_duration_since(now))
+    /// Polls the network, at most for `timeout`, and reads the clock.
+    fn ask(&mut self, timeout: Option<Duration>) {
+        self.network.poll(timeout, &mut self.news);
+        self.table.note_news(self.news.as_slice());
+        self.table.note_now(self.network.now());
     }
 
-    /// Polls the system for events, at most for `timeout`, and reads the clock.
-    fn ask(&self, timeout: Option<Duration>) {
-        self.turns.set(0);
-        if let Ok(mut waiter) = self.waiter.try_borrow_mut() {
-            let Waiter { poll, events } = &mut *waiter;
-            // A failed poll has no events.
-            let _ = poll.poll(events, timeout);
-            for event in events.iter() {
-                let Token(token) = event.token();
-                if let Some(flags) = self.flags.get(token) {
-                    flags.note_event(event);
-                    self.has_news.set(true);
-                }
-            }
-        }
-        if let Ok(now) = Instant::now(&self.clock) {
-            self.now.set(Some(now));
-        }
-    }
-
-    /// Counts the beginning of a turn.
-    pub(crate) fn note_turn(&self) {
-        self.turns.set(self.turns.get().saturating_add(1));
-    }
-
-    /// Polls for the present events if `MOST_TURNS` turns began since the last poll.
-    pub fn look_by_turns(&self) {
-        if self.turns.get() >= MOST_TURNS {
+    /// Polls for the present events if many turns began since the last poll.
+    pub fn look_by_turns(&mut self) {
+        if self.table.has_many_turns() {
             self.look();
         }
     }
 
-    /// Polls for the present events.
-    pub(crate) fn look(&self) {
+    /// Polls for the present events, and marks the sockets that have a deadline in the past.
+    pub(crate) fn look(&mut self) {
         self.ask(Some(Duration::ZERO));
+        self.table.note_deadlines();
     }
 
     /// Blocks until a socket is ready, or until the next deadline. Does not block if a poll since the last wait
     /// received events, since the system reports each of them only once.
-    pub fn wait(&self) {
-        let timeout = if self.has_news.get() {
-            Some(Duration::ZERO)
+    pub fn wait(&mut self) {
+        if self.table.has_news() {
+            self.look();
         } else {
-            self.idle()
-        };
-        self.ask(timeout);
-        self.has_news.set(false);
+            let nearest = self.table.nearest();
+            self.ask(self.table.until(nearest));
+            if self.table.is_over(nearest) {
+                self.table.note_deadlines();
+            }
+        }
+        self.table.note_wait();
     }
 }

@@ -15,18 +15,16 @@ ghost use Rattle.daide_sockets.specs.Lingering.{IsWriting, IsWritingOver};
 ghost use Rattle.daide_sockets.specs.Pairing.{IsFresh};
 ghost use Rattle.daide_sockets.specs.Times.{StallsNext, has_stalled};
 
-use crate::connection::Connection;
-use crate::poller::{Flags, Poller, Registration, is_past, stalls_next};
+use crate::poller::Poller;
+use crate::table::{Flags, Registration, SocketTable, is_past, stalls_next};
 use crate::timed::Timed;
 use daide_buffered_io::buffered::Buffered;
-use daide_buffered_io::duplex::Duplex;
 use daide_buffered_io::pool::Pool;
 use daide_frame::side::Side;
+use daide_io::duplex::Duplex;
+use daide_io::network::Network;
 use daide_io::ports::{Ports, Pull, Put};
-use mio::Interest;
-use mio::net::TcpStream;
 use std::cell::Cell;
-use std::rt::Clock;
 use std::time::{Duration, Instant};
 
 /// The most turns for which writable bytes stay buffered, even if each turn adds more.
@@ -34,7 +32,7 @@ const MOST_TURNS_HELD: usize = 32;
 
 /// A non-blocking connection with its buffers, and its row of the table.
 #[derive(Drop)]
-pub struct Socket<'w, S: Drop = Connection> {
+pub struct Socket<'w, S: Drop> {
     /// The connection with its buffers.
     pub stream: Buffered<S>,
     /// Its row, with its cached readiness.
@@ -58,29 +56,23 @@ pub struct Socket<'w, S: Drop = Connection> {
     made_for: u32,
 }
 
-impl<'w> Socket<'w> {
-    /// Registers a connection, and turns off the delay of small writes. Returns `None` if the table has no free row, or
-    /// the system refuses the registration.
-    pub fn new<R: Clock>(poller: &'w Poller<R>, stream: TcpStream) -> Option<Socket<'w>>
+impl<'w, S: Duplex + Drop> Socket<'w, S> {
+    /// Has a connection followed. Returns `None` if the table has no free row, or the system refuses.
+    pub fn new<N: Network<Connection = S>>(
+        poller: &mut Poller<'w, N>,
+        stream: S,
+    ) -> Option<Socket<'w, S>>
         ensures { IfSome result (λ socket. IsFresh socket.stream) }
     {
         let mut stream = stream;
-        // A connection that delays small writes is slower, but correct.
-        let _ = stream.set_nodelay(true);
-        // A read stops before an urgent byte, which is reported as a priority event.
-        let interest = Interest::READABLE | Interest::WRITABLE | Interest::PRIORITY;
-        let registration = poller.follow(&mut stream, interest)?;
-        Some(Socket::over(poller, Connection(stream), registration))
+        let registration = poller.follow(&mut stream)?;
+        Some(Socket::over(poller.table(), stream, registration))
     }
 }
 
 impl<'w, S: Drop> Socket<'w, S> {
     /// Creates a socket from any stream, with empty buffers, and its row of the table.
-    pub fn over<R: Clock>(
-        poller: &'w Poller<R>,
-        stream: S,
-        registration: Registration<'w>,
-    ) -> Socket<'w, S>
+    pub fn over(table: &'w SocketTable, stream: S, registration: Registration<'w>) -> Socket<'w, S>
         ensures stream { result.stream ≡ record { stream = stream; read_buffer = []; write_buffer = []; has_failed = false } }
         ensures timed { result.timed ≡ record { is_silent = false; is_stalled = false; ends_stalled = false } }
         ensures stall_time { IsNone result.stall_time }
@@ -88,8 +80,8 @@ impl<'w, S: Drop> Socket<'w, S> {
         Socket {
             stream: Buffered::new(stream),
             registration,
-            pool: poller.pool(),
-            clock: poller.now(),
+            pool: table.pool(),
+            clock: table.now(),
             stall_time: None,
             stalls_at: None,
             timed: Timed::NONE,
@@ -388,18 +380,18 @@ impl<S: Duplex + Drop> Socket<'_, S> {
 
 /// The idle timeout of the peers of a session; `None` if there is none.
 #[derive(Drop)]
-struct IdleTimeout<'w, R: Clock> {
-    poller: &'w Poller<R>,
+struct IdleTimeout<'w> {
+    table: &'w SocketTable,
     time: Option<Duration>,
 }
 
-impl<R: Clock> IdleTimeout<'_, R> {
+impl IdleTimeout<'_> {
     /// Starts the idle timeout of a socket anew.
     fn begin(&self, flags: &Flags) {
         let Some(time) = self.time else {
             return;
         };
-        flags.silent_from.set(self.poller.after(time));
+        flags.silent_from.set(self.table.after(time));
     }
 
     /// Returns true if the idle timeout of a socket is over; never true without one. The time is read from the system's
@@ -407,7 +399,7 @@ impl<R: Clock> IdleTimeout<'_, R> {
     fn is_over(&self, flags: &Flags) -> bool
         ensures { IsNone self.now.time → result ≡ false }
     {
-        self.time.is_some() && self.poller.is_over(flags.silent_from.get())
+        self.time.is_some() && self.table.is_over(flags.silent_from.get())
     }
 }
 
@@ -421,8 +413,8 @@ impl<R: Clock> IdleTimeout<'_, R> {
 ///
 /// Not said: when silence is too long. Tests show that it comes after `idle_seconds`, for a bot and a server, and not
 /// for a side that sends now and then.
-fn pull_or_flush_peer<R: Clock, S: Duplex + Drop>(
-    idle: &IdleTimeout<'_, R>,
+fn pull_or_flush_peer<S: Duplex + Drop>(
+    idle: &IdleTimeout<'_>,
     own: &mut Socket<'_, S>,
     other: &mut Socket<'_, S>,
     buffer: &mut [u8],
@@ -495,7 +487,7 @@ fn put_or_flush_peer<S: Duplex + Drop>(
 }
 
 /// The connections of a session, as its ports. Each side's socket gave exactly the bytes that a result says it gave,
-/// and took exactly those that it says it took (`transition`, `RunsWithOneEffect`). Of the other side nothing is read,
+/// and took exactly those that it says it took (`transition`, `Transfers`). Of the other side nothing is read,
 /// and only bytes that were held for it are written. A call of the clock leaves both sides unchanged.
 ///
 /// What is held for a side is flushed after 32 turns, and once a pull of the other side or a put finds nothing to do.
@@ -505,10 +497,10 @@ fn put_or_flush_peer<S: Duplex + Drop>(
 /// calls returned. Nor is it said when a call may do something, when a deadline expires, or that held bytes are flushed
 /// at last. These depend on cells that are shared with the loop, which no contract can name; tests show them.
 #[derive(Drop)]
-pub struct SocketPorts<'w, R: Clock, S: Drop = Connection> {
+pub struct SocketPorts<'w, S: Drop> {
     /// The number of the session, from 1, in the order in which the run accepted its bots; 0 outside a run.
     number: u32,
-    idle: IdleTimeout<'w, R>,
+    idle: IdleTimeout<'w>,
     held_for_bot: TurnsHeld,
     held_for_server: TurnsHeld,
     /// Whether the deadline of the initial message passed at the beginning of the turn, for the first time.
@@ -517,20 +509,20 @@ pub struct SocketPorts<'w, R: Clock, S: Drop = Connection> {
     server: Socket<'w, S>,
 }
 
-impl<'w, R: Clock, S: Drop> SocketPorts<'w, R, S> {
+impl<'w, S: Drop> SocketPorts<'w, S> {
     /// Creates the ports of a bot and its server.
     pub fn new(
-        poller: &'w Poller<R>,
+        table: &'w SocketTable,
         bot: Socket<'w, S>,
         server: Socket<'w, S>,
-    ) -> SocketPorts<'w, R, S>
+    ) -> SocketPorts<'w, S>
         ensures bot { result.bot.stream ≡ bot.entry.stream }
         ensures server { result.server.stream ≡ server.entry.stream }
         ensures number { result.number ≡ 0 }
         ensures patient { IsNone result.idle.time }
         ensures timed { (result.bot.timed ≡ bot.entry.timed) × (result.server.timed ≡ server.entry.timed) }
     {
-        let idle = IdleTimeout { poller, time: None };
+        let idle = IdleTimeout { table, time: None };
         SocketPorts {
             number: 0,
             idle,
@@ -548,7 +540,7 @@ impl<'w, R: Clock, S: Drop> SocketPorts<'w, R, S> {
         self,
         number: u32,
         times: (Option<Duration>, Option<Duration>),
-    ) -> SocketPorts<'w, R, S>
+    ) -> SocketPorts<'w, S>
         ensures bot { result.bot.stream ≡ self.entry.bot.stream }
         ensures server { result.server.stream ≡ self.entry.server.stream }
         ensures number { result.number ≡ number }
@@ -569,7 +561,7 @@ impl<'w, R: Clock, S: Drop> SocketPorts<'w, R, S> {
         bot.set_stall_time(stall_time);
         server.set_stall_time(stall_time);
         let idle = IdleTimeout {
-            poller: idle.poller,
+            table: idle.table,
             time,
         };
         idle.begin(bot.registration.flags);
@@ -599,6 +591,14 @@ impl<'w, R: Clock, S: Drop> SocketPorts<'w, R, S> {
         (self.bot.timed, self.server.timed)
     }
 
+    /// Returns the connections to the bot and to the server.
+    pub fn connections(&self) -> (&S, &S)
+        ensures bot { result.0.now ≡ self.now.bot.stream.stream }
+        ensures server { result.1.now ≡ self.now.server.stream.stream }
+    {
+        (self.bot.connection(), self.server.connection())
+    }
+
     /// Returns the sockets of the bot and of the server.
     pub fn into_sockets(self) -> (Socket<'w, S>, Socket<'w, S>)
         ensures bot { result.0.stream ≡ self.entry.bot.stream }
@@ -616,14 +616,21 @@ impl<'w, R: Clock, S: Drop> SocketPorts<'w, R, S> {
         (bot, server)
     }
 
-    /// Counts the beginning of a turn. Makes no system call.
+    /// Returns whether an event of one of the sockets came, or a deadline of one expired, since the last turn began.
+    pub fn has_news(&self) -> bool {
+        self.bot.registration.flags.has_news.get() || self.server.registration.flags.has_news.get()
+    }
+
+    /// Counts the beginning of a turn, in which the session acts on all news. Makes no system call.
     fn count_turn(&mut self)
         ensures bot { self.new.bot ≡ self.old.bot }
         ensures server { self.new.server ≡ self.old.server }
         ensures number { self.new.number ≡ self.old.number }
         ensures idle { self.new.idle ≡ self.old.idle }
     {
-        self.idle.poller.note_turn();
+        self.idle.table.note_turn();
+        self.bot.registration.flags.has_news.set(false);
+        self.server.registration.flags.has_news.set(false);
         self.held_for_bot = self.held_for_bot.with_turn(self.bot.stream.behind_len());
         self.held_for_server = self
             .held_for_server
@@ -631,7 +638,7 @@ impl<'w, R: Clock, S: Drop> SocketPorts<'w, R, S> {
     }
 }
 
-impl<R: Clock, S: Duplex + Drop> SocketPorts<'_, R, S> {
+impl<S: Duplex + Drop> SocketPorts<'_, S> {
     /// Begins a turn of both sockets.
     fn begin_both(&mut self)
         ensures bot { Passes S.to_give S.taken self.old.bot.stream [] [] self.new.bot.stream }
@@ -658,7 +665,7 @@ impl<R: Clock, S: Duplex + Drop> SocketPorts<'_, R, S> {
         ensures idle { self.new.idle ≡ self.old.idle }
     {
         let due = &self.bot.registration.flags.due;
-        let is_over = self.idle.poller.is_over(due.get());
+        let is_over = self.idle.table.is_over(due.get());
         if is_over {
             due.set(None);
         }
@@ -684,7 +691,7 @@ impl<R: Clock, S: Duplex + Drop> SocketPorts<'_, R, S> {
     }
 }
 
-impl<R: Clock, S: Duplex + Drop> Ports for SocketPorts<'_, R, S> {
+impl<S: Duplex + Drop> Ports for SocketPorts<'_, S> {
     ghost transition = { λ old answer new. Transfers S.to_give S.taken (old.bot.stream, old.server.stream) answer
         (new.bot.stream, new.server.stream) };
 

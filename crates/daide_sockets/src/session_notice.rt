@@ -28,7 +28,7 @@ pub enum SessionNotice {
     Ended {
         number: u32,
         why: Why,
-        counts: Counts,
+        counts: Summary,
     },
 }
 
@@ -41,24 +41,23 @@ impl SessionNotice {
         timed: (Timed, Timed),
         stall_seconds: u32,
     ) -> SessionNotice
-        ensures { result ≡ SessionNotice.Ended number (why_by end.cause timed stall_seconds)
-            (record { 0 = end.summary }) }
+        ensures { result ≡ SessionNotice.Ended number (why_by end.cause timed stall_seconds) end.summary }
     {
         SessionNotice::Ended {
             number,
             why: why_of(end.cause, timed, stall_seconds),
-            counts: Counts(end.summary),
+            counts: end.summary,
         }
     }
 
     /// Returns the line of a session whose server was unreachable.
     pub fn of_no_server(number: u32) -> SessionNotice
-        ensures { result ≡ SessionNotice.Ended number Why.NoServer (record { 0 = nothing_counted }) }
+        ensures { result ≡ SessionNotice.Ended number Why.NoServer nothing_counted }
     {
         SessionNotice::Ended {
             number,
             why: Why::NoServer,
-            counts: Counts(Summary::new()),
+            counts: Summary::new(),
         }
     }
 }
@@ -136,21 +135,5 @@ impl fmt::Display for Why {
             }
             Why::NoServer => f.write_str("no server"),
         }
-    }
-}
-
-/// The counts of a session, in the form of the last line of a log's report.
-#[derive(Clone, Copy, Debug, PartialEq, Eq)]
-pub struct Counts(pub Summary);
-
-impl fmt::Display for Counts {
-    fn fmt<W: fmt::Write>(&self, f: &mut fmt::Formatter<W>) -> fmt::Result {
-        let Summary {
-            relayed,
-            prn,
-            huh,
-            faults,
-        } = self.0;
-        write!(f, "relayed {relayed} prn {prn} huh {huh} faults {faults}")
     }
 }

@@ -9,19 +9,17 @@ ghost use Rattle.daide_sockets.specs.Lingering.{ClosingsGoOn, GoOnFor, no_closin
 ghost use Rattle.daide_sockets.specs.Pairing.{FirstArrivalEvolves, Transits, Closes};
 
 use crate::admission::{Acceptor, PendingConnection, Unreached};
-use crate::connection::Connection;
 use crate::lingering_close::{Closings, MOST_CLOSING};
 use crate::poller::Poller;
 use crate::ports::SocketPorts;
 use crate::session_notice::SessionNotice;
-use daide_buffered_io::duplex::Duplex;
+use crate::table::SocketTable;
+use daide_io::network::Network;
 use daide_io::system::{Connect, Notice, SessionEnd, System};
 use daide_settings::Settings;
-use mio::net::TcpListener;
 use std::alloc::Global;
 use std::io::Write;
-use std::net::{Net, SocketAddr};
-use std::rt::Clock;
+use std::net::SocketAddr;
 use std::time::Duration;
 
 /// Returns the most sockets of a run: the listener, two a session, and those that are closing.
@@ -59,9 +57,8 @@ fn idle_time_of(seconds: u32) -> Option<Duration>
 /// after `stall_seconds`, is read from `flush` and `give_up_stalled`. `SessionNotice::of_end` and `why_of` give the
 /// counts and the cause in a line of a session's end. Tests and `scripts/recorded` show that `--verbose` writes it.
 #[derive(Drop)]
-pub struct Sockets<'w, R: Clock + Net, E: Write + Drop> {
-    runtime: &'w R,
-    poller: &'w Poller<&'w R>,
+pub struct Sockets<'w, N: Network, E: Write + Drop> {
+    poller: Poller<'w, N>,
     acceptor: Acceptor<'w>,
     servers: &'w [SocketAddr],
     im_time: Duration,
@@ -72,26 +69,24 @@ pub struct Sockets<'w, R: Clock + Net, E: Write + Drop> {
     /// The same in seconds, as in the settings.
     stall_seconds: u32,
     connect_time: Duration,
-    arrivals: Vec<PendingConnection<'w>>,
-    closings: Closings<'w>,
+    arrivals: Vec<PendingConnection<'w, N::Connection>>,
+    closings: Closings<'w, N::Connection>,
     /// The output for log lines.
     pub errors: E,
     /// Whether the beginning and the end of each session are logged.
     is_verbose: bool,
 }
 
-impl<'w, R: Clock + Net, E: Write + Drop> Sockets<'w, R, E> {
-    /// Creates the sockets of a run with no bot yet, with a listener, the addresses of the server, and a deadline for
-    /// connects. Returns `None` if memory is refused or the listener cannot be registered. Sessions are not logged.
+impl<'w, N: Network, E: Write + Drop> Sockets<'w, N, E> {
+    /// Creates the sockets of a run with no bot yet, over a network, with the addresses of the server, and a deadline for
+    /// connects. Returns `None` if memory is refused or the listener cannot be followed. Sessions are not logged.
     pub fn new(
         alloc: Global,
-        runtime: &'w R,
-        poller: &'w Poller<&'w R>,
-        at: (TcpListener, &'w [SocketAddr]),
+        ground: (N, &'w [SocketAddr], &'w SocketTable),
         settings: &Settings,
         connect_time: Duration,
         errors: E,
-    ) -> Option<Sockets<'w, R, E>>
+    ) -> Option<Sockets<'w, N, E>>
         ensures none_came { IfSome result (λ sockets. (sockets.acceptor.came ≡ 0) × (sockets.is_verbose ≡ false)) }
         ensures none_held { IfSome result (λ sockets. (sockets.arrivals.items ≡ [])
             × (sockets.closings ≡ no_closing sockets.stall_time)) }
@@ -101,8 +96,11 @@ impl<'w, R: Clock + Net, E: Write + Drop> Sockets<'w, R, E> {
             × (sockets.stall_seconds ≡ settings.now.stall_seconds)) }
         ensures connect_time { IfSome result (λ sockets. sockets.connect_time ≡ connect_time) }
     {
-        let (listener, servers) = at;
-        let acceptor = Acceptor::new(poller, listener)?;
+        let (network, servers, table) = ground;
+        let Ok(mut poller) = Poller::new(alloc, network, table) else {
+            return None;
+        };
+        let acceptor = Acceptor::new(&mut poller)?;
         let Ok(arrivals) = Vec::with_capacity(alloc, settings.max_sessions) else {
             return None;
         };
@@ -111,7 +109,6 @@ impl<'w, R: Clock + Net, E: Write + Drop> Sockets<'w, R, E> {
             return None;
         };
         Some(Sockets {
-            runtime,
             poller,
             acceptor,
             servers,
@@ -145,28 +142,28 @@ impl<'w, R: Clock + Net, E: Write + Drop> Sockets<'w, R, E> {
     }
 
     /// Ends the session of a bot whose server was unreachable, and starts the close of its socket.
-    fn let_go(&mut self, left: Unreached<'w>)
-        ensures closes { Closes ⟦<Connection as Duplex>⟧.to_give ⟦<Connection as Duplex>⟧.taken
-            ⟦<Connection as Duplex>⟧.calls self.old.closings left.entry.bot.stream self.new.closings }
+    fn let_go(&mut self, left: Unreached<'w, N::Connection>)
+        ensures closes { Closes N.Connection.to_give N.Connection.taken
+            N.Connection.calls self.old.closings left.entry.bot.stream self.new.closings }
         ensures came { self.new.acceptor.came ≡ self.old.acceptor.came }
         ensures arrivals { self.new.arrivals.items ≡ self.old.arrivals.items }
     {
         self.tell_of_session(SessionNotice::of_no_server(left.number));
-        self.closings.begin(self.poller, left.bot);
+        self.closings.begin(self.poller.table(), left.bot);
     }
 
     /// Checks the first arrival. Returns its ports if its connect completed, and `Failed` if its session is over and
     /// its socket closes. Otherwise the connect is still under way, and the arrival moves to the end.
-    fn look_at_first(&mut self) -> Connect<SocketPorts<'w, &'w R>>
+    fn look_at_first(&mut self) -> Connect<SocketPorts<'w, N::Connection>>
         requires { 0 < length self.old.arrivals.items }
-        ensures { FirstArrivalEvolves ⟦<Connection as Duplex>⟧.to_give ⟦<Connection as Duplex>⟧.taken
-            ⟦<Connection as Duplex>⟧.calls
+        ensures { FirstArrivalEvolves N.Connection.to_give N.Connection.taken
+            N.Connection.calls
             (λ ports. record { number = ports.number; bot = ports.bot.stream; server = ports.server.stream })
             (record { came = self.old.acceptor.came; arrivals = self.old.arrivals.items; closing = self.old.closings })
             result (record { came = self.new.acceptor.came; arrivals = self.new.arrivals.items; closing = self.new.closings }) }
     {
         let mut arrival = self.arrivals.remove(0);
-        if arrival.advances(self.poller, self.runtime, self.servers) {
+        if arrival.advances(&mut self.poller, self.servers) {
             return match self.arrivals.push(arrival) {
                 Ok(()) => Connect::Pending,
                 // The list had room for it before.
@@ -176,7 +173,7 @@ impl<'w, R: Clock + Net, E: Write + Drop> Sockets<'w, R, E> {
                 }
             };
         }
-        match arrival.join(self.poller, (self.idle_time, self.stall_time)) {
+        match arrival.join(self.poller.table(), (self.idle_time, self.stall_time)) {
             Ok(ports) => Connect::Ready(ports),
             Err(left) => {
                 self.let_go(left);
@@ -189,37 +186,37 @@ impl<'w, R: Clock + Net, E: Write + Drop> Sockets<'w, R, E> {
     fn tidy(&mut self)
         ensures came { self.new.acceptor.came ≡ self.old.acceptor.came }
         ensures arrivals { self.new.arrivals.items ≡ self.old.arrivals.items }
-        ensures closing { ClosingsGoOn ⟦<Connection as Duplex>⟧.to_give ⟦<Connection as Duplex>⟧.taken
-            ⟦<Connection as Duplex>⟧.calls self.old.closings self.new.closings }
+        ensures closing { ClosingsGoOn N.Connection.to_give N.Connection.taken
+            N.Connection.calls self.old.closings self.new.closings }
     {
-        self.acceptor.reopen(self.poller);
-        self.closings.advance(self.poller);
+        self.acceptor.reopen(self.poller.table());
+        self.closings.advance(self.poller.table());
     }
 
     /// Waits until the last sockets are closed. That takes at most a second after their peers accepted the buffered
     /// bytes, or are stalled. The closing sockets are advanced by rounds, and by nothing else.
     pub fn finish(&mut self)
-        ensures closing { (rounds : ℕ) × GoOnFor ⟦<Connection as Duplex>⟧.to_give ⟦<Connection as Duplex>⟧.taken
-            ⟦<Connection as Duplex>⟧.calls rounds self.old.closings self.new.closings
+        ensures closing { (rounds : ℕ) × GoOnFor N.Connection.to_give N.Connection.taken
+            N.Connection.calls rounds self.old.closings self.new.closings
             × ((self.new.closings.streams ≡ []) ⊎ (rounds ≡ u64.MAX)) }
         ensures came { self.new.acceptor.came ≡ self.old.acceptor.came }
         ensures arrivals { self.new.arrivals.items ≡ self.old.arrivals.items }
     {
         self.acceptor.stop();
-        self.closings.finish(self.poller);
+        self.closings.finish(&mut self.poller);
     }
 
     /// Waits, unless a closing socket may have more to discard.
     fn rest(&mut self)
-        ensures { self.new ≡ self.old }
+        ensures { self.new ≡ record self.old { poller = self.new.poller } }
     {
-        self.closings.rest(self.poller);
+        self.closings.rest(&mut self.poller);
     }
 }
 
-impl<'w, R: Clock + Net, E: Write + Drop> System<SocketPorts<'w, &'w R>> for Sockets<'w, R, E> {
-    ghost transition = { λ old answer new. Transits ⟦<Connection as Duplex>⟧.to_give ⟦<Connection as Duplex>⟧.taken
-        ⟦<Connection as Duplex>⟧.calls (λ ports. record { number = ports.number; bot = ports.bot.stream; server = ports.server.stream })
+impl<'w, N: Network, E: Write + Drop> System<SocketPorts<'w, N::Connection>> for Sockets<'w, N, E> {
+    ghost transition = { λ old answer new. Transits N.Connection.to_give N.Connection.taken
+        N.Connection.calls (λ ports. record { number = ports.number; bot = ports.bot.stream; server = ports.server.stream })
         (record { came = old.acceptor.came; arrivals = old.arrivals.items; closing = old.closings }) answer
         (record { came = new.acceptor.came; arrivals = new.arrivals.items; closing = new.closings }) };
 
@@ -228,11 +225,15 @@ impl<'w, R: Clock + Net, E: Write + Drop> System<SocketPorts<'w, &'w R>> for Soc
         self.tidy();
     }
 
-    fn begin_turn(&mut self, ports: &mut SocketPorts<'w, &'w R>)
-        ensures ports { Transfers ⟦<Connection as Duplex>⟧.to_give ⟦<Connection as Duplex>⟧.taken
+    fn has_news(&mut self, ports: &SocketPorts<'w, N::Connection>) -> bool {
+        ports.has_news()
+    }
+
+    fn begin_turn(&mut self, ports: &mut SocketPorts<'w, N::Connection>)
+        ensures ports { Transfers N.Connection.to_give N.Connection.taken
             (ports.old.bot.stream, ports.old.server.stream) TurnBegins (ports.new.bot.stream, ports.new.server.stream) }
-        ensures system { Transits ⟦<Connection as Duplex>⟧.to_give ⟦<Connection as Duplex>⟧.taken
-            ⟦<Connection as Duplex>⟧.calls
+        ensures system { Transits N.Connection.to_give N.Connection.taken
+            N.Connection.calls
             (λ ports. record { number = ports.number; bot = ports.bot.stream; server = ports.server.stream })
             (record { came = self.old.acceptor.came; arrivals = self.old.arrivals.items; closing = self.old.closings })
             (BeginsTurn ports.old ports.new)
@@ -250,12 +251,12 @@ impl<'w, R: Clock + Net, E: Write + Drop> System<SocketPorts<'w, &'w R>> for Soc
         if self.arrivals.len() >= self.arrivals.capacity() {
             return false;
         }
-        let Some((number, bot, address)) = self.acceptor.next_bot(self.poller) else {
+        let Some((number, bot, address)) = self.acceptor.next_bot(&mut self.poller) else {
             return false;
         };
         let times = (self.im_time, self.connect_time);
         let came = (number, bot);
-        let arrival = PendingConnection::new(self.poller, self.runtime, self.servers, came, times);
+        let arrival = PendingConnection::new(&mut self.poller, self.servers, came, times);
         self.arrivals.push_reserved(arrival);
         self.tell_of_session(SessionNotice::Began {
             number,
@@ -264,7 +265,7 @@ impl<'w, R: Clock + Net, E: Write + Drop> System<SocketPorts<'w, &'w R>> for Soc
         true
     }
 
-    fn connected(&mut self) -> Connect<SocketPorts<'w, &'w R>> {
+    fn connected(&mut self) -> Connect<SocketPorts<'w, N::Connection>> {
         // A pending arrival moves to the end, so after a check of each the order is as before.
         for _look in 0..self.arrivals.len() {
             if self.arrivals.is_empty() {
@@ -279,10 +280,10 @@ impl<'w, R: Clock + Net, E: Write + Drop> System<SocketPorts<'w, &'w R>> for Soc
         Connect::Pending
     }
 
-    fn retire(&mut self, ports: SocketPorts<'w, &'w R>, end: SessionEnd) {
+    fn retire(&mut self, ports: SocketPorts<'w, N::Connection>, end: SessionEnd) {
         let notice = SessionNotice::of_end(ports.number(), end, ports.timed(), self.stall_seconds);
         self.tell_of_session(notice);
-        self.closings.begin_both(self.poller, ports);
+        self.closings.begin_both(self.poller.table(), ports);
     }
 
     fn tell(&mut self, notice: Notice) {
@@ -290,7 +291,7 @@ impl<'w, R: Clock + Net, E: Write + Drop> System<SocketPorts<'w, &'w R>> for Soc
         let _ = writeln!(self.errors, "daide-gate: {notice}");
     }
 
-    fn wait(&mut self, _accepts: bool) {
+    fn wait(&mut self) {
         self.rest();
     }
 }

@@ -47,9 +47,6 @@ any_last p (y ∷ xs) x e = go (p y) (list_any p (xs ++ x ∷ [])) refl e (any_l
     go false true f e rest = absurd (cc)
     go false false f e rest = rest f
 
-differ : (a b : List ℕ) (c : Bool) → bytes_eq a b ≡ c → c ≡ false → bytes_eq a b ≡ false
-differ a b c e f = e ∙ f
-
 abbrev AreReadAfter : List Named → List Word → ℕ → List ℕ → Type 0
 AreReadAfter taken words t name =
     (is_good_name name ≡ true) × (token_named name ≡ None) × (list_any (λ entry. bytes_eq entry.1 name) taken ≡ false)

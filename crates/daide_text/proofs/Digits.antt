@@ -10,15 +10,6 @@ value_grows : (n : ℕ) (digits : List ℕ) → n ≤ value_after n digits
 value_grows n [] = omega arith
 value_grows n (c ∷ digits) = omega (arith, value_grows (n * 10 + (c - 48)) digits)
 
-unread : (some all : Bool) (value : ℕ) → all ≡ false →
-    ◌≡◌ {A = Option ℕ} None (if some && (all && nat_le value greatest_magnitude) then Some value else None)
-unread true false value e = refl
-unread false false value e = refl
-unread some true value e = absurd (cc)
-
-pub not_digits : (digits : List ℕ) → list_all is_digit digits ≡ false → ◌≡◌ {A = Option ℕ} None (magnitude digits)
-not_digits digits e = unread (nat_lt 0 (length digits)) (list_all is_digit digits) (value_after 0 digits) e
-
 unfit : (some all few : Bool) (value : ℕ) → few ≡ false →
     ◌≡◌ {A = Option ℕ} None (if some && (all && few) then Some value else None)
 unfit true true false value e = refl

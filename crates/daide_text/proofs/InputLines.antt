@@ -106,15 +106,6 @@ line_too_long None now line given all h = (line, [], h, tt)
 line_too_long (Some input) None line given all h = absurd given
 line_too_long (Some input) (Some now) line given all h = too_long input line now given all h
 
--- one more byte was read
-pub given_more : (old now new : Option (List ℕ)) (line : List ℕ) (c : ℕ) → Consumes old now line →
-    Consumes now new (c ∷ []) → Consumes old new (line ++ c ∷ [])
-given_more None now new line c given more = tt
-given_more (Some input) None new line c given more = absurd given
-given_more (Some input) (Some now) None line c given more = absurd more
-given_more (Some input) (Some now) (Some rest) line c given more =
-    given ∙ ap (λ (l : List ℕ). line ++ l) more ∙ sym (append_assoc line (c ∷ []) rest)
-
 -- a read of one byte into a buffer of one
 pub byte_read : (count : ℕ) (buf : List ℕ) (c : ℕ) → 0 < count → length buf ≡ 1 → get_or buf 0 0 ≡ c →
     take count buf ≡ c ∷ []

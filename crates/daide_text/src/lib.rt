@@ -1,11 +1,11 @@
 //! The inverse of printing: each line of text is parsed as a message, and its frame is written in hexadecimal digits.
 #![tactic(auto)]
 
-pub mod frames;
+mod frames;
 mod input;
 mod law_facts;
 pub mod laws;
-pub mod line;
+mod line;
 mod pieces;
 mod word;
 

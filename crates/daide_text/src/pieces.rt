@@ -10,7 +10,7 @@ ghost use Rattle.daide_text.specs.Line.{begins_in_word, character_token, is_in_q
 ghost use Rattle.daide_text.specs.Pieces.{EndsQuote, IsRefusedPiece, IsTakenPiece};
 
 use crate::word::token_of_word;
-use daide_token::Token;
+use daide_token::{BRA, KET, Token};
 use daide_words::Words;
 use std::alloc::Allocator;
 
@@ -43,11 +43,11 @@ pub(crate) fn take_piece<'a, A: Allocator>(
     match *first {
         b' ' | b'\t' => Ok(after),
         b'(' => {
-            append(Token::from_code(0x4000), tokens)?;
+            append(Token::from_code(BRA), tokens)?;
             Ok(after)
         }
         b')' => {
-            append(Token::from_code(0x4001), tokens)?;
+            append(Token::from_code(KET), tokens)?;
             Ok(after)
         }
         b'\'' => take_quote(after, tokens),

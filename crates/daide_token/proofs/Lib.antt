@@ -7,6 +7,7 @@ mod DecimalText
 pub mod TextParts
 mod TextWords
 mod TokenLemmas
+pub mod TokenPlaces
 pub mod WholeText
 mod TextBack
 pub mod ClassNumbers

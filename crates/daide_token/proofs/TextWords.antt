@@ -91,28 +91,6 @@ pub cell_place : (t : ℕ) (cell : List ℕ) → name_of_cell cell ≡ name_of t
 cell_place t [] e long = absurd (omega arith)
 cell_place t (space ∷ letters) e long = rw (named_character t letters (sym e)) refl
 
--- the letters of a cell are the name by itself
-pub cell_word : (added : List Named) (t : ℕ) (cell : List ℕ) → name_of_cell cell ≡ name_of t → length cell ≡ 4 →
-    (t == bra) ≡ false → (t == ket) ≡ false →
-    get_or cell 1 0 ∷ get_or cell 2 0 ∷ get_or cell 3 0 ∷ [] ≡ text_of_token added t
-cell_word added t [] e long a b = absurd (omega arith)
-cell_word added t (s ∷ []) e long a b = absurd (omega arith)
-cell_word added t (s ∷ x ∷ []) e long a b = absurd (omega arith)
-cell_word added t (s ∷ x ∷ y ∷ []) e long a b = absurd (omega arith)
-cell_word added t (s ∷ x ∷ y ∷ z ∷ []) e long a b = sym (named_word added t (x ∷ y ∷ z ∷ []) (sym e) a b)
-cell_word added t (s ∷ x ∷ y ∷ z ∷ w ∷ rest) e long a b = absurd (omega arith)
-
--- a cell of another length is empty, and its token has no name
-no_name : (t : ℕ) (cell : List ℕ) → name_of_cell cell ≡ name_of t → (length cell ≡ 4 → ⊥) → name_of t ≡ None
-no_name t [] e other = sym e
-no_name t (space ∷ letters) e other =
-    absurd (other (omega (arith, name_of-length t letters (sym e))))
-
-pub unnamed_word : (added : List Named) (t : ℕ) (cell : List ℕ) → name_of_cell cell ≡ name_of t →
-    (length cell ≡ 4 → ⊥) → number_of t ≡ None → (t == bra) ≡ false → (t == ket) ≡ false →
-    text_of_token added t ≡ unwrap_or (added_name_of added t) (hex_text t)
-unnamed_word added t cell e other number a b = rw a (rw b (rw number (rw (no_name t cell e other) refl)))
-
 -- ---- a token by its two bytes
 
 pub of_bytes : (t : ℕ) (bytes : List ℕ) → bytes ≡ token_bytes t → get_or bytes 0 0 * 256 + get_or bytes 1 0 ≡ t

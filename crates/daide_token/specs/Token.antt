@@ -50,6 +50,10 @@ token_bytes t = t / 256 ∷ t % 256 ∷ []
 abbrev pub token_of_bytes : List ℕ → ℕ
 token_of_bytes bytes = slice_index bytes 0 * 256 + slice_index bytes 1
 
+-- the token at an index of a body
+abbrev pub token_at : List ℕ → ℕ → ℕ
+token_at body place = slice_index body (2 * place) * 256 + slice_index body (2 * place + 1)
+
 -- the tokens of some bytes, two bytes each, high byte first; an odd last byte is no token
 abbrev pub tokens_of : List ℕ → List ℕ
 tokens_of (high ∷ low ∷ rest) = (high * 256 + low) ∷ tokens_of rest

@@ -8,9 +8,22 @@ ghost use Rattle.daide_token.specs.declared.class.Class.{Class};
 ghost use Rattle.daide_token.specs.declared.class.Class.TheVariants as classes;
 ghost use Rattle.daide_token.specs.Names.{name_of, token_named};
 ghost use Rattle.daide_token.specs.Text.{text_of};
+ghost use Rattle.daide_token.specs.Token.{bra, ket, hlo, huh, prn, err, lvl};
 ghost use Rattle.daide_token.specs.Token.{token_bytes, bytes_of_tokens, number_of, token_of_bytes, token_of_number};
 
+use crate::codes::{BRA, ERR, HLO, HUH, KET, LVL, PRN};
 use crate::laws;
+
+/// Each code with a name in the sources is that of the definitions.
+fn codes_at_values()
+    ensures bra { BRA ≡ bra }
+    ensures ket { KET ≡ ket }
+    ensures hlo { HLO ≡ hlo }
+    ensures huh { HUH ≡ huh }
+    ensures prn { PRN ≡ prn }
+    ensures err { ERR ≡ err }
+    ensures lvl { LVL ≡ lvl }
+{}
 
 /// Two bytes determine one token, also with the greatest low byte. Four bytes determine two tokens.
 fn bytes_at_values()

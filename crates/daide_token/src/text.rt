@@ -12,6 +12,7 @@ ghost use Rattle.daide_token.specs.TextSteps.{token_text};
 ghost use Rattle.daide_token.specs.Token.{number_of, tokens_of};
 ghost use Rattle.daide_token.specs.declared.text.PrinterState.TheVariants.{Quote, Word};
 
+use crate::codes::{BRA, KET};
 use crate::names::spaced_name;
 use crate::token::Token;
 use std::io;
@@ -315,8 +316,8 @@ fn put_no_number(added: &[(Token, [u8; 3])], token: Token, line: &mut [u8], len:
     ensures len { result ≤ len + 6 }
 {
     match token.code() {
-        0x4000 => put(*b"(", line, len),
-        0x4001 => put(*b")", line, len),
+        BRA => put(*b"(", line, len),
+        KET => put(*b")", line, len),
         _ => match token.name() {
             Some(name) => put_name(name, line, len),
             None => put_unnamed(added, token, line, len),

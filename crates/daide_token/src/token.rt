@@ -1,11 +1,12 @@
 //! A token: two bytes, which are a category and a code in it, or a number of fourteen bits.
 
-ghost use Rattle.std.specs.Prelude.{◌≡◌, ℕ, option_map};
-ghost use Rattle.daide_token.specs.Token.{token_bytes, number_of, token_of_bytes, token_of_number};
+ghost use Rattle.std.specs.Prelude.{◌≡◌, ◌==◌, ℕ, option_map};
+ghost use Rattle.daide_token.specs.Token.{bra, ket, prn, token_bytes, number_of, token_of_bytes, token_of_number};
 ghost use Rattle.daide_token.specs.Class.{class_of, has_known_category};
 ghost use Rattle.daide_token.specs.Names.{name_of, token_named};
 
 use crate::class::{Class, class_in};
+use crate::codes::{BRA, KET, PRN};
 use crate::names;
 use std::marker::Model;
 
@@ -54,6 +55,30 @@ impl Token {
         self.code().to_be_bytes()
     }
 
+    /// Returns whether the token is BRA, which opens a bracket.
+    #[inline(always)]
+    pub const fn is_bra(self) -> bool
+        ensures { result ≡ (self == bra) }
+    {
+        self.code() == BRA
+    }
+
+    /// Returns whether the token is KET, which closes a bracket.
+    #[inline(always)]
+    pub const fn is_ket(self) -> bool
+        ensures { result ≡ (self == ket) }
+    {
+        self.code() == KET
+    }
+
+    /// Returns whether the token is PRN.
+    #[inline(always)]
+    pub const fn is_prn(self) -> bool
+        ensures { result ≡ (self == prn) }
+    {
+        self.code() == PRN
+    }
+
     /// Returns the token's number, from -8192 to 8191: two's complement in fourteen bits. Returns `None` for every
     /// token from 0x4000 on.
     pub fn number(self) -> Option<i16>
@@ -85,8 +110,8 @@ impl Token {
     {
         // The brackets come first: about every second token is one, and a reader tests for them anyway.
         match self.code() {
-            0x4000 => Class::Bra,
-            0x4001 => Class::Ket,
+            BRA => Class::Bra,
+            KET => Class::Ket,
             _ => {
                 let [category, code] = self.to_be();
                 class_in(category, code)

@@ -117,7 +117,7 @@ fn code_in(table: &Table) -> Option<Token>
 fn slot_in(table: &Table) -> Option<Slot>
     ensures { result ≡ option_and_then slot_named (text_in (codes "slot") (table_view table.now)) }
 {
-    Slot::by_name(text_in(table, "slot")?)
+    Slot::by_name(text_in(table, "slot")?.as_bytes())
 }
 
 /// Returns the level with the number of an entry.
@@ -134,7 +134,7 @@ fn level_in(table: &Table) -> Option<Level>
 fn operand_in(table: &Table) -> Option<Operand>
     ensures { result ≡ option_and_then operand_named (text_in (codes "operand") (table_view table.now)) }
 {
-    Operand::by_name(text_in(table, "operand")?)
+    Operand::by_name(text_in(table, "operand")?.as_bytes())
 }
 
 /// Returns the word of an entry's members, if each is in its range.

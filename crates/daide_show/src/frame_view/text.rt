@@ -8,7 +8,6 @@ ghost use Rattle.daide_grammar.specs.SideMessages.{IsMessageOver};
 ghost use Rattle.daide_words.specs.Word.{grammar_words};
 ghost use Rattle.daide_words.specs.Words.{words_of};
 ghost use Rattle.daide_reader.specs.Verdict.{HasVerdict, IsPlaceIn};
-ghost use Rattle.daide_protocol.specs.Answers.{answer_body};
 ghost use Rattle.daide_protocol.specs.Bounds.{longest_body, greatest_depth};
 ghost use Rattle.daide_protocol.specs.Machine.{side2_of};
 ghost use Rattle.daide_show.specs.Shown.{Shown, WritesShown, AreLines, IsFrameShownAs, IsMessageShownAs, request_of};
@@ -16,15 +15,14 @@ ghost use Rattle.daide_show.specs.Shown.{line, printed, kind_line, fault_shown, 
 ghost use Rattle.daide_show.specs.Shown.{verdict_lines, is_relay};
 
 use super::Request;
-use daide_explain::{Rules, verdict_of, write_explained};
+use daide_explain::{Rules, answer_of, verdict_of, write_explained};
 use daide_frame::{Code, Head, Kind, check_im};
 use daide_protocol::MAX_DEPTH;
-use daide_protocol::answers::{CLOSE_WORD, ERR_WORD, HUH_OPEN, PRN_OPEN};
 use daide_protocol::transitions::side2_of;
 use daide_reader::Verdict;
 use daide_token::write_text_with;
 use daide_words::Words;
-use std::alloc::{AllocError, Allocator};
+use std::alloc::Allocator;
 use std::io;
 use std::io::Write;
 
@@ -62,28 +60,6 @@ fn write_tokens<A: Allocator>(words: &Words, tokens: &[u8], text: &mut Vec<u8, A
     text.write_all(b"\n")
 }
 
-/// Returns the answer to a message that is not paired.
-fn answer_prn<A: Allocator>(alloc: A, body: &[u8]) -> Result<Vec<u8, A>, AllocError>
-    requires { length body.now % 2 ≡ 0 }
-    ensures even { IfOk result (λ answer. length answer.items % 2 ≡ 0) }
-    ensures body { IfOk result (λ answer. answer.items ≡ answer_body body.now Verdict.Prn) }
-{
-    let parts: [&[u8]; 3] = [&PRN_OPEN, body, &CLOSE_WORD];
-    parts.concat(alloc)
-}
-
-/// Returns the answer to a message with an error place.
-fn answer_huh<A: Allocator>(alloc: A, place: u16, body: &[u8]) -> Result<Vec<u8, A>, AllocError>
-    requires even { length body.now % 2 ≡ 0 }
-    requires within { 2 * place ≤ length body.now }
-    ensures even { IfOk result (λ answer. length answer.items % 2 ≡ 0) }
-    ensures body { IfOk result (λ answer. answer.items ≡ answer_body body.now (Verdict.Huh place)) }
-{
-    let (before, after) = body.split_at(2 * place as usize);
-    let parts: [&[u8]; 5] = [&HUH_OPEN, before, &ERR_WORD, after, &CLOSE_WORD];
-    parts.concat(alloc)
-}
-
 /// Writes a verdict, and the answer to the sender if there is one. Returns whether the message is relayed.
 fn write_verdict<A: Allocator + Copy>(
     alloc: A,
@@ -98,20 +74,15 @@ fn write_verdict<A: Allocator + Copy>(
         (text.new.items ≡ text.old.items ++ verdict_lines (words_of words.now) verdict body.now)
         × (relayed ≡ is_relay verdict)) }
 {
-    let answer = match verdict {
+    match verdict {
         Verdict::Relay => {
             text.write_all(b"relay\n")?;
             return Ok(true);
         }
-        Verdict::Prn => {
-            text.write_all(b"PRN\n")?;
-            answer_prn(alloc, body)?
-        }
-        Verdict::Huh(place) => {
-            writeln!(text, "HUH at {place}")?;
-            answer_huh(alloc, place, body)?
-        }
-    };
+        Verdict::Prn => text.write_all(b"PRN\n")?,
+        Verdict::Huh(place) => writeln!(text, "HUH at {place}")?,
+    }
+    let answer = answer_of(alloc, verdict, body)?;
     write_tokens(words, answer.as_slice(), text)?;
     Ok(false)
 }
@@ -120,8 +91,9 @@ fn write_verdict<A: Allocator + Copy>(
 pub(super) fn write_fault<A: Allocator>(code: Code, text: &mut Vec<u8, A>) -> io::Result<bool>
     ensures { IfOk result (λ relayed. WritesShown text.old.items text.new.items relayed (fault_shown code)) }
 {
-    let digits = code.digits();
-    writeln!(text, "fault {digits}")?;
+    text.write_all(b"fault ")?;
+    text.write_all(&code.digits())?;
+    text.write_all(b"\n")?;
     Ok(false)
 }
 

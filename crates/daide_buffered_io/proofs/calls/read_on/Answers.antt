@@ -1,7 +1,7 @@
 use Rattle.std.proofs.Common.{◌∙◌, ℕ, ap, sym, arith, length}
-use Rattle.daide_buffered_io.specs.Calls.{Read, outcome_by}
-use Rattle.daide_buffered_io.specs.declared.outcome.IoResult.{IoResult}
-use Rattle.daide_buffered_io.specs.declared.outcome.IoResult.TheVariants.{Interrupted}
+use Rattle.daide_io.specs.Streams.{Read, outcome_by}
+use Rattle.daide_io.specs.declared.outcome.IoResult.{IoResult}
+use Rattle.daide_io.specs.declared.outcome.IoResult.TheVariants.{Interrupted}
 use Rattle.daide_buffered_io.proofs.AgainLemmas.{again_told, last_tried, read_within, read_given, read_kept}
 use Rattle.daide_buffered_io.proofs.calls.read_on.Goals as goal
 

@@ -2,8 +2,8 @@
 use Rattle.std.proofs.Common.{◌≡◌, length, replicate}
 use Rattle.std.specs.Io.KnownBytes.{Keeps}
 use Rattle.daide_io.specs.Ports.{AppendsTo}
-use Rattle.daide_buffered_io.specs.Calls.{Read}
-use Rattle.daide_buffered_io.specs.declared.outcome.IoResult.TheVariants.{Interrupted}
+use Rattle.daide_io.specs.Streams.{Read}
+use Rattle.daide_io.specs.declared.outcome.IoResult.TheVariants.{Interrupted}
 use Rattle.daide_buffered_io.proofs.calls.read_on.Given as goal
 
 abbrev pub invariant-loop : goal.invariant-loop

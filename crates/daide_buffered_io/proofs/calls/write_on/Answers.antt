@@ -1,7 +1,7 @@
 use Rattle.std.proofs.Common.{◌∙◌, ap, sym, arith}
-use Rattle.daide_buffered_io.specs.Calls.{Written, outcome_by}
-use Rattle.daide_buffered_io.specs.declared.outcome.IoResult.{IoResult}
-use Rattle.daide_buffered_io.specs.declared.outcome.IoResult.TheVariants.{Interrupted}
+use Rattle.daide_io.specs.Streams.{Written, outcome_by}
+use Rattle.daide_io.specs.declared.outcome.IoResult.{IoResult}
+use Rattle.daide_io.specs.declared.outcome.IoResult.TheVariants.{Interrupted}
 use Rattle.daide_buffered_io.proofs.AgainLemmas.{again_told, last_tried, write_within, write_taken, write_kept}
 use Rattle.daide_buffered_io.proofs.calls.write_on.Goals as goal
 

@@ -2,8 +2,8 @@
 use Rattle.std.proofs.Common.{◌≡◌, replicate}
 use Rattle.std.specs.Io.KnownBytes.{Keeps}
 use Rattle.daide_io.specs.Ports.{AppendsTo}
-use Rattle.daide_buffered_io.specs.Calls.{Written}
-use Rattle.daide_buffered_io.specs.declared.outcome.IoResult.TheVariants.{Interrupted}
+use Rattle.daide_io.specs.Streams.{Written}
+use Rattle.daide_io.specs.declared.outcome.IoResult.TheVariants.{Interrupted}
 use Rattle.daide_buffered_io.proofs.calls.write_on.Given as goal
 
 abbrev pub invariant-loop : goal.invariant-loop

@@ -2,7 +2,7 @@ use Rattle.std.proofs.Common.{Bool, [], ◌∷◌, refl, sym, subst}
 use Rattle.daide_protocol.specs.Events.{ImTimerExpired}
 use Rattle.daide_protocol.proofs.LimitsKept.{runs_limits}
 use Rattle.daide_io.specs.Ports.{Clock}
-use Rattle.daide_driver.specs.Record.{Working}
+use Rattle.daide_driver.specs.Totals.{Working}
 use Rattle.daide_driver.specs.Turn.{AsksClock, Hears}
 use Rattle.daide_driver.proofs.Stretches.{carries_one}
 use Rattle.daide_session.proofs.WorkLemmas.{paid_held, paid_same}

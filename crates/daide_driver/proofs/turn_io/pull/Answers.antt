@@ -2,7 +2,7 @@ use Rattle.std.proofs.Common.{◌≡◌, ℕ, refl, ap, ◌∙◌, rules, arith}
 use Rattle.std.specs.Prelude.{min}
 use Rattle.daide_protocol.specs.Wires.{room_of}
 use Rattle.daide_reader.proofs.ReadingLemmas.{raised_none}
-use Rattle.daide_driver.specs.Record.{Working}
+use Rattle.daide_driver.specs.Totals.{Working}
 use Rattle.daide_driver.specs.Turn.{Pulls}
 use Rattle.daide_driver.proofs.Stretches.{carries_nothing}
 use Rattle.daide_driver.proofs.TurnLemmas.{no_pull}

@@ -1,10 +1,11 @@
 use Rattle.std.proofs.Common.{◌≡◌, [], ◌∷◌, length, take, refl, rules}
 use Rattle.daide_protocol.specs.declared.note.Note.TheVariants as Note
-use Rattle.daide_protocol.specs.Events.{Ends, bytes_come, other}
+use Rattle.daide_frame.specs.Side.{other}
+use Rattle.daide_protocol.specs.Events.{Ends, bytes_come}
 use Rattle.daide_protocol.proofs.LimitsKept.{runs_limits}
 use Rattle.daide_io.specs.declared.ports.Pull.TheVariants.{Got, Idle, Ended}
 use Rattle.daide_io.specs.Ports.{Pulled}
-use Rattle.daide_driver.specs.Record.{Working}
+use Rattle.daide_driver.specs.Totals.{Working}
 use Rattle.daide_driver.specs.Turn.{Pulls}
 use Rattle.daide_driver.proofs.Stretches.{carries_one}
 use Rattle.daide_driver.proofs.TurnLemmas.{whole_pull}

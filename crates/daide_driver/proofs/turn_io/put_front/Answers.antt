@@ -5,7 +5,7 @@ use Rattle.daide_protocol.specs.Wires.{queued}
 use Rattle.daide_protocol.proofs.LimitsKept.{runs_limits}
 use Rattle.daide_io.specs.declared.ports.Put.TheVariants.{Took, Failed}
 use Rattle.daide_io.specs.Ports.{Offered}
-use Rattle.daide_driver.specs.Record.{Working}
+use Rattle.daide_driver.specs.Totals.{Working}
 use Rattle.daide_driver.specs.Turn.{Puts}
 use Rattle.daide_driver.proofs.Stretches.{carries_nothing, carries_one}
 use Rattle.daide_driver.proofs.TurnLemmas.{front_short, no_put, whole_put}

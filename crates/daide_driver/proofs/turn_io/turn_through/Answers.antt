@@ -1,7 +1,7 @@
 use Rattle.daide_frame.specs.declared.side.Side.TheVariants.{Bot, Server}
-use Rattle.daide_driver.specs.Record.{Working}
+use Rattle.daide_driver.specs.Totals.{Working}
 use Rattle.daide_driver.specs.Turn.{Then, AsksClock, Puts, Pulls}
-use Rattle.daide_driver.specs.Headline.{WholeTurn}
+use Rattle.daide_driver.specs.Whole.{WholeTurn}
 use Rattle.daide_driver.proofs.Stretches.{carries_then, carries_weaker}
 use Rattle.daide_driver.proofs.TurnLemmas.{WorkingTurn}
 use Rattle.daide_driver.proofs.Standing.{one_turn}

@@ -1,15 +1,15 @@
-use Rattle.std.proofs.Common.{◌≤◌, List, [], refl, inr, sym, ◌∙◌, subst, arith, rules}
+use Rattle.std.proofs.Common.{◌≤◌, List, [], refl, inl, inr, sym, ◌∙◌, subst, arith, rules}
 use Rattle.daide_event_loop.specs.declared.serving.ServeFault.{ServeFault}
 use Rattle.daide_io.specs.System.{SystemCall, TransitsBy}
 use Rattle.daide_event_loop.specs.Serving.{ServiceView, GivesUp, IsServeCause, initial_service}
-use Rattle.daide_event_loop.proofs.ServingLemmas.{Ran, no_rounds, another_round, at_fault, at_memory, not_begun, opening_cause, runs_out}
+use Rattle.daide_event_loop.proofs.ServingLemmas.{Ran, no_rounds, another_round, at_memory, runs_out}
 use Rattle.daide_event_loop.proofs.ServedLemmas.{body_refused, whole_run}
 use Rattle.daide_event_loop.proofs.serving.serve.Goals as goal
 
 pub loop-round-init : goal.loop-round-init
 loop-round-init g c =
     let first = initial_service {P = g.row.P.Denot} c.args.settings.now in
-    subst (λ (s : ServiceView g.row.P.Denot). Ran g.P.Ports.transition g.S.System.transition 0 first c.args.system.now s c.args.system.now) (sym c.in_ok-service.ensures.opening)
+    subst (λ (s : ServiceView g.row.P.Denot). Ran g.P.Ports.transition g.S.System.transition 0 first c.args.system.now s c.args.system.now) (sym c.in-Ok.ensures.opening)
     (no_rounds g.P.Ports.transition g.S.System.transition first c.args.system.now)
 
 pub loop-round-preserved : goal.loop-round-preserved
@@ -23,39 +23,26 @@ returns-then-is_done-clause-served g c =
     let ran = c.loop-round.invariant in (
       ran.0,
       ran.1,
-      whole_run g.P.Ports.transition c.args.settings.now c.in_ok-service.ensures.accepted c.loop-round._round ran.0
+      whole_run g.P.Ports.transition c.args.settings.now c.loop-round._round ran.0
           c.loop-round.service ran.2
           (sym c.is_done.ensures ∙ c.if-is_done.true),
     )
 
--- the settings are wrong, or the places were refused
-pub returns-in_err-service-clause-given_up : goal.returns-in_err-service-clause-given_up
-returns-in_err-service-clause-given_up g c =
-    at_fault c.from_residual.result c.in_err-service.field-0.0
-    (λ (fault : ServeFault). (answers : List (SystemCall g.row.P.Denot))
-    × TransitsBy g.S.System.transition c.args.system.now answers c.args.system.now
-    × GivesUp g.A.Memory.Refuses g.P.Ports.transition c.args.settings.now fault answers)
-    c.from_residual.ensures.1 (
-      [],
-      refl,
-      not_begun g.A.Memory.Refuses g.P.Ports.transition c.args.settings.now c.in_err-service.field-0.0
-          c.in_err-service.ensures.refused,
-    )
+-- the places were refused
+pub returns-in_default-clause-given_up : goal.returns-in_default-clause-given_up
+returns-in_default-clause-given_up g c = ([], refl, inl (refl, c.in_default.ensures.refused))
 
-pub returns-in_err-service-clause-refused : goal.returns-in_err-service-clause-refused
-returns-in_err-service-clause-refused g c =
-    at_fault c.from_residual.result c.in_err-service.field-0.0
-    (IsServeCause g.A.Memory.Refuses c.args.settings.now) c.from_residual.ensures.1
-    (opening_cause g.A.Memory.Refuses c.args.settings.now c.in_err-service.field-0.0 c.in_err-service.ensures.refused)
+pub returns-in_default-clause-refused : goal.returns-in_default-clause-refused
+returns-in_default-clause-refused g c = inl c.in_default.ensures.refused
 
 -- only refused memory breaks off a round
 pub returns-in_err-round-clause-given_up : goal.returns-in_err-round-clause-given_up
 returns-in_err-round-clause-given_up g c =
     let broken = c.in_err-round.ensures.broken_off in
-    at_memory c.from_residual-in_err-round.result c.in_err-round.field-0.0 (λ (fault : ServeFault). (answers : List (SystemCall g.row.P.Denot))
+    at_memory c.from_residual.result c.in_err-round.field-0.0 (λ (fault : ServeFault). (answers : List (SystemCall g.row.P.Denot))
     × TransitsBy g.S.System.transition c.args.system.now answers c.round.new.system
     × GivesUp g.A.Memory.Refuses g.P.Ports.transition c.args.settings.now fault answers)
-    c.from_residual-in_err-round.ensures.1 c.in_err-round.ensures.refused
+    c.from_residual.ensures.1 c.in_err-round.ensures.refused
     (runs_out g.A.Memory.Refuses g.P.Ports.transition g.S.System.transition c.args.settings.now c.loop-round._round _ _ _ _ _ c.loop-round.invariant
     (sym c.is_done.ensures ∙ c.if-is_done.false) broken.0 broken.1 broken.2)
 
@@ -63,13 +50,11 @@ pub returns-in_err-round-clause-refused : goal.returns-in_err-round-clause-refus
 returns-in_err-round-clause-refused g c =
     let ran = c.loop-round.invariant in
     let broken = c.in_err-round.ensures.broken_off in
-    at_memory c.from_residual-in_err-round.result c.in_err-round.field-0.0
-    (IsServeCause g.A.Memory.Refuses c.args.settings.now) c.from_residual-in_err-round.ensures.1
-    c.in_err-round.ensures.refused (
-      c.in_ok-service.ensures.accepted,
-      inr (body_refused g.P.Ports.transition c.args.settings.now g.A.Memory.Refuses c.loop-round._round ran.0
-          c.loop-round.service ran.2 broken.2.refused),
-    )
+    at_memory c.from_residual.result c.in_err-round.field-0.0
+    (IsServeCause g.A.Memory.Refuses c.args.settings.now) c.from_residual.ensures.1
+    c.in_err-round.ensures.refused
+    (inr (body_refused g.P.Ports.transition c.args.settings.now g.A.Memory.Refuses c.loop-round._round ran.0
+    c.loop-round.service ran.2 broken.2.refused))
 
 -- all rounds were made if the loop ran to its end
 pub returns-clause-given_up : goal.returns-clause-given_up

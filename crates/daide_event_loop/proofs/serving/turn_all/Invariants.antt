@@ -1,7 +1,7 @@
 use Rattle.daide_event_loop.proofs.BeginningLemmas.{Turning}
 use Rattle.daide_event_loop.proofs.serving.turn_all.Given as goal
 
--- the places before this one had their turns
+-- the places before this one were visited
 abbrev pub invariant-loop-i : goal.invariant-loop-i
 invariant-loop-i g l =
     Turning g.P.Ports.transition g.S.System.transition l.initial.system l.initial.hub l.i l.hub l.system

@@ -1,12 +1,13 @@
 use Rattle.std.proofs.Common.{◌≡◌, ◌≤◌, length, take, sym, ◌∙◌, arith, inl, inr}
+use Rattle.std.proofs.lemmas.Bool.{eqb-true, eqb-false}
 use Rattle.std.proofs.lemmas.List.{length-take-le}
-use Rattle.daide_token.specs.Token.{tokens_of}
+use Rattle.daide_token.specs.Token.{bra, ket, tokens_of}
 use Rattle.daide_reader.proofs.BodyLemmas.{tokens_of-length}
 use Rattle.daide_explain.proofs.Scans.{scan_bra, scan_ket, scan_plain, scan_all, all_closed, some_open, ket_here}
 use Rattle.daide_explain.proofs.brackets.find_unpaired.Goals as goal
-use Rattle.daide_explain.proofs.brackets.find_unpaired.Goals.{then-code-eq16384, then-opened-eq0, else-opened-eq0}
-use Rattle.daide_explain.proofs.brackets.find_unpaired.Goals.{else-code-eq16384+then-code-eq16385+else-opened-eq0-2}
-use Rattle.daide_explain.proofs.brackets.find_unpaired.Goals.{else-code-eq16384+else-code-eq16385}
+use Rattle.daide_explain.proofs.brackets.find_unpaired.Goals.{then-is_bra, then-opened-eq0, else-opened-eq0}
+use Rattle.daide_explain.proofs.brackets.find_unpaired.Goals.{else-is_bra+then-is_ket+else-opened-eq0-2}
+use Rattle.daide_explain.proofs.brackets.find_unpaired.Goals.{else-is_bra+else-is_ket}
 
 pub returns-then-opened-eq0-2 : goal.returns-then-opened-eq0-2
 returns-then-opened-eq0-2 c =
@@ -15,7 +16,7 @@ returns-then-opened-eq0-2 c =
     let long = tokens_of-length c.args.body.now in
     let inside : c.loop-i.i ≤ length m = omega arith in
     ket_here m c.token_at-token.result c.loop-i.i c.loop-i.opened c.loop-i.first
-    (sym c.code-else-code-eq16384.ensures ∙ c.if-code-eq16385.true) inside c.token_at-token.ensures.rest
+    (eqb-true _ ket (sym c.is_ket.ensures ∙ c.if-is_ket.true)) inside c.token_at-token.ensures.rest
     c.if-opened-eq0-2.true c.loop-i.invariant.scanned
 
 pub loop-i-preserved : goal.loop-i-preserved
@@ -25,8 +26,8 @@ loop-i-preserved c =
     let t = c.token_at-token.result in
     let n = c.loop-i.opened in
     let first = c.loop-i.first in
-    let now = c.if-code-eq16384.opened in
-    let place = c.if-code-eq16384.first in
+    let now = c.if-is_bra.opened in
+    let place = c.if-is_bra.first in
     let scanned = c.loop-i.invariant.scanned in
     let few = c.loop-i.invariant.few in
     let front = c.token_at-token.ensures.front in
@@ -34,28 +35,28 @@ loop-i-preserved c =
     let long = tokens_of-length c.args.body.now in
     let inside : i ≤ length m = omega arith in
     let len : length (take i m) ≡ i = length-take-le i m inside in
-    elim c.if-code-eq16384.branch [
-      | then-code-eq16384 w ↦ elim w.if-opened-eq0.branch [
+    elim c.if-is_bra.branch [
+      | then-is_bra w ↦ elim w.if-opened-eq0.branch [
         | then-opened-eq0 v ↦ record {
-          scanned = scan_bra m i t n first now place front len (sym c.code.ensures ∙ w.if-code-eq16384.true) w.opened-is
+          scanned = scan_bra m i t n first now place front len (eqb-true t bra (sym c.is_bra.ensures ∙ w.if-is_bra.true)) w.opened-is
               (inl (v.if-opened-eq0.true, w.first-is ∙ v.first-is)) scanned;
           few = (let a = w.opened-is in omega arith);
         }
         | else-opened-eq0 v ↦ record {
-          scanned = scan_bra m i t n first now place front len (sym c.code.ensures ∙ w.if-code-eq16384.true) w.opened-is
+          scanned = scan_bra m i t n first now place front len (eqb-true t bra (sym c.is_bra.ensures ∙ w.if-is_bra.true)) w.opened-is
               (inr (v.if-opened-eq0.false, w.first-is ∙ v.first-is)) scanned;
           few = (let a = w.opened-is in omega arith);
         }
       ]
-      | else-code-eq16384+then-code-eq16385+else-opened-eq0-2 w ↦ record {
+      | else-is_bra+then-is_ket+else-opened-eq0-2 w ↦ record {
         scanned = scan_ket m i t n first now place front
-            (sym w.code-else-code-eq16384.ensures ∙ w.if-code-eq16385.true) w.opened-is w.if-opened-eq0-2.false w.first-is
+            (eqb-true t ket (sym w.is_ket.ensures ∙ w.if-is_ket.true)) w.opened-is w.if-opened-eq0-2.false w.first-is
             scanned;
         few = (let a = w.opened-is in omega arith);
       }
-      | else-code-eq16384+else-code-eq16385 w ↦ record {
-        scanned = scan_plain m i t n first now place front (λ e. w.if-code-eq16384.false (c.code.ensures ∙ e))
-            (λ e. w.if-code-eq16385.false (w.code-else-code-eq16384.ensures ∙ e)) w.opened-is w.first-is scanned;
+      | else-is_bra+else-is_ket w ↦ record {
+        scanned = scan_plain m i t n first now place front (eqb-false t bra (sym c.is_bra.ensures ∙ w.if-is_bra.false))
+            (eqb-false t ket (sym w.is_ket.ensures ∙ w.if-is_ket.false)) w.opened-is w.first-is scanned;
         few = (let a = w.opened-is in omega arith);
       }
     ]

@@ -1,5 +1,6 @@
 use Rattle.std.proofs.Common.{◌≡◌, ℕ, ◌<◌, ◌==◌, false, [], ◌∷◌, ◌++◌, length, refl, sym, ◌∙◌, ap, subst, arith, inl}
 use Rattle.std.proofs.Common.{IsTrue, ◌↔◌}
+use Rattle.std.proofs.lemmas.Bool.{eqb-true}
 use Rattle.std.proofs.lemmas.Bool.Decides.{nat_tests}
 use Rattle.daide_token.specs.Token.{prn, tokens_of}
 use Rattle.daide_grammar.specs.Paired.{begins_with_prn}
@@ -18,12 +19,12 @@ use Rattle.daide_reader.specs.ErrorPlace.{IsAllowedPrefix}
 use Rattle.daide_explain.proofs.Allowed.{read_nothing, allowed_along, allowed_if_no_place, prn_allowed, plain_more}
 use Rattle.daide_protocol.proofs.WordedVerdicts.{worded_messages}
 use Rattle.daide_explain.proofs.expected.is_expected.Goals as goal
-use Rattle.daide_explain.proofs.expected.is_expected.Goals.{else-before-lt2-via-then-before-lt2+else-code-eq18451, else-before-lt2-via-else-before-lt2}
+use Rattle.daide_explain.proofs.expected.is_expected.Goals.{else-before-lt2-via-then-before-lt2+else-is_prn, else-before-lt2-via-else-before-lt2}
 
-pub returns-then-code-eq18451 : goal.returns-then-code-eq18451
-returns-then-code-eq18451 c =
+pub returns-then-is_prn : goal.returns-then-is_prn
+returns-then-is_prn c =
     let few : length c.args.before.now < 2 = grind (arith, nat_tests) in
-    let same : c.args.token ≡ prn = sym c.code.ensures ∙ c.if-code-eq18451.true in (
+    let same : c.args.token ≡ prn = eqb-true c.args.token prn (sym c.is_prn.ensures ∙ c.if-is_prn.true) in (
       λ _. prn_allowed (IsMessageOver (grammar_words (words_of c.args.rules.now.words.now)) c.args.rules.now.end c.args.rules.now.level) c.args.rules.now.max_depth
           c.args.before.now c.args.token (inl ([], refl)) few same,
       λ _. refl,
@@ -39,7 +40,7 @@ returns c =
     let table = c.new-reader.result.table in
     let apart : length b < 2 → (c.args.token == prn) ≡ false = λ few.
     elim c.else-before-lt2.branch [
-      | else-before-lt2-via-then-before-lt2+else-code-eq18451 w ↦ (let a = w.if-code-eq18451.false in let b = w.code.ensures in grind (arith, nat_tests, a, b))
+      | else-before-lt2-via-then-before-lt2+else-is_prn w ↦ sym w.is_prn.ensures ∙ w.if-is_prn.false
       | else-before-lt2-via-else-before-lt2 w ↦ (let a = w.if-before-lt2.false in absurd (grind (arith, nat_tests, a, few)))
     ] in
     let plain : begins_with_prn q ≡ false = plain_more b c.args.token c.requires.plain apart in

@@ -1,4 +1,6 @@
 use Rattle.std.proofs.Common.{◌≡◌, false, true, sym, ◌∙◌}
+use Rattle.std.proofs.lemmas.Bool.{eqb-true}
+use Rattle.daide_token.specs.Token.{bra}
 use Rattle.daide_explain.proofs.Deep.{after_the_end, deep_if_full}
 use Rattle.daide_explain.proofs.text.is_too_deep.Goals as goal
 
@@ -11,4 +13,4 @@ returns-then-place-body c = (
 pub returns : goal.returns
 returns c =
     deep_if_full c.args.rules.now.max_depth c.args.body.now c.args.place c.token_at.result c.open_before.result c.token_at.ensures.rest
-    (sym c.code.ensures ∙ c.if-code-ne16384.false) c.open_before.ensures
+    (eqb-true c.token_at.result bra (sym c.is_bra.ensures ∙ c.if-not-is_bra.false)) c.open_before.ensures

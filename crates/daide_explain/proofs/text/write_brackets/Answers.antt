@@ -1,12 +1,13 @@
 use Rattle.std.proofs.Common.{◌≡◌, ◌⊎◌, sym, ap, ◌∙◌, inl, inr}
+use Rattle.std.proofs.lemmas.Bool.{eqb-true, eqb-false}
 use Rattle.daide_token.specs.Token.{bra, ket}
 use Rattle.daide_words.specs.Words.{words_of}
 use Rattle.daide_explain.proofs.Items.{items_none, bracket_next, no_bracket_next}
 use Rattle.daide_explain.proofs.text.write_brackets.Goals as goal
-use Rattle.daide_explain.proofs.text.write_brackets.Goals.{then-code-eq16384+in_ok-write_all+in_ok-write_item}
-use Rattle.daide_explain.proofs.text.write_brackets.Goals.{then-code-eq16384-via-then-code-eq16384}
-use Rattle.daide_explain.proofs.text.write_brackets.Goals.{then-code-eq16384-via-else-code-eq16384+then-code-eq16385}
-use Rattle.daide_explain.proofs.text.write_brackets.Goals.{else-code-eq16384+else-code-eq16385}
+use Rattle.daide_explain.proofs.text.write_brackets.Goals.{then-is_bra+in_ok-write_all+in_ok-write_item}
+use Rattle.daide_explain.proofs.text.write_brackets.Goals.{then-is_bra-via-then-is_bra}
+use Rattle.daide_explain.proofs.text.write_brackets.Goals.{then-is_bra-via-else-is_bra+then-is_ket}
+use Rattle.daide_explain.proofs.text.write_brackets.Goals.{else-is_bra+else-is_ket}
 
 pub loop-token-init : goal.loop-token-init
 loop-token-init g c = items_none (words_of c.args.words.now) c.args.text.now.items
@@ -18,20 +19,20 @@ loop-token-preserved g c =
     let i = c.loop-token.token-index in
     let t = c.token-item.result in
     let start = c.args.text.now.items in
-    elim c.if-code-eq16384.branch [
-      | then-code-eq16384+in_ok-write_all+in_ok-write_item w ↦
-          let bracket : (t ≡ bra) ⊎ (t ≡ ket) = elim w.then-code-eq16384.branch [
-            | then-code-eq16384-via-then-code-eq16384 v ↦ inl (sym c.code.ensures ∙ v.if-code-eq16384.true)
-            | then-code-eq16384-via-else-code-eq16384+then-code-eq16385 v ↦
-                inr (sym v.code-else-code-eq16384.ensures ∙ v.if-code-eq16385.true)
+    elim c.if-is_bra.branch [
+      | then-is_bra+in_ok-write_all+in_ok-write_item w ↦
+          let bracket : (t ≡ bra) ⊎ (t ≡ ket) = elim w.then-is_bra.branch [
+            | then-is_bra-via-then-is_bra v ↦ inl (eqb-true t bra (sym c.is_bra.ensures ∙ v.if-is_bra.true))
+            | then-is_bra-via-else-is_bra+then-is_ket v ↦
+                inr (eqb-true t ket (sym v.is_ket.ensures ∙ v.if-is_ket.true))
           ] in
           ap (λ (v : _). v.items) w.text-is
           ∙ (bracket_next words all i t start c.loop-token.text.items w.write_all.new.self.items
           w.write_item.new.text.items c.loop-token-test.true c.token-item.is bracket c.loop-token.invariant
           w.in_ok-write_all.ensures.bytes w.in_ok-write_item.ensures)
-      | else-code-eq16384+else-code-eq16385 w ↦
+      | else-is_bra+else-is_ket w ↦
           ap (λ (v : _). v.items) w.text-is
           ∙ (no_bracket_next words all i t start c.loop-token.text.items c.loop-token-test.true c.token-item.is
-          (λ e. w.if-code-eq16384.false (c.code.ensures ∙ e))
-          (λ e. w.if-code-eq16385.false (w.code-else-code-eq16384.ensures ∙ e)) c.loop-token.invariant)
+          (eqb-false t bra (sym c.is_bra.ensures ∙ w.if-is_bra.false))
+          (eqb-false t ket (sym w.is_ket.ensures ∙ w.if-is_ket.false)) c.loop-token.invariant)
     ]

@@ -3,7 +3,7 @@ use Rattle.std.proofs.lemmas.Result.{on_ok_weaker}
 use Rattle.daide_grammar.specs.SideMessages.{IsMessageOver}
 use Rattle.daide_words.specs.Word.{grammar_words}
 use Rattle.daide_words.specs.Words.{words_of}
-use Rattle.daide_reader.proofs.SliceLemmas.{tokens_of-front}
+use Rattle.daide_token.proofs.TokenPlaces.{tokens_of-front}
 use Rattle.daide_explain.specs.Explained.{IsExpectedLine}
 use Rattle.daide_explain.proofs.text.write_cause.Goals as goal
 

@@ -21,14 +21,14 @@ pub loop-i-preserved : goal.loop-i-preserved
 loop-i-preserved c =
     let v = c.args.body.now in
     let n = 2 * c.loop-i.i in
-    let known : is_alien (get_or v n 0) (get_or v (n + 1) 0) ≡ false = is_alien-is _ _ ∙ ap not (ap has_known_category (sym c.token_at.ensures) ∙ sym c.has_known_category.ensures ∙ c.if-not-has_known_category.false) in
+    let known : is_alien (get_or v n 0) (get_or v (n + 1) 0) ≡ false = is_alien-is _ _ ∙ ap not (ap has_known_category (sym c.token_at.ensures.value) ∙ sym c.has_known_category.ensures ∙ c.if-not-has_known_category.false) in
     first_alien-next v n (2 * (c.loop-i.i + 1)) (omega arith) (omega (arith, c.loop-i-test.true)) known c.loop-i.invariant
 
 pub returns-then-not-has_known_category : goal.returns-then-not-has_known_category
 returns-then-not-has_known_category c =
     let v = c.args.body.now in
     let n = 2 * c.loop-i.i in
-    let alien : is_alien (get_or v n 0) (get_or v (n + 1) 0) ≡ true = is_alien-is _ _ ∙ ap not (ap has_known_category (sym c.token_at.ensures) ∙ sym c.has_known_category.ensures ∙ c.if-not-has_known_category.true) in
+    let alien : is_alien (get_or v n 0) (get_or v (n + 1) 0) ≡ true = is_alien-is _ _ ∙ ap not (ap has_known_category (sym c.token_at.ensures.value) ∙ sym c.has_known_category.ensures ∙ c.if-not-has_known_category.true) in
     first_alien-here v n (omega (arith, c.loop-i-test.true)) alien c.loop-i.invariant ∙ sym (alien_in-dm c.args.head v c.in-Dm.is c.requires.within)
 
 pub returns : goal.returns

@@ -15,5 +15,5 @@ loop-k-preserved c known =
     let v = c.args.body.now in
     let n = c.args.first + c.loop-k.k in
     let before = both c.loop-k.known c.has_known_category-known.result known in
-    let here : is_alien (get_or v (2 * n) 0) (get_or v (2 * n + 1) 0) ≡ false = is_alien-is _ _ ∙ ap not (ap has_known_category (sym c.token_at.ensures) ∙ sym c.has_known_category-known.ensures ∙ before.1) in
+    let here : is_alien (get_or v (2 * n) 0) (get_or v (2 * n + 1) 0) ≡ false = is_alien-is _ _ ∙ ap not (ap has_known_category (sym c.token_at.ensures.value) ∙ sym c.has_known_category-known.ensures ∙ before.1) in
     known_more v c.args.first c.loop-k.k (c.loop-k.invariant before.0) here

@@ -1,7 +1,7 @@
 use Rattle.std.proofs.Common.{◌≡◌, ◌∙◌, ℕ, List, Option, length, take, drop, sym, ap, subst, arith}
 use Rattle.std.proofs.Common.{length-take}
 use Rattle.daide_frame.specs.Frames.{announced}
-use Rattle.daide_protocol.specs.Machine.{coming}
+use Rattle.daide_protocol.specs.Machine.{coming, ending_in}
 use Rattle.daide_protocol.specs.Wires.{holding}
 use Rattle.daide_log.specs.declared.report.Part as reports
 use Rattle.daide_log.specs.Explaining.{part_by, part_with}
@@ -14,7 +14,7 @@ pub returns : goal.returns
 returns g c = λ number.
     let session = c.args.session.now in
     let side = c.args.side in
-    part_found number side session.state.limits.cap (is_at_fault side session.state.ending) (holding session side).held
+    part_found number side session.state.limits.cap (is_at_fault side (ending_in session.state.phase)) (holding session side).held
     (coming session.state side).pending _ _ c.is_at_fault-at_fault.result
     c.announced_by-announced.result c.part_in.result
     (ap length c.header-header.ensures.value) (ap length c.body-body.ensures.value)

@@ -7,8 +7,8 @@ use Rattle.daide_log.specs.Log.{event_in}
 use Rattle.daide_log.specs.Progress.{Judges, states_of}
 use Rattle.daide_log.specs.Reporting.{IsReady}
 use Rattle.daide_log_lines.specs.ParsedEvents.{event_reported}
-use Rattle.daide_log.proofs.EventLemmas.{all_idle, session_judged, nothing_judged, on_ok}
-use Rattle.daide_log.proofs.PlayLemmas.{no_more}
+use Rattle.daide_log.proofs.EventLemmas.{session_judged, nothing_judged, on_ok}
+use Rattle.daide_protocol.proofs.GrowthLemmas.{no_more}
 use Rattle.daide_log.proofs.judge.judge_line.Goals as goal
 
 pub returns-in-None-clause-judged : goal.returns-in-None-clause-judged

@@ -4,7 +4,8 @@ use Rattle.daide_log_lines.specs.Output.{all_of}
 use Rattle.daide_words.specs.Words.{words_of}
 use Rattle.daide_protocol.specs.Events.{Ends}
 use Rattle.daide_protocol.specs.declared.note.Note.TheVariants.{Nothing}
-use Rattle.daide_log.proofs.PlayLemmas.{end_made, end_silent, ready_after, under_after, tells_none, tells_one, no_more}
+use Rattle.daide_log.proofs.PlayLemmas.{end_made, end_silent, ready_after, under_after, tells_none, tells_one}
+use Rattle.daide_protocol.proofs.GrowthLemmas.{no_more}
 use Rattle.daide_log.proofs.EventLemmas.{on_ok}
 use Rattle.daide_log.proofs.play.end.Goals as goal
 

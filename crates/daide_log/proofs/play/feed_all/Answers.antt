@@ -6,7 +6,8 @@ use Rattle.daide_words.specs.Words.{words_of}
 use Rattle.daide_protocol.specs.Events.{bytes_come}
 use Rattle.daide_log.specs.declared.heading.Preamble.{Preamble}
 use Rattle.daide_log.specs.Reporting.{IsReady, ReportsEvents}
-use Rattle.daide_log.proofs.PlayLemmas.{piece_fed, all_fed, fed_few, idle_free, less_room, nothing_fed, reported_few}
+use Rattle.daide_log.proofs.PlayLemmas.{piece_fed, all_fed, fed_few, idle_free, nothing_fed, reported_few}
+use Rattle.daide_protocol.proofs.GrowthLemmas.{less_room}
 use Rattle.daide_frame.proofs.FeedingLemmas.{not_empty}
 use Rattle.daide_log.proofs.play.feed_all.Goals as goal
 

@@ -4,7 +4,7 @@ use Rattle.daide_words.specs.Words.{words_of}
 use Rattle.daide_frame.specs.declared.side.Side.TheVariants.{Bot}
 use Rattle.daide_protocol.specs.Events.{ImTimerExpired}
 use Rattle.daide_log.proofs.PlayLemmas.{timer_made, timer_silent, idle_free, ready_after, under_after, tells_none, tells_one}
-use Rattle.daide_log.proofs.PlayLemmas.{no_more}
+use Rattle.daide_protocol.proofs.GrowthLemmas.{no_more}
 use Rattle.daide_log.proofs.EventLemmas.{on_ok}
 use Rattle.daide_log.proofs.play.time_out.Goals as goal
 

@@ -1,9 +1,9 @@
 use Rattle.std.proofs.Common.{refl}
 use Rattle.daide_protocol.specs.Machine.{initial_state}
-use Rattle.daide_protocol.proofs.EndingLemmas.{runs_reported}
+use Rattle.daide_protocol.proofs.EndingLemmas.{ending_known}
 use Rattle.daide_protocol.proofs.EndedLemmas.{runs_end}
 use Rattle.daide_protocol.proofs.laws.ending_is_known.Goals as goal
 
 pub returns : goal.returns
 returns c = λ limits events effects new run.
-    (runs_reported (initial_state limits) events effects new run refl, runs_end (initial_state limits) events effects new run refl)
+    (ending_known new.phase, runs_end (initial_state limits) events effects new run refl)

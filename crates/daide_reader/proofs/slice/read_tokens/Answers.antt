@@ -162,10 +162,7 @@ returns g c = record {
 
 -- the preconditions of the calls
 pub token_at-token-requires : goal.token_at-token-requires
-token_at-token-requires g c = record {
-  inside = whole_token (length c.args.body.now) c.loop-next.next c.loop-next-test.true;
-  small = c.requires.room;
-}
+token_at-token-requires g c = whole_token (length c.args.body.now) c.loop-next.next c.loop-next-test.true
 
 pub reject_at-requires : goal.reject_at-requires
 reject_at-requires g c = place_fits (length c.args.body.now) c.loop-next.next c.loop-next-test.true c.requires.room

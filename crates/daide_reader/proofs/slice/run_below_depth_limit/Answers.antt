@@ -310,12 +310,9 @@ returns g c = record {
 
 -- the preconditions of the calls
 pub token_at-token-requires : goal.token_at-token-requires
-token_at-token-requires g c = record {
-  inside = whole_token (length c.args.body.now) c.loop-next.next
-      (before_end _ c.args.read (c.args.max_depth - c.args.unclosed) c.min-end.result c.min-end.ensures
-      c.loop-next.next c.loop-next-test.true);
-  small = c.requires.room;
-}
+token_at-token-requires g c = whole_token (length c.args.body.now) c.loop-next.next
+    (before_end _ c.args.read (c.args.max_depth - c.args.unclosed) c.min-end.result c.min-end.ensures
+    c.loop-next.next c.loop-next-test.true)
 
 pub reject_at-requires : goal.reject_at-requires
 reject_at-requires g c =

@@ -1,10 +1,10 @@
-use Rattle.std.proofs.Common.{sym, ap, ◌∙◌, drop}
+use Rattle.std.proofs.Common.{[], refl, sym, ap, ◌∙◌, drop}
 use Rattle.daide_frame.specs.declared.side.Side.{Side}
 use Rattle.daide_protocol.specs.declared.note.Deed.{Deed}
 use Rattle.daide_protocol.specs.declared.note.Note.TheVariants as Note
 use Rattle.daide_protocol.specs.Machine.{is_sent}
 use Rattle.daide_channels.specs.Channels.{pending}
-use Rattle.daide_session.proofs.FrameEventsLemmas.{answered_whole, dropped_whole, level_held}
+use Rattle.daide_session.proofs.FrameEventsLemmas.{answered_whole, dropped_whole, phase_held}
 use Rattle.daide_session.proofs.SessionFronts.{fronts_same}
 use Rattle.daide_session.proofs.frame_events.answer.Goals as goal
 
@@ -14,10 +14,10 @@ returns-then-not-is_sent-clause-reacts g c =
     let t = c.args.channels.now in
     let s = c.args.protocol.now in
     dropped_whole t c.clear.new.self s c.args.side c.args.head (drop 4 (pending t c.args.side))
-    c.phase_after-protocol.result c.ending_after-protocol.result c.requires.live
+    c.after-protocol.result c.requires.live
     (ap (λ (to : Side). is_sent s.phase c.args.head.kind to) (sym c.other.ensures)
     ∙ (sym c.is_sent.ensures ∙ c.if-not-is_sent.true))
-    c.requires.tied c.requires.head c.phase_after-protocol.ensures c.ending_after-protocol.ensures c.clear.ensures.keeps
+    c.requires.tied c.requires.head (c.after-protocol.ensures [] refl) c.clear.ensures.keeps
     c.clear.ensures.queued
     c.clear.ensures.cleared
 
@@ -31,14 +31,14 @@ returns-clause-reacts g c =
     let s = c.args.protocol.now in
     let body = drop 4 (pending t c.args.side) in
     answered_whole t c.reply-verdict.new.self s c.args.side c.args.head body c.reply-verdict.result
-    c.phase_after-protocol-2.result c.level_after-protocol.result c.ending_after-protocol-2.result c.count.new.self _
+    c.after-protocol-2.result c.count.new.self _
     c.requires.live
     (ap (λ (to : Side). is_sent s.phase c.args.head.kind to) (sym c.other.ensures)
     ∙ (sym c.is_sent.ensures ∙ c.if-not-is_sent.false))
     c.requires.good c.requires.tied c.requires.head c.reply-verdict.ensures.right c.reply-verdict.ensures.keeps
     c.reply-verdict.ensures.queued c.reply-verdict.ensures.answered c.reply-verdict.ensures.raised
-    c.reply-verdict.ensures.no_message c.phase_after-protocol-2.ensures
-    (c.level_after-protocol.ensures _ c.found.ensures
-    ∙ level_held t c.reply-verdict.new.self c.args.side s.top_level c.args.head c.reply-verdict.result s.level
+    c.reply-verdict.ensures.no_message
+    (c.after-protocol-2.ensures _ c.found.ensures
+    ∙ phase_held t c.reply-verdict.new.self c.args.side s.top_level c.args.head c.reply-verdict.result s.phase
     c.reply-verdict.ensures.keeps c.reply-verdict.ensures.answered c.requires.tied c.requires.head)
-    c.ending_after-protocol-2.ensures (ap (λ (d : Deed). Note.Frame c.args.head d) c.deed_of.ensures) c.count.ensures.modulo
+    (ap (λ (d : Deed). Note.Frame c.args.head d) c.deed_of.ensures) c.count.ensures.modulo

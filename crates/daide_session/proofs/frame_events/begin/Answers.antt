@@ -1,4 +1,7 @@
-use Rattle.std.proofs.Common.{refl, sym, ap, ◌∙◌}
+use Rattle.std.proofs.Common.{refl, sym, ap, ◌∙◌, subst}
+use Rattle.daide_frame.specs.PerSide.{at}
+use Rattle.daide_grammar.specs.declared.level.Level.{Level}
+use Rattle.daide_channels.specs.Channels.{IsStarted}
 use Rattle.daide_session.specs.FrameEvents.{note_by}
 use Rattle.daide_session.proofs.FrameEventsLemmas.{begun_alone}
 use Rattle.daide_session.proofs.SessionFronts.{fronts_same}
@@ -15,7 +18,8 @@ returns-clause-reacts g c =
       keeps = c.begin.ensures.keeps;
       queued = c.begin.ensures.queued;
       fronts = c.begin.ensures.fronts;
-      started = c.begin.ensures.started;
+      started = subst (λ (l : Level). IsStarted (at c.args.channels.now.sides c.args.side) l
+          (at c.begin.new.self.sides c.args.side)) c.level.ensures c.begin.ensures.started;
     })
 
 pub returns-clause-note : goal.returns-clause-note
@@ -27,7 +31,8 @@ returns-clause-begun g c = λ _. record {
   keeps = c.begin.ensures.keeps;
   queued = c.begin.ensures.queued;
   fronts = c.begin.ensures.fronts;
-  started = c.begin.ensures.started;
+  started = subst (λ (l : Level). IsStarted (at c.args.channels.now.sides c.args.side) l
+      (at c.begin.new.self.sides c.args.side)) c.level.ensures c.begin.ensures.started;
 }
 
 pub returns-clause-fronts : goal.returns-clause-fronts

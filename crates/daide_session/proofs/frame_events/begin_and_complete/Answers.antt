@@ -2,7 +2,7 @@ use Rattle.std.proofs.Common.{◌≡◌, ℕ, List, [], ◌∷◌, drop, ap, ◌
 use Rattle.daide_frame.specs.Frames.{Whole}
 use Rattle.daide_protocol.specs.Machine.{Coming, Sent}
 use Rattle.daide_protocol.specs.Wires.{is_awaited}
-use Rattle.daide_channels.specs.PerSide.{PerSide, at}
+use Rattle.daide_frame.specs.PerSide.{PerSide, at}
 use Rattle.daide_channels.specs.Channels.{pending}
 use Rattle.daide_session.specs.Session.{view_of}
 use Rattle.daide_session.specs.FrameEvents.{HandlesFrameEvents}

@@ -1,5 +1,5 @@
 use Rattle.std.proofs.Common.{sym, ap, ◌∙◌}
-use Rattle.daide_protocol.specs.Events.{other}
+use Rattle.daide_frame.specs.Side.{other}
 use Rattle.daide_channels.specs.Channels.{has_final_frame}
 use Rattle.daide_channels.proofs.FrontsKept.{fronts_stay}
 use Rattle.daide_session.proofs.EmitsLemmas.{waiting_at}

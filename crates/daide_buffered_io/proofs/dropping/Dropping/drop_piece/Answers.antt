@@ -5,7 +5,8 @@ use Rattle.daide_io.specs.declared.ports.Pull.{Pull}
 use Rattle.daide_io.specs.declared.ports.Pull.TheVariants.{Got, Ended}
 use Rattle.daide_buffered_io.specs.declared.readiness.Readiness.{Readiness}
 use Rattle.daide_buffered_io.specs.Buffers.{Buffer, IsBufferedPull}
-use Rattle.daide_buffered_io.specs.Calls.{StreamCall, is_last_piece}
+use Rattle.daide_buffered_io.specs.Calls.{is_last_piece}
+use Rattle.daide_io.specs.Streams.{StreamCall}
 use Rattle.daide_buffered_io.proofs.dropping.Dropping.drop_piece.Goals as goal
 use Rattle.daide_buffered_io.proofs.dropping.Dropping.drop_piece.Goals.{in-Got, in-Idle}
 

@@ -1,6 +1,6 @@
 use Rattle.std.proofs.Common.{◌≡◌, ◌-◌, ap, arith, refl, sym, ◌∙◌}
 use Rattle.daide_protocol.specs.Wires.{first_len}
-use Rattle.daide_channels.specs.PerSide.{at}
+use Rattle.daide_frame.specs.PerSide.{at}
 use Rattle.daide_channels.specs.Channels.{Channels, answer_at, fields, size_of_first}
 use Rattle.daide_channels.specs.SendQueue.{Queue}
 use Rattle.daide_channels.proofs.FrontLemmas.{first_len_is, waits_at}

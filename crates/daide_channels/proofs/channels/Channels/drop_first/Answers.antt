@@ -1,5 +1,5 @@
 use Rattle.std.proofs.Common.{ap, ◌∙◌}
-use Rattle.daide_channels.specs.PerSide.{at, put}
+use Rattle.daide_frame.specs.PerSide.{at, put}
 use Rattle.daide_channels.specs.Channels.{fields}
 use Rattle.daide_channels.specs.SendQueue.{Queue, first_of, tail_of}
 use Rattle.daide_channels.proofs.DroppedLemmas.{IsLeft, dropped_first}

@@ -1,7 +1,7 @@
 use Rattle.std.proofs.Common.{◌≡◌, [], Some, sym, ap, ◌∙◌}
 use Rattle.daide_channels.specs.declared.send_queue.QueuedFrame.{QueuedFrame}
 use Rattle.daide_channels.specs.declared.send_queue.QueuedFrame.TheVariants.{Answer}
-use Rattle.daide_channels.specs.PerSide.{at}
+use Rattle.daide_frame.specs.PerSide.{at}
 use Rattle.daide_channels.specs.Receiver.{Receiver, front_after}
 use Rattle.daide_channels.specs.Channels.{fields}
 use Rattle.daide_channels.specs.SendQueue.{first_of}

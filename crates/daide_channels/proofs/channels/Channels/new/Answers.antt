@@ -1,6 +1,6 @@
 use Rattle.daide_words.specs.Word.{grammar_words}
 use Rattle.daide_words.specs.Words.{words_of}
-use Rattle.daide_channels.specs.PerSide.{both}
+use Rattle.daide_frame.specs.PerSide.{both}
 use Rattle.daide_channels.specs.Channels.{fields}
 use Rattle.daide_channels.proofs.NewLemmas.{AreNew, are_new, new_sound, quiet_of}
 use Rattle.daide_channels.proofs.channels.Channels.new.Given as given

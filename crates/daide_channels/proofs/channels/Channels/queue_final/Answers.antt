@@ -1,5 +1,5 @@
 use Rattle.std.proofs.Common.{◌≡◌, ap, ◌∙◌}
-use Rattle.daide_channels.specs.PerSide.{at, put}
+use Rattle.daide_frame.specs.PerSide.{at, put}
 use Rattle.daide_channels.specs.Channels.{ending_of, fields}
 use Rattle.daide_channels.specs.SendQueue.{Queue, pushed}
 use Rattle.daide_channels.proofs.FrontsKept.{end_fronts}

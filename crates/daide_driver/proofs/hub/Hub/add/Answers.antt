@@ -4,7 +4,7 @@ use Rattle.daide_words.specs.Words.{words_of}
 use Rattle.daide_protocol.specs.Wires.{IsNew}
 use Rattle.daide_driver.specs.Hub.{HubView}
 use Rattle.daide_protocol.specs.Config.{limits_with}
-use Rattle.daide_driver.proofs.HubLemmas.{body_refused, hosting_added, place_added, places_counted, room_here}
+use Rattle.daide_driver.proofs.HubLemmas.{hosting_added, place_added, places_counted, room_here}
 use Rattle.daide_driver.proofs.hub.Hub.add.Goals as goal
 
 pub push_reserved-requires : goal.push_reserved-requires
@@ -22,7 +22,7 @@ invariant_of-self g c =
     let len = c.len-place.ensures in
     let apart = c.if-place-self.false in
     rw (c.push_reserved.ensures.items, c.push_reserved.ensures.capacity)
-    (hosting_added (λ p. p.session) s.config (words_of s.words) s.max (vec_capacity s.places) s.places.items
+    (hosting_added (λ p. p.session) s.limits.config (words_of s.words) s.max (vec_capacity s.places) s.places.items
     (record { session = c.in-Ok.session; ports = c.args.ports }) (omega (arith, fits, len, apart, s.places.ok.0))
     c.in-Ok.ensures.opening c.self.invariant)
 
@@ -40,7 +40,7 @@ returns-then-place-self-clause-added g c = tt
 pub returns-then-place-self-clause-refused : goal.returns-then-place-self-clause-refused
 returns-then-place-self-clause-refused g c =
     let s = c.self.inside in
-    sym (places_counted (λ p. (p.session, p.ports)) (limits_with s.config (words_of s.words)) s.max s.places.items
+    sym (places_counted (λ p. (p.session, p.ports)) (limits_with s.limits.config (words_of s.words)) s.max s.places.items
     c.args.self.now c.self.view_is)
     ∙ (sym s.places.ok.0 ∙ (sym c.len-place.ensures ∙ (c.if-place-self.true
     ∙ ap (λ (h : HubView g.row.P.Denot). h.max) c.self.view_is)))
@@ -59,11 +59,10 @@ returns-in_default-clause-refused g c =
     let fits = c.self.invariant.fits in
     let len = c.len-place.ensures in
     let apart = c.if-place-self.false in (
-      room_here (λ p. (p.session, p.ports)) (limits_with s.config (words_of s.words)) s.max s.places.items
+      room_here (λ p. (p.session, p.ports)) (limits_with s.limits.config (words_of s.words)) s.max s.places.items
           c.args.self.now c.self.view_is (omega (arith, fits, len, apart, s.places.ok.0)),
       subst (λ (h : HubView g.row.P.Denot). g.A.Memory.Refuses h.limits.cap) c.self.view_is
-          (body_refused g.A.Memory.Refuses s.config c.in_default.field-0 c.self.invariant.checked
-          c.in_default.ensures.refused),
+          c.in_default.ensures.refused,
     )
 
 pub returns-in_default-clause-unchanged : goal.returns-in_default-clause-unchanged
@@ -76,7 +75,7 @@ returns-clause-place g c =
     let s = c.self.inside in
     c.len-place.ensures
     ∙ (s.places.ok.0
-    ∙ places_counted (λ p. (p.session, p.ports)) (limits_with s.config (words_of s.words)) s.max s.places.items
+    ∙ places_counted (λ p. (p.session, p.ports)) (limits_with s.limits.config (words_of s.words)) s.max s.places.items
     c.args.self.now c.self.view_is)
 
 pub returns-clause-room : goal.returns-clause-room
@@ -85,7 +84,7 @@ returns-clause-room g c =
     let fits = c.self.invariant.fits in
     let len = c.len-place.ensures in
     let apart = c.if-place-self.false in
-    room_here (λ p. (p.session, p.ports)) (limits_with s.config (words_of s.words)) s.max s.places.items c.args.self.now
+    room_here (λ p. (p.session, p.ports)) (limits_with s.limits.config (words_of s.words)) s.max s.places.items c.args.self.now
     c.self.view_is (omega (arith, fits, len, apart, s.places.ok.0))
 
 pub returns-clause-added : goal.returns-clause-added
@@ -94,6 +93,6 @@ returns-clause-added g c =
       c.in-Ok.session,
       subst (λ (h : HubView g.row.P.Denot). IsNew h.limits c.in-Ok.session) c.self.view_is c.in-Ok.ensures.opening,
       rw c.push_reserved.ensures.items
-          (place_added (λ p. (p.session, p.ports)) (limits_with s.config (words_of s.words)) s.max s.places.items
+          (place_added (λ p. (p.session, p.ports)) (limits_with s.limits.config (words_of s.words)) s.max s.places.items
           (record { session = c.in-Ok.session; ports = c.args.ports }) c.args.self.now c.self.view_is),
     )

@@ -9,5 +9,5 @@ returns g c =
     let s = c.self.inside in
     c.len.ensures
     ∙ (s.places.ok.0
-    ∙ places_counted (λ p. (p.session, p.ports)) (limits_with s.config (words_of s.words)) s.max s.places.items
+    ∙ places_counted (λ p. (p.session, p.ports)) (limits_with s.limits.config (words_of s.words)) s.max s.places.items
     c.args.self.now c.self.view_is)

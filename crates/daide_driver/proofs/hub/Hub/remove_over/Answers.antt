@@ -12,14 +12,14 @@ use Rattle.daide_driver.proofs.hub.Hub.remove_over.Goals as goal
 pub index-requires : goal.index-requires
 index-requires g c =
     let s = c.self.inside in
-    let inside = place_inside (λ p. (p.session, p.ports)) (limits_with s.config (words_of s.words)) s.max s.places.items
+    let inside = place_inside (λ p. (p.session, p.ports)) (limits_with s.limits.config (words_of s.words)) s.max s.places.items
     c.args.i c.args.self.now c.self.view_is c.requires in
     omega (arith, inside, s.places.ok.0)
 
 pub remove-session-requires : goal.remove-session-requires
 remove-session-requires g c =
     let s = c.self.inside in
-    let inside = place_inside (λ p. (p.session, p.ports)) (limits_with s.config (words_of s.words)) s.max s.places.items c.args.i
+    let inside = place_inside (λ p. (p.session, p.ports)) (limits_with s.limits.config (words_of s.words)) s.max s.places.items c.args.i
     c.args.self.now c.self.view_is c.requires in
     omega (arith, inside, s.places.ok.0)
 
@@ -27,7 +27,7 @@ pub returns-then-not-is_closed-clause-open : goal.returns-then-not-is_closed-cla
 returns-then-not-is_closed-clause-open g c =
     let s = c.self.inside in
     let place = c.index.result.now in
-    let read = place_read (λ p. (p.session, p.ports)) (limits_with s.config (words_of s.words)) s.max s.places.items c.args.i place
+    let read = place_read (λ p. (p.session, p.ports)) (limits_with s.limits.config (words_of s.words)) s.max s.places.items c.args.i place
     c.args.self.now c.self.view_is c.requires c.index.ensures in
     subst (λ found. IfSome found (λ (p : SessionView × g.row.P.Denot). is_closed p.0 ≡ false)) (sym read)
     (sym c.is_closed.ensures ∙ c.if-not-is_closed.true)
@@ -38,13 +38,12 @@ invariant_of-self g c =
     let len = c.remove-session.ensures.len in
     let capacity = c.remove-session.ensures.capacity in
     record {
-      checked = c.self.invariant.checked;
       size = c.self.invariant.size;
       fits = let fits = c.self.invariant.fits in
           omega (arith, len, fits, s.places.ok.0, c.remove-session.new.self.ok.0);
       room = let room = c.self.invariant.room in omega (arith, capacity, room);
       same_limits = rw c.remove-session.ensures.items
-          (all_removed (λ p. p.session.state.limits ≡ limits_with s.config (words_of s.words)) s.places.items c.args.i
+          (all_removed (λ p. p.session.state.limits ≡ limits_with s.limits.config (words_of s.words)) s.places.items c.args.i
           c.self.invariant.same_limits);
     }
 
@@ -52,7 +51,7 @@ pub returns-clause-moved_down : goal.returns-clause-moved_down
 returns-clause-moved_down g c =
     let s = c.self.inside in
     let place = c.remove-session.result in
-    let limits = limits_with s.config (words_of s.words) in
+    let limits = limits_with s.limits.config (words_of s.words) in
     let inside = place_inside (λ p. (p.session, p.ports)) limits s.max s.places.items c.args.i
     c.args.self.now c.self.view_is c.requires in
     let same = same_read s.places.items c.args.i c.index.result.now place inside c.index.ensures
@@ -71,7 +70,7 @@ pub unwrap-requires : goal.unwrap-requires
 unwrap-requires g c =
     let s = c.self.inside in
     let place = c.remove-session.result in
-    let inside = place_inside (λ p. (p.session, p.ports)) (limits_with s.config (words_of s.words)) s.max s.places.items
+    let inside = place_inside (λ p. (p.session, p.ports)) (limits_with s.limits.config (words_of s.words)) s.max s.places.items
     c.args.i c.args.self.now c.self.view_is c.requires in
     let same = same_read s.places.items c.args.i c.index.result.now place inside c.index.ensures
     c.remove-session.ensures.value in
@@ -84,7 +83,7 @@ pub returns-clause-reported : goal.returns-clause-reported
 returns-clause-reported g c =
     let s = c.self.inside in
     let place = c.remove-session.result in
-    let read = place_read (λ p. (p.session, p.ports)) (limits_with s.config (words_of s.words)) s.max s.places.items
+    let read = place_read (λ p. (p.session, p.ports)) (limits_with s.limits.config (words_of s.words)) s.max s.places.items
     c.args.i place c.args.self.now c.self.view_is c.requires c.remove-session.ensures.value in
     subst (λ found. IfSome found (λ (p : SessionView × g.row.P.Denot). IsReportedOf p.0 c.summary.result c.unwrap.result))
     (sym read) (c.summary.ensures, sym c.ending.ensures.value ∙ c.unwrap.ensures)

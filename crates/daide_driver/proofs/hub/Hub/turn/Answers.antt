@@ -8,7 +8,7 @@ use Rattle.daide_driver.proofs.hub.Hub.turn.Goals as goal
 pub index_mut-place-requires : goal.index_mut-place-requires
 index_mut-place-requires g c =
     let s = c.self.inside in
-    let inside = place_inside (λ p. (p.session, p.ports)) (limits_with s.config (words_of s.words)) s.max s.places.items
+    let inside = place_inside (λ p. (p.session, p.ports)) (limits_with s.limits.config (words_of s.words)) s.max s.places.items
     c.args.i c.args.self.now c.self.view_is c.requires in
     omega (arith, inside, s.places.ok.0)
 
@@ -16,9 +16,9 @@ pub invariant_of-self : goal.invariant_of-self
 invariant_of-self g c =
     let s = c.self.inside in
     let place = c.index_mut-place.result.now in
-    let inside = place_inside (λ p. (p.session, p.ports)) (limits_with s.config (words_of s.words)) s.max s.places.items c.args.i
+    let inside = place_inside (λ p. (p.session, p.ports)) (limits_with s.limits.config (words_of s.words)) s.max s.places.items c.args.i
     c.args.self.now c.self.view_is c.requires in
-    hosting_set (λ p. p.session) s.config (words_of s.words) s.max (vec_capacity s.places) s.places.items c.args.i place
+    hosting_set (λ p. p.session) s.limits.config (words_of s.words) s.max (vec_capacity s.places) s.places.items c.args.i place
     (record { session = c.turn_through.new.session; ports = c.turn_through.new.ports }) inside c.index_mut-place.ensures.value
     c.turn_through.ensures.limits c.self.invariant
 
@@ -26,7 +26,7 @@ pub returns : goal.returns
 returns g c =
     let s = c.self.inside in
     let place = c.index_mut-place.result.now in
-    let limits = limits_with s.config (words_of s.words) in (
+    let limits = limits_with s.limits.config (words_of s.words) in (
       (place.session, place.ports),
       (c.turn_through.new.session, c.turn_through.new.ports),
       place_read (λ p. (p.session, p.ports)) limits s.max s.places.items c.args.i place

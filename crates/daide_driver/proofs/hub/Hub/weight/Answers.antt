@@ -12,12 +12,12 @@ use Rattle.daide_driver.proofs.hub.Hub.weight.Goals as goal
 
 -- the weight of the next place
 next_weighs : (g : _) (c : goal.After-weight-total g) →
-    c.weight-total.result ≤ session_bound (limits_with c.self.inside.config (words_of c.self.inside.words))
+    c.weight-total.result ≤ session_bound (limits_with c.self.inside.limits.config (words_of c.self.inside.words))
 next_weighs g c =
     let s = c.self.inside in
-    let hosting = subst (λ xs. IsHubSession (λ p. p.session) s.config (words_of s.words) s.max (vec_capacity s.places) xs)
+    let hosting = subst (λ xs. IsHubSession (λ p. p.session) s.limits.config (words_of s.words) s.max (vec_capacity s.places) xs)
     (sym c.deref-place-items.ensures.value) c.self.invariant in
-    rw c.weight-total.ensures.value (place_small (λ p. p.session) s.config (words_of s.words) s.max (vec_capacity s.places)
+    rw c.weight-total.ensures.value (place_small (λ p. p.session) s.limits.config (words_of s.words) s.max (vec_capacity s.places)
     c.deref-place-items.result.now c.loop-place.place-index c.place-item.result hosting c.loop-place-test.true
     c.place-item.is c.weight-total.ensures.directions c.weight-total.ensures.entries
     c.weight-total.ensures.at_most_three)
@@ -27,7 +27,7 @@ overflow_add-total g c =
     let s = c.self.inside in
     let small = c.loop-place.invariant.small in
     let next = next_weighs g c in
-    let config = config_small s.config c.self.invariant.checked in
+    let config = config_small s.limits.config s.limits.right in
     let fits = c.self.invariant.fits in
     let size = c.self.invariant.size.1 in
     let inside = c.loop-place-test.true in
@@ -36,7 +36,7 @@ overflow_add-total g c =
 
 pub loop-place-preserved : goal.loop-place-preserved
 loop-place-preserved g c =
-    let config = config_small c.self.inside.config c.self.invariant.checked in
+    let config = config_small c.self.inside.limits.config c.self.inside.limits.right in
     let next = next_weighs g c in
     record {
       sum = rw (sum_by_more (λ p. weight_of p.session) c.deref-place-items.result.now

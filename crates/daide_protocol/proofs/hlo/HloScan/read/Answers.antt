@@ -1,7 +1,6 @@
 use Rattle.std.proofs.Common.{◌≡◌, ◌==◌, ℕ, ◌+◌, false, List, [], ◌∷◌, ◌++◌, take, drop, sym, ap, ◌∙◌, rules, arith}
 use Rattle.std.proofs.lemmas.List.{take-append-drop}
 use Rattle.daide_token.specs.Token.{hlo, tokens_of}
-use Rattle.daide_reader.proofs.SliceLemmas.{tokens_of-next}
 use Rattle.daide_protocol.specs.HloLevel.{lvl_scan_of}
 use Rattle.daide_protocol.proofs.HloLemmas.{first_tokens, no_hlo-begins, no_hlo-stays}
 use Rattle.daide_protocol.proofs.hlo.HloScan.read.Goals as goal
@@ -10,11 +9,9 @@ pub returns-then-code-ne-HLO-clause-found : goal.returns-then-code-ne-HLO-clause
 returns-then-code-ne-HLO-clause-found c = λ found.
     let m = tokens_of c.args.body.now in
     let from = c.args.from in
-    let first = c.from_be-first.result in
+    let first = c.token_at-first.result in
     let before = found ∙ ap lvl_scan_of (first_tokens from c.args.body.now) in
-    let next : take (from + 1) m ≡ take from m ++ first ∷ [] =
-    tokens_of-next from c.args.body.now (omega arith)
-    ∙ ap (λ (t : ℕ). take from m ++ t ∷ []) (sym c.from_be-first.ensures) in
+    let next : take (from + 1) m ≡ take from m ++ first ∷ [] = c.token_at-first.ensures.front in
     let whole : (take from m ++ first ∷ []) ++ drop (from + 1) m ≡ m =
     ap (λ (l : List ℕ). l ++ drop (from + 1) m) (sym next) ∙ take-append-drop (from + 1) m in
     let other : (first == hlo) ≡ false = search rules in

@@ -3,7 +3,6 @@ use Rattle.std.proofs.lemmas.List.{take-append-drop}
 use Rattle.daide_token.specs.Token.{tokens_of}
 use Rattle.daide_frame.proofs.ListLemmas.{take_whole}
 use Rattle.daide_reader.proofs.BodyLemmas.{tokens_of-length}
-use Rattle.daide_reader.proofs.SliceLemmas.{tokens_of-next}
 use Rattle.daide_reader.proofs.ReadingLemmas.{raised_none, raised_by, raised_more, raised_within}
 use Rattle.daide_protocol.specs.HloLevel.{lvl_scan_of}
 use Rattle.daide_protocol.proofs.HloLemmas.{first_tokens}
@@ -20,9 +19,7 @@ loop-i-preserved c =
     let m = tokens_of c.args.body.now in
     let i = c.loop-i.i in
     let from = c.loop-i.auto.i in
-    let next : take (i + 1) m ≡ take i m ++ c.from_be.result ∷ [] =
-    tokens_of-next i c.args.body.now (omega arith)
-    ∙ ap (λ (t : ℕ). take i m ++ t ∷ []) (sym c.from_be.ensures) in (
+    let next : take (i + 1) m ≡ take i m ++ c.token_at.result ∷ [] = c.token_at.ensures.front in (
       λ found. c.look.ensures.found (take i m) (c.loop-i.invariant.0 found) ∙ ap lvl_scan_of (sym next),
       raised_more _ 1 _ _ c.loop-i.self.looked_at _ (omega arith) c.loop-i.invariant.1
           (raised_by 1 c.loop-i.self.looked_at _ _ (omega arith) refl (omega (arith, c.look.ensures.looked_at))),

@@ -3,7 +3,7 @@ use Rattle.daide_frame.specs.declared.side.Side.TheVariants.{Bot, Server}
 use Rattle.daide_frame.specs.declared.side.Side.{Side}
 use Rattle.daide_protocol.specs.Wires.{holding, steps_of}
 use Rattle.daide_protocol.specs.Weight.{weight_bound, steps_bound}
-use Rattle.daide_session.proofs.WeightLemmas.{on_both}
+use Rattle.daide_frame.proofs.PerSideLemmas.{on_both}
 use Rattle.daide_session.proofs.session.Session.bounds.Goals as goal
 
 pub returns : goal.returns

@@ -1,10 +1,14 @@
-use Rattle.std.proofs.Common.{ap, ◌∙◌}
-use Rattle.daide_protocol.specs.Machine.{is_over}
+use Rattle.std.proofs.Common.{Option, ap, ◌∙◌}
+use Rattle.std.specs.Prelude.{is_some}
+use Rattle.daide_protocol.specs.declared.ending.Ending.{Ending}
+use Rattle.daide_protocol.specs.Machine.{ending_in, is_over}
 use Rattle.daide_protocol.specs.Wires.{SessionView}
+use Rattle.daide_protocol.proofs.EndingLemmas.{ending_known}
 use Rattle.daide_session.proofs.session.Session.ending.Goals as goal
 
 pub returns-clause-value : goal.returns-clause-value
-returns-clause-value g c = ap (λ (v : SessionView). v.state.ending) c.self.view_is
+returns-clause-value g c = c.ending.ensures ∙ ap (λ (v : SessionView). ending_in v.state.phase) c.self.view_is
 
 pub returns-clause-over : goal.returns-clause-over
-returns-clause-over g c = c.self.invariant.ending ∙ ap (λ (v : SessionView). is_over v.state.phase) c.self.view_is
+returns-clause-over g c =
+    ap (λ (e : Option Ending). is_some e) (returns-clause-value g c) ∙ ending_known c.args.self.now.state.phase

@@ -1,9 +1,9 @@
-use Rattle.std.proofs.Common.{[], ◌∷◌, ap, ◌∙◌, subst}
+use Rattle.std.proofs.Common.{[], ◌∷◌, ap, ◌∙◌, subst, sym}
 use Rattle.daide_frame.specs.declared.side.Side.TheVariants.{Bot, Server}
-use Rattle.daide_protocol.specs.Events.{Loses, other}
-use Rattle.daide_protocol.proofs.EndingLemmas.{runs_reported}
-use Rattle.daide_protocol.specs.Wires.{SessionView, Lost}
-use Rattle.daide_channels.specs.PerSide.{PerSide}
+use Rattle.daide_frame.specs.Side.{other}
+use Rattle.daide_protocol.specs.Events.{Loses}
+use Rattle.daide_protocol.specs.Wires.{SessionView, Lost, Holding, holding}
+use Rattle.daide_frame.specs.PerSide.{PerSide, at}
 use Rattle.daide_channels.specs.Channels.{ReceiveState}
 use Rattle.daide_channels.specs.Fronts.{KeepsFront}
 use Rattle.daide_session.specs.Session.{state_of, view_of}
@@ -13,6 +13,7 @@ use Rattle.daide_session.proofs.WrittenLemmas.{holds_less, lost_of}
 use Rattle.daide_session.proofs.SessionLemmas.{standing_over}
 use Rattle.daide_session.proofs.session.Session.lost.Given.{Over}
 use Rattle.daide_session.proofs.session.Session.lost.Goals as goal
+use Rattle.daide_session.proofs.FrameEventsLemmas.{holding_at}
 
 done : (g : Over) (c : goal.After-lose g) →
     Lost (view_of c.self.inside.channels c.self.inside.protocol) c.args.side
@@ -24,8 +25,6 @@ pub invariant_of-self : goal.invariant_of-self
 invariant_of-self g c =
     let lost = done g c in
     standing_over _ lost.over
-    (runs_reported (state_of c.self.inside.channels c.self.inside.protocol) (Loses c.args.side ∷ []) lost.effects
-    (state_of c.lose.new.self c.on_peer_closed.new.protocol) lost.run c.self.invariant.ending)
 
 pub returns-clause-lost : goal.returns-clause-lost
 returns-clause-lost g c =
@@ -39,24 +38,20 @@ returns-clause-other_front g c =
     c.args.side [] c.on_peer_closed.ensures.fronts c.lose.ensures.queued c.lose.ensures.other_front)
 
 pub returns-clause-looks_at_nothing : goal.returns-clause-looks_at_nothing
-returns-clause-looks_at_nothing g c = (
-  c.lose.ensures.lets_go.looked_at Bot
-      ∙ (ap (λ (x : PerSide ReceiveState). x.bot.holding.looked_at) c.on_peer_closed.ensures.keeps.sides
-      ∙ ap (λ (v : SessionView). v.bot.looked_at) c.self.view_is),
-  c.lose.ensures.lets_go.looked_at Server
-      ∙ (ap (λ (x : PerSide ReceiveState). x.server.holding.looked_at) c.on_peer_closed.ensures.keeps.sides
-      ∙ ap (λ (v : SessionView). v.server.looked_at) c.self.view_is),
-)
+returns-clause-looks_at_nothing g c = λ side.
+    ap (λ (h : Holding). h.looked_at) (holding_at c.lose.new.self c.on_peer_closed.new.protocol side)
+    ∙ (c.lose.ensures.lets_go.looked_at side
+    ∙ (ap (λ (x : PerSide ReceiveState). (at x side).holding.looked_at) c.on_peer_closed.ensures.keeps.sides
+    ∙ (ap (λ (h : Holding). h.looked_at) (sym (holding_at c.self.inside.channels c.self.inside.protocol side))
+    ∙ ap (λ (v : SessionView). (holding v side).looked_at) c.self.view_is)))
 
 pub returns-clause-asks_nothing : goal.returns-clause-asks_nothing
-returns-clause-asks_nothing g c = (
-  c.lose.ensures.lets_go.total Bot
-      ∙ (ap (λ (x : PerSide ReceiveState). x.bot.holding.total) c.on_peer_closed.ensures.keeps.sides
-      ∙ ap (λ (v : SessionView). v.bot.total) c.self.view_is),
-  c.lose.ensures.lets_go.total Server
-      ∙ (ap (λ (x : PerSide ReceiveState). x.server.holding.total) c.on_peer_closed.ensures.keeps.sides
-      ∙ ap (λ (v : SessionView). v.server.total) c.self.view_is),
-)
+returns-clause-asks_nothing g c = λ side.
+    ap (λ (h : Holding). h.total) (holding_at c.lose.new.self c.on_peer_closed.new.protocol side)
+    ∙ (c.lose.ensures.lets_go.total side
+    ∙ (ap (λ (x : PerSide ReceiveState). (at x side).holding.total) c.on_peer_closed.ensures.keeps.sides
+    ∙ (ap (λ (h : Holding). h.total) (sym (holding_at c.self.inside.channels c.self.inside.protocol side))
+    ∙ ap (λ (v : SessionView). (holding v side).total) c.self.view_is)))
 
 pub returns-clause-holds : goal.returns-clause-holds
 returns-clause-holds g c =

@@ -1,6 +1,7 @@
-use Rattle.std.proofs.Common.{ap}
+use Rattle.std.proofs.Common.{ap, ◌∙◌}
+use Rattle.daide_protocol.specs.Machine.{plain_phase}
 use Rattle.daide_protocol.specs.Wires.{SessionView}
 use Rattle.daide_session.proofs.session.Session.phase.Goals as goal
 
 pub returns : goal.returns
-returns g c = ap (λ (v : SessionView). v.state.phase) c.self.view_is
+returns g c = c.plain.ensures ∙ ap (λ (v : SessionView). plain_phase v.state.phase) c.self.view_is

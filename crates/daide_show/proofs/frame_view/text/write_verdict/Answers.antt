@@ -1,12 +1,12 @@
-use Rattle.std.proofs.Common.{◌≡◌, ◌++◌, ◌%◌, ◌∙◌, false, length, ℕ, List, sym, subst, refl}
+use Rattle.std.proofs.Common.{◌≡◌, ◌++◌, ◌%◌, ◌∙◌, false, length, ℕ, List, sym, subst, refl, ap}
 use Rattle.daide_reader.specs.declared.verdict.Verdict.{Verdict}
 use Rattle.daide_reader.specs.declared.verdict.Verdict.TheVariants.{Prn, Huh}
 use Rattle.daide_words.specs.Words.{words_of}
+use Rattle.daide_protocol.specs.Answers.{answer_body}
 use Rattle.daide_show.specs.Shown.{is_relay, verdict_lines}
 use Rattle.daide_show.proofs.AnswerParts.{answered}
 use Rattle.daide_show.proofs.frame_view.text.write_verdict.Goals as goal
-use Rattle.daide_show.proofs.frame_view.text.write_verdict.Goals.{in-Prn+in_ok-write_all-in-Prn+in_ok-answer-in-Prn}
-use Rattle.daide_show.proofs.frame_view.text.write_verdict.Goals.{in-Huh+in_ok-writeln-in-Huh+in_ok-answer-in-Huh}
+use Rattle.daide_show.proofs.frame_view.text.write_verdict.Goals.{in-Prn+in_ok-write_all-in-Prn, in-Huh+in_ok-writeln-in-Huh}
 
 pub returns : goal.returns
 returns g c =
@@ -15,25 +15,20 @@ returns g c =
     let old = c.args.text.now.items in
     let text = c.write_tokens.new.text.items in
     let sent = c.as_slice.result.now in
+    let answer = c.as_slice.ensures.value ∙ c.in_ok-answer.ensures.body in
     elim c.match-verdict.branch [
-      | in-Prn+in_ok-write_all-in-Prn+in_ok-answer-in-Prn w ↦
+      | in-Prn+in_ok-write_all-in-Prn w ↦
           subst (λ (v : Verdict). (text ≡ old ++ verdict_lines words v body) × (false ≡ is_relay v)) (sym w.in-Prn.is)
           (answered words Prn body old c.match-verdict.text.items sent text refl
           (rw w.text-is w.in_ok-write_all-in-Prn.ensures.bytes)
-          (c.as_slice.ensures.value ∙ rw w.answer-is w.in_ok-answer-in-Prn.ensures.body)
-          c.in_ok-write_tokens.ensures)
-      | in-Huh+in_ok-writeln-in-Huh+in_ok-answer-in-Huh w ↦
+          (answer ∙ ap (answer_body body) (w.verdict-is ∙ w.in-Prn.is)) c.in_ok-write_tokens.ensures)
+      | in-Huh+in_ok-writeln-in-Huh w ↦
           subst (λ (v : Verdict). (text ≡ old ++ verdict_lines words v body) × (false ≡ is_relay v)) (sym w.in-Huh.is)
           (answered words (Huh w.in-Huh.place) body old c.match-verdict.text.items sent text refl
           (rw w.text-is w.in_ok-writeln-in-Huh.ensures.bytes)
-          (c.as_slice.ensures.value ∙ rw w.answer-is w.in_ok-answer-in-Huh.ensures.body)
-          c.in_ok-write_tokens.ensures)
+          (answer ∙ ap (answer_body body) w.verdict-is) c.in_ok-write_tokens.ensures)
     ]
 
 pub write_tokens-requires : goal.write_tokens-requires
 write_tokens-requires g c =
-    subst (λ (l : List ℕ). length l % 2 ≡ 0) (sym c.as_slice.ensures.value)
-    (elim c.match-verdict.branch [
-      | in-Prn+in_ok-write_all-in-Prn+in_ok-answer-in-Prn w ↦ rw w.answer-is w.in_ok-answer-in-Prn.ensures.even
-      | in-Huh+in_ok-writeln-in-Huh+in_ok-answer-in-Huh w ↦ rw w.answer-is w.in_ok-answer-in-Huh.ensures.even
-    ])
+    subst (λ (l : List ℕ). length l % 2 ≡ 0) (sym c.as_slice.ensures.value) c.in_ok-answer.ensures.even

@@ -1,0 +1,82 @@
+//! What a process asks of the operating system for its sockets, beside the reads and writes of a connection (`Duplex`).
+//!
+//! A network has one listener. Each socket that it follows has a key, by which a poll names it. No call but `poll`
+//! blocks, and none decides anything: what is asked, and when, is the caller's choice.
+
+ghost use Rattle.std.specs.Prelude.{◌≡◌};
+ghost use Rattle.daide_io.specs.Network.{NetworkCall, ReadsClock, Polls, Listens, AcceptsConnection, BeginsConnect};
+ghost use Rattle.daide_io.specs.Network.{Follows, AsksConnect};
+
+use crate::duplex::Duplex;
+use std::io;
+use std::net::SocketAddr;
+use std::time::{Duration, Instant};
+
+/// What a poll reports of one socket. A report may be spurious: the call that follows may still block.
+#[derive(Clone, Copy, Debug, PartialEq, Eq)]
+pub struct SocketEvent {
+    /// The key of the socket.
+    pub key: usize,
+    /// Whether a read, or a listener's accept, may succeed. This includes an end and a failure.
+    pub may_read: bool,
+    /// Whether a write may accept bytes, or fail.
+    pub may_write: bool,
+    /// Whether it reports an end, a failure or an urgent byte, which the system reports only once.
+    pub reads_on: bool,
+}
+
+/// The state of a connect.
+#[derive(Clone, Copy, Debug, PartialEq, Eq)]
+pub enum ConnectStatus {
+    /// The peer is connected.
+    Connected,
+    /// The connect failed.
+    Failed,
+    /// The system has no result yet.
+    Pending,
+}
+
+/// The sockets of the operating system, and its clock, as a process calls them.
+///
+/// Contracts of a caller speak of the calls with their results. Each implementor defines the effect of a call on
+/// itself: a network in memory says what arrives, and that of the operating system relates any two values.
+pub trait Network: Drop {
+    /// A connection, as a stream.
+    type Connection: Duplex + Drop;
+
+    /// The effect of a call with its result on the network.
+    ghost transition: { Self → NetworkCall Self.Connection → Self → Type 0 };
+
+    /// Reads the clock; `None` if it cannot be read.
+    fn now(&mut self) -> Option<Instant>
+        ensures { transition self.old (ReadsClock result) self.new };
+
+    /// Waits until a socket that is followed is ready, at most for `timeout`; without one, for ever. Replaces `news` by
+    /// the reports, at most as many as it has room for. A poll that fails reports nothing.
+    fn poll(&mut self, timeout: Option<Duration>, news: &mut Vec<SocketEvent>)
+        ensures { transition self.old (Polls timeout news.new.items) self.new };
+
+    /// Follows the listener under this key. Returns whether the system accepts that.
+    fn listen(&mut self, key: usize) -> bool
+        ensures { transition self.old (Listens key result) self.new };
+
+    /// Accepts a connection, and returns it with its peer's address, if a further descriptor is left for a connect.
+    ///
+    /// Fails with `WouldBlock` if there is none, or with the system's own error.
+    fn accept(&mut self) -> io::Result<(Self::Connection, SocketAddr)>
+        ensures { transition self.old (AcceptsConnection result) self.new };
+
+    /// Begins a connect to this address. Its result comes later (`connect_status`).
+    ///
+    /// Fails with the system's own error.
+    fn connect(&mut self, address: SocketAddr) -> io::Result<Self::Connection>
+        ensures { transition self.old (BeginsConnect address result) self.new };
+
+    /// Follows a connection under this key. Returns whether the system accepts that.
+    fn follow(&mut self, connection: &mut Self::Connection, key: usize) -> bool
+        ensures { transition self.old (Follows connection.old key result connection.new) self.new };
+
+    /// Returns the state of a connection's connect.
+    fn connect_status(&mut self, connection: &Self::Connection) -> ConnectStatus
+        ensures { transition self.old (AsksConnect connection.now result) self.new };
+}

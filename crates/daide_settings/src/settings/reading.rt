@@ -1,0 +1,144 @@
+//! Reads the settings of a document.
+
+ghost use Rattle.std.specs.Prelude.{◌≡◌, ◌≢◌, true, IfOk, IfErr, MatchResult, Ok, Err, option_map, string_bytes};
+ghost use Rattle.std.specs.List.{list_all};
+ghost use Rattle.std.specs.BTreeMap.{keys};
+ghost use Rattle.toml.specs.Data.{get_member};
+ghost use Rattle.toml.specs.View.{view, table_view};
+ghost use Rattle.toml.specs.Parse.{parse_document};
+ghost use Rattle.daide_settings.specs.Given.{given_of};
+ghost use Rattle.daide_settings.specs.Settings.{key_text, is_known as is_known_key, is_in_range};
+ghost use Rattle.daide_settings.specs.Settings.{address_of, read_number as judged_number, has_only_known as knows_all};
+ghost use Rattle.daide_settings.specs.Settings.{judged_members, judged_settings};
+
+use crate::settings::address::Address;
+use crate::settings::key::{Key, is_known};
+use crate::settings::words::words_at;
+use crate::settings::{Settings, SettingsError};
+use daide_protocol::config::Config;
+use std::alloc::Global;
+use toml::{Table, Value};
+
+/// Returns true if all keys of a table are known.
+fn keys_are_known(table: &Table) -> bool
+    ensures { result ≡ list_all (λ key. is_known_key (string_bytes key)) (keys table.now) }
+{
+    table.keys().all(|key| is_known(key.as_str()))
+}
+
+/// Returns true if a document has only known keys.
+fn has_only_known(table: &Table) -> bool
+    ensures { result ≡ knows_all (table_view table.now) }
+{
+    keys_are_known(table)
+}
+
+/// Returns the value of a key.
+fn found<'a>(table: &'a Table, key: Key) -> Option<&'a Value>
+    ensures { option_map (λ value. view value.now) result ≡ get_member (key_text key) (table_view table.now) }
+{
+    table.get(key.text())
+}
+
+/// Returns the address of a key. Fails with `Missing`, then with `WrongType`, then with `Range`.
+fn address_at<'a>(table: &'a Table, key: Key) -> Result<&'a str, SettingsError>
+    ensures { let judged = address_of key (get_member (key_text key) (table_view table.now)) in
+        MatchResult result (λ text. judged ≡ Ok text.now) (λ fault. judged ≡ Err fault) }
+{
+    let Some(value) = found(table, key) else {
+        return Err(SettingsError::Missing(key));
+    };
+    let Some(text) = value.as_str() else {
+        return Err(SettingsError::WrongType(key));
+    };
+    if !key.is_in_range(text.len() as u64) {
+        return Err(SettingsError::Range(key));
+    }
+    Ok(text)
+}
+
+/// Returns the number of a key, or its default. Fails with `Missing`, then with `WrongType`, then with `Range`.
+fn number_at(table: &Table, key: Key) -> Result<u64, SettingsError>
+    ensures judged { result ≡ judged_number key (get_member (key_text key) (table_view table.now)) }
+    ensures within { IfOk result (λ n. is_in_range key n ≡ true) }
+{
+    let Some(value) = found(table, key) else {
+        return key.default_number().ok_or(SettingsError::Missing(key));
+    };
+    let Some(number) = value.as_integer() else {
+        return Err(SettingsError::WrongType(key));
+    };
+    match u64::try_from(number) {
+        Ok(number) if key.is_in_range(number) => Ok(number),
+        _ => Err(SettingsError::Range(key)),
+    }
+}
+
+/// Reads the settings of a document.
+#[tactic(auto, unfolding(crate::specs::Settings::judged_members))]
+fn settings_of(alloc: Global, table: &Table) -> Result<Settings, SettingsError>
+    ensures judged { IfOk result (λ settings. judged_members (table_view table.now) ≡ Ok (given_of settings)) }
+    ensures refused { IfErr result (λ fault. fault ≢ SettingsError.Memory →
+        judged_members (table_view table.now) ≡ Err fault) }
+{
+    if !has_only_known(table) {
+        return Err(SettingsError::Unknown);
+    }
+    let listen = address_at(table, Key::Listen)?;
+    let server = address_at(table, Key::Server)?;
+    let top_level = number_at(table, Key::TopLevel)?;
+    let max_body = number_at(table, Key::MaxBody)?;
+    let max_depth = number_at(table, Key::MaxDepth)?;
+    let im_seconds = number_at(table, Key::ImSeconds)?;
+    let max_sessions = number_at(table, Key::MaxSessions)?;
+    let sessions = number_at(table, Key::Sessions)?;
+    let turns = number_at(table, Key::Turns)?;
+    let idle_seconds = number_at(table, Key::IdleSeconds)?;
+    let words = words_at(found(table, Key::Words))?;
+    let stall_seconds = number_at(table, Key::StallSeconds)?;
+    let Ok(listen) = Address::new(alloc, listen) else {
+        return Err(SettingsError::Memory);
+    };
+    let Ok(server) = Address::new(alloc, server) else {
+        return Err(SettingsError::Memory);
+    };
+    Ok(Settings {
+        listen,
+        server,
+        config: Config {
+            top_level: top_level as u16,
+            max_body: max_body as u16,
+            max_depth: max_depth as u16,
+        },
+        im_seconds: im_seconds as u32,
+        max_sessions: max_sessions as usize,
+        sessions: sessions as u32,
+        turns,
+        idle_seconds: idle_seconds as u32,
+        words,
+        stall_seconds: stall_seconds as u32,
+    })
+}
+
+/// Reads the settings of a text.
+///
+/// `judged`: it returns `Ok` with exactly the settings that one judgement makes of the document that the crate `toml`
+/// reads (`judged_settings`).
+///
+/// `refused`: every fault except refused memory is returned if and only if that judgement has it. The order is: no
+/// TOML; an unknown key; then key by key, in the order of `Key`, missing, of the wrong type, out of range.
+///
+/// Not said: what a TOML document is, which `toml` defines. Nor is it said that memory was refused if `Memory` is
+/// returned, so a body that always returns it would be proved too. `tests/program` refuses each growth of such runs in
+/// turn.
+pub fn read_settings(alloc: Global, text: &str) -> Result<Settings, SettingsError>
+    ensures judged { IfOk result (λ settings. judged_settings (parse_document text.now) ≡ Ok (given_of settings)) }
+    ensures refused { IfErr result (λ fault. fault ≢ SettingsError.Memory →
+        judged_settings (parse_document text.now) ≡ Err fault) }
+{
+    match toml::table_from_str(alloc, text) {
+        Ok(table) => settings_of(alloc, &table),
+        Err(fault) if fault.is_memory() => Err(SettingsError::Memory),
+        Err(_) => Err(SettingsError::NotToml),
+    }
+}

@@ -1,0 +1,37 @@
+use Rattle.std.proofs.Common.{ℕ, ◌<◌, ◌∙◌, subst}
+use Rattle.daide_sockets.proofs.PairingLemmas.{next_out, one_more}
+use Rattle.daide_sockets.proofs.system.SocketsSystemSocketPortsConnection.connected.Goals as goal
+
+pub returns-in-Ready : goal.returns-in-Ready
+returns-in-Ready g c =
+    let e = c.in-Ready.ensures in
+    let inside = subst (λ (n : ℕ). c.loop-look._look < n) (c.len-look-end.ensures ∙ c.args.self.now.arrivals.ok.0)
+    c.loop-look-test.true in (
+      e.0,
+      next_out c.loop-look._look _ _ _ e.0 c.loop-look.invariant.looks inside e.1,
+      e.2,
+      e.3 ∙ c.loop-look.invariant.came,
+      e.4 ∙ c.loop-look.invariant.closing,
+    )
+
+pub returns-in-Failed : goal.returns-in-Failed
+returns-in-Failed g c =
+    let e = c.in-Failed.ensures in
+    let inside = subst (λ (n : ℕ). c.loop-look._look < n) (c.len-look-end.ensures ∙ c.args.self.now.arrivals.ok.0)
+    c.loop-look-test.true in (
+      e.0,
+      next_out c.loop-look._look _ _ _ e.0 c.loop-look.invariant.looks inside e.1,
+      rw c.loop-look.invariant.closing at e.2,
+      e.3 ∙ c.loop-look.invariant.came,
+    )
+
+pub loop-look-preserved : goal.loop-look-preserved
+loop-look-preserved g c =
+    let e = c.in-Pending.ensures in
+    let inside = subst (λ (n : ℕ). c.loop-look._look < n) (c.len-look-end.ensures ∙ c.args.self.now.arrivals.ok.0)
+    c.loop-look-test.true in
+    record {
+      looks = one_more c.loop-look._look _ _ _ _ e.0 e.1 c.loop-look.invariant.looks inside e.3 e.4 e.5;
+      came = e.6 ∙ c.loop-look.invariant.came;
+      closing = e.7 ∙ c.loop-look.invariant.closing;
+    }

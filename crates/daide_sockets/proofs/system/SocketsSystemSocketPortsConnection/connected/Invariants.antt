@@ -1,0 +1,11 @@
+use Rattle.std.proofs.Common.{◌≡◌}
+use Rattle.daide_sockets.specs.Pairing.{ChecksArrivals}
+use Rattle.daide_sockets.proofs.system.SocketsSystemSocketPortsConnection.connected.Given as goal
+
+-- the arrivals checked so far
+abbrev pub invariant-loop-look : goal.invariant-loop-look
+invariant-loop-look g l = record {
+  looks : ChecksArrivals l._look l.initial.self.arrivals.items l.self.arrivals.items;
+  came : l.self.acceptor.came ≡ l.initial.self.acceptor.came;
+  closing : l.self.closings ≡ l.initial.self.closings;
+}
