@@ -3,8 +3,8 @@
 
     bench/draw.py
 
-Each file there is drawn as the picture of its name. `layers`, `session-machine` and `message` are diagrams. `proofs`
-has one stacked bar per crate. Any other file is a table of figures and is drawn as bars, so a new one needs no code.
+Each file there is drawn as the picture of its name. `layers`, `session-machine`, `session-life` and `message` are
+diagrams. `proofs` has one stacked bar per crate. Any other file is a table of figures and is drawn as bars, so a new one needs no code.
 Lines that begin with `#` contain the picture's title and the source of its figures. The same data give the same bytes.
 The pictures follow the reader's light or dark colour scheme.
 """
@@ -12,10 +12,14 @@ The pictures follow the reader's light or dark colour scheme.
 import csv
 import pathlib
 import sys
+import textwrap
 from xml.sax.saxutils import escape
 
 HERE = pathlib.Path(__file__).resolve().parent
 WIDTH = 800
+
+# The most characters of a line below the title: 12 pixels high in any common font, they fit the width.
+LINE = 118
 
 # Every shape and text has one of these classes. The second column is for light pages, the third for dark ones.
 COLOURS = [
@@ -42,7 +46,7 @@ class Picture:
         self.parts, self.height = [], 0
         self.title = notes["title"]
         self.text(20, 32, self.title, size=18, weight="bold")
-        lines = [notes[key] for key in ("text", "measured", "how") if key in notes]
+        lines = [line for key in ("text", "measured", "how") for line in textwrap.wrap(notes.get(key, ""), LINE)]
         for place, line in enumerate(lines):
             self.text(20, 54 + 17 * place, line, "faint", 12)
         self.top = 54 + 17 * len(lines) + 8
@@ -71,8 +75,8 @@ class Picture:
 
     def arrow(self, *points):
         """Adds a line through these points, with an arrowhead at its end."""
-        told = " ".join(f"{x:g},{y:g}" for x, y in points)
-        self.parts.append(f'<polyline class="axis" points="{told}" stroke-width="1.5" marker-end="url(#tip)"/>')
+        path = " ".join(f"{x:g},{y:g}" for x, y in points)
+        self.parts.append(f'<polyline class="axis" points="{path}" stroke-width="1.5" marker-end="url(#tip)"/>')
         self.reach(max(y for _, y in points) + 8)
 
     def whole(self):
@@ -161,9 +165,9 @@ def layers(notes, _columns, rows):
         """Returns the number of rows below a crate's row."""
         return 1 + max((row_of(used) for used in uses[name] if used in uses), default=-1)
 
-    told = [name for name, _, _ in rows] + notes["left out"].split()
-    if sorted(told) != sorted(uses):
-        sys.exit(f"layers.csv and crates.txt differ: {' '.join(sorted(set(told) ^ set(uses)))}")
+    listed = [name for name, _, _ in rows] + notes["left out"].split()
+    if sorted(listed) != sorted(uses):
+        sys.exit(f"layers.csv and crates.txt differ: {' '.join(sorted(set(listed) ^ set(uses)))}")
     outside = sorted({name for crate, _, _ in rows for name in uses[crate] if name not in uses})
     picture = Picture(notes)
     rows_up = {}
@@ -186,9 +190,9 @@ def layers(notes, _columns, rows):
 
 def legend(picture, y):
     """Draws the legend for the fills of the layers."""
-    told = [("proved", 40, "proved: what each call does"), ("tested", 270, "proved in part, the rest by tests"),
-            ("trusted", 530, "trusted")]
-    for kind, x, words in told:
+    fills = [("proved", 40, "proved: what each call does"), ("tested", 270, "proved in part, the rest by tests"),
+             ("trusted", 530, "trusted")]
+    for kind, x, words in fills:
         picture.box(x, y, 16, 16, kind)
         picture.text(x + 24, y + 13, words, "faint", 12)
 
@@ -222,6 +226,29 @@ def session_machine(notes, _columns, rows):
     return picture
 
 
+def session_life(notes, _columns, rows):
+    """Draws the phases from left to right, and below them a bar for each time, with what happens when it is over."""
+    picture = Picture(notes)
+    events, y = notes["events"].split(", "), picture.top + 34
+    places = {event: 40 + place * (WIDTH - 80) / (len(events) - 1) for place, event in enumerate(events)}
+    for event, x in places.items():
+        picture.text(x, y - 10, event, size=12, anchor="middle")
+    for place, phase in enumerate(notes["phases"].split(", ")):
+        start, end = (places[event] for event in events[place : place + 2])
+        picture.box(start + 2, y, end - start - 4, 34, "proved" if phase[0].isupper() else "trusted")
+        picture.text((start + end) / 2, y + 22, phase, anchor="middle", family="monospace")
+    y += 62
+    for start, end, time, then in rows:
+        left, right = places[start], places[end]
+        is_late = left > WIDTH / 2
+        x, anchor = (right, "end") if is_late else (left, "start")
+        picture.text(x, y, time, weight="bold", anchor=anchor)
+        picture.text(x, y + 16, f"then: {then}", "faint", 12, anchor=anchor)
+        picture.bar(left + 2, y + 23, right - left - 4, 7, "third" if is_late else "first")
+        y += 52
+    return picture
+
+
 def message(notes, _columns, rows):
     """Draws the stages from top to bottom, each with its example."""
     picture = Picture(notes)
@@ -241,7 +268,8 @@ def message(notes, _columns, rows):
 
 def main():
     """Draws every file of figures."""
-    diagrams = {"layers": layers, "session-machine": session_machine, "message": message, "proofs": proofs}
+    diagrams = {"layers": layers, "session-machine": session_machine, "session-life": session_life, "message": message,
+                "proofs": proofs}
     for path in sorted((HERE / "figures").glob("*.csv")):
         picture = diagrams.get(path.stem, bars)(*read(path))
         target = HERE.parent / "docs/img" / f"{path.stem}.svg"
