@@ -3,6 +3,7 @@
 ghost use Rattle.std.specs.Prelude.{◌≡◌, ◌*◌, ◌≤◌, ℕ, ◌++◌, ◌%◌, false, All, List, Option, drop, length, IfOk, IfSome, OnOk};
 ghost use Rattle.std.specs.Io.KnownBytes.{Appends};
 ghost use Rattle.daide_token.specs.Token.{tokens_of};
+ghost use Rattle.daide_token.specs.HexDigits.{digits_of_byte as digits_in};
 ghost use Rattle.daide_grammar.specs.SideMessages.{IsMessageOver};
 ghost use Rattle.daide_words.specs.Word.{grammar_words};
 ghost use Rattle.daide_words.specs.declared.word.Word.{Word};
@@ -10,7 +11,7 @@ ghost use Rattle.daide_words.specs.Words.{words_of};
 ghost use Rattle.daide_reader.specs.Verdict.{HasVerdict, IsPlaceIn};
 ghost use Rattle.daide_log_lines.specs.Output.{IsSameWriter, all_of};
 ghost use Rattle.daide_log_lines.specs.Reader.{silent};
-ghost use Rattle.daide_log.specs.Explained.{explained, is_remark, with_line_feed, message_text, pair, pairs, token_line, bytes_line, fault_lines};
+ghost use Rattle.daide_log.specs.Explained.{explained, is_remark, with_line_feed, message_text, pairs, token_line, bytes_line, fault_lines};
 ghost use Rattle.daide_log.specs.Explained.{AreRefusedLines, AreMessageLines, is_at_fault, verdict_by as verdict_of_deed};
 ghost use Rattle.daide_log.specs.Explained.{part_of as spec_part_of, unfinished_parts, parts_from, session_number as number_of};
 ghost use Rattle.daide_log.specs.Explaining.{part_by, part_with, HasPut};
@@ -27,7 +28,6 @@ ghost use Rattle.daide_log.specs.Lawful.{explained_lawful};
 use crate::check::report_whole;
 use crate::heading::{Preamble, Version};
 use crate::page::{Unreported, put_byte, put_indented, put_message, put_part, put_text};
-use crate::record_text::DIGITS;
 use crate::report::Part;
 use crate::report_builder::ReportBuilder;
 use crate::style::Style;
@@ -44,7 +44,7 @@ use daide_protocol::transitions::side2_of;
 use daide_protocol::{Deed, Note, Summary};
 use daide_reader::Verdict;
 use daide_session::{Ending, Session};
-use daide_token::write_text_with;
+use daide_token::{digits_of_byte, write_text_with};
 use daide_words::Words;
 use std::alloc::Allocator;
 use std::io;
@@ -136,10 +136,9 @@ fn verdict_by(deed: Deed) -> Verdict
 
 /// Writes a byte as two upper-case hexadecimal digits.
 fn write_pair<B: Allocator>(byte: u8, text: &mut Vec<u8, B>) -> io::Result<()>
-    ensures { OnOk result (text.new.items ≡ text.old.items ++ pair byte) }
+    ensures { OnOk result (text.new.items ≡ text.old.items ++ digits_in byte) }
 {
-    let pair = [DIGITS[(byte / 16) as usize], DIGITS[(byte % 16) as usize]];
-    text.write_all(&pair)
+    text.write_all(&digits_of_byte(byte))
 }
 
 /// Writes bytes as pairs of upper-case digits, separated by spaces.

@@ -1,7 +1,8 @@
 //! The lines of a record, each appended to its page.
 
-ghost use Rattle.std.specs.Prelude.{◌≡◌, ◌≤◌, ◌+◌, ◌*◌, ◌/◌, ◌%◌, ◌∷◌, ◌++◌, [], length, slice_index};
-ghost use Rattle.hex.specs.Hex.{encode_upper, upper_digits};
+ghost use Rattle.std.specs.Prelude.{◌≡◌, ◌≤◌, ◌+◌, ◌*◌, ◌++◌, length};
+ghost use Rattle.hex.specs.Hex.{encode_upper};
+ghost use Rattle.daide_token.specs.HexDigits.{digits_of_byte as digits_in};
 ghost use Rattle.daide_words.specs.Words.{words_of};
 ghost use Rattle.daide_log_lines.specs.LogLine.{Received, EndOf, ImTimerLine, longest_piece};
 ghost use Rattle.daide_log_lines.specs.Output.{page_size};
@@ -13,21 +14,19 @@ use crate::report::{put, put_number, put_side};
 use daide_frame::Side;
 use daide_log_lines::page::Page;
 use daide_protocol::Config;
+use daide_token::digits_of_byte;
 use daide_words::{Word, Words};
-
-/// The hexadecimal digits, in upper case.
-pub(crate) const DIGITS: &[u8; 16] = b"0123456789ABCDEF";
 
 /// Appends the two digits of a byte.
 #[inline(always)]
 fn put_byte(byte: u8, line: &mut Page)
     requires { length line.old.items + 2 ≤ page_size }
-    ensures text { line.new.items ≡ line.old.items ++ slice_index upper_digits (byte / 16)
-        ∷ slice_index upper_digits (byte % 16) ∷ [] }
+    ensures text { line.new.items ≡ line.old.items ++ digits_in byte }
     ensures length { length line.new.items ≡ length line.old.items + 2 }
 {
-    line.push(DIGITS[(byte / 16) as usize]);
-    line.push(DIGITS[(byte % 16) as usize]);
+    let [high, low] = digits_of_byte(byte);
+    line.push(high);
+    line.push(low);
 }
 
 /// Appends bytes in hexadecimal digits.
