@@ -8,9 +8,8 @@
 
 ghost use Rattle.std.specs.Prelude.{◌≡◌, ℕ, ◌+◌, ◌-◌, ◌*◌, ◌/◌, ◌<◌, ◌≤◌, List, [], ◌∷◌, ◌++◌, length, take, drop, ◌⊎◌};
 ghost use Rattle.std.specs.Prelude.{true, false, is_some, Some, None, IfOk, OnErr, if◌then◌else◌};
-ghost use Rattle.daide_frame.specs.Frames.{fed, fed_items, items_of_step, IsFault, IsWholeBody, head_in, missing};
+ghost use Rattle.daide_frame.specs.Frames.{fed, fed_items, items_of_step, IsFault, HoldsFrame, head_in, missing};
 ghost use Rattle.daide_frame.specs.Frames.{announced};
-ghost use Rattle.daide_frame.specs.declared.cutter.Step.TheVariants.{Bodied};
 ghost use Rattle.daide_grammar.specs.Depth.{open_brackets};
 ghost use Rattle.daide_grammar.specs.declared.level.Level.{Level};
 ghost use Rattle.daide_protocol.specs.HloLevel.{lvl_scan_of};
@@ -219,10 +218,9 @@ impl<A: Allocator> Receiver<A> {
         ensures raised { IsRaised (4 * tokens_ended self.old.cap self.old.held piece.now) self.old.total
             self.new.total }
         ensures looked_at { IsRaised (length piece.now / 2 + 1) self.old.looked_at self.new.looked_at }
-        ensures items { fed_items self.old.cap self.old.held piece.now
-            ≡ items_of_step result (head_in self.new.cap self.new.held) (drop 4 self.new.held) }
+        ensures items { fed_items self.old.cap self.old.held piece.now ≡ items_of_step result (drop 4 self.new.held) }
         ensures whole { IsFault result ⊎ (self.new.held ≡ self.old.held ++ piece.now) }
-        ensures full { result ≡ Bodied → IsWholeBody (head_in self.new.cap self.new.held) (drop 4 self.new.held) }
+        ensures held { HoldsFrame result (head_in self.new.cap self.new.held) (drop 4 self.new.held) }
     {
         let step = self.cutter.feed(piece);
         if self.cutter.body().is_empty() {
