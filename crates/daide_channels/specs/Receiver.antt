@@ -58,11 +58,12 @@ abbrev pub bytes_by : List ℕ → List ℕ → Option Verdict → List ℕ
 bytes_by header body None = []
 bytes_by header body (Some verdict) = header ++ answer_body body verdict
 
--- the answer in its parts: its header, the frame's body, and the fixed words round that body
+-- The answer in its parts: its header, the word that opens it, the frame's body with ERR in it, and the word that closes
+-- it. A part that the answer lacks is empty.
 abbrev pub parts_by : List ℕ → List ℕ → Option Verdict → List (List ℕ)
 parts_by header body None = []
-parts_by header body (Some Relay) = header ∷ body ∷ [] ∷ [] ∷ [] ∷ [] ∷ []
-parts_by header body (Some Prn) = header ∷ prn_open ∷ body ∷ close_bytes ∷ [] ∷ [] ∷ []
+parts_by header body (Some Relay) = header ∷ [] ∷ body ∷ [] ∷ [] ∷ [] ∷ []
+parts_by header body (Some Prn) = header ∷ prn_open ∷ body ∷ [] ∷ [] ∷ close_bytes ∷ []
 parts_by header body (Some (Huh place)) =
     header ∷ huh_open ∷ take (2 * place) body ∷ err_bytes ∷ drop (2 * place) body ∷ close_bytes ∷ []
 

@@ -74,40 +74,53 @@ fn is_message(head: Option<Head>) -> bool
     }
 }
 
-/// Returns the rest, from offset `place` on, of the part among six consecutive parts that contains this offset.
-fn front_of_parts<'a>(
-    a: &'a [u8],
-    b: &'a [u8],
-    c: &'a [u8],
-    d: &'a [u8],
-    e: &'a [u8],
-    f: &'a [u8],
-    place: usize,
-) -> &'a [u8]
-    ensures { result.now ≡ front_in (a.now ∷ b.now ∷ c.now ∷ d.now ∷ e.now ∷ f.now ∷ []) place }
+/// The parts of an answer in order: its header, and the frame's body within fixed words. A part that an answer lacks is
+/// empty.
+#[derive(Clone, Copy)]
+struct AnswerParts<'a> {
+    header: &'a [u8],
+    opening: &'a [u8],
+    before: &'a [u8],
+    mark: &'a [u8],
+    after: &'a [u8],
+    closing: &'a [u8],
+}
+
+/// Returns the rest, from offset `place` on, of the part that contains this offset.
+fn front_of_parts<'a>(parts: AnswerParts<'a>, place: usize) -> &'a [u8]
+    ensures { result.now ≡ front_in (parts.entry.header.now ∷ parts.entry.opening.now ∷ parts.entry.before.now
+        ∷ parts.entry.mark.now ∷ parts.entry.after.now ∷ parts.entry.closing.now ∷ []) place }
 {
-    if place < a.len() {
-        return &a[place..];
+    let AnswerParts {
+        header,
+        opening,
+        before,
+        mark,
+        after,
+        closing,
+    } = parts;
+    if place < header.len() {
+        return &header[place..];
     }
-    let place = place - a.len();
-    if place < b.len() {
-        return &b[place..];
+    let place = place - header.len();
+    if place < opening.len() {
+        return &opening[place..];
     }
-    let place = place - b.len();
-    if place < c.len() {
-        return &c[place..];
+    let place = place - opening.len();
+    if place < before.len() {
+        return &before[place..];
     }
-    let place = place - c.len();
-    if place < d.len() {
-        return &d[place..];
+    let place = place - before.len();
+    if place < mark.len() {
+        return &mark[place..];
     }
-    let place = place - d.len();
-    if place < e.len() {
-        return &e[place..];
+    let place = place - mark.len();
+    if place < after.len() {
+        return &after[place..];
     }
-    let place = place - e.len();
-    if place < f.len() {
-        return &f[place..];
+    let place = place - after.len();
+    if place < closing.len() {
+        return &closing[place..];
     }
     &[]
 }
@@ -277,25 +290,39 @@ impl<A: Allocator> Receiver<A> {
         let body = self.cutter.body();
         match self.verdict {
             None => &[],
-            Some(Verdict::Relay) => { front_of_parts(&self.header, body, &[], &[], &[], &[], gone) }
+            Some(Verdict::Relay) => front_of_parts(
+                AnswerParts {
+                    header: &self.header,
+                    opening: &[],
+                    before: body,
+                    mark: &[],
+                    after: &[],
+                    closing: &[],
+                },
+                gone,
+            ),
             Some(Verdict::Prn) => front_of_parts(
-                &self.header,
-                &PRN_OPEN,
-                body,
-                &CLOSE_WORD,
-                &[],
-                &[],
+                AnswerParts {
+                    header: &self.header,
+                    opening: &PRN_OPEN,
+                    before: body,
+                    mark: &[],
+                    after: &[],
+                    closing: &CLOSE_WORD,
+                },
                 gone,
             ),
             Some(Verdict::Huh(place)) => {
                 let (before, after) = body.split_at(2 * place as usize);
                 front_of_parts(
-                    &self.header,
-                    &HUH_OPEN,
-                    before,
-                    &ERR_WORD,
-                    after,
-                    &CLOSE_WORD,
+                    AnswerParts {
+                        header: &self.header,
+                        opening: &HUH_OPEN,
+                        before,
+                        mark: &ERR_WORD,
+                        after,
+                        closing: &CLOSE_WORD,
+                    },
                     gone,
                 )
             }
