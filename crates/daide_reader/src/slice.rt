@@ -20,6 +20,17 @@ use daide_grammar::symbol::Symbol;
 use daide_token::token::Token;
 use daide_token::token_at;
 
+/// The state before a run over tokens of a body.
+#[derive(Clone, Copy)]
+struct RunStart {
+    /// The index of the next token.
+    read: usize,
+    /// The number of open brackets.
+    unclosed: u16,
+    /// The height of the stack.
+    count: usize,
+}
+
 /// The progress over the tokens of a body: to its end, or to the first token that no message continues.
 #[derive(Clone, Copy)]
 pub struct RunEnd {
@@ -87,38 +98,36 @@ fn reject_at(opened: u16, place: usize) -> RunEnd
     }
 }
 
-/// Reads tokens of a body from `read` on, at most as many as brackets may still be opened. So no token can open a
-/// bracket too many, and the loop checks neither the depth nor the room on the stack.
+/// Reads tokens of a body, at most as many as brackets may still be opened. So no token can open a bracket too many, and
+/// the loop checks neither the depth nor the room on the stack.
 #[inline(always)]
 fn run_below_depth_limit<T: Predict, const N: usize>(
     table: &mut T,
     cells: &mut [Symbol; N],
-    count: usize,
     body: &[u8],
-    read: usize,
-    unclosed: u16,
+    start: RunStart,
     max_depth: u16,
 ) -> RunEnd
     requires size { N ≤ most_symbols }
-    requires count { count ≤ N }
+    requires count { start.count ≤ N }
     requires at_depth_limit { 8 * max_depth + 16 ≤ N }
     requires room { length body.now ≤ longest_message }
-    requires read { read < length body.now / 2 }
-    requires deep { unclosed < max_depth }
-    requires lawful { T.lawful (T.words table.old) (reverse (take count cells.old)) unclosed }
+    requires read { start.read < length body.now / 2 }
+    requires deep { start.unclosed < max_depth }
+    requires lawful { T.lawful (T.words table.old) (reverse (take start.count cells.old)) start.unclosed }
     ensures inside { result.count ≤ N }
-    ensures moves { read < result.tokens }
+    ensures moves { start.read < result.tokens }
     ensures tokens { result.tokens ≤ length body.now / 2 }
-    ensures reads { ReadsTo T.Predict max_depth body.now read unclosed
-        (record { table = table.old; stack = reverse (take count cells.old) })
+    ensures reads { ReadsTo T.Predict max_depth body.now start.read start.unclosed
+        (record { table = table.old; stack = reverse (take start.count cells.old) })
         result.tokens result.unclosed result.place
         (record { table = table.new; stack = reverse (take result.count cells.new) }) }
     ensures none_left { IsSome result.place → result.count ≡ 0 }
 {
-    let end = (body.len() / 2).min(read + (max_depth - unclosed) as usize);
-    let mut opened = unclosed;
-    let mut left = count;
-    let mut next = read;
+    let end = (body.len() / 2).min(start.read + (max_depth - start.unclosed) as usize);
+    let mut opened = start.unclosed;
+    let mut left = start.count;
+    let mut next = start.read;
     while next < end {
         let token = token_at(body, next);
         let known = Column::known(token);
@@ -180,7 +189,12 @@ pub fn read_tokens<T: Predict, const N: usize>(
     let mut next = 0;
     while next < body.len() / 2 {
         if opened < max_depth {
-            let reached = run_below_depth_limit(table, cells, left, body, next, opened, max_depth);
+            let start = RunStart {
+                read: next,
+                unclosed: opened,
+                count: left,
+            };
+            let reached = run_below_depth_limit(table, cells, body, start, max_depth);
             if reached.place.is_some() {
                 return reached;
             }
