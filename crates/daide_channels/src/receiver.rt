@@ -29,7 +29,9 @@ use daide_frame::memory::Memory;
 use daide_frame::side::Side;
 use daide_grammar::level::Level;
 use daide_grammar::predict::Predict;
-use daide_protocol::answers::{CLOSE_WORD, ERR_WORD, HUH_OPEN, PRN_OPEN, answer_head};
+use daide_protocol::answers::{
+    CLOSE_WORD, ERR_WORD, HUH_BYTES, HUH_OPEN, PRN_BYTES, PRN_OPEN, answer_head,
+};
 use daide_protocol::bounds::STACK_ENTRIES;
 use daide_protocol::hlo::{HloScan, LvlScan};
 use daide_protocol::transitions::side2_of;
@@ -276,9 +278,9 @@ impl<A: Allocator> Receiver<A> {
         let body = self.cutter.body();
         match self.verdict {
             None => 0,
-            Some(Verdict::Relay) => 4 + body.len(),
-            Some(Verdict::Prn) => 10 + body.len(),
-            Some(Verdict::Huh(_)) => 12 + body.len(),
+            Some(Verdict::Relay) => self.header.len() + body.len(),
+            Some(Verdict::Prn) => self.header.len() + PRN_BYTES + body.len(),
+            Some(Verdict::Huh(_)) => self.header.len() + HUH_BYTES + body.len(),
         }
     }
 
