@@ -19,6 +19,7 @@ use Rattle.daide_reader.specs.declared.verdict.Verdict.TheVariants.{Relay, Prn, 
 use Rattle.daide_reader.specs.Verdict.{IsPlaceIn}
 use Rattle.daide_protocol.specs.declared.hlo.HloScan.{HloScan}
 use Rattle.daide_protocol.specs.Answers.{answer_body, answer_head, prn_open, huh_open, err_bytes, close_bytes}
+use Rattle.daide_protocol.specs.Bounds.{longest_body}
 use Rattle.daide_protocol.specs.HloLevel.{lvl_scan_of}
 use Rattle.daide_protocol.specs.Machine.{side2_of}
 use Rattle.daide_protocol.specs.Weight.{tokens_held}
@@ -119,7 +120,7 @@ pub record IsReadOn {T : Type 0} (table : Ghosts T) (asked : T → ℕ) (side : 
     (v : Reading T) (hlo : HloScan) (header : List ℕ) (verdict : Option Verdict) : Type 0 where
   pub four : length header ≡ 4
   pub place : HasHuhIndex cut.bytes verdict
-  pub capped : cut.cap ≤ 65526
+  pub capped : cut.cap ≤ longest_body
   pub stands : HasReadPrefix table (table.words v.table) (start_symbol_of (side2_of side) level) v.max_depth v
       (tokens_held cut.cap cut.bytes)
   pub found : hlo.found ≡ lvl_scan_of (tokens_held cut.cap cut.bytes)

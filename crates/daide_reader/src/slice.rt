@@ -7,12 +7,12 @@ ghost use Rattle.std.specs.Prelude.{◌≡◌, ◌≢◌, ◌≤◌, ◌<◌, �
 ghost use Rattle.daide_token.specs.Token.{tokens_of};
 ghost use Rattle.daide_grammar.specs.Table.Brackets.{is_bra, is_ket, count_one};
 ghost use Rattle.daide_grammar.specs.Table.Stacks.{stack_after};
-ghost use Rattle.daide_reader.specs.Bounds.{longest_message, most_symbols, most_tokens};
+ghost use Rattle.daide_reader.specs.Bounds.{below_zero, longest_message, most_symbols, most_tokens};
 ghost use Rattle.daide_reader.specs.Outline.{count_all};
 ghost use Rattle.daide_reader.specs.Slice.{ReadsTo, place_behind};
 ghost use Rattle.daide_reader.specs.Stack.{open_count, steps_at};
 
-use crate::brackets::recount;
+use crate::brackets::{BELOW_ZERO, recount};
 use crate::cells::{follow, follow_word, put};
 use daide_grammar::column::Column;
 use daide_grammar::predict::Predict;
@@ -54,7 +54,7 @@ fn read_token<T: Predict, const N: usize>(
 ) -> Option<usize>
     requires size { N ≤ most_symbols }
     requires count { count ≤ N }
-    requires low { opened.old < 65534 }
+    requires low { opened.old + 1 < below_zero }
     requires room { (is_bra token ≡ true → opened.old ≢ limit) →
         IfSome (stack_after (T.moves (T.words table.old)) (T.class_of (T.words table.old) token)
         (reverse (take count cells.old))) (λ after. length after ≤ N) }
@@ -92,7 +92,11 @@ fn reject_at(opened: u16, place: usize) -> RunEnd
 {
     RunEnd {
         tokens: place + 1,
-        unclosed: if opened == 65535 { None } else { Some(opened) },
+        unclosed: if opened == BELOW_ZERO {
+            None
+        } else {
+            Some(opened)
+        },
         place: Some(place as u16),
         count: 0,
     }
