@@ -71,6 +71,13 @@ impl<'w, N: Network, R: AllocGlobal + Files, E: Write + Drop> System<
         ports.begin_turn(&mut self.sockets);
     }
 
+    fn end_turn(
+        &mut self,
+        ports: &Recording<SocketPorts<'w, N::Connection>, SessionFile<R::File>>,
+    ) {
+        self.sockets.end_turn(ports.ports());
+    }
+
     fn accept(&mut self) -> bool {
         self.sockets.accept()
     }

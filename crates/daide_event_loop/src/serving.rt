@@ -119,7 +119,7 @@ fn finish_connect<P: Ports, A: Memory + Copy, S: System<P>>(
     }
 }
 
-/// Makes one turn of the session at a place: the system begins it with the ports of that session.
+/// Makes one turn of the session at a place: the system begins it with the ports of that session, and ends it.
 fn take_turn<P: Ports, A: Allocator + Copy, S: System<P>>(
     hub: &mut Hub<QuotaPorts<P>, A>,
     i: usize,
@@ -131,6 +131,7 @@ fn take_turn<P: Ports, A: Allocator + Copy, S: System<P>>(
 {
     hub.ports_mut(i).begin_turn(system);
     hub.turn(i);
+    hub.ports(i).end_turn(system);
 }
 
 /// Returns whether the session at a place is due a turn: whether its last turn made progress, or else whether the system
@@ -293,9 +294,9 @@ impl<P: Ports, A: Memory + Copy> Service<P, A> {
     ///
     /// `round`: a bot is accepted only below two limits: of sessions and pending connects at once, and of bots in all.
     /// A session is due a turn if its last turn made progress, if it is new, or else if the system has news for its
-    /// ports (`VisitsPlace`). The system begins each turn with the session's ports (`begin_turn`), and the turn is made
-    /// by the clauses of `turn` (`TakesTurn`). Exactly the sessions that are over and for which nothing waits are taken out. It waits if
-    /// and only if nothing moved.
+    /// ports (`VisitsPlace`). The system begins each turn with the session's ports (`begin_turn`) and ends it with them
+    /// (`end_turn`); in between the turn is made by the clauses of `turn` (`TakesTurn`). Exactly the sessions that are
+    /// over and for which nothing waits are taken out. It waits if and only if nothing moved.
     ///
     /// `refused`: its only fault is no memory for a session.
     ///

@@ -247,6 +247,8 @@ impl<'w, N: Network, E: Write + Drop> System<SocketPorts<'w, N::Connection>> for
         ports.begin_turn();
     }
 
+    fn end_turn(&mut self, _ports: &SocketPorts<'w, N::Connection>) {}
+
     fn accept(&mut self) -> bool {
         if self.arrivals.len() >= self.arrivals.capacity() {
             return false;
