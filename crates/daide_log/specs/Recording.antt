@@ -3,11 +3,13 @@ use Rattle.std.specs.Prelude.{◌≡◌, ⊤, ℕ, ◌+◌, ◌-◌, ◌<◌, �
 use Rattle.std.specs.Io.KnownBytes.{Appends, Keeps}
 use Rattle.hex.specs.Hex.{IsBytes}
 use Rattle.daide_io.specs.Ports.{PortCall, TurnBegins, Clock, Pulled, Offered}
-use Rattle.daide_log_lines.specs.LogLine.{LogEvent, most_lines, longest_line, longest_piece}
+use Rattle.daide_log_lines.specs.LogLine.{LogEvent, EndOf, ImTimerLine, most_lines, longest_line, longest_piece}
 use Rattle.daide_log_lines.specs.Output.{page_size}
 use Rattle.daide_log.specs.declared.record.RecordEnd.{RecordEnd}
 use Rattle.daide_log.specs.declared.record.RecordEnd.TheVariants.{Whole, Failed, Full}
-use Rattle.daide_log.specs.RecordText.{reported_by, event_line}
+use Rattle.daide_log.specs.declared.record.RecordedEvent.{RecordedEvent}
+use Rattle.daide_log.specs.declared.record.RecordedEvent.TheVariants as events
+use Rattle.daide_log.specs.RecordText.{piece_of, reported_by, event_line}
 
 -- ---- a record
 
@@ -44,6 +46,18 @@ TakesEvent failed Full old event new = new ≡ old
 abbrev pub RecordsEvent : Type 0 → Written → Option LogEvent → Written → Type 0
 RecordsEvent failed old None new = new ≡ old
 RecordsEvent failed old (Some event) new = TakesEvent failed old.ending old event new
+
+-- the event of a line; no bytes have no line
+abbrev pub line_event : RecordedEvent → Option LogEvent
+line_event (events.Received side bytes) = piece_of side bytes.now
+line_event (events.EndOf side) = Some (EndOf side)
+line_event events.ImTimer = Some ImTimerLine
+
+-- its bytes fit a line
+abbrev pub FitsLine : RecordedEvent → Type 0
+FitsLine (events.Received side bytes) = length bytes.now ≤ longest_piece
+FitsLine (events.EndOf side) = ⊤
+FitsLine events.ImTimer = ⊤
 
 -- ---- ports
 

@@ -2,14 +2,14 @@
 //!
 //! Lines are collected in a page, and written in blocks of whole lines.
 
-ghost use Rattle.std.specs.Prelude.{◌≡◌, ◌≢◌, ◌<◌, ◌≤◌, [], Some, OnOk, OnErr, length};
+ghost use Rattle.std.specs.Prelude.{◌≡◌, ◌≢◌, ◌<◌, ◌≤◌, true, false, [], None, Some, OnOk, OnErr, length};
 ghost use Rattle.std.specs.Io.KnownBytes.{Keeps, append_known};
 ghost use Rattle.daide_words.specs.Words.{words_of};
-ghost use Rattle.daide_log_lines.specs.LogLine.{most_lines, longest_piece, EndOf, ImTimerLine};
-ghost use Rattle.daide_log.specs.RecordText.{piece_of, head_text, head_count};
-ghost use Rattle.daide_log.specs.Recording.{RecordsEvent, HasFailed, most_held};
+ghost use Rattle.daide_log_lines.specs.LogLine.{LogEvent, most_lines};
+ghost use Rattle.daide_log.specs.RecordText.{head_text, head_count};
+ghost use Rattle.daide_log.specs.Recording.{RecordsEvent, HasFailed, FitsLine, line_event, most_held};
 
-use crate::record_text::{put_end, put_head, put_piece, put_timer};
+use crate::record_text::{put_event, put_head};
 use crate::sink::Sink;
 use daide_frame::Side;
 pub use daide_log_lines::lines::MOST_LINES;
@@ -22,6 +22,31 @@ use std::marker::Model;
 
 /// The most bytes of a page after which the longest line still fits.
 const FRONT: usize = PAGE - LONGEST_LINE;
+
+/// What a record has a line of.
+#[derive(Clone, Copy)]
+pub enum RecordedEvent<'a> {
+    /// Bytes received from a side. No bytes have no line.
+    Received(Side, &'a [u8]),
+    /// The end of a side, or a failed wire toward it.
+    EndOf(Side),
+    /// The IM timer expired.
+    ImTimer,
+}
+
+impl RecordedEvent<'_> {
+    /// Returns whether the event has no line.
+    fn is_silent(self) -> bool
+        ensures silent { result ≡ true → line_event self.entry ≡ None }
+        ensures lined { result ≡ false → (event : LogEvent) × (line_event self.entry ≡ Some event) }
+    {
+        match self {
+            RecordedEvent::Received(_, bytes) => bytes.is_empty(),
+            RecordedEvent::EndOf(_) => false,
+            RecordedEvent::ImTimer => false,
+        }
+    }
+}
 
 /// How a record ended, or would end now.
 #[derive(Clone, Copy, Debug, PartialEq, Eq)]
@@ -144,45 +169,17 @@ impl<W: Sink + Drop> Record<W> {
         self.ending
     }
 
-    /// Records bytes of a side, at most as many as a line has.
-    pub fn came(&mut self, side: Side, bytes: &[u8])
-        requires { length bytes.now ≤ longest_piece }
-        ensures { RecordsEvent (HasFailed W.Fails) self.old (piece_of side bytes.now) self.new }
+    /// Records an event, with at most as many bytes as a line has.
+    pub fn record(&mut self, event: RecordedEvent<'_>)
+        requires { FitsLine event }
+        ensures { RecordsEvent (HasFailed W.Fails) self.old (line_event event.entry) self.new }
     {
-        if bytes.is_empty() || self.ending != RecordEnd::Whole {
+        if event.is_silent() || self.ending != RecordEnd::Whole {
             return;
         }
         self.ending = make_room(&mut self.held, self.lines, &mut self.writer);
         if self.ending == RecordEnd::Whole {
-            put_piece(side, bytes, &mut self.held);
-            self.lines += 1;
-        }
-    }
-
-    /// Records that a side ended, or that the wire toward it failed.
-    pub fn ended(&mut self, side: Side)
-        ensures { RecordsEvent (HasFailed W.Fails) self.old (Some (EndOf side)) self.new }
-    {
-        if self.ending != RecordEnd::Whole {
-            return;
-        }
-        self.ending = make_room(&mut self.held, self.lines, &mut self.writer);
-        if self.ending == RecordEnd::Whole {
-            put_end(side, &mut self.held);
-            self.lines += 1;
-        }
-    }
-
-    /// Records that the time for the initial message is over.
-    pub fn timed_out(&mut self)
-        ensures { RecordsEvent (HasFailed W.Fails) self.old (Some ImTimerLine) self.new }
-    {
-        if self.ending != RecordEnd::Whole {
-            return;
-        }
-        self.ending = make_room(&mut self.held, self.lines, &mut self.writer);
-        if self.ending == RecordEnd::Whole {
-            put_timer(&mut self.held);
+            put_event(event, &mut self.held);
             self.lines += 1;
         }
     }

@@ -3,9 +3,8 @@
 ghost use Rattle.std.specs.Prelude.{◌≡◌};
 ghost use Rattle.daide_io.specs.Ports.{TurnBegins};
 ghost use Rattle.daide_io.specs.System.{BeginsTurn};
-ghost use Rattle.std.specs.Io.KnownBytes.{Keeps};
 
-use crate::record::{Record, RecordEnd};
+use crate::record::{Record, RecordedEvent};
 use crate::sink::Sink;
 use daide_frame::Side;
 use daide_io::ports::{Ports, Pull, Put};
@@ -85,9 +84,11 @@ impl<P: Ports, W: Sink + Drop> Ports for Recording<P, W> {
         let most = buffer.len().min(MOST);
         let pull = self.ports.pull(side, &mut buffer[..most]);
         match pull {
-            Pull::Got(count) => self.log.came(side, &buffer[..count]),
+            Pull::Got(count) => self
+                .log
+                .record(RecordedEvent::Received(side, &buffer[..count])),
             Pull::Idle => {}
-            Pull::Ended => self.log.ended(side),
+            Pull::Ended => self.log.record(RecordedEvent::EndOf(side)),
         }
         pull
     }
@@ -95,7 +96,7 @@ impl<P: Ports, W: Sink + Drop> Ports for Recording<P, W> {
     fn put(&mut self, side: Side, bytes: &[u8]) -> Put {
         let put = self.ports.put(side, bytes);
         if put == Put::Failed {
-            self.log.ended(side);
+            self.log.record(RecordedEvent::EndOf(side));
         }
         put
     }
@@ -103,7 +104,7 @@ impl<P: Ports, W: Sink + Drop> Ports for Recording<P, W> {
     fn clock_popped(&mut self) -> bool {
         let im_timer_expired = self.ports.clock_popped();
         if im_timer_expired {
-            self.log.timed_out();
+            self.log.record(RecordedEvent::ImTimer);
         }
         im_timer_expired
     }
