@@ -90,6 +90,11 @@ const LINES: &[Row] = &[
     ("stall_seconds = 86401", "stall_seconds out of range"),
     ("stall_seconds = -1", "stall_seconds out of range"),
     ("stall_seconds = \"60\"", "wrong type for stall_seconds"),
+    ("endless = true", ""),
+    ("endless = false", ""),
+    ("endless = 1", "wrong type for endless"),
+    ("endless = \"true\"", "wrong type for endless"),
+    ("endless = 1\nstall_seconds = 86401", "stall_seconds out of range"),
     ("top_level = 0x3C", ""),
     ("max_depth = 6_2", ""),
     ("turns = -1", "turns out of range"),
@@ -135,7 +140,7 @@ const WORDS: &[Row] = &[
     ("[ { name = \"XYZ\", code = 0x4A40, slot = \"press\", level = 20, operand = \"power\" }, { name = \"XYZ\", code = 0x4A41, slot = \"press\", level = 20, operand = \"power\" } ]", "words out of range"),
 ];
 
-/// Lines with words | their fault: words are checked after all other keys but `stall_seconds`.
+/// Lines with words | their fault: words are checked after all other keys but `stall_seconds` and `endless`.
 const BESIDE_WORDS: &[Row] = &[
     ("turns = 0\nwords = 1", "turns out of range"),
     (
@@ -147,6 +152,7 @@ const BESIDE_WORDS: &[Row] = &[
         "turns out of range",
     ),
     ("stall_seconds = 86401\nwords = 1", "wrong type for words"),
+    ("endless = 1\nwords = 1", "wrong type for words"),
 ];
 
 /// Seventeen words, each of which would be accepted after those before it.
@@ -236,7 +242,7 @@ fn assert_settings(
     settings: &Settings,
     addresses: (&str, &str),
     limits: (Config, u32),
-    run: (usize, u32, u64, u32, u32),
+    run: (usize, u32, u64, u32, u32, bool),
     words: usize,
 ) -> Result<(), Fail> {
     let are_there = (settings.listen.as_str(), settings.server.as_str());
@@ -246,6 +252,7 @@ fn assert_settings(
         settings.turns,
         settings.idle_seconds,
         settings.stall_seconds,
+        settings.endless,
     );
     let of_session = (settings.config, settings.im_seconds);
     let told = (are_there, of_session, of_run);
@@ -264,13 +271,13 @@ const DEFAULTS: Config = Config {
 fn two_addresses_give_the_defaults(rt: HostRuntime) -> Result<(), Fail> {
     let settings = read_settings(rt.alloc(), ADDRESSES)?;
     let addresses = ("127.0.0.1:16713", "127.0.0.1:16714");
-    let run = (16, 1, 1_000_000_000, 0, 60);
+    let run = (16, 1, 1_000_000_000, 0, 60, false);
     assert_settings(&settings, addresses, (DEFAULTS, 30), run, 0)
 }
 
 /// Each key with a value of its own, in reverse order.
 const EACH_KEY: &str =
-    "stall_seconds = 9\nwords = [ { name = \"XYZ\", code = 0x4A40, slot = \"press\", level = 20, operand = \"power\" } ]\n\
+    "endless = true\nstall_seconds = 9\nwords = [ { name = \"XYZ\", code = 0x4A40, slot = \"press\", level = 20, operand = \"power\" } ]\n\
     idle_seconds = 8\nturns = 7\nsessions = 6\nmax_sessions = 5\nim_seconds = 4\nmax_depth = 13\nmax_body = 1024\n\
     top_level = 20\nserver = \"s\"\nlisten = \"l\"\n";
 
@@ -284,7 +291,8 @@ const OWN_LIMITS: Config = Config {
 #[test]
 fn each_key_sets_its_own_field(rt: HostRuntime) -> Result<(), Fail> {
     let settings = read_settings(rt.alloc(), EACH_KEY)?;
-    assert_settings(&settings, ("l", "s"), (OWN_LIMITS, 4), (5, 6, 7, 8, 9), 1)?;
+    let run = (5, 6, 7, 8, 9, true);
+    assert_settings(&settings, ("l", "s"), (OWN_LIMITS, 4), run, 1)?;
     let word = Word {
         name: *b"XYZ",
         code: Token::from_code(0x4A40),

@@ -10,21 +10,21 @@ use Rattle.toml.specs.Data.{Data, string, integer, boolean, array, no_items, ite
 use Rattle.daide_settings.specs.declared.settings.key.Key.{Key}
 use Rattle.daide_settings.specs.declared.settings.key.Key.TheVariants.{Listen, Server, TopLevel, MaxBody, MaxDepth}
 use Rattle.daide_settings.specs.declared.settings.key.Key.TheVariants.{ImSeconds, MaxSessions, Sessions, Turns, IdleSeconds}
-use Rattle.daide_settings.specs.declared.settings.key.Key.TheVariants.{Words, StallSeconds}
+use Rattle.daide_settings.specs.declared.settings.key.Key.TheVariants.{Words, StallSeconds, Endless}
 use Rattle.daide_settings.specs.declared.settings.SettingsError.{SettingsError}
 use Rattle.daide_settings.specs.declared.settings.SettingsError.TheVariants.{Unknown, WrongType, Range}
 use Rattle.daide_settings.specs.Settings.{Given, is_in_range, text_judged, judged_members}
 
--- ---- documents with all twelve keys
+-- ---- documents with all thirteen keys
 
 -- the value of each key, in the order of the table; the members are in the order of their keys' bytes
 abbrev document : (ℕ → Data) → Members
 document value =
-    member (codes "idle_seconds") (value 9) (member (codes "im_seconds") (value 5) (member (codes "listen") (value 0)
+    member (codes "endless") (value 12) (member (codes "idle_seconds") (value 9) (member (codes "im_seconds") (value 5) (member (codes "listen") (value 0)
     (member (codes "max_body") (value 3) (member (codes "max_depth") (value 4) (member (codes "max_sessions") (value 6)
     (member (codes "server") (value 1) (member (codes "sessions") (value 7) (member (codes "stall_seconds") (value 11)
     (member (codes "top_level") (value 2) (member (codes "turns") (value 8) (member (codes "words") (value 10)
-    no_members)))))))))))
+    no_members))))))))))))
 
 abbrev at : List Data → ℕ → Data
 at values n = slice_index_or values n (boolean false)
@@ -34,7 +34,7 @@ abbrev right : List Data
 right =
     string (codes "l") ∷ string (codes "s") ∷ integer (pos 20) ∷ integer (pos 1024) ∷ integer (pos 13)
     ∷ integer (pos 4) ∷ integer (pos 5) ∷ integer (pos 6) ∷ integer (pos 7) ∷ integer (pos 8) ∷ array no_items
-    ∷ integer (pos 9) ∷ []
+    ∷ integer (pos 9) ∷ boolean true ∷ []
 
 each_key_has_its_field : judged_members (document (at right)) ≡ Ok (record {
   listen = codes "l";
@@ -49,6 +49,7 @@ each_key_has_its_field : judged_members (document (at right)) ≡ Ok (record {
   idle_seconds = 8;
   words = [];
   stall_seconds = 9;
+  endless = true;
 })
 unfolding judged_members
 each_key_has_its_field = refl
@@ -60,16 +61,16 @@ no_slot =
     (member (codes "name") (string (codes "XYZ")) (member (codes "operand") (string (codes "power"))
     (member (codes "slot") (string (codes "pres")) no_members)))))
 
--- values out of range
+-- values out of range; no boolean is, so the flag has a number
 abbrev ranged : List Data
 ranged =
     string [] ∷ string [] ∷ integer (pos 25) ∷ integer (pos 513) ∷ integer (pos 3) ∷ integer (pos 3601)
     ∷ integer (pos 257) ∷ integer (pos 1000001) ∷ integer (pos 0) ∷ integer (pos 86401)
-    ∷ array (item no_slot no_items) ∷ integer (pos 86401) ∷ []
+    ∷ array (item no_slot no_items) ∷ integer (pos 86401) ∷ integer (pos 1) ∷ []
 
 -- a value of a type that no key has
 abbrev typed : List Data
-typed = replicate 12 (boolean true)
+typed = replicate 13 (table no_members)
 
 -- ---- two faults
 
@@ -81,15 +82,16 @@ faulty first second i j =
 -- each key but the last, with each key after it
 abbrev pairs : List Data → List Data → List (List (Result Given SettingsError))
 pairs first second =
-    map (λ i. map (faulty first second i) (range_with_len (i + 1) (11 - i))) (range_with_len 0 11)
+    map (λ i. map (faulty first second i) (range_with_len (i + 1) (12 - i))) (range_with_len 0 12)
 
--- the fault reported for each key, with eleven, ten, .. keys after it
+-- the fault reported for each key, with twelve, eleven, .. keys after it
 abbrev told : (Key → SettingsError) → List (List (Result Given SettingsError))
 told fault =
-    replicate 11 (Err (fault Listen)) ∷ replicate 10 (Err (fault Server)) ∷ replicate 9 (Err (fault TopLevel))
-    ∷ replicate 8 (Err (fault MaxBody)) ∷ replicate 7 (Err (fault MaxDepth)) ∷ replicate 6 (Err (fault ImSeconds))
-    ∷ replicate 5 (Err (fault MaxSessions)) ∷ replicate 4 (Err (fault Sessions)) ∷ replicate 3 (Err (fault Turns))
-    ∷ replicate 2 (Err (fault IdleSeconds)) ∷ replicate 1 (Err (fault Words)) ∷ []
+    replicate 12 (Err (fault Listen)) ∷ replicate 11 (Err (fault Server)) ∷ replicate 10 (Err (fault TopLevel))
+    ∷ replicate 9 (Err (fault MaxBody)) ∷ replicate 8 (Err (fault MaxDepth)) ∷ replicate 7 (Err (fault ImSeconds))
+    ∷ replicate 6 (Err (fault MaxSessions)) ∷ replicate 5 (Err (fault Sessions)) ∷ replicate 4 (Err (fault Turns))
+    ∷ replicate 3 (Err (fault IdleSeconds)) ∷ replicate 2 (Err (fault Words)) ∷ replicate 1 (Err (fault StallSeconds))
+    ∷ []
 
 first_key_told : (pairs ranged ranged ≡ told Range) × (pairs typed typed ≡ told WrongType)
     × (pairs ranged typed ≡ told Range) × (pairs typed ranged ≡ told WrongType)
@@ -98,14 +100,16 @@ first_key_told = (refl, refl, refl, refl)
 
 -- a fault of one key alone
 abbrev alone : List Data → List (Result Given SettingsError)
-alone faults = map (λ i. faulty faults faults i i) (range_with_len 0 12)
+alone faults = map (λ i. faulty faults faults i i) (range_with_len 0 13)
 
+-- the keys with a range
 abbrev keys : List Key
 keys =
     Listen ∷ Server ∷ TopLevel ∷ MaxBody ∷ MaxDepth ∷ ImSeconds ∷ MaxSessions ∷ Sessions ∷ Turns ∷ IdleSeconds
     ∷ Words ∷ StallSeconds ∷ []
 
-each_key_told : (alone ranged ≡ map (λ key. Err (Range key)) keys) × (alone typed ≡ map (λ key. Err (WrongType key)) keys)
+each_key_told : (alone ranged ≡ map (λ key. Err (Range key)) keys ++ Err (WrongType Endless) ∷ [])
+    × (alone typed ≡ map (λ key. Err (WrongType key)) (keys ++ Endless ∷ []))
 unfolding judged_members
 each_key_told = (refl, refl)
 
@@ -114,8 +118,8 @@ abbrev with_unknown : List Data → ℕ → Result Given SettingsError
 with_unknown faults i =
     judged_members (member (codes "depth") (integer (pos 5)) (document (λ n. if n == i then at faults n else at right n)))
 
-unknown_key_told : (map (with_unknown ranged) (range_with_len 0 13) ≡ replicate 13 (Err Unknown))
-    × (map (with_unknown typed) (range_with_len 0 13) ≡ replicate 13 (Err Unknown))
+unknown_key_told : (map (with_unknown ranged) (range_with_len 0 14) ≡ replicate 14 (Err Unknown))
+    × (map (with_unknown typed) (range_with_len 0 14) ≡ replicate 14 (Err Unknown))
 unfolding judged_members
 unknown_key_told = (refl, refl)
 

@@ -68,6 +68,8 @@ pub struct Settings {
     /// The stall timeout, in seconds: a side that accepts none of its queued bytes for this long counts as lost; 0 for
     /// never.
     pub stall_seconds: u32,
+    /// Whether the run serves until it is stopped. Then `sessions` has no effect.
+    pub endless: bool,
     pub ghost right: { config_fault config ≡ Ok tt },
     pub ghost some: { IsSessionCount max_sessions },
 }

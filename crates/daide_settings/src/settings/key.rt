@@ -37,11 +37,13 @@ pub enum Key {
     /// The stall timeout, in seconds: a side that accepts none of its queued bytes for this long counts as lost. From
     /// 0, for never, to 86,400; 60 by default.
     StallSeconds,
+    /// Whether the run serves until it is stopped: a boolean; false by default.
+    Endless,
 }
 
 impl Key {
     /// All keys, in the order of the checks.
-    pub const ALL: [Key; 12] = [
+    pub const ALL: [Key; 13] = [
         Key::Listen,
         Key::Server,
         Key::TopLevel,
@@ -54,6 +56,7 @@ impl Key {
         Key::IdleSeconds,
         Key::Words,
         Key::StallSeconds,
+        Key::Endless,
     ];
 
     /// Returns the key as a document writes it.
@@ -73,17 +76,18 @@ impl Key {
             Key::IdleSeconds => "idle_seconds",
             Key::Words => "words",
             Key::StallSeconds => "stall_seconds",
+            Key::Endless => "endless",
         }
     }
 
     /// Returns the number of a key that is missing in a document; `None` for the two addresses, which are required, and
-    /// for the words.
+    /// for the words and a flag.
     pub fn default_number(self) -> Option<u64>
         ensures number { result ≡ default_of self }
         ensures within { IfSome result (λ n. is_in_keys_range self n ≡ true) }
     {
         match self {
-            Key::Listen | Key::Server | Key::Words => None,
+            Key::Listen | Key::Server | Key::Words | Key::Endless => None,
             Key::TopLevel => Some(60),
             Key::MaxBody => Some(MAX_BODY as u64),
             Key::MaxDepth => Some(62),
@@ -96,7 +100,8 @@ impl Key {
         }
     }
 
-    /// Returns true if a number is in the key's range. The number is that of the bytes of an address, or of the words.
+    /// Returns true if a number is in the key's range. The number is that of the bytes of an address, or of the words. A
+    /// flag has no number.
     pub fn is_in_range(self, number: u64) -> bool
         ensures { result ≡ is_in_keys_range self number }
     {
@@ -117,6 +122,7 @@ impl Key {
             Key::IdleSeconds => number <= 86_400,
             Key::Words => number <= 16,
             Key::StallSeconds => number <= 86_400,
+            Key::Endless => false,
         }
     }
 }
@@ -147,5 +153,6 @@ pub(crate) fn is_known(text: &str) -> bool
             | "idle_seconds"
             | "words"
             | "stall_seconds"
+            | "endless"
     )
 }

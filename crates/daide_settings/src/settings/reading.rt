@@ -8,7 +8,7 @@ ghost use Rattle.toml.specs.View.{view, table_view};
 ghost use Rattle.toml.specs.Parse.{parse_document};
 ghost use Rattle.daide_settings.specs.Given.{given_of};
 ghost use Rattle.daide_settings.specs.Settings.{key_text, is_known as is_known_key, is_in_range};
-ghost use Rattle.daide_settings.specs.Settings.{address_of, read_number as judged_number, has_only_known as knows_all};
+ghost use Rattle.daide_settings.specs.Settings.{address_of, read_flag, read_number as judged_number, has_only_known as knows_all};
 ghost use Rattle.daide_settings.specs.Settings.{judged_members, judged_settings};
 
 use crate::settings::address::Address;
@@ -74,6 +74,16 @@ fn number_at(table: &Table, key: Key) -> Result<u64, SettingsError>
     }
 }
 
+/// Returns the flag of a key; false if the document does not have it. Fails with `WrongType`.
+fn flag_at(table: &Table, key: Key) -> Result<bool, SettingsError>
+    ensures { result ≡ read_flag key (get_member (key_text key) (table_view table.now)) }
+{
+    match found(table, key) {
+        Some(value) => value.as_bool().ok_or(SettingsError::WrongType(key)),
+        None => Ok(false),
+    }
+}
+
 /// Reads the settings of a document.
 #[tactic(auto, unfolding(crate::specs::Settings::judged_members))]
 fn settings_of(alloc: Global, table: &Table) -> Result<Settings, SettingsError>
@@ -96,6 +106,7 @@ fn settings_of(alloc: Global, table: &Table) -> Result<Settings, SettingsError>
     let idle_seconds = number_at(table, Key::IdleSeconds)?;
     let words = words_at(found(table, Key::Words))?;
     let stall_seconds = number_at(table, Key::StallSeconds)?;
+    let endless = flag_at(table, Key::Endless)?;
     let Ok(listen) = Address::new(alloc, listen) else {
         return Err(SettingsError::Memory);
     };
@@ -117,6 +128,7 @@ fn settings_of(alloc: Global, table: &Table) -> Result<Settings, SettingsError>
         idle_seconds: idle_seconds as u32,
         words,
         stall_seconds: stall_seconds as u32,
+        endless,
     })
 }
 
