@@ -8,7 +8,8 @@ use Rattle.toml.specs.Parse.{parse_document}
 use Rattle.toml.proofs.OnLiterals.{toml_on_literals}
 use Rattle.daide_settings.specs.declared.settings.key.Key.TheVariants.{Listen, Server, TopLevel, MaxBody, MaxDepth}
 use Rattle.daide_settings.specs.declared.settings.key.Key.TheVariants.{ImSeconds, MaxSessions, Sessions, Turns, IdleSeconds}
-use Rattle.daide_settings.specs.declared.settings.key.Key.TheVariants.{Words, StallSeconds, Endless}
+use Rattle.daide_settings.specs.declared.settings.key.Key.TheVariants.{Words, StallSeconds, Endless, Allow, MaxPerAddress}
+use Rattle.daide_settings.specs.Ranges.{everyone}
 use Rattle.daide_settings.specs.declared.settings.key.TheConstants.Key.{ALL}
 use Rattle.daide_settings.specs.declared.settings.SettingsError.TheVariants.{NotToml, Unknown, Missing}
 use Rattle.daide_settings.specs.declared.settings.SettingsError.TheVariants.{WrongType, Range}
@@ -27,7 +28,7 @@ use Rattle.daide_settings.specs.declared.settings.SettingsError.{SettingsError}
 
 -- each key once, in the order of the checks
 all_keys : ALL ≡ Listen ∷ Server ∷ TopLevel ∷ MaxBody ∷ MaxDepth ∷ ImSeconds ∷ MaxSessions ∷ Sessions ∷ Turns
-    ∷ IdleSeconds ∷ Words ∷ StallSeconds ∷ Endless ∷ []
+    ∷ IdleSeconds ∷ Words ∷ StallSeconds ∷ Endless ∷ Allow ∷ MaxPerAddress ∷ []
 all_keys = refl
 
 -- ---- ranges, at both ends
@@ -149,6 +150,15 @@ stalled_for_a_day = refl
 stalled_for_more_than_a_day : is_in_range StallSeconds 86401 ≡ false
 stalled_for_more_than_a_day = refl
 
+unlimited : is_in_range MaxPerAddress 0 ≡ true
+unlimited = refl
+
+as_many_as_sessions : is_in_range MaxPerAddress 256 ≡ true
+as_many_as_sessions = refl
+
+more_than_sessions : is_in_range MaxPerAddress 257 ≡ false
+more_than_sessions = refl
+
 -- ---- whole documents; the members are in the order of their keys' bytes
 
 abbrev both : Members → Members
@@ -172,6 +182,8 @@ defaults : judged_members two_addresses ≡ Ok (record {
   words = [];
   stall_seconds = 60;
   endless = false;
+  allow = everyone;
+  max_per_address = 0;
 })
 unfolding judged_members
 defaults = refl

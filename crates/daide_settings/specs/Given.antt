@@ -18,4 +18,6 @@ given_of settings = record {
   words = words_of settings.words;
   stall_seconds = settings.stall_seconds;
   endless = settings.endless;
+  allow = settings.allow.items;
+  max_per_address = settings.max_per_address;
 }

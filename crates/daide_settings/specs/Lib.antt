@@ -1,3 +1,4 @@
 pub mod WordSettings
+pub mod Ranges
 pub mod Settings
 pub mod Given

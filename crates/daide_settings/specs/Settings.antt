@@ -9,12 +9,14 @@ use Rattle.daide_protocol.specs.Config.{is_level, is_body, is_depth}
 use Rattle.daide_settings.specs.declared.settings.key.Key.{Key}
 use Rattle.daide_settings.specs.declared.settings.key.Key.TheVariants.{Listen, Server, TopLevel, MaxBody, MaxDepth}
 use Rattle.daide_settings.specs.declared.settings.key.Key.TheVariants.{ImSeconds, MaxSessions, Sessions, Turns, IdleSeconds}
-use Rattle.daide_settings.specs.declared.settings.key.Key.TheVariants.{Words, StallSeconds, Endless}
+use Rattle.daide_settings.specs.declared.settings.key.Key.TheVariants.{Words, StallSeconds, Endless, Allow, MaxPerAddress}
 use Rattle.daide_settings.specs.declared.settings.SettingsError.{SettingsError}
 use Rattle.daide_settings.specs.declared.settings.SettingsError.TheVariants.{NotToml, Unknown, Missing}
 use Rattle.daide_settings.specs.declared.settings.SettingsError.TheVariants.{WrongType, Range}
 use Rattle.daide_words.specs.declared.word.Word.{Word}
 use Rattle.daide_settings.specs.WordSettings.{has_only, words_judged}
+use Rattle.daide_settings.specs.declared.settings.ranges.AddressRange.{AddressRange}
+use Rattle.daide_settings.specs.Ranges.{allow_judged}
 
 -- ---- the table of keys
 
@@ -33,12 +35,14 @@ key_text IdleSeconds = codes "idle_seconds"
 key_text Words = codes "words"
 key_text StallSeconds = codes "stall_seconds"
 key_text Endless = codes "endless"
+key_text Allow = codes "allow"
+key_text MaxPerAddress = codes "max_per_address"
 
 abbrev pub is_within : ℕ → ℕ → ℕ → Bool
 is_within low high n = nat_le low n && nat_le n high
 
--- the range of a key's number; for an address, the number of its bytes, and for words, the number of them; a flag has no
--- number
+-- the range of a key's number; for an address, the number of its bytes, and for words or ranges, the number of them; a
+-- flag has no number
 abbrev pub is_in_range : Key → ℕ → Bool
 is_in_range Listen n = is_within 1 255 n
 is_in_range Server n = is_within 1 255 n
@@ -53,9 +57,11 @@ is_in_range IdleSeconds n = is_within 0 86400 n
 is_in_range Words n = is_within 0 16 n
 is_in_range StallSeconds n = is_within 0 86400 n
 is_in_range Endless n = false
+is_in_range Allow n = is_within 1 16 n
+is_in_range MaxPerAddress n = is_within 0 most_sessions n
 
 -- the number of a key that is missing in a document; the two addresses are required and have none, and neither have
--- words and a flag
+-- words, ranges and a flag
 abbrev pub default_of : Key → Option ℕ
 default_of Listen = None
 default_of Server = None
@@ -70,6 +76,8 @@ default_of IdleSeconds = Some 0
 default_of Words = None
 default_of StallSeconds = Some 60
 default_of Endless = None
+default_of Allow = None
+default_of MaxPerAddress = Some 0
 
 -- whether a document may have this key
 abbrev pub is_known : List ℕ → Bool
@@ -78,7 +86,8 @@ is_known text =
     || bytes_eq text (key_text MaxBody) || bytes_eq text (key_text MaxDepth) || bytes_eq text (key_text ImSeconds)
     || bytes_eq text (key_text MaxSessions) || bytes_eq text (key_text Sessions) || bytes_eq text (key_text Turns)
     || bytes_eq text (key_text IdleSeconds) || bytes_eq text (key_text Words)
-    || bytes_eq text (key_text StallSeconds) || bytes_eq text (key_text Endless)
+    || bytes_eq text (key_text StallSeconds) || bytes_eq text (key_text Endless) || bytes_eq text (key_text Allow)
+    || bytes_eq text (key_text MaxPerAddress)
 
 abbrev pub has_only_known : Members → Bool
 has_only_known members = has_only is_known members
@@ -135,6 +144,8 @@ pub record Given : Type 0 where
   pub words : List Word
   pub stall_seconds : ℕ
   pub endless : Bool
+  pub allow : List AddressRange
+  pub max_per_address : ℕ
 
 -- the next check, if the one before it passed
 abbrev pub then_with : {A B : Type 0} → Result A SettingsError → (A → Result B SettingsError) → Result B SettingsError
@@ -157,6 +168,8 @@ keys_judged members =
     then_with (words_judged (get_member (key_text Words) members)) (λ words.
     then_with (read_number StallSeconds (get_member (key_text StallSeconds) members)) (λ stall_seconds.
     then_with (read_flag Endless (get_member (key_text Endless) members)) (λ endless.
+    then_with (allow_judged (get_member (key_text Allow) members)) (λ allow.
+    then_with (read_number MaxPerAddress (get_member (key_text MaxPerAddress) members)) (λ max_per_address.
     Ok (record {
       listen = listen;
       server = server;
@@ -171,7 +184,9 @@ keys_judged members =
       words = words;
       stall_seconds = stall_seconds;
       endless = endless;
-    }))))))))))))))
+      allow = allow;
+      max_per_address = max_per_address;
+    }))))))))))))))))
 
 -- an unknown key is reported before any key is checked
 unfoldable pub judged_members : Members → Result Given SettingsError

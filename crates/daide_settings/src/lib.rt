@@ -5,4 +5,4 @@
 
 pub mod settings;
 
-pub use settings::{Address, Key, Settings, SettingsError, read_settings};
+pub use settings::{Address, AddressRange, Host, Key, Settings, SettingsError, may_come, read_settings};

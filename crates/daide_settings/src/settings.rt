@@ -4,7 +4,9 @@
 //! no file: the text is a parameter.
 
 mod address;
+mod allow;
 mod key;
+mod ranges;
 mod reading;
 mod words;
 
@@ -13,9 +15,11 @@ ghost use Rattle.daide_protocol.specs.Bounds.{IsSessionCount};
 ghost use Rattle.daide_protocol.specs.Config.{config_fault};
 
 pub use address::Address;
+use arrayvec::ArrayVec;
 use daide_protocol::config::{Config, SessionLimits};
 use daide_words::Words;
 pub use key::Key;
+pub use ranges::{AddressRange, Host, MAX_RANGES, may_come};
 pub use reading::read_settings;
 use thiserror::Error;
 
@@ -70,6 +74,10 @@ pub struct Settings {
     pub stall_seconds: u32,
     /// Whether the run serves until it is stopped. Then `sessions` has no effect.
     pub endless: bool,
+    /// The ranges of addresses from which a bot may come.
+    pub allow: ArrayVec<AddressRange, MAX_RANGES>,
+    /// The greatest number of sessions at once with bots from one address; 0 for no limit.
+    pub max_per_address: u16,
     pub ghost right: { config_fault config ≡ Ok tt },
     pub ghost some: { IsSessionCount max_sessions },
 }

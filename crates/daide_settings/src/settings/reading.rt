@@ -12,6 +12,7 @@ ghost use Rattle.daide_settings.specs.Settings.{address_of, read_flag, read_numb
 ghost use Rattle.daide_settings.specs.Settings.{judged_members, judged_settings};
 
 use crate::settings::address::Address;
+use crate::settings::allow::ranges_at;
 use crate::settings::key::{Key, is_known};
 use crate::settings::words::words_at;
 use crate::settings::{Settings, SettingsError};
@@ -107,6 +108,8 @@ fn settings_of(alloc: Global, table: &Table) -> Result<Settings, SettingsError>
     let words = words_at(found(table, Key::Words))?;
     let stall_seconds = number_at(table, Key::StallSeconds)?;
     let endless = flag_at(table, Key::Endless)?;
+    let allow = ranges_at(found(table, Key::Allow))?;
+    let max_per_address = number_at(table, Key::MaxPerAddress)?;
     let Ok(listen) = Address::new(alloc, listen) else {
         return Err(SettingsError::Memory);
     };
@@ -129,6 +132,8 @@ fn settings_of(alloc: Global, table: &Table) -> Result<Settings, SettingsError>
         words,
         stall_seconds: stall_seconds as u32,
         endless,
+        allow,
+        max_per_address: max_per_address as u16,
     })
 }
 
