@@ -1,6 +1,6 @@
 -- The effect of a run on each of its sessions: those that it has, and those that it retired.
 use Rattle.std.specs.Prelude.{◌≡◌, ℕ, zero, suc, ◌+◌, nat_lt, true, false, List, [], ◌∷◌, length}
-use Rattle.std.specs.Prelude.{Option, Some, None, is_none, Ok, Contains, All}
+use Rattle.std.specs.Prelude.{Option, Some, None, is_none, Contains, All}
 use Rattle.daide_protocol.specs.declared.ending.Ending.{Ending}
 use Rattle.daide_protocol.specs.Machine.{Limits, SessionState, Effect, Runs, ending_in}
 use Rattle.daide_protocol.specs.Wires.{SessionView, is_closed}
@@ -18,7 +18,7 @@ use Rattle.daide_io.specs.declared.system.SessionEnd.{SessionEnd}
 use Rattle.daide_event_loop.specs.QuotaPorts.{QuotaPortsView, Meters, progress_by}
 use Rattle.daide_io.specs.System.{SystemCall, Begins, ReportsNews, BeginsTurn, EndsTurn, Accepts, Connects, Retires}
 use Rattle.daide_io.specs.System.{Notifies, Waits}
-use Rattle.daide_event_loop.specs.Serving.{ServiceView, fresh, initial_service, Rounds, Serves}
+use Rattle.daide_event_loop.specs.Serving.{ServiceView, fresh, initial_service, bots_in_all, Rounds, Serves}
 
 -- the limits of a run's sessions
 abbrev pub run_limits : Settings → Limits
@@ -150,14 +150,14 @@ SessionsAreServed {P} transition = (settings : Settings) (n : ℕ) (answers : Li
 
 -- A whole run of settings: rounds until all bots were served and no session is left. So each
 -- completed connect was a session, which was served, and retired as a closed one. By all its port calls it is bounded
--- and exact, and none is lost. As many bots were accepted as the settings say; for each, ports were retired or the
--- server was unreachable.
+-- and exact, and none is lost. As many bots were accepted as the settings say (`bots_in_all`); for each, ports were
+-- retired or the server was unreachable.
 pub record IsWholeRun {P : Type 0} (transition : P → PortCall → P → Type 0) (settings : Settings)
     (answers : List (SystemCall P)) : Type 0 where
   pub serves : Serves transition settings answers
   pub each : All (RetiresClosed transition settings answers) answers
   pub none_lost : sum_over_calls connects answers ≡ sum_over_calls retires answers
-  pub all_came : sum_over_calls comes answers ≡ settings.sessions
+  pub all_came : sum_over_calls comes answers ≡ bots_in_all settings
   pub all_served : sum_over_calls comes answers ≡ sum_over_calls retires answers + sum_over_calls unreached answers
 
 -- Whether a turn made progress, which decides if a round waits, follows from the port calls of the turn.

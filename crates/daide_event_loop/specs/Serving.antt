@@ -1,7 +1,7 @@
 -- The loop of a run: the system calls and the effect of each step of a round, a round, and a whole run, completed or
 -- broken off. Each step is stated with its trace of system calls, recorded or not.
 use Rattle.std.specs.Prelude.{◌≡◌, ℕ, zero, suc, ◌+◌, ◌-◌, ◌≤◌, nat_lt, Bool, true, false, not, ◌&&◌, ◌||◌, ◌==◌, ◌⊎◌}
-use Rattle.std.specs.Prelude.{List, [], ◌∷◌, ◌++◌, length, filter, Option, Some, None, Ok, is_none, slice_get}
+use Rattle.std.specs.Prelude.{List, [], ◌∷◌, ◌++◌, length, filter, Option, Some, None, is_none, slice_get}
 use Rattle.std.specs.Prelude.{if◌then◌else◌}
 use Rattle.std.specs.List.{list_any}
 use Rattle.daide_protocol.specs.declared.ending.Ending.{Ending}
@@ -34,6 +34,10 @@ pub record ServiceView (P : Type 0) : Type 0 where
   pub counters : AdmissionCounters
 
 -- ---- the counters
+
+-- the bots of a run in all: as many as the settings say; an endless run has a bot for each number from 1 to 2^32 - 1 (own)
+abbrev pub bots_in_all : Settings → ℕ
+bots_in_all settings = if settings.endless then 4294967295 else settings.sessions
 
 -- one more bot may be accepted beside `count` sessions; a connect under way needs a place too
 abbrev pub may_accept : AdmissionCounters → ℕ → Bool
@@ -288,7 +292,7 @@ initial_service settings = record {
   };
   counters = record {
     max_sessions = settings.max_sessions;
-    sessions = settings.sessions;
+    sessions = bots_in_all settings;
     turns = settings.turns;
     connecting = 0;
     accepted = 0;

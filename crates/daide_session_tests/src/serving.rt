@@ -8,7 +8,7 @@ use crate::relays::{NEVER, QUIET, assert_sent};
 use crate::script::counts_of;
 use daide_frame::code::Code;
 use daide_frame::side::Side::{Bot, Server};
-use daide_gate::serving::{ServeFault, serve};
+use daide_gate::serving::{ServeFault, Service, serve};
 use daide_gate::settings::{Settings, read_settings};
 use daide_gate::system::{Cause, Connect, Notice, SessionEnd, System};
 use daide_protocol::ending::Ending;
@@ -602,6 +602,34 @@ fn each_of_many_bots_is_served(rt: HostRuntime) -> Result<(), Fail> {
             .any(|event| matches!(event, Event::ParsedEvent(_))),
         "nothing is told",
     )
+}
+
+/// Settings for one bot, with and without an end.
+const ONE_BOT: &str =
+    "listen = \"a\"\nserver = \"b\"\nmax_body = 512\nmax_sessions = 1\nsessions = 1\n";
+
+const ENDLESS: &str =
+    "listen = \"a\"\nserver = \"b\"\nmax_body = 512\nmax_sessions = 1\nsessions = 1\nendless = true\n";
+
+/// Checks how many bots are served in these rounds, each of which serves one, and whether the run is done then.
+fn assert_served(alloc: Global, text: &str, rounds: usize, done: bool) -> Result<(), Fail> {
+    let settings = read_settings(alloc, text)?;
+    let mut stage = Harness::new(alloc, ENDING);
+    let mut service = Service::<MemoryPorts<'static>, Global>::new(alloc, &settings)?;
+    for _round in 0..rounds {
+        service.round(&mut stage)?;
+    }
+    same(
+        &(stage.retired.len(), service.is_done()),
+        &(rounds, done),
+        &"served, done",
+    )
+}
+
+#[test]
+fn endless_run_goes_on_after_its_sessions(rt: HostRuntime) -> Result<(), Fail> {
+    assert_served(rt.alloc(), ONE_BOT, 1, true)?;
+    assert_served(rt.alloc(), ENDLESS, 30, false)
 }
 
 /// Runs with its memory on a heap of this size.
