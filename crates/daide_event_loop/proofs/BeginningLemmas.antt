@@ -11,7 +11,7 @@ use Rattle.daide_io.specs.System.{SystemCall, Begins, ReportsNews, BeginsTurn, E
 use Rattle.daide_io.specs.System.{Notifies, Waits, TransitsBy}
 use Rattle.daide_driver.specs.Hub.{HubView, with_ports, with_ports_at, Changes, IsTurned}
 use Rattle.daide_event_loop.specs.QuotaPorts.{QuotaPortsView, Meters, beginning, beginning_where, turn_end, turn_end_where}
-use Rattle.daide_event_loop.specs.Serving.{IsDueBy, OpensTurn, RunsTurn, TakesTurn, TurnsIf, VisitsPlace, TurnsBelow}
+use Rattle.daide_event_loop.specs.Serving.{IsDueBy, OpensTurn, RunsTurn, TurnsIf, VisitsPlace, TurnsBelow}
 use Rattle.daide_event_loop.specs.Served.{sum_over_calls}
 use Rattle.daide_event_loop.proofs.TransitLemmas.{transits_then}
 
@@ -133,6 +133,11 @@ slice_some [] i h = absurd (omega (arith, h))
 slice_some (x ∷ xs) zero h = (x, refl)
 slice_some (x ∷ xs) (suc i) h = slice_some xs i (omega (arith, h))
 
+pub get_set : {X : Type 0} (xs : List X) (i : ℕ) (x : X) → i < length xs → slice_get (slice_set xs i x) i ≡ Some x
+get_set [] i x h = absurd (omega (arith, h))
+get_set (y ∷ xs) zero x h = refl
+get_set (y ∷ xs) (suc i) x h = get_set xs i x (omega (arith, h))
+
 module _ {P : Type 0} (port_transition : P → PortCall → P → Type 0) where
   -- when its turn begins, the place has the ports that the loan left, and the session is unchanged
   pub lent : (hub : HubView (QuotaPortsView P)) (i : ℕ) (old new : QuotaPortsView P) → i < length hub.places →
@@ -186,11 +191,6 @@ module _ {P : Type 0} (port_transition : P → PortCall → P → Type 0) where
       let same = (same_count (OpensTurn port_transition (beginning old new)) hub i (with_ports hub i new)
       (lent hub i old new inside value begins)).1 in
       omega (arith, inside, same)
-
-  get_set : {X : Type 0} (xs : List X) (i : ℕ) (x : X) → i < length xs → slice_get (slice_set xs i x) i ≡ Some x
-  get_set [] i x h = absurd (omega (arith, h))
-  get_set (y ∷ xs) zero x h = refl
-  get_set (y ∷ xs) (suc i) x h = get_set xs i x (omega (arith, h))
 
   -- after its turn the number of places is the same
   pub run_inside : (hub : HubView (QuotaPortsView P)) (i : ℕ) (new : HubView (QuotaPortsView P)) → i < length hub.places →

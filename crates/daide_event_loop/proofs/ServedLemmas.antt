@@ -1,7 +1,7 @@
 -- The sessions of a run, step by step.
 use Rattle.std.proofs.Common.{◌≡◌, ℕ, zero, suc, ◌<◌, ◌≤◌, Bool, true, false, List, [], ◌∷◌, ◌++◌, length, take, set}
 use Rattle.std.proofs.Common.{◌+◌, refl, sym, ap, ◌∙◌, subst, arith, append-nil, length-append}
-use Rattle.std.specs.Prelude.{◌==◌, ◌&&◌, ◌||◌, Option, Some, None, Ok, Contains, All, is_none, is_some, not, slice_get}
+use Rattle.std.specs.Prelude.{◌==◌, ◌&&◌, ◌||◌, Option, Some, None, Contains, All, is_none, is_some, not, slice_get}
 use Rattle.std.proofs.lemmas.Bool.{eqb-true}
 use Rattle.std.proofs.lemmas.List.{take_all, length-set}
 use Rattle.std.proofs.lemmas.List.Elements.{All-nil, All-cons, All-head, All-tail, All-same, All-append, All-set}
@@ -14,7 +14,7 @@ use Rattle.daide_protocol.specs.declared.ending.Ending.{Ending}
 use Rattle.daide_protocol.proofs.EndingLemmas.{ending_known}
 use Rattle.daide_protocol.specs.Machine.{Limits, is_over, ending_in}
 use Rattle.daide_protocol.specs.Wires.{SessionView, IsNew, is_closed}
-use Rattle.daide_io.specs.Ports.{PortCall, TurnBegins, EvolvesBy, events_of}
+use Rattle.daide_io.specs.Ports.{PortCall, TurnBegins, EvolvesBy}
 use Rattle.daide_driver.specs.Headline.{untouched}
 use Rattle.daide_driver.specs.Totals.{RefinesRun}
 use Rattle.daide_driver.specs.Hub.{HubView, IsBegun, IsTurned, Changes}
