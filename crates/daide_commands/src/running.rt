@@ -161,8 +161,9 @@ fn serve_sockets<'r, R: AllocGlobal + Clock + Net, F: AllocGlobal + Files, O: Si
         network,
         servers,
         table,
+        pool,
     } = bind(rt, settings).map_err(RunFault::Gateway)?;
-    let ground = (network, servers.as_slice(), &table);
+    let ground = (network, servers.as_slice(), table, &pool);
     let Some(mut sockets) = sockets_on(rt.alloc(), settings, ground, errors) else {
         return Err(RunFault::Memory);
     };

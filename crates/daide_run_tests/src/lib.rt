@@ -9,6 +9,8 @@ mod addresses;
 #[cfg(test)]
 mod admission;
 #[cfg(test)]
+mod closings;
+#[cfg(test)]
 mod doors;
 #[cfg(test)]
 mod frames;
@@ -24,5 +26,7 @@ mod session_lines;
 mod settings;
 #[cfg(test)]
 mod streams;
+#[cfg(test)]
+mod waits;
 #[cfg(test)]
 mod wires;

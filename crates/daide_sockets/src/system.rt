@@ -1,12 +1,16 @@
 //! The environment of the event loop, `System`, over sockets.
 
-ghost use Rattle.std.specs.Prelude.{◌≡◌, ◌⊎◌, ℕ, ◌+◌, ◌*◌, ◌^◌, ◌<◌, IfSome, None, false, [], length};
-ghost use Rattle.daide_sockets.specs.Times.{IsSeconds, IsIdleTime};
+ghost use Rattle.std.specs.Duration.{as_nanos};
+ghost use Rattle.std.specs.Prelude.{◌≡◌, ◌⊎◌, ℕ, ◌+◌, ◌*◌, ◌^◌, ◌<◌, ◌||◌, IfSome, IfNone, None, true, false, [], length, vec_capacity};
 ghost use Rattle.daide_io.specs.Ports.{TurnBegins};
-ghost use Rattle.daide_io.specs.System.{BeginsTurn};
+ghost use Rattle.daide_io.specs.System.{ReportsNews, BeginsTurn, Retires};
 ghost use Rattle.daide_buffered_io.specs.Streams.{Transfers};
-ghost use Rattle.daide_sockets.specs.Lingering.{ClosingsGoOn, GoOnFor, no_closing};
-ghost use Rattle.daide_sockets.specs.Pairing.{FirstArrivalEvolves, Transits, Closes};
+ghost use Rattle.daide_sockets.specs.Accepting.{is_accept_due, MakesAccept};
+ghost use Rattle.daide_sockets.specs.Lingering.{LooksAround, in_pass, GoOnFor, no_closing};
+ghost use Rattle.daide_sockets.specs.Pairing.{FirstArrivalEvolves, Transits, Closes, ClosesBothAt, Comes, ComesWith};
+ghost use Rattle.daide_sockets.specs.Sockets.{due_after};
+ghost use Rattle.daide_sockets.specs.Table.{WaitsOnce, has_news_at};
+ghost use Rattle.daide_sockets.specs.Times.{IsSeconds, IsIdleTime, is_past};
 
 use crate::admission::{Acceptor, PendingConnection, Unreached};
 use crate::lingering_close::{Closings, MOST_CLOSING};
@@ -14,6 +18,7 @@ use crate::poller::Poller;
 use crate::ports::SocketPorts;
 use crate::session_notice::SessionNotice;
 use crate::table::SocketTable;
+use daide_buffered_io::pool::Pool;
 use daide_io::network::Network;
 use daide_io::system::{Connect, Notice, SessionEnd, System};
 use daide_settings::Settings;
@@ -48,19 +53,24 @@ fn idle_time_of(seconds: u32) -> Option<Duration>
 /// reached begins to close. So do both connections of a session that is retired, with what is held for them. A pending
 /// connect keeps its bot, and may be begun again. Except `begin_round`, no other call changes them.
 ///
-/// In `begin_round` the sockets that close make progress, by one reading of the clock: all of them, or eight if there
-/// are more (`ClosingsGoOn`). They keep their order. If a turn begins, what was held for too long is written to that
-/// session's own sockets, and neither is read.
+/// In `begin_round` the sockets that close make progress, by the table's reading of the clock (`tidy`: `closing`): all of
+/// them, or eight if there are more (`ClosingsGoOn`). They keep their order. If a turn begins, what was held for too long
+/// is written to that session's own sockets, and neither is read. There is news for a session exactly if a row of its
+/// sockets has some (`has_news`: `news`). A wait polls for the time until the nearest deadline, unless something is
+/// pending or a socket closes (`rest`: `waits`). With room for one more, a bot is accepted if the listener is ready
+/// (`accept_next`: `made`).
 ///
 /// Not said: that a wait ended because something came. Which eight of more sockets are looked at, and that a connect
 /// goes to the server's address, is read from the code. That held bytes are given up only after a failed write, or
-/// after `stall_seconds`, is read from `flush` and `give_up_stalled`. `SessionNotice::of_end` and `why_of` give the
+/// after `stall_seconds`, is read from `flush_at` and `give_up_stalled`. `SessionNotice::of_end` and `why_of` give the
 /// counts and the cause in a line of a session's end. Tests and `scripts/recorded` show that `--verbose` writes it.
 #[derive(Drop)]
 pub struct Sockets<'w, N: Network, E: Write + Drop> {
-    poller: Poller<'w, N>,
-    acceptor: Acceptor<'w>,
+    poller: Poller<N>,
+    acceptor: Acceptor,
     servers: &'w [SocketAddr],
+    /// The buffers of the sockets.
+    pool: &'w Pool,
     im_time: Duration,
     /// The idle timeout of each peer; `None` if there is none.
     idle_time: Option<Duration>,
@@ -78,11 +88,11 @@ pub struct Sockets<'w, N: Network, E: Write + Drop> {
 }
 
 impl<'w, N: Network, E: Write + Drop> Sockets<'w, N, E> {
-    /// Creates the sockets of a run with no bot yet, over a network, with the addresses of the server, and a deadline for
-    /// connects. Returns `None` if memory is refused or the listener cannot be followed. Sessions are not logged.
+    /// Creates the sockets of a run with no bot yet, over a network, with the addresses of the server, a table and a pool,
+    /// and a deadline for connects. Returns `None` if memory is refused or the listener cannot be followed. Sessions are not logged.
     pub fn new(
         alloc: Global,
-        ground: (N, &'w [SocketAddr], &'w SocketTable),
+        ground: (N, &'w [SocketAddr], SocketTable, &'w Pool),
         settings: &Settings,
         connect_time: Duration,
         errors: E,
@@ -96,7 +106,7 @@ impl<'w, N: Network, E: Write + Drop> Sockets<'w, N, E> {
             × (sockets.stall_seconds ≡ settings.now.stall_seconds)) }
         ensures connect_time { IfSome result (λ sockets. sockets.connect_time ≡ connect_time) }
     {
-        let (network, servers, table) = ground;
+        let (network, servers, table, pool) = ground;
         let Ok(mut poller) = Poller::new(alloc, network, table) else {
             return None;
         };
@@ -112,6 +122,7 @@ impl<'w, N: Network, E: Write + Drop> Sockets<'w, N, E> {
             poller,
             acceptor,
             servers,
+            pool,
             im_time: Duration::from_secs(u64::from(settings.im_seconds)),
             idle_time: idle_time_of(settings.idle_seconds),
             stall_time,
@@ -122,6 +133,13 @@ impl<'w, N: Network, E: Write + Drop> Sockets<'w, N, E> {
             errors,
             is_verbose: false,
         })
+    }
+
+    /// Returns the table.
+    pub fn table(&self) -> &SocketTable
+        ensures { result.now ≡ self.now.poller.table }
+    {
+        &self.poller.table
     }
 
     /// Sets whether the beginning and the end of each session are logged.
@@ -149,7 +167,7 @@ impl<'w, N: Network, E: Write + Drop> Sockets<'w, N, E> {
         ensures arrivals { self.new.arrivals.items ≡ self.old.arrivals.items }
     {
         self.tell_of_session(SessionNotice::of_no_server(left.number));
-        self.closings.begin(self.poller.table(), left.bot);
+        self.closings.begin(&mut self.poller.table, left.bot);
     }
 
     /// Checks the first arrival. Returns its ports if its connect completed, and `Failed` if its session is over and
@@ -168,12 +186,13 @@ impl<'w, N: Network, E: Write + Drop> Sockets<'w, N, E> {
                 Ok(()) => Connect::Pending,
                 // The list had room for it before.
                 Err(refused) => {
-                    self.let_go(refused.value.give_up());
+                    let left = refused.value.give_up(&mut self.poller.table);
+                    self.let_go(left);
                     Connect::Failed
                 }
             };
         }
-        match arrival.join(self.poller.table(), (self.idle_time, self.stall_time)) {
+        match arrival.join(&mut self.poller.table, (self.idle_time, self.stall_time)) {
             Ok(ports) => Connect::Ready(ports),
             Err(left) => {
                 self.let_go(left);
@@ -186,11 +205,12 @@ impl<'w, N: Network, E: Write + Drop> Sockets<'w, N, E> {
     fn tidy(&mut self)
         ensures came { self.new.acceptor.came ≡ self.old.acceptor.came }
         ensures arrivals { self.new.arrivals.items ≡ self.old.arrivals.items }
-        ensures closing { ClosingsGoOn N.Connection.to_give N.Connection.taken
-            N.Connection.calls self.old.closings self.new.closings }
+        ensures closing { LooksAround N.Connection.to_give N.Connection.taken N.Connection.calls
+            self.old.poller.table.reading (in_pass self.old.closings) self.new.closings }
+        ensures clock { self.new.poller.table.reading ≡ self.old.poller.table.reading }
     {
-        self.acceptor.reopen(self.poller.table());
-        self.closings.advance(self.poller.table());
+        self.acceptor.reopen(&mut self.poller.table);
+        self.closings.advance(&mut self.poller.table);
     }
 
     /// Waits until the last sockets are closed. That takes at most a second after their peers accepted the buffered
@@ -202,13 +222,51 @@ impl<'w, N: Network, E: Write + Drop> Sockets<'w, N, E> {
         ensures came { self.new.acceptor.came ≡ self.old.acceptor.came }
         ensures arrivals { self.new.arrivals.items ≡ self.old.arrivals.items }
     {
-        self.acceptor.stop();
+        self.acceptor.stop(&mut self.poller.table);
         self.closings.finish(&mut self.poller);
+    }
+
+    /// Accepts the next bot, if there is one, and begins its connect. Returns the line of its session; `None` if no bot
+    /// came.
+    ///
+    /// `made`: with room for one more, an accept is made if the listener is ready by the table, and no pause is under way.
+    ///
+    /// `im_due`: its IM timer runs from the table's reading of the clock on.
+    fn accept_next(&mut self) -> Option<SessionNotice>
+        ensures comes { IfSome result (λ _. Comes
+            (record { came = self.old.acceptor.came; arrivals = self.old.arrivals.items; closing = self.old.closings })
+            (record { came = self.new.acceptor.came; arrivals = self.new.arrivals.items; closing = self.new.closings })) }
+        ensures none { IfNone result ((self.new.acceptor.came ≡ self.old.acceptor.came)
+            × (self.new.arrivals.items ≡ self.old.arrivals.items) × (self.new.closings ≡ self.old.closings)) }
+        ensures made { length self.old.arrivals.items < vec_capacity self.old.arrivals →
+            self.old.acceptor.came < u32.MAX → is_accept_due self.old.poller.table self.old.acceptor.key
+            self.old.acceptor.readiness self.old.acceptor.resumes_at ≡ true →
+            MakesAccept N.transition self.old.poller.network }
+        ensures im_due { IfSome result (λ _. ComesWith self.old.arrivals.items self.old.poller.table.reading
+            (as_nanos self.old.im_time) self.new.arrivals.items) }
+    {
+        if self.arrivals.len() >= self.arrivals.capacity() {
+            return None;
+        }
+        let Some((number, bot, address)) = self.acceptor.next_bot(&mut self.poller, self.pool)
+        else {
+            return None;
+        };
+        let times = (self.im_time, self.connect_time);
+        let came = (number, bot);
+        let arrival = PendingConnection::new(&mut self.poller, self.servers, came, times);
+        self.arrivals.push_reserved(arrival);
+        Some(SessionNotice::Began {
+            number,
+            bot: address,
+        })
     }
 
     /// Waits, unless a closing socket may have more to discard.
     fn rest(&mut self)
-        ensures { self.new ≡ record self.old { poller = self.new.poller } }
+        ensures rest { self.new ≡ record self.old { poller = self.new.poller } }
+        ensures waits { self.old.closings.streams ≡ [] → WaitsOnce N.transition self.old.poller.network
+            self.old.poller.table self.new.poller.network self.new.poller.table }
     {
         self.closings.rest(&mut self.poller);
     }
@@ -225,8 +283,17 @@ impl<'w, N: Network, E: Write + Drop> System<SocketPorts<'w, N::Connection>> for
         self.tidy();
     }
 
-    fn has_news(&mut self, ports: &SocketPorts<'w, N::Connection>) -> bool {
-        ports.has_news()
+    fn has_news(&mut self, ports: &SocketPorts<'w, N::Connection>) -> bool
+        ensures transition { Transits N.Connection.to_give N.Connection.taken N.Connection.calls
+            (λ ports. record { number = ports.number; bot = ports.bot.stream; server = ports.server.stream })
+            (record { came = self.old.acceptor.came; arrivals = self.old.arrivals.items; closing = self.old.closings })
+            (ReportsNews ports.now result)
+            (record { came = self.new.acceptor.came; arrivals = self.new.arrivals.items; closing = self.new.closings }) }
+        ensures news { result ≡ (has_news_at self.old.poller.table ports.now.bot.key
+            || has_news_at self.old.poller.table ports.now.server.key) }
+        ensures same { self.new ≡ self.old }
+    {
+        ports.has_news(&self.poller.table)
     }
 
     fn begin_turn(&mut self, ports: &mut SocketPorts<'w, N::Connection>)
@@ -242,28 +309,23 @@ impl<'w, N: Network, E: Write + Drop> System<SocketPorts<'w, N::Connection>> for
             × (ports.new.server.timed.is_silent ≡ ports.old.server.timed.is_silent) }
         ensures gathering { (ports.new.bot.is_gathering ≡ false) × (ports.new.server.is_gathering ≡ false) }
         ensures number { ports.new.number ≡ ports.old.number }
-        ensures same { self.new ≡ self.old }
+        ensures same { self.new ≡ record self.old { poller = self.new.poller } }
+        ensures clock { self.new.poller.table.reading ≡ self.old.poller.table.reading }
+        ensures expires { ports.new.im_timer_expired ≡ is_past self.old.poller.table.reading ports.old.im_due }
+        ensures once { ports.new.im_due ≡ due_after self.old.poller.table.reading ports.old.im_due }
     {
-        ports.begin_turn();
+        ports.begin_turn(&mut self.poller.table);
     }
 
-    fn end_turn(&mut self, _ports: &SocketPorts<'w, N::Connection>) {}
+    fn end_turn(&mut self, ports: &SocketPorts<'w, N::Connection>) {
+        ports.end_turn(&mut self.poller.table);
+    }
 
     fn accept(&mut self) -> bool {
-        if self.arrivals.len() >= self.arrivals.capacity() {
-            return false;
-        }
-        let Some((number, bot, address)) = self.acceptor.next_bot(&mut self.poller) else {
+        let Some(began) = self.accept_next() else {
             return false;
         };
-        let times = (self.im_time, self.connect_time);
-        let came = (number, bot);
-        let arrival = PendingConnection::new(&mut self.poller, self.servers, came, times);
-        self.arrivals.push_reserved(arrival);
-        self.tell_of_session(SessionNotice::Began {
-            number,
-            bot: address,
-        });
+        self.tell_of_session(began);
         true
     }
 
@@ -282,10 +344,22 @@ impl<'w, N: Network, E: Write + Drop> System<SocketPorts<'w, N::Connection>> for
         Connect::Pending
     }
 
-    fn retire(&mut self, ports: SocketPorts<'w, N::Connection>, end: SessionEnd) {
+    fn retire(&mut self, ports: SocketPorts<'w, N::Connection>, end: SessionEnd)
+        ensures transition { Transits N.Connection.to_give N.Connection.taken N.Connection.calls
+            (λ ports. record { number = ports.number; bot = ports.bot.stream; server = ports.server.stream })
+            (record { came = self.old.acceptor.came; arrivals = self.old.arrivals.items; closing = self.old.closings })
+            (Retires ports.entry end)
+            (record { came = self.new.acceptor.came; arrivals = self.new.arrivals.items; closing = self.new.closings }) }
+        ensures closes { ClosesBothAt N.Connection.to_give N.Connection.taken N.Connection.calls
+            self.old.poller.table.reading self.old.closings (record {
+              number = ports.entry.number;
+              bot = ports.entry.bot.stream;
+              server = ports.entry.server.stream;
+            }) self.new.closings }
+    {
         let notice = SessionNotice::of_end(ports.number(), end, ports.timed(), self.stall_seconds);
         self.tell_of_session(notice);
-        self.closings.begin_both(self.poller.table(), ports);
+        self.closings.begin_both(&mut self.poller.table, ports);
     }
 
     fn tell(&mut self, notice: Notice) {
