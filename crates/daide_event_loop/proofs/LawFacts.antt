@@ -9,16 +9,16 @@ use Rattle.daide_io.specs.declared.ports.Pull.TheVariants.{Got, Idle, Ended}
 use Rattle.daide_io.specs.declared.ports.Put.TheVariants.{Took, Failed}
 use Rattle.daide_io.specs.declared.system.SessionEnd.{SessionEnd}
 use Rattle.daide_io.specs.Ports.{PortCall, TurnBegins, Clock, Pulled, Offered, EvolvesBy, taken}
-use Rattle.daide_io.specs.System.{SystemCall, EndsTurn, Waits}
+use Rattle.daide_io.specs.System.{SystemCall, EndsTurn, Accepts, Waits}
 use Rattle.daide_settings.specs.declared.settings.Settings.{Settings}
 use Rattle.daide_driver.specs.Hub.{IsBegun, IsTurned}
 use Rattle.daide_event_loop.specs.QuotaPorts.{QuotaPortsView, Meters, progress_by, is_gain, is_loss}
 use Rattle.daide_event_loop.specs.Served.{SessionsAreServed, MovesAreAnswered, TurnsAreCounted}
 use Rattle.daide_event_loop.specs.Served.{comes, sum_over_calls, retires, unreached}
 use Rattle.daide_event_loop.specs.Served.{run_limits, IsServed, IsEndOf}
-use Rattle.daide_event_loop.specs.Serving.{ServiceView, Round, Rounds, fresh, initial_service, is_done}
+use Rattle.daide_event_loop.specs.Serving.{ServiceView, may_accept, Round, Rounds, fresh, initial_service, is_done}
 use Rattle.daide_event_loop.specs.Independence.{SessionsAreIndependent, HaveSameRules, results_of, Received, Handed}
-use Rattle.daide_event_loop.specs.Waiting.{SessionsAreIdleAtWaits, IsIdleAtWait, MakesNoProgress}
+use Rattle.daide_event_loop.specs.Waiting.{RunsAreIdleAtWaits, IsIdleAtWait, MakesNoProgress}
 
 module _ {P : Type 0} (port_transition : P → PortCall → P → Type 0) where
   -- with two turns the third to begin is beyond the quota, and the second is not
@@ -68,14 +68,14 @@ module _ {P : Type 0} where
   each_gives (call ∷ calls) old new h = All-cons Gives call calls h.1 (each_gives calls h.0 new h.2)
 
   -- over such ports a first round does not wait while a session has room
-  no_wait_with_room : SessionsAreIdleAtWaits AlwaysGives → (settings : Settings) (round : List (SystemCall P))
+  no_wait_with_room : RunsAreIdleAtWaits AlwaysGives → (settings : Settings) (round : List (SystemCall P))
       (run : ServiceView P) (place : SessionView × QuotaPortsView P) →
       is_done (initial_service {P = P} settings) ≡ false →
       Round AlwaysGives (initial_service settings) (round ++ Waits ∷ []) run → Contains run.hub.places place →
       (side : Side) → 0 < room_of place.0 side → ⊥
   no_wait_with_room law settings round run place ongoing waits there side room =
       let all = law settings 0 [] round (initial_service settings) run (refl, refl) ongoing waits in
-      let idle = (All-contains (IsIdleAtWait AlwaysGives [] round) run.hub.places place all there).idle in
+      let idle = (All-contains (IsIdleAtWait AlwaysGives [] round) run.hub.places place all.sessions there).idle in
       let calls = TurnBegins ∷ idle.turn in
       let pulled = idle.pulled side room in
       let call = Pulled side (min (room_of place.0 side) 512) pulled.0 pulled.1 in
@@ -86,14 +86,22 @@ module _ {P : Type 0} where
       (All-contains MakesNoProgress idle.turn call idle.still pulled.2)
 
   -- in a first round that waits, the system ended the turn of each session that is left
-  ended_at_once : (transition : P → PortCall → P → Type 0) → SessionsAreIdleAtWaits transition → (settings : Settings)
+  ended_at_once : (transition : P → PortCall → P → Type 0) → RunsAreIdleAtWaits transition → (settings : Settings)
       (round : List (SystemCall P)) (run : ServiceView P) (place : SessionView × QuotaPortsView P) →
       is_done (initial_service {P = P} settings) ≡ false →
       Round transition (initial_service settings) (round ++ Waits ∷ []) run → Contains run.hub.places place →
       Contains round (EndsTurn place.1.ports)
   ended_at_once transition law settings round run place ongoing waits there =
       let all = law settings 0 [] round (initial_service settings) run (refl, refl) ongoing waits in
-      (All-contains (IsIdleAtWait transition [] round) run.hub.places place all there).ended
+      (All-contains (IsIdleAtWait transition [] round) run.hub.places place all.sessions there).ended
+
+  -- a first round that waits asked for a bot, and none came
+  asked_for_a_bot : (transition : P → PortCall → P → Type 0) → RunsAreIdleAtWaits transition → (settings : Settings)
+      (round : List (SystemCall P)) (run : ServiceView P) → is_done (initial_service {P = P} settings) ≡ false →
+      Round transition (initial_service settings) (round ++ Waits ∷ []) run →
+      may_accept run.counters (length run.hub.places) ≡ true → Contains round (Accepts false)
+  asked_for_a_bot transition law settings round run ongoing waits may =
+      (law settings 0 [] round (initial_service settings) run (refl, refl) ongoing waits).bots may
 
 -- an expired timer, a byte, an end and a failure are progress
 progress : (MakesNoProgress (Clock true) → ⊥) × (MakesNoProgress (Pulled Bot 4 (Got 1) (0 ∷ [])) → ⊥)

@@ -23,9 +23,9 @@ use Rattle.daide_event_loop.specs.QuotaPorts.{QuotaPortsView, Meters, turn_end, 
 use Rattle.daide_event_loop.specs.Serving.{ServiceView, fresh, initial_service, may_accept, AdmitsWhere, MeetsWhere, MeetsBy}
 use Rattle.daide_event_loop.specs.Serving.{OpensTurn, RunsTurn, IsDueBy, TurnsIf, VisitsPlace, TurnsBelow, any_moved}
 use Rattle.daide_event_loop.specs.Serving.{last_words, retirement_where, retirements, remaining, end_of}
-use Rattle.daide_event_loop.specs.Serving.{any_progress, wait_where, Round, Rounds, is_done}
+use Rattle.daide_event_loop.specs.Serving.{retirement, come, is_progress, any_progress, wait_where, Round, Rounds, is_done}
 use Rattle.daide_event_loop.specs.Served.{run_limits, sum_over_calls}
-use Rattle.daide_event_loop.specs.Waiting.{IsIdleSession, IsIdleAtWait}
+use Rattle.daide_event_loop.specs.Waiting.{IsIdleSession, IsIdleAtWait, IsIdleRun}
 use Rattle.daide_event_loop.proofs.BeginningLemmas.{none_counted, turns_only, slice_some, get_set}
 use Rattle.daide_event_loop.proofs.CountLemmas.{counted_append}
 use Rattle.daide_event_loop.proofs.TurnCounts.{turn_begins_none}
@@ -461,11 +461,27 @@ one_at_most : (P : Type 0) (progressed : Bool) → sum_over_calls {P = P} waits 
 one_at_most P true = omega arith
 one_at_most P false = omega arith
 
-third_false : (a b c d : Bool) → (a || b || c || d) ≡ false → c ≡ false
-third_false false false false d e = refl
-third_false true b c d e = absurd (cc)
-third_false false true c d e = absurd (cc)
-third_false false false true d e = absurd (cc)
+-- none of the four parts of a round made progress
+record NoProgress (a b c d : Bool) : Type 0 where
+  came : a ≡ false
+  met : b ≡ false
+  moved : c ≡ false
+  removed : d ≡ false
+
+all_false : (a b c d : Bool) → (a || b || c || d) ≡ false → NoProgress a b c d
+all_false false false false false e = record { came = refl; met = refl; moved = refl; removed = refl }
+all_false true b c d e = absurd (cc)
+all_false false true c d e = absurd (cc)
+all_false false false true d e = absurd (cc)
+all_false false false false true e = absurd (cc)
+
+first_false : (a b : Bool) → (a || b) ≡ false → a ≡ false
+first_false false b e = refl
+first_false true b e = absurd (cc)
+
+later_false : (a b : Bool) → (a || b) ≡ false → b ≡ false
+later_false false b e = e
+later_false true b e = absurd (cc)
 
 module _ {P : Type 0} where
   none_moved : (places : List (SessionView × QuotaPortsView P)) → any_moved places ≡ false →
@@ -475,21 +491,76 @@ module _ {P : Type 0} where
       All-cons (λ (p : SessionView × QuotaPortsView P). p.1.made_progress ≡ false) place places
       (first_false place.1.made_progress (any_moved places) e)
       (none_moved places (later_false place.1.made_progress (any_moved places) e))
-    where
-      first_false : (a b : Bool) → (a || b) ≡ false → a ≡ false
-      first_false false b e = refl
-      first_false true b e = absurd (cc)
 
-      later_false : (a b : Bool) → (a || b) ≡ false → b ≡ false
-      later_false false b e = e
-      later_false true b e = absurd (cc)
+  left_still : (xs ys : List (SystemCall P)) → any_progress (xs ++ ys) ≡ false → any_progress xs ≡ false
+  left_still [] ys e = refl
+  left_still (x ∷ xs) ys e =
+      rw (first_false (is_progress x) (any_progress (xs ++ ys)) e,
+      left_still xs ys (later_false (is_progress x) (any_progress (xs ++ ys)) e)) refl
+
+  right_still : (xs ys : List (SystemCall P)) → any_progress (xs ++ ys) ≡ false → any_progress ys ≡ false
+  right_still [] ys e = e
+  right_still (x ∷ xs) ys e = right_still xs ys (later_false (is_progress x) (any_progress (xs ++ ys)) e)
+
+  -- without progress no bot came, and the system was asked for one if one may be accepted
+  none_came : (may : Bool) (old : AdmissionCounters) (answers : List (SystemCall P)) (new : AdmissionCounters) →
+      AdmitsWhere may old answers new → any_progress answers ≡ false →
+      (new ≡ old) × (may ≡ true → Contains answers (Accepts false))
+  none_came true old answers new h e = by h.0 h.1 h.2
+    where
+      by : (came : Bool) → answers ≡ Accepts came ∷ [] → new ≡ come came old →
+          (new ≡ old) × (true ≡ true → Contains answers (Accepts false))
+      by true asked counters = let moved = ap any_progress asked in absurd (cc)
+      by false asked counters = (
+        counters,
+        λ may. subst (λ (l : List (SystemCall P)). Contains l (Accepts false)) (sym asked) (0, omega arith, refl),
+      )
+  none_came false old answers new h e = (h.1, λ may. absurd (cc))
+
+  -- without progress no connect completed or failed, and the system was asked if one is under way
+  none_met : (none : Bool) (old : HubView (QuotaPortsView P)) (counters : AdmissionCounters)
+      (answers : List (SystemCall P)) (new : HubView (QuotaPortsView P)) (new_counters : AdmissionCounters) →
+      MeetsWhere none old counters answers new new_counters → any_progress answers ≡ false →
+      (new ≡ old) × (new_counters ≡ counters) × (none ≡ false → Contains answers (Connects Pending))
+  none_met true old counters answers new new_counters m e = (m.1, m.2, λ some. absurd (cc))
+  none_met false old counters answers new new_counters m e = by m.0 m.1 m.2 m.3
+    where
+      by : (connect : Connect P) (told : List (SystemCall P)) → answers ≡ Connects connect ∷ told →
+          MeetsBy connect old counters told new new_counters →
+          (new ≡ old) × (new_counters ≡ counters) × (false ≡ false → Contains answers (Connects Pending))
+      by (Ready ports) told asked m = let moved = ap any_progress asked in absurd (cc)
+      by Failed told asked m = let moved = ap any_progress asked in absurd (cc)
+      by Pending told asked m = (
+        m.1,
+        m.2,
+        λ some. subst (λ (l : List (SystemCall P)). Contains l (Connects Pending)) (sym asked) (0, omega arith, refl),
+      )
+
+  -- without progress no session was removed
+  none_left : (places : List (SessionView × QuotaPortsView P)) → any_progress (retirements places) ≡ false →
+      remaining places ≡ places
+  none_left [] e = refl
+  none_left (place ∷ places) e =
+      by (is_closed place.0) refl (none_left places (left_still (retirements places) (retirement place) e))
+    where
+      parted : (told : Bool) → any_progress (last_words told ++ Retires place.1.ports (end_of place) ∷ []) ≡ true
+      parted true = refl
+      parted false = refl
+
+      by : (closed : Bool) → is_closed place.0 ≡ closed → remaining places ≡ places →
+          remaining (place ∷ places) ≡ place ∷ places
+      by true c rest =
+          let own = right_still (retirements places) (retirement place) e in
+          let moved = ap (λ (b : Bool). any_progress (retirement_where b place)) c ∙ parted (is_none place.1.turns_left) in
+          absurd (cc)
+      by false c rest = rw c (ap (λ (l : List (SessionView × QuotaPortsView P)). place ∷ l) rest)
 
   module _ (port_transition : P → PortCall → P → Type 0) where
-    -- a round that ends with a wait left no place that made progress
-    pub still_places : (round : List (SystemCall P)) (old new : ServiceView P) →
-        Round port_transition old (round ++ Waits ∷ []) new →
-        All (λ (p : SessionView × QuotaPortsView P). p.1.made_progress ≡ false) new.hub.places
-    still_places round old new r =
+    -- a round that ends with a wait made no progress
+    no_progress : (round : List (SystemCall P)) (old new : ServiceView P)
+        (r : Round port_transition old (round ++ Waits ∷ []) new) →
+        NoProgress (any_progress r.admission) (any_progress r.meeting) (any_moved r.turned.places) (any_progress r.removal)
+    no_progress round old new r =
         let progressed = any_progress r.admission || any_progress r.meeting || any_moved r.turned.places || any_progress r.removal in
         let last = wait_where {P = P} progressed in
         let all = ap (sum_over_calls waits) r.asked in
@@ -505,12 +576,17 @@ module _ {P : Type 0} where
         let four = counted_append waits (Begins ∷ r.admission) r.meeting in
         let most = one_at_most P progressed in
         let still = no_wait P progressed (omega (arith, all, ends, a, b, c, d, one, two, three, four, most)) in
-        let quiet = third_false (any_progress r.admission) (any_progress r.meeting) (any_moved r.turned.places)
-        (any_progress r.removal) still in
+        all_false (any_progress r.admission) (any_progress r.meeting) (any_moved r.turned.places) (any_progress r.removal) still
+
+    -- so it left no place that did
+    still_places : (round : List (SystemCall P)) (old new : ServiceView P) →
+        Round port_transition old (round ++ Waits ∷ []) new →
+        All (λ (p : SessionView × QuotaPortsView P). p.1.made_progress ≡ false) new.hub.places
+    still_places round old new r =
         All-same (λ (p : SessionView × QuotaPortsView P). p.1.made_progress ≡ false) new.hub.places (remaining r.turned.places)
         (ap (λ (k : HubView (QuotaPortsView P)). k.places) r.removes.1)
         (All-filter (λ place. not (is_closed place.0)) (λ (p : SessionView × QuotaPortsView P). p.1.made_progress ≡ false)
-        r.turned.places (none_moved r.turned.places quiet))
+        r.turned.places (none_moved r.turned.places (no_progress round old new r).moved))
 
     -- another call than the wait is before it
     before_wait : (round : List (SystemCall P)) (x : SystemCall P) → waits x ≡ 0 → Contains (round ++ Waits ∷ []) x →
@@ -519,11 +595,11 @@ module _ {P : Type 0} where
         (λ (e : Waits ≡ x). let same = ap waits e in absurd (omega (arith, same, other)))
         (Contains-push_cases round Waits x c)
 
-    pub idle_at_wait : (settings : Settings) (n : ℕ) (before round : List (SystemCall P)) (mid run : ServiceView P) →
+    sessions_idle : (settings : Settings) (n : ℕ) (before round : List (SystemCall P)) (mid run : ServiceView P) →
         Rounds port_transition n (initial_service settings) before mid → is_done mid ≡ false →
         Round port_transition mid (round ++ Waits ∷ []) run →
         All (IsIdleAtWait port_transition before round) run.hub.places
-    idle_at_wait settings n before round mid run rounds ongoing r =
+    sessions_idle settings n before round mid run rounds ongoing r =
         let whole = round ++ Waits ∷ [] in
         let all : Rounds port_transition (suc n) (initial_service settings) (before ++ whole) run =
         (mid, before, whole, refl, rounds, ongoing, r) in
@@ -547,3 +623,43 @@ module _ {P : Type 0} where
               inr (before_wait round (ReportsNews place.1.ports false) refl b))
               idle.2;
         }) run.hub.places (All-contains_itself run.hub.places)
+
+    -- the calls of the parts of a round
+    in_round : (round : List (SystemCall P)) (old new : ServiceView P)
+        (r : Round port_transition old (round ++ Waits ∷ []) new) (x : SystemCall P) → waits x ≡ 0 →
+        Contains (r.admission ++ r.meeting) x → Contains round x
+    in_round round old new r x other c =
+        before_wait round x other (subst (λ (l : List (SystemCall P)). Contains l x) (sym r.asked)
+        (Contains-append_left (Begins ∷ r.admission ++ r.meeting ++ r.beginnings ++ r.removal) _ x
+        (Contains-append_left (Begins ∷ r.admission ++ r.meeting ++ r.beginnings) r.removal x
+        (Contains-append_left (Begins ∷ r.admission ++ r.meeting) r.beginnings x
+        (Contains-append_right (Begins ∷ []) (r.admission ++ r.meeting) x c)))))
+
+    -- nothing changed in the round but the ports that had a turn
+    pub idle_run : (settings : Settings) (n : ℕ) (before round : List (SystemCall P)) (mid run : ServiceView P) →
+        Rounds port_transition n (initial_service settings) before mid → is_done mid ≡ false →
+        Round port_transition mid (round ++ Waits ∷ []) run → IsIdleRun port_transition before round run
+    idle_run settings n before round mid run rounds ongoing r =
+        let still = no_progress round mid run r in
+        let came = none_came (may_accept mid.counters (length mid.hub.places)) mid.counters r.admission r.came r.admits
+        still.came in
+        let met = none_met (r.came.connecting == 0) mid.hub r.came r.meeting r.connected run.counters r.finishes still.met in
+        let kept = none_left r.turned.places (ap any_progress (sym r.removes.0) ∙ still.removed) in
+        let places : run.hub.places ≡ r.turned.places =
+        ap (λ (k : HubView (QuotaPortsView P)). k.places) r.removes.1 ∙ kept in
+        let count : length run.hub.places ≡ length mid.hub.places =
+        ap length places
+        ∙ below_count port_transition (length r.connected.places) r.connected r.beginnings r.turned r.turns
+        ∙ ap (λ (k : HubView (QuotaPortsView P)). length k.places) met.0 in
+        let counters : run.counters ≡ mid.counters = met.1 ∙ came.0 in
+        let same : may_accept mid.counters (length mid.hub.places) ≡ may_accept run.counters (length run.hub.places) =
+        ap (λ (c : AdmissionCounters). may_accept c (length mid.hub.places)) (sym counters)
+        ∙ ap (λ (m : ℕ). may_accept run.counters m) (sym count) in
+        record {
+          sessions = sessions_idle settings n before round mid run rounds ongoing r;
+          bots = λ may. in_round round mid run r (Accepts false) refl
+              (Contains-append_left r.admission r.meeting (Accepts false) (came.1 (same ∙ may)));
+          connects = λ some. in_round round mid run r (Connects Pending) refl
+              (Contains-append_right r.admission r.meeting (Connects Pending)
+              (met.2 (ap (λ (c : AdmissionCounters). c.connecting == 0) (sym met.1) ∙ some)));
+        }

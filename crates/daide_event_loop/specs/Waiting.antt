@@ -1,17 +1,18 @@
--- What a run knows of its sessions when it waits: the last turn of each made no progress and was ended, no call was made
--- on its ports since, and there is no news for them. So no event that a session could handle was seen and left. (own)
-use Rattle.std.specs.Prelude.{◌≡◌, ℕ, ◌<◌, ◌⊎◌, ◌++◌, min, false, List, [], ◌∷◌, Contains, All}
+-- What a run knows when it waits. The last turn of each session made no progress and was ended, no call was made on its
+-- ports since, and there is no news for them. No bot came, and no connect has a result. (own)
+use Rattle.std.specs.Prelude.{◌≡◌, ℕ, ◌<◌, ◌⊎◌, ◌++◌, ◌==◌, min, true, false, List, [], ◌∷◌, length, Contains, All}
 use Rattle.daide_frame.specs.declared.side.Side.{Side}
 use Rattle.daide_protocol.specs.Wires.{SessionView, queued, front_of, room_of, no_frame}
 use Rattle.daide_io.specs.declared.ports.Pull.{Pull}
 use Rattle.daide_io.specs.declared.ports.Pull.TheVariants.{Got, Idle}
 use Rattle.daide_io.specs.declared.ports.Put.TheVariants.{Took}
 use Rattle.daide_io.specs.Ports.{PortCall, TurnBegins, Clock, Pulled, Offered, EvolvesBy}
-use Rattle.daide_io.specs.System.{SystemCall, ReportsNews, EndsTurn, Waits}
+use Rattle.daide_io.specs.declared.system.Connect.TheVariants.{Pending}
+use Rattle.daide_io.specs.System.{SystemCall, ReportsNews, EndsTurn, Accepts, Connects, Waits}
 use Rattle.daide_driver.specs.Turn.{Turn, most_pulled}
 use Rattle.daide_settings.specs.declared.settings.Settings.{Settings}
 use Rattle.daide_event_loop.specs.QuotaPorts.{QuotaPortsView}
-use Rattle.daide_event_loop.specs.Serving.{ServiceView, Round, Rounds, initial_service, is_done}
+use Rattle.daide_event_loop.specs.Serving.{ServiceView, may_accept, Round, Rounds, initial_service, is_done}
 
 -- ---- a turn without progress
 
@@ -58,8 +59,16 @@ pub record IsIdleAtWait {P : Type 0} (transition : P → PortCall → P → Type
   pub ended : Contains (before ++ round) (EndsTurn place.1.ports)
   pub asked : Contains round (EndsTurn place.1.ports) ⊎ Contains round (ReportsNews place.1.ports false)
 
--- In each round of a run that ends with a wait, each session is idle at the wait.
-abbrev pub SessionsAreIdleAtWaits : {P : Type 0} → (P → PortCall → P → Type 0) → Type 0
-SessionsAreIdleAtWaits {P} transition = (settings : Settings) (n : ℕ) (before round : List (SystemCall P))
+-- A run at a wait, after this round: each session is idle. If one more bot may be accepted, the system was asked for one
+-- in the round, and none came. If connects are under way, it was asked for a result, and none had one.
+pub record IsIdleRun {P : Type 0} (transition : P → PortCall → P → Type 0) (before round : List (SystemCall P))
+    (run : ServiceView P) : Type 0 where
+  pub sessions : All (IsIdleAtWait transition before round) run.hub.places
+  pub bots : may_accept run.counters (length run.hub.places) ≡ true → Contains round (Accepts false)
+  pub connects : (run.counters.connecting == 0) ≡ false → Contains round (Connects Pending)
+
+-- In each round of a run that ends with a wait, the run is idle at the wait.
+abbrev pub RunsAreIdleAtWaits : {P : Type 0} → (P → PortCall → P → Type 0) → Type 0
+RunsAreIdleAtWaits {P} transition = (settings : Settings) (n : ℕ) (before round : List (SystemCall P))
     (mid run : ServiceView P) → Rounds transition n (initial_service settings) before mid → is_done mid ≡ false →
-    Round transition mid (round ++ Waits ∷ []) run → All (IsIdleAtWait transition before round) run.hub.places
+    Round transition mid (round ++ Waits ∷ []) run → IsIdleRun transition before round run

@@ -2,7 +2,7 @@
 
 ghost use Rattle.daide_event_loop.specs.Served.{SessionsAreServed, MovesAreAnswered, TurnsAreCounted};
 ghost use Rattle.daide_event_loop.specs.Independence.{SessionsAreIndependent};
-ghost use Rattle.daide_event_loop.specs.Waiting.{SessionsAreIdleAtWaits};
+ghost use Rattle.daide_event_loop.specs.Waiting.{RunsAreIdleAtWaits};
 
 use daide_io::ports::Ports;
 
@@ -38,13 +38,14 @@ pub fn sessions_are_independent<P: Ports, Q: Ports>()
     ensures { SessionsAreIndependent P.transition Q.transition }
 {}
 
-/// At each wait of a run each session is idle. Its last turn made no progress: the IM timer had not expired, each side
-/// for whose bytes it has room returned none, and each wire for which bytes are queued took none (`IsIdleSession`). The
-/// system ended that turn with the ports as they are now, and in the round that waits it did that or reported no news
-/// for these ports (`IsIdleAtWait`). So if the system reports all news, and waits for the rest, no wake-up is lost.
+/// At each wait a run is idle (`IsIdleRun`). The last turn of each session made no progress: the IM timer had not
+/// expired, each side for whose bytes it has room returned none, and each wire for which bytes are queued took none
+/// (`IsIdleSession`). The system ended that turn with the ports as they are now, and in the round that waits it did
+/// that or reported no news for these ports (`IsIdleAtWait`). If one more bot may be accepted, none came; if connects
+/// are under way, none has a result. So if the system reports all news, and waits for the rest, no wake-up is lost.
 ///
 /// Not said: that the system reports all news. Two sessions may have equal ports; then the clauses on calls speak of
 /// both.
-pub fn sessions_are_idle_at_waits<P: Ports>()
-    ensures { SessionsAreIdleAtWaits P.transition }
+pub fn runs_are_idle_at_waits<P: Ports>()
+    ensures { RunsAreIdleAtWaits P.transition }
 {}
