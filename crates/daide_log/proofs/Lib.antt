@@ -26,5 +26,6 @@ pub mod RecordLines
 pub mod RecordHead
 pub mod RecordCounts
 pub mod RecordReported
+pub mod PauseLemmas
 pub mod RecordedPorts
 pub mod LawFacts

@@ -28,5 +28,5 @@ pub use daide_log_lines::LogFault;
 pub use daide_log_lines::reader::LogReader;
 pub use explained::{Explained, explain_log, explain_stream};
 pub use record::{Record, RecordEnd, RecordedEvent};
-pub use recording::Recording;
+pub use recording::{Activity, Recording};
 pub use sink::Sink;

@@ -1,13 +1,14 @@
 //! The record of a session: a log of its ports' calls, in the form that `check_log` reads.
 //!
-//! Lines are collected in a page, and written in blocks of whole lines.
+//! Lines are collected in a page. It is written, as a block of whole lines, when it is full, and when `Recording` finds
+//! that no more bytes move.
 
 ghost use Rattle.std.specs.Prelude.{◌≡◌, ◌≢◌, ◌<◌, ◌≤◌, true, false, [], None, Some, OnOk, OnErr, length};
 ghost use Rattle.std.specs.Io.KnownBytes.{Keeps, append_known};
 ghost use Rattle.daide_words.specs.Words.{words_of};
 ghost use Rattle.daide_log_lines.specs.LogLine.{LogEvent, most_lines};
 ghost use Rattle.daide_log.specs.RecordText.{head_text, head_count};
-ghost use Rattle.daide_log.specs.Recording.{RecordsEvent, HasFailed, FitsLine, line_event, most_held};
+ghost use Rattle.daide_log.specs.Recording.{RecordsEvent, KeepsText, HasFailed, FitsLine, line_event, most_held};
 
 use crate::record_text::{put_event, put_head};
 use crate::sink::Sink;
@@ -76,6 +77,7 @@ impl<W: Sink + Drop> Model for Record<W> {
 
     ghost view = { λ r. record {
       text = append_known (W.contents r.writer) r.held.items;
+      unwritten = r.held.items;
       lines = r.lines;
       ending = r.ending;
     } };
@@ -148,6 +150,7 @@ impl<W: Sink + Drop> Record<W> {
     pub fn new(writer: W, config: Config, words: Words) -> Record<W>
         ensures { result ≡ record {
           text = append_known (W.contents writer) (head_text config (words_of words));
+          unwritten = head_text config (words_of words);
           lines = head_count (words_of words);
           ending = RecordEnd.Whole;
         } }
@@ -182,6 +185,25 @@ impl<W: Sink + Drop> Record<W> {
             put_event(event, &mut self.held);
             self.lines += 1;
         }
+    }
+
+    /// Writes the page of a whole record. If that fails, the record has failed.
+    #[tactic(auto, using(crate::proofs::PauseLemmas::unwritten_kept, crate::proofs::PauseLemmas::page_written, crate::proofs::PauseLemmas::page_lost))]
+    pub fn flush(&mut self)
+        ensures kept { KeepsText (HasFailed W.Fails) self.old self.new }
+        ensures written { self.new.ending ≡ RecordEnd.Whole → self.new.unwritten ≡ [] }
+    {
+        if self.ending != RecordEnd::Whole {
+            return;
+        }
+        if let Err(_) = hand_over(&mut self.held, &mut self.writer) {
+            self.ending = RecordEnd::Failed;
+        }
+    }
+
+    /// Returns the writer.
+    pub fn writer(&self) -> &W {
+        &self.writer
     }
 
     /// Hands over what is held of a record that did not fail, and returns the writer and how the record ended.
