@@ -223,6 +223,17 @@ class Vanishes(Act):
 
 
 @dataclass(frozen=True)
+class Appears(Act):
+    """Somebody makes an empty file with the name of the next record."""
+
+    name: str = "session-000001.log"
+
+    def play(self, stage):
+        (stage.run.folder / self.name).touch()
+        return True
+
+
+@dataclass(frozen=True)
 class ReadsErrors(Act):
     """Somebody reads standard error, a pipe, until it is empty."""
 

@@ -305,7 +305,8 @@ def begun(program, conditions):
     address = conditions.address or f"{HOST}:{listener.getsockname()[1]}"
     with tempfile.TemporaryDirectory() as room:
         folder = pathlib.Path(room) / conditions.folder
-        folder.mkdir(exist_ok=True)
+        if conditions.files:
+            folder.mkdir(parents=True, exist_ok=True)
         for name in conditions.files:
             (folder / name).touch()
         run = Run(program, room, conditions, address)

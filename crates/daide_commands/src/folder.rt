@@ -3,7 +3,7 @@
 //! The operating system decides whether a file exists, whether one can be created, and which written bytes it keeps. No
 //! contract is about that.
 
-ghost use Rattle.std.specs.Prelude.{◌≡◌, ◌⊎◌, ℕ, List, Option, IfOk, IfErr, IfSome, string_bytes};
+ghost use Rattle.std.specs.Prelude.{◌≡◌, ◌⊎◌, ◌+◌, ℕ, List, Option, IfOk, IfErr, IfSome, string_bytes};
 ghost use Rattle.std.specs.Io.KnownBytes.{append_known};
 ghost use Rattle.daide_log.specs.RecordText.{head_text, head_count};
 ghost use Rattle.daide_words.specs.Words.{words_of};
@@ -17,9 +17,9 @@ use daide_settings::Settings;
 use daide_words::Words;
 use std::alloc::{AllocError, Global};
 use std::fs::OpenOptions;
-use std::io;
 use std::io::{ErrorKind, Write};
 use std::rt::Files;
+use std::{fs, io};
 use thiserror::Error;
 
 /// Why a session has no complete record, with its number. The session goes on.
@@ -76,29 +76,51 @@ fn tell<E: Write>(errors: &mut E, notice: RecordNotice) {
 pub(crate) struct Folder<'a, R: Files> {
     rt: &'a R,
     path: &'a str,
+    /// The highest number of a record that was in the folder before the run.
+    highest: u32,
     config: Config,
     words: Words,
 }
 
-/// Returns the path of a session's file in a folder.
-fn path_of(alloc: Global, folder: &str, number: u32) -> Result<String, AllocError>
+/// Returns the path of the record with this number in a folder.
+fn path_of(alloc: Global, folder: &str, number: u64) -> Result<String, AllocError>
     ensures { IfOk result (λ path. string_bytes path ≡ path_in folder.now number) }
 {
     format!(in alloc; "{folder}/session-{number:06}.log")
 }
 
+/// Returns the number in the name of a record's file; `None` if no record has this name.
+fn number_in(name: &str) -> Option<u32> {
+    let digits = name.strip_prefix("session-")?.strip_suffix(".log")?;
+    digits.parse().ok()
+}
+
+/// Returns the highest number of the records in a folder; 0 if there is none.
+fn highest_in<R: AllocGlobal + Files>(rt: &R, path: &str) -> io::Result<u32> {
+    let mut highest = 0;
+    for entry in fs::read_dir(&rt, path)? {
+        if let Some(number) = number_in(entry?.file_name()) {
+            highest = number.max(highest);
+        }
+    }
+    Ok(highest)
+}
+
 impl<'a, R: AllocGlobal + Files> Folder<'a, R> {
-    /// Opens a folder for the records of sessions with these settings. Returns `None` if the path is empty, or if no
-    /// file can be created in it. To test that, a file with the number 0, which no session has, is created and removed.
+    /// Opens a folder for the records of sessions with these settings, and creates it if it does not exist. Returns
+    /// `None` if the path is empty, if the folder can't be created or read, or if no file can be created in it. To test
+    /// that, a file with the number 0, which no record has, is created and removed.
     pub(crate) fn at(rt: &'a R, path: &'a str, settings: &Settings) -> Option<Folder<'a, R>>
         ensures { IfSome result (λ folder. (folder.config ≡ settings.now.config) × (folder.words ≡ settings.now.words)) }
     {
         if path.is_empty() {
             return None;
         }
+        fs::create_dir_all(rt, path).ok()?;
         let folder = Folder {
             rt,
             path,
+            highest: highest_in(rt, path).ok()?,
             config: settings.config,
             words: settings.words,
         };
@@ -116,11 +138,18 @@ impl<'a, R: AllocGlobal + Files> Folder<'a, R> {
             .open(self.rt, name)
     }
 
+    /// Returns the number of a session's record: the records of a run follow those that were in the folder before.
+    fn record_number(&self, session: u32) -> u64
+        ensures { result ≡ self.now.highest + session }
+    {
+        self.highest as u64 + session as u64
+    }
+
     /// Creates the file of a session's record, or returns why there is none.
     fn file_of(&self, number: u32) -> Result<R::File, RecordNotice>
         ensures { IfErr result (λ notice. (notice ≡ RecordNotice.IsThere number) ⊎ (notice ≡ RecordNotice.Unmade number)) }
     {
-        let Ok(name) = path_of(self.rt.alloc(), self.path, number) else {
+        let Ok(name) = path_of(self.rt.alloc(), self.path, self.record_number(number)) else {
             return Err(RecordNotice::Unmade(number));
         };
         self.make(name.as_str())
