@@ -249,7 +249,7 @@ daide-gate: session 2 ended: no server; relayed 0 prn 0 huh 0 faults 0
 daide-gate: cannot reach the server
 """
 
-UNMADE = "daide-gate: session 1 is not recorded: its file could not be made\n"
+UNMADE = "daide-gate: session 1 is not recorded: its file could not be made (entity not found)\n"
 
 FULL = f"daide-gate: record of session 1 broke off: it has {MOST_LINES} lines\n"
 
