@@ -94,7 +94,7 @@ beginning_where None before after = []
 abbrev pub beginning : {P : Type 0} → QuotaPortsView P → QuotaPortsView P → List (SystemCall P)
 beginning old new = beginning_where new.turns_left old.ports new.ports
 
--- a turn that the system began it also ends, with the ports as the turn left them; beyond the quota there is no such call
+-- the system ends each turn that it began, with the ports as the turn left them; beyond the quota it is not called
 abbrev pub turn_end_where : {P : Type 0} → Option ℕ → P → List (SystemCall P)
 turn_end_where (Some turns) ports = EndsTurn ports ∷ []
 turn_end_where None ports = []
