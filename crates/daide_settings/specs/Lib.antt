@@ -2,3 +2,4 @@ pub mod WordSettings
 pub mod Ranges
 pub mod Settings
 pub mod Given
+pub mod Judged

@@ -5,9 +5,11 @@
 
 mod address;
 mod allow;
+mod judged;
 mod key;
 mod ranges;
 mod reading;
+mod suggestion;
 mod words;
 
 ghost use Rattle.std.specs.Prelude.{◌≡◌, Ok};
@@ -18,6 +20,7 @@ pub use address::Address;
 use arrayvec::ArrayVec;
 use daide_protocol::config::{Config, SessionLimits};
 use daide_words::Words;
+pub use judged::{JudgeFault, judge_settings};
 pub use key::Key;
 pub use ranges::{AddressRange, Host, MAX_RANGES, may_come};
 pub use reading::read_settings;

@@ -3,6 +3,7 @@
 //! The types of all values are checked before their number, and their number before any text.
 
 ghost use Rattle.std.specs.Prelude.{◌≡◌, ◌≤◌, true, Some, Ok, Err, MatchResult, is_some, length, option_map};
+ghost use Rattle.std.specs.Result.{result_err};
 ghost use Rattle.std.specs.List.{list_all};
 ghost use Rattle.toml.specs.Data.{as_str};
 ghost use Rattle.toml.specs.View.{items_view, view};
@@ -111,5 +112,15 @@ pub(super) fn ranges_at(
     match value.as_array() {
         Some(values) => ranges_of_items(values.as_slice()),
         None => Err(SettingsError::WrongType(Key::Allow)),
+    }
+}
+
+/// Returns the fault of the key.
+pub(super) fn ranges_fault(value: Option<&Value>) -> Option<SettingsError>
+    ensures { result ≡ result_err (allow_judged (option_map (λ value. view value.now) value.entry)) }
+{
+    match ranges_at(value) {
+        Ok(_) => None,
+        Err(fault) => Some(fault),
     }
 }

@@ -1,6 +1,7 @@
 //! Reads the settings of a document.
 
 ghost use Rattle.std.specs.Prelude.{◌≡◌, ◌≢◌, true, IfOk, IfErr, MatchResult, Ok, Err, option_map, string_bytes};
+ghost use Rattle.std.specs.Result.{result_err};
 ghost use Rattle.std.specs.List.{list_all};
 ghost use Rattle.std.specs.BTreeMap.{keys};
 ghost use Rattle.toml.specs.Data.{get_member};
@@ -28,14 +29,14 @@ fn keys_are_known(table: &Table) -> bool
 }
 
 /// Returns true if a document has only known keys.
-fn has_only_known(table: &Table) -> bool
+pub(super) fn has_only_known(table: &Table) -> bool
     ensures { result ≡ knows_all (table_view table.now) }
 {
     keys_are_known(table)
 }
 
 /// Returns the value of a key.
-fn found<'a>(table: &'a Table, key: Key) -> Option<&'a Value>
+pub(super) fn found<'a>(table: &'a Table, key: Key) -> Option<&'a Value>
     ensures { option_map (λ value. view value.now) result ≡ get_member (key_text key) (table_view table.now) }
 {
     table.get(key.text())
@@ -82,6 +83,36 @@ fn flag_at(table: &Table, key: Key) -> Result<bool, SettingsError>
     match found(table, key) {
         Some(value) => value.as_bool().ok_or(SettingsError::WrongType(key)),
         None => Ok(false),
+    }
+}
+
+/// Returns the fault of an address.
+pub(super) fn address_fault(table: &Table, key: Key) -> Option<SettingsError>
+    ensures { result ≡ result_err (address_of key (get_member (key_text key) (table_view table.now))) }
+{
+    match address_at(table, key) {
+        Ok(_) => None,
+        Err(fault) => Some(fault),
+    }
+}
+
+/// Returns the fault of a number.
+pub(super) fn number_fault(table: &Table, key: Key) -> Option<SettingsError>
+    ensures { result ≡ result_err (judged_number key (get_member (key_text key) (table_view table.now))) }
+{
+    match number_at(table, key) {
+        Ok(_) => None,
+        Err(fault) => Some(fault),
+    }
+}
+
+/// Returns the fault of a flag.
+pub(super) fn flag_fault(table: &Table, key: Key) -> Option<SettingsError>
+    ensures { result ≡ result_err (read_flag key (get_member (key_text key) (table_view table.now))) }
+{
+    match flag_at(table, key) {
+        Ok(_) => None,
+        Err(fault) => Some(fault),
     }
 }
 
