@@ -495,8 +495,10 @@ module _ {P : Type 0} where
   left_still : (xs ys : List (SystemCall P)) → any_progress (xs ++ ys) ≡ false → any_progress xs ≡ false
   left_still [] ys e = refl
   left_still (x ∷ xs) ys e =
-      rw (first_false (is_progress x) (any_progress (xs ++ ys)) e,
-      left_still xs ys (later_false (is_progress x) (any_progress (xs ++ ys)) e)) refl
+      rw (
+        first_false (is_progress x) (any_progress (xs ++ ys)) e,
+        left_still xs ys (later_false (is_progress x) (any_progress (xs ++ ys)) e),
+      ) refl
 
   right_still : (xs ys : List (SystemCall P)) → any_progress (xs ++ ys) ≡ false → any_progress ys ≡ false
   right_still [] ys e = e
