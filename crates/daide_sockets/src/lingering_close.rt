@@ -299,6 +299,13 @@ impl<'w, S: Duplex + Drop> ClosingSockets<'w, S> {
         at
     }
 
+    /// Leaves the nearest deadline of each in its row.
+    fn note_deadlines(&self, table: &mut SocketTable) {
+        for closing in self.sockets.iter() {
+            closing.note_deadline(table);
+        }
+    }
+
     /// Returns whether one of them may make progress.
     fn is_ready(&self, table: &SocketTable) -> bool {
         self.sockets.iter().any(|closing| closing.is_ready(table))
@@ -424,6 +431,9 @@ impl<'w, S: Duplex + Drop> Closings<'w, S> {
         ensures { (rounds : ℕ) × GoOnFor S.to_give S.taken S.calls rounds self.old self.new
             × ((self.new.streams ≡ []) ⊎ (rounds ≡ u64.MAX)) }
     {
+        // Sessions that were broken off left deadlines, which no wait is for any more.
+        poller.table.forget_turns();
+        self.sockets.note_deadlines(&mut poller.table);
         for _round in 0..u64::MAX {
             self.advance(&mut poller.table);
             if self.is_empty() {

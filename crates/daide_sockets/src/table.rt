@@ -364,6 +364,14 @@ impl SocketTable {
         );
     }
 
+    /// Forgets all deadlines, and what turns left.
+    pub(crate) fn forget_turns(&mut self) {
+        for row in self.rows.iter_mut() {
+            row.has_work = false;
+            row.due = None;
+        }
+    }
+
     /// Returns whether a wait must not block: a poll since the last wait reported something, which comes only once, or
     /// a socket has work.
     pub(crate) fn has_pending(&self) -> bool
