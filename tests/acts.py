@@ -87,6 +87,17 @@ class Comes(Act):
 
 
 @dataclass(frozen=True)
+class ComesFrom(Act):
+    """A bot connects from this address."""
+
+    host: str
+
+    def play(self, stage):
+        stage.add_bot(self.host)
+        return True
+
+
+@dataclass(frozen=True)
 class FinishesConnect(Act):
     """The server accepts a connection."""
 

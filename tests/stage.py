@@ -163,9 +163,11 @@ class Stage:
         """Returns the end with this number."""
         return (self.bots if isinstance(who, Bot) else self.servers)[who.number]
 
-    def add_bot(self):
-        """A bot connects."""
+    def add_bot(self, host=HOST):
+        """A bot connects, from this address."""
         stream = socket.socket()
+        if host != HOST:
+            stream.bind((host, 0))
         self.bots.append(Peer(stream))
         stream.connect_ex((HOST, self.run.port))
         self.ports.append(stream.getsockname()[1])

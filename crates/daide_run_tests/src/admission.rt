@@ -109,7 +109,7 @@ fn sockets_of<'w, 't>(
     rt: &'w HostRuntime,
     pool: &'w Pool,
     (listener, servers): (daide_sockets::TcpListener, &'w [SocketAddr]),
-    settings: &Settings,
+    settings: &'w Settings,
     told: &'t mut Vec<u8>,
 ) -> Option<HostSockets<'w, 't>> {
     let time = Duration::from_secs(5);

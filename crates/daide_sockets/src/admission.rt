@@ -3,19 +3,24 @@
 //! Neither an accept nor a connect blocks. The server's name is resolved at the start. If it has several addresses,
 //! they are tried one after the other, within one deadline for all.
 
-ghost use Rattle.std.specs.Prelude.{◌≡◌, ◌≢◌, ◌+◌, ◌<◌, Some, None, Err, true, false, IfOk, IfErr, IfSome, IfNone, IsSome};
+ghost use Rattle.std.specs.Prelude.{◌≡◌, ◌≢◌, ◌+◌, ◌<◌, ◌++◌, ◌∷◌, [], Some, None, Err, true, false, IfOk, IfErr, IfSome, IfNone, IsSome};
+ghost use Rattle.daide_sockets.specs.Table.{left_with};
 ghost use Rattle.daide_sockets.specs.Accepting.{is_accept_made, is_accept_due, ReportsAccept, MakesAccept, Pauses};
 ghost use Rattle.std.specs.Duration.{as_nanos};
 ghost use Rattle.daide_sockets.specs.Times.{IsAfter, IsStallEnd};
+ghost use Rattle.std.specs.Net.Socket.{socket_ip};
+ghost use Rattle.daide_settings.specs.Ranges.{host_of, may_come};
 ghost use Rattle.daide_sockets.specs.Pairing.{StaysPending, IsFreshConnect, IsFresh, IsJoined};
 
 use crate::poller::Poller;
 use crate::ports::{Socket, SocketPorts};
+use crate::present::Present;
 use crate::table::{SocketTable, after, is_past, merged};
 use daide_buffered_io::pool::Pool;
 use daide_buffered_io::readiness::Readiness;
 use daide_io::duplex::Duplex;
 use daide_io::network::{ConnectStatus, Network};
+use daide_settings::{AddressRange, Host, may_come};
 use std::io::ErrorKind;
 use std::marker::Model;
 use std::net::SocketAddr;
@@ -77,7 +82,15 @@ impl Acceptor {
         ensures { self.new.came ≡ self.old.came }
     {
         self.resumes_at = None;
-        table.set_due(self.key, None);
+        table.leave(self.key, false, None);
+    }
+
+    /// Leaves work for the listener, so that the next wait does not block: more may wait behind a bot that may not come.
+    fn look_again(&mut self, table: &mut SocketTable)
+        ensures same { self.new ≡ self.old }
+        ensures table { table.new ≡ left_with table.old self.old.key true self.old.resumes_at }
+    {
+        table.leave(self.key, true, self.resumes_at);
     }
 
     /// Accepts a connection, and returns it with its address. Returns `None` if there is none. Makes no system call
@@ -96,7 +109,7 @@ impl Acceptor {
         let report = poller.table.take_report(self.key);
         self.readiness = merged(self.readiness, report);
         let accepted = self.accept_at(&mut poller.network, poller.table.now());
-        poller.table.set_due(self.key, self.resumes_at);
+        poller.table.leave(self.key, false, self.resumes_at);
         match accepted {
             Ok(came) => Some(came),
             Err(_) => None,
@@ -159,9 +172,21 @@ impl Acceptor {
         };
     }
 
-    /// Returns the next bot that came: its session's number, its socket and its address. Returns `None` if none came,
-    /// if the system refuses to follow it, or if all numbers are given. After a refusal a pause begins, as after a failed
-    /// accept: the system does not report again the bots that wait behind it.
+    /// Starts the pause after a refusal.
+    fn stand_back(&mut self, table: &mut SocketTable)
+        ensures came { self.new.came ≡ self.old.came }
+        ensures clock { table.new.reading ≡ table.old.reading }
+    {
+        self.pause(table.now(), ErrorKind::Other);
+        table.set_due(self.key, self.resumes_at);
+    }
+
+    /// Returns the next bot that came: its session's number, its socket and its address. It is added to those present.
+    ///
+    /// Fails with the address of a bot that may not come by the ranges and the limit `rules`, beside those present: its
+    /// connection is closed at once. The next wait does not block then, since the system does not report again the bots
+    /// that wait behind it. Fails with no address if none came, if the system refuses to follow it, or if all numbers are
+    /// given. After a refusal a pause begins, as after a failed accept.
     ///
     /// `one`: exactly one bot was accepted, is followed, and is counted.
     ///
@@ -172,23 +197,47 @@ impl Acceptor {
         &mut self,
         poller: &mut Poller<N>,
         pool: &'w Pool,
-    ) -> Option<(u32, Socket<'w, N::Connection>, SocketAddr)>
-        ensures one { IfSome result (λ bot. (self.new.came ≡ self.old.came + 1) × (bot.0 ≡ self.new.came)
+        rules: (&[AddressRange], u16),
+        present: &mut Present,
+    ) -> Result<(u32, Socket<'w, N::Connection>, SocketAddr), Option<SocketAddr>>
+        ensures one { IfOk result (λ bot. (self.new.came ≡ self.old.came + 1) × (bot.0 ≡ self.new.came)
             × IsFresh bot.1.stream) }
-        ensures none { IfNone result (self.new.came ≡ self.old.came) }
+        ensures none { IfErr result (λ _. self.new.came ≡ self.old.came) }
         ensures made { is_accept_due poller.old.table self.old.key self.old.readiness self.old.resumes_at ≡ true →
             self.old.came < u32.MAX → MakesAccept N.transition poller.old.network }
         ensures clock { poller.new.table.reading ≡ poller.old.table.reading }
+        ensures allowed { IfOk result (λ bot. may_come rules.entry.0.now rules.entry.1 present.old.hosts.items
+            (host_of (socket_ip bot.2)) ≡ true) }
+        ensures added { IfOk result (λ bot. (present.new.numbers.items ≡ present.old.numbers.items ++ bot.0 ∷ [])
+            × (present.new.hosts.items ≡ present.old.hosts.items ++ host_of (socket_ip bot.2) ∷ [])) }
+        ensures same { IfErr result (λ _. present.new ≡ present.old) }
+        ensures declined { (address : SocketAddr) → result ≡ Err (Some address) →
+            may_come rules.entry.0.now rules.entry.1 present.old.hosts.items (host_of (socket_ip address)) ≡ false }
     {
-        let number = self.came.checked_add(1)?;
-        let (stream, address) = self.accept(poller)?;
-        let Some(bot) = Socket::new(poller, pool, stream) else {
-            self.pause(poller.table.now(), ErrorKind::Other);
-            poller.table.set_due(self.key, self.resumes_at);
-            return None;
+        let Some(number) = self.came.checked_add(1) else {
+            return Err(None);
         };
+        let Some((stream, address)) = self.accept(poller) else {
+            return Err(None);
+        };
+        let host = Host::of(address.ip());
+        let (allow, most) = rules;
+        if !may_come(allow, most, present.hosts(), host) {
+            self.look_again(&mut poller.table);
+            return Err(Some(address));
+        }
+        let Some(bot) = Socket::new(poller, pool, stream) else {
+            self.stand_back(&mut poller.table);
+            return Err(None);
+        };
+        // The list has room for each bot of a run.
+        if !present.add(number, host) {
+            poller.table.release(bot.key);
+            self.stand_back(&mut poller.table);
+            return Err(None);
+        }
         self.came = number;
-        Some((number, bot, address))
+        Ok((number, bot, address))
     }
 }
 

@@ -115,7 +115,7 @@ pub fn bind_sockets<'r, R: AllocGlobal + Clock + Net>(
 /// and sessions are not logged.
 pub fn sockets_on<'w, N: Network, E: Write + Drop>(
     alloc: Global,
-    settings: &Settings,
+    settings: &'w Settings,
     ground: (N, &'w [SocketAddr], SocketTable, &'w Pool),
     errors: E,
 ) -> Option<Sockets<'w, N, E>>

@@ -3,7 +3,7 @@
 //! Only the loop's own wait blocks. The sockets are over any `Network`; `os_network` is that of the operating system,
 //! with `connection` as a full-duplex stream. `ports` has a socket with its readiness and its deadlines, and the ports of
 //! a session. `table` has what polls reported of each socket and its nearest deadline, and `poller` polls the network
-//! into it. `admission` accepts bots and connects them, `lingering_close` closes in stages, `session_notice` has the log
+//! into it. `admission` accepts bots and connects them, `present` has the hosts of those that are there, `lingering_close` closes in stages, `session_notice` has the log
 //! lines of a session, and `timed` the timeouts that it reports. `system` combines them for the loop, and `bound_sockets`
 //! creates the resources of a run.
 //!
@@ -19,6 +19,7 @@ pub mod lingering_close;
 pub mod os_network;
 pub mod poller;
 pub mod ports;
+pub mod present;
 pub mod session_notice;
 pub mod system;
 pub mod table;

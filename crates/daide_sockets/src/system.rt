@@ -8,6 +8,7 @@ ghost use Rattle.daide_buffered_io.specs.Streams.{Transfers};
 ghost use Rattle.daide_sockets.specs.Accepting.{is_accept_due, MakesAccept};
 ghost use Rattle.daide_sockets.specs.Lingering.{LooksAround, in_pass, GoOnFor, no_closing};
 ghost use Rattle.daide_sockets.specs.Pairing.{FirstArrivalEvolves, Transits, Closes, ClosesBothAt, Comes, ComesWith};
+ghost use Rattle.daide_sockets.specs.Present.{IsAllowed, IsPresentWith, position_of, without_at};
 ghost use Rattle.daide_sockets.specs.Sockets.{due_after};
 ghost use Rattle.daide_sockets.specs.Table.{WaitsOnce, has_news_at};
 ghost use Rattle.daide_sockets.specs.Times.{IsSeconds, IsIdleTime, is_past};
@@ -16,12 +17,13 @@ use crate::admission::{Acceptor, PendingConnection, Unreached};
 use crate::lingering_close::{Closings, MOST_CLOSING};
 use crate::poller::Poller;
 use crate::ports::SocketPorts;
+use crate::present::Present;
 use crate::session_notice::SessionNotice;
 use crate::table::SocketTable;
 use daide_buffered_io::pool::Pool;
 use daide_io::network::Network;
 use daide_io::system::{Connect, Notice, SessionEnd, System};
-use daide_settings::Settings;
+use daide_settings::{AddressRange, Settings};
 use std::alloc::Global;
 use std::io::Write;
 use std::net::SocketAddr;
@@ -58,7 +60,9 @@ fn idle_time_of(seconds: u32) -> Option<Duration>
 /// is written to that session's own sockets, and neither is read. There is news for a session exactly if a row of its
 /// sockets has some (`has_news`: `news`). A wait polls for the time until the nearest deadline, unless something is
 /// pending or a socket closes (`rest`: `waits`). With room for one more, a bot is accepted if the listener is ready
-/// (`accept_next`: `made`).
+/// (`accept_next`: `made`). It is accepted only if it may come by the settings, beside the hosts of those that are there
+/// (`allowed`). A bot that comes is added to those, and the end of its session removes it (`retire` and `let_go`:
+/// `hosts`).
 ///
 /// Not said: that a wait ended because something came. Which eight of more sockets are looked at, and that a connect
 /// goes to the server's address, is read from the code. That held bytes are given up only after a failed write, or
@@ -81,6 +85,12 @@ pub struct Sockets<'w, N: Network, E: Write + Drop> {
     connect_time: Duration,
     arrivals: Vec<PendingConnection<'w, N::Connection>>,
     closings: Closings<'w, N::Connection>,
+    /// The ranges of addresses from which a bot may come.
+    allow: &'w [AddressRange],
+    /// The greatest number of sessions at once with bots from one address; 0 for no limit.
+    max_per_address: u16,
+    /// The bots that are there.
+    present: Present,
     /// The output for log lines.
     pub errors: E,
     /// Whether the beginning and the end of each session are logged.
@@ -93,7 +103,7 @@ impl<'w, N: Network, E: Write + Drop> Sockets<'w, N, E> {
     pub fn new(
         alloc: Global,
         ground: (N, &'w [SocketAddr], SocketTable, &'w Pool),
-        settings: &Settings,
+        settings: &'w Settings,
         connect_time: Duration,
         errors: E,
     ) -> Option<Sockets<'w, N, E>>
@@ -105,6 +115,10 @@ impl<'w, N: Network, E: Write + Drop> Sockets<'w, N, E> {
         ensures stall_time { IfSome result (λ sockets. IsIdleTime settings.now.stall_seconds sockets.stall_time
             × (sockets.stall_seconds ≡ settings.now.stall_seconds)) }
         ensures connect_time { IfSome result (λ sockets. sockets.connect_time ≡ connect_time) }
+        ensures rules { IfSome result (λ sockets. (sockets.allow.now ≡ settings.now.allow.items)
+            × (sockets.max_per_address ≡ settings.now.max_per_address)) }
+        ensures none_present { IfSome result (λ sockets. (sockets.present.numbers.items ≡ [])
+            × (sockets.present.hosts.items ≡ [])) }
     {
         let (network, servers, table, pool) = ground;
         let Ok(mut poller) = Poller::new(alloc, network, table) else {
@@ -114,6 +128,7 @@ impl<'w, N: Network, E: Write + Drop> Sockets<'w, N, E> {
         let Ok(arrivals) = Vec::with_capacity(alloc, settings.max_sessions) else {
             return None;
         };
+        let present = Present::new(alloc, settings.max_sessions)?;
         let stall_time = idle_time_of(settings.stall_seconds);
         let Ok(closings) = Closings::new(alloc, stall_time) else {
             return None;
@@ -130,6 +145,9 @@ impl<'w, N: Network, E: Write + Drop> Sockets<'w, N, E> {
             connect_time,
             arrivals,
             closings,
+            allow: settings.allow.as_slice(),
+            max_per_address: settings.max_per_address,
+            present,
             errors,
             is_verbose: false,
         })
@@ -159,13 +177,27 @@ impl<'w, N: Network, E: Write + Drop> Sockets<'w, N, E> {
         }
     }
 
+    /// Logs the address of a bot that may not come, if there is one and sessions are logged.
+    fn tell_of_declined(&mut self, declined: Option<SocketAddr>)
+        ensures { self.new ≡ record self.old { errors = self.new.errors } }
+    {
+        if let Some(bot) = declined {
+            self.tell_of_session(SessionNotice::Declined { bot });
+        }
+    }
+
     /// Ends the session of a bot whose server was unreachable, and starts the close of its socket.
     fn let_go(&mut self, left: Unreached<'w, N::Connection>)
         ensures closes { Closes N.Connection.to_give N.Connection.taken
             N.Connection.calls self.old.closings left.entry.bot.stream self.new.closings }
         ensures came { self.new.acceptor.came ≡ self.old.acceptor.came }
         ensures arrivals { self.new.arrivals.items ≡ self.old.arrivals.items }
+        ensures numbers { self.new.present.numbers.items
+            ≡ without_at (position_of left.entry.number self.old.present.numbers.items) self.old.present.numbers.items }
+        ensures hosts { self.new.present.hosts.items
+            ≡ without_at (position_of left.entry.number self.old.present.numbers.items) self.old.present.hosts.items }
     {
+        self.present.remove(left.number);
         self.tell_of_session(SessionNotice::of_no_server(left.number));
         self.closings.begin(&mut self.poller.table, left.bot);
     }
@@ -227,11 +259,15 @@ impl<'w, N: Network, E: Write + Drop> Sockets<'w, N, E> {
     }
 
     /// Accepts the next bot, if there is one, and begins its connect. Returns the line of its session; `None` if no bot
-    /// came.
+    /// came. Closes the connection of one that may not come, and logs its address if sessions are logged.
     ///
     /// `made`: with room for one more, an accept is made if the listener is ready by the table, and no pause is under way.
     ///
     /// `im_due`: its IM timer runs from the table's reading of the clock on.
+    ///
+    /// `allowed`: a bot that is accepted may come by the ranges, and by the limit beside those that are there.
+    ///
+    /// `present`: it is the last of those, with the number and the host of its session's line.
     fn accept_next(&mut self) -> Option<SessionNotice>
         ensures comes { IfSome result (λ _. Comes
             (record { came = self.old.acceptor.came; arrivals = self.old.arrivals.items; closing = self.old.closings })
@@ -244,13 +280,23 @@ impl<'w, N: Network, E: Write + Drop> Sockets<'w, N, E> {
             MakesAccept N.transition self.old.poller.network }
         ensures im_due { IfSome result (λ _. ComesWith self.old.arrivals.items self.old.poller.table.reading
             (as_nanos self.old.im_time) self.new.arrivals.items) }
+        ensures allowed { IfSome result (λ began. IsAllowed self.old.allow.now self.old.max_per_address
+            self.old.present.hosts.items began) }
+        ensures present { IfSome result (λ began. IsPresentWith self.old.present.numbers.items
+            self.old.present.hosts.items began self.new.present.numbers.items self.new.present.hosts.items) }
+        ensures absent { IfNone result (self.new.present ≡ self.old.present) }
     {
         if self.arrivals.len() >= self.arrivals.capacity() {
             return None;
         }
-        let Some((number, bot, address)) = self.acceptor.next_bot(&mut self.poller, self.pool)
-        else {
-            return None;
+        let rules = (self.allow, self.max_per_address);
+        let next = self.acceptor.next_bot(&mut self.poller, self.pool, rules, &mut self.present);
+        let (number, bot, address) = match next {
+            Ok(next) => next,
+            Err(declined) => {
+                self.tell_of_declined(declined);
+                return None;
+            }
         };
         let times = (self.im_time, self.connect_time);
         let came = (number, bot);
@@ -356,7 +402,12 @@ impl<'w, N: Network, E: Write + Drop> System<SocketPorts<'w, N::Connection>> for
               bot = ports.entry.bot.stream;
               server = ports.entry.server.stream;
             }) self.new.closings }
+        ensures numbers { self.new.present.numbers.items
+            ≡ without_at (position_of ports.entry.number self.old.present.numbers.items) self.old.present.numbers.items }
+        ensures hosts { self.new.present.hosts.items
+            ≡ without_at (position_of ports.entry.number self.old.present.numbers.items) self.old.present.hosts.items }
     {
+        self.present.remove(ports.number());
         let notice = SessionNotice::of_end(ports.number(), end, ports.timed(), self.stall_seconds);
         self.tell_of_session(notice);
         self.closings.begin_both(&mut self.poller.table, ports);
