@@ -290,7 +290,9 @@ impl<'w, N: Network, E: Write + Drop> Sockets<'w, N, E> {
             return None;
         }
         let rules = (self.allow, self.max_per_address);
-        let next = self.acceptor.next_bot(&mut self.poller, self.pool, rules, &mut self.present);
+        let next = self
+            .acceptor
+            .next_bot(&mut self.poller, self.pool, rules, &mut self.present);
         let (number, bot, address) = match next {
             Ok(next) => next,
             Err(declined) => {
