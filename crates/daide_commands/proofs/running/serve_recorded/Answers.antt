@@ -1,0 +1,13 @@
+use Rattle.std.proofs.Common.{rules}
+use Rattle.daide_commands.proofs.RunLemmas.{run_ends}
+use Rattle.daide_commands.proofs.running.serve_recorded.Goals as goal
+
+pub returns : goal.returns
+returns g c = run_ends _ _ _ _ _
+    (λ system. record {
+      came = system.sockets.acceptor.came;
+      arrivals = system.sockets.arrivals.items;
+      closing = system.sockets.closings;
+    })
+    c.args.settings.now _ _ _ _ c.run_on.result c.run_on.ensures
+    (c.in-Some.sockets.stall_time, c.in-Some.ensures.stall_time.0, search rules)
