@@ -11,7 +11,7 @@ ghost use Rattle.daide_commands.specs.Folder.{path_in, IsNoFileOf};
 
 use daide_io::Ports;
 use daide_log::record::MOST_LINES;
-use daide_log::{Record, RecordEnd, Recording};
+use daide_log::{Activity, Record, RecordEnd, Recording};
 use daide_protocol::Config;
 use daide_settings::Settings;
 use daide_words::Words;
@@ -183,9 +183,11 @@ impl<'a, R: AllocGlobal + Files> Folder<'a, R> {
           ports = ports;
           record_of = record {
             text = append_known before (head_text self.now.config (words_of self.now.words));
+            unwritten = head_text self.now.config (words_of self.now.words);
             lines = head_count (words_of self.now.words);
             ending = RecordEnd.Whole;
           };
+          activity = Activity.Moving;
         }) }
     {
         let file = match self.file_of(number) {
