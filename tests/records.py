@@ -3,6 +3,7 @@ that logs the beginning and the end of its sessions, with the texts of docs/FORM
 
 import re
 import subprocess
+import time
 from dataclasses import dataclass
 
 from acts import (
@@ -91,7 +92,10 @@ class IsWritten(Act):
     def play(self, stage):
         file = stage.run.folder / f"session-{self.number:06}.log"
         text = file.read_text(encoding="utf-8")
-        return text.endswith("\n") and said_in(text.splitlines()) == self.said
+        if text.endswith("\n") and said_in(text.splitlines()) == self.said:
+            return True
+        # No stream reports a write to a file.
+        return stage.awaits_moment(time.monotonic() + 0.01)
 
 
 def report_of(program, file):
