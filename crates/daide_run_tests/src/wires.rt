@@ -507,23 +507,6 @@ pub fn still_poller(rt: &HostRuntime) -> Result<StillPoller, Fail> {
     Ok(Poller::new(rt.alloc(), network, table(rt)?)?)
 }
 
-/// A row that is taken again has no report and no deadline of the socket before.
-#[test]
-fn row_of_the_table_is_taken_anew(rt: HostRuntime) -> Result<(), Fail> {
-    let mut poller = still_poller(&rt)?;
-    let first = row_of(&mut poller.table)?;
-    poller.network.ready = [true; 3];
-    poller.wait();
-    poller.table.set_due(first, poller.table.now());
-    poller.table.release(first);
-    let second = row_of(&mut poller.table)?;
-    let told = (poller.table.report(second), poller.table.due(second));
-    holds(
-        first == second && told == (Readiness::UNKNOWN, None),
-        "no report and no moment is left",
-    )
-}
-
 /// The milliseconds that pass between two reads of the clock.
 pub const STEP: u64 = 400;
 
