@@ -87,6 +87,17 @@ class Comes(Act):
 
 
 @dataclass(frozen=True)
+class ComesFrom(Act):
+    """A bot connects from this address."""
+
+    host: str
+
+    def play(self, stage):
+        stage.add_bot(self.host)
+        return True
+
+
+@dataclass(frozen=True)
 class FinishesConnect(Act):
     """The server accepts a connection."""
 
@@ -219,6 +230,17 @@ class Vanishes(Act):
 
     def play(self, stage):
         shutil.rmtree(stage.run.folder)
+        return True
+
+
+@dataclass(frozen=True)
+class Appears(Act):
+    """Somebody makes an empty file with the name of the next record."""
+
+    name: str = "session-000001.log"
+
+    def play(self, stage):
+        (stage.run.folder / self.name).touch()
         return True
 
 

@@ -1,7 +1,7 @@
 """Scenes of the gateway at work, as lists of acts. The expected bytes are worked out from docs/PROTOCOL.md."""
 
 from acts import (
-    Bot, Comes, Ends, FinishesConnect, Flooded, Floods, Hears, HearsEnd, HearsEndAlone, Leave, MeetsNobody, Passes,
+    Bot, Comes, ComesFrom, Ends, FinishesConnect, Flooded, Floods, Hears, HearsEnd, HearsEndAlone, Leave, MeetsNobody, Passes,
     Pours, Rests, Says, Server,
 )
 from frames import (
@@ -204,7 +204,51 @@ COMES_AND_GOES = [Comes(), Says(Bot(0), IM_FM), Rests(), FinishesConnect(), Hear
 # The run ends once the last socket has closed in its stages. Unread bytes of the last bot cause no reset.
 IS_NOT_RESET = [Comes(), Pours(Bot(0), UNKNOWN, 20), Rests(), Hears(Bot(0), EM_08), HearsEndAlone(Bot(0))]
 
+# A bot from an address that may not come, and then one from an address that may.
+ONE_ADDRESS_MAY_COME = [
+    Comes(),
+    HearsEnd(Bot(0)),
+    ComesFrom("127.0.0.2"),
+    FinishesConnect(),
+    Says(Bot(1), IM),
+    Hears(Server(0), IM),
+    Says(Server(0), RM),
+    Hears(Bot(1), RM),
+    Says(Bot(1), FM),
+    Hears(Server(0), FM),
+    HearsEnd(Bot(1)),
+]
+
+TELLS_OF_ONE_ADDRESS = """\
+daide-gate: bot at 127.0.0.1:{0} may not come
+daide-gate: session 1 began: bot at 127.0.0.2:{1}
+daide-gate: session 1 ended: FM of bot; relayed 3 prn 0 huh 0 faults 0
+"""
+
+# The second bot of one address may not come while the first is there. A third may come after it.
+ONE_AT_A_TIME = [
+    *joins(),
+    *opens(0),
+    Comes(),
+    HearsEnd(Bot(1)),
+    Says(Bot(0), FM),
+    Hears(Server(0), FM),
+    HearsEnd(Server(0)),
+    HearsEnd(Bot(0)),
+    *joins(),
+    Says(Bot(2), IM),
+    Hears(Server(1), IM),
+    Says(Bot(2), FM),
+    Hears(Server(1), FM),
+    HearsEnd(Bot(2)),
+]
+
 SCENES = [
+    Scene(
+        "bot_from_another_address_is_closed_at_once", ONE_ADDRESS_MAY_COME, 'allow = ["127.0.0.2"]',
+        TELLS_OF_ONE_ADDRESS, verbose=True,
+    ),
+    Scene("bots_of_one_address_come_one_at_a_time", ONE_AT_A_TIME, "max_per_address = 1\nsessions = 2"),
     Scene("opens_with_im_and_rm_over_sockets", OPENS_AND_ENDS),
     Scene("unclosed_bracket_gets_prn_over_sockets", GETS_PRN),
     Scene("word_of_the_settings_goes_on", WORD_GOES_ON, WITH_XYZ),

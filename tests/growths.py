@@ -32,6 +32,9 @@ sessions = 6
 turns = 7
 idle_seconds = 8
 stall_seconds = 9
+endless = false
+allow = ["127.0.0.0/8", "::1"]
+max_per_address = 10
 words = [
     { name = "XYZ", code = 0x4A40, slot = "press", level = 20, operand = "power" },
     { name = "XYY", code = 0x4A41, slot = "press", level = 30, operand = "provinces" },

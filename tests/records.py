@@ -3,10 +3,12 @@ that logs the beginning and the end of its sessions, with the texts of docs/FORM
 
 import re
 import subprocess
+import time
 from dataclasses import dataclass
 
 from acts import (
-    Bot, Comes, Empties, Ends, FinishesConnect, Hears, HearsEnd, MeetsNobody, Passes, Pours, Says, Server, Vanishes,
+    Act, Appears, Bot, Comes, Empties, Ends, FinishesConnect, Hears, HearsEnd, MeetsNobody, Passes, Pours, Says, Server,
+    Vanishes,
 )
 from frames import (
     EM_01, EM_08, EM_0C, FM, IM, ITS_ERR, ITS_PRN, OBS, OBS_FM, OBS_GOF, RM, UNCLOSED, UNKNOWN, YES,
@@ -69,6 +71,31 @@ class Full(Recorded):
         for side, seen, wanted in zip(("bot", "server"), said_in(lines), said):
             if not wanted.startswith(seen):
                 raise Wrong(f"the {side}'s bytes in {name} are not the first {len(seen)} that it sent")
+
+
+class Left(Scene):
+    """A scene beside a file that somebody made, which is left as it is."""
+
+    def end(self, stage):
+        """Checks also that the file is still empty."""
+        super().end(stage)
+        same(stage.run.size("session-000001.log"), 0, "the file that was there")
+
+
+@dataclass(frozen=True)
+class IsWritten(Act):
+    """The record of this session has all that both sides said so far, although the session goes on."""
+
+    number: int
+    said: tuple
+
+    def play(self, stage):
+        file = stage.run.folder / f"session-{self.number:06}.log"
+        text = file.read_text(encoding="utf-8")
+        if text.endswith("\n") and said_in(text.splitlines()) == self.said:
+            return True
+        # No stream reports a write to a file.
+        return stage.awaits_moment(time.monotonic() + 0.01)
 
 
 def report_of(program, file):
@@ -226,7 +253,7 @@ daide-gate: session 2 ended: no server; relayed 0 prn 0 huh 0 faults 0
 daide-gate: cannot reach the server
 """
 
-UNMADE = "daide-gate: session 1 is not recorded: its file could not be made\n"
+UNMADE = "daide-gate: session 1 is not recorded: its file could not be made (entity not found)\n"
 
 FULL = f"daide-gate: record of session 1 broke off: it has {MOST_LINES} lines\n"
 
@@ -244,6 +271,25 @@ def says_many(count):
     ]
 
 
+# Whenever nothing moves, the record has all that was said.
+IS_READ_BESIDE = [
+    *joins(),
+    *opens(0),
+    IsWritten(1, (IM, RM)),
+    Says(Bot(0), OBS),
+    Hears(Server(0), OBS),
+    IsWritten(1, (IM + OBS, RM)),
+    Says(Server(0), YES),
+    Hears(Bot(0), YES),
+    IsWritten(1, (IM + OBS, RM + YES)),
+    Says(Bot(0), UNCLOSED),
+    Hears(Bot(0), ITS_PRN),
+    IsWritten(1, (IM + OBS + UNCLOSED, RM + YES)),
+    Says(Bot(0), FM),
+    Hears(Server(0), FM),
+    HearsEnd(Server(0)),
+]
+
 # The number of messages that have more than 65,536 lines, and the number that have more than a record may have.
 LONG, TOO_LONG = 40_000, 500_010
 
@@ -258,7 +304,10 @@ SCENES = [
     Scene("recorded_run_ends_without_a_reset", IS_NOT_RESET, recorded=1),
     Scene("verbose_run_tells_both_ends_of_a_session", GETS_PRN, told=TELLS_BOTH, verbose=True),
     Scene("verbose_run_is_recorded", GETS_PRN, told=TELLS_BOTH, verbose=True, recorded=1),
-    Scene("record_that_is_there_is_left_as_it_is", GETS_PRN, told=IS_THERE, recorded=1, there=1),
+    Scene("records_follow_those_of_an_earlier_run", GETS_PRN, recorded=2, there=1),
+    Left("record_that_appears_is_left_as_it_is", [Appears(), *GETS_PRN], told=IS_THERE, recorded=1),
+    Scene("folder_of_records_is_made", GETS_PRN, recorded=1, folder="records/of-today"),
+    Recorded("record_is_read_beside_its_session", IS_READ_BESIDE, recorded=1, kept=((IM + OBS + UNCLOSED + FM, RM + YES),)),
     Scene("each_line_names_its_own_session", END_IN_ANOTHER_ORDER, "sessions = 3", TELLS_EACH, verbose=True),
     Recorded(
         "each_record_is_of_its_own_session", END_IN_ANOTHER_ORDER, "sessions = 3", TELLS_EACH, verbose=True,

@@ -163,9 +163,11 @@ class Stage:
         """Returns the end with this number."""
         return (self.bots if isinstance(who, Bot) else self.servers)[who.number]
 
-    def add_bot(self):
-        """A bot connects."""
+    def add_bot(self, host=HOST):
+        """A bot connects, from this address."""
         stream = socket.socket()
+        if host != HOST:
+            stream.bind((host, 0))
         self.bots.append(Peer(stream))
         stream.connect_ex((HOST, self.run.port))
         self.ports.append(stream.getsockname()[1])
@@ -305,7 +307,8 @@ def begun(program, conditions):
     address = conditions.address or f"{HOST}:{listener.getsockname()[1]}"
     with tempfile.TemporaryDirectory() as room:
         folder = pathlib.Path(room) / conditions.folder
-        folder.mkdir(exist_ok=True)
+        if conditions.files:
+            folder.mkdir(parents=True, exist_ok=True)
         for name in conditions.files:
             (folder / name).touch()
         run = Run(program, room, conditions, address)

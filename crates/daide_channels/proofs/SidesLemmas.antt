@@ -5,7 +5,7 @@ use Rattle.daide_frame.specs.declared.side.Side.{Side}
 use Rattle.daide_frame.specs.declared.side.Side.TheVariants.{Bot, Server}
 use Rattle.daide_frame.specs.declared.cutter.Step.{Step}
 use Rattle.daide_frame.specs.declared.head.Head.{Head}
-use Rattle.daide_frame.specs.Frames.{fed, fed_items, items_of_step, head_in, missing, IsFault, IsWholeBody}
+use Rattle.daide_frame.specs.Frames.{fed, fed_items, items_of_step, head_in, missing, IsFault, HoldsFrame}
 use Rattle.daide_grammar.specs.declared.level.Level.{Level}
 use Rattle.daide_frame.specs.Side.{other}
 use Rattle.daide_protocol.specs.Machine.{destination}
@@ -236,30 +236,28 @@ grown {f} {t} {side} {one} x piece h r =
     (grown_of (at f.sides one) x (fed (at f.sides one).cap (at f.sides one).held piece) h.free r)
 
 -- the step returned for the piece
-pub record IsReportedOf (cap : ℕ) (bytes piece : List ℕ) (step : Step) (new_cap : ℕ) (new_bytes : List ℕ) : Type 0 where
-  pub items : fed_items cap bytes piece ≡ items_of_step step (head_in new_cap new_bytes) (drop 4 new_bytes)
+pub record IsReportedOf (cap : ℕ) (bytes piece : List ℕ) (step : Step) (new_bytes : List ℕ) : Type 0 where
+  pub items : fed_items cap bytes piece ≡ items_of_step step (drop 4 new_bytes)
   pub whole : IsFault step ⊎ (new_bytes ≡ bytes ++ piece)
 
 pub told_of : {f : Fields} {t : Channels} {side one : Side} (x : Receiver) (piece : List ℕ) (step : Step) →
     IsSeenFree f t side one → ReadsMessageBytes (at f.sides one) (fed (at f.sides one).cap (at f.sides one).held piece) x →
-    IsReportedOf (at f.sides one).cap (at f.sides one).held piece step x.cap x.held →
-    IsReportedOf t.cap (pending t side) piece step (channels_of (with_side f one x)).cap
-    (pending (channels_of (with_side f one x)) side)
-told_of {f} {t} {side} {one} x piece step h r items_of_step =
-    subst (λ (n : ℕ). IsReportedOf t.cap (pending t side) piece step n (pending (channels_of (with_side f one x)) side))
-    (r.cap ∙ sym h.seen.cap ∙ sym (cap_kept f t one x h.seen.is r.cap))
-    (rw (pending_arrived f side one x h.seen.its r.unanswered, h.pending, h.seen.cap) items_of_step)
+    IsReportedOf (at f.sides one).cap (at f.sides one).held piece step x.held →
+    IsReportedOf t.cap (pending t side) piece step (pending (channels_of (with_side f one x)) side)
+told_of {f} {t} {side} {one} x piece step h r reported =
+    rw (pending_arrived f side one x h.seen.its r.unanswered, h.pending, h.seen.cap) reported
 
--- `Bodied` is returned when the body is whole
-pub whole_side : {f : Fields} {t : Channels} {side one : Side} {x : Receiver} {bytes : List ℕ} → IsSeenFree f t side one →
-    ReadsMessageBytes (at f.sides one) bytes x → IsWholeBody (head_in x.cap x.held) (drop 4 x.held) →
-    IsWholeBody (head_in (channels_of (with_side f one x)).cap (pending (channels_of (with_side f one x)) side))
+-- what is held at a step is the side's
+pub held_side : {f : Fields} {t : Channels} {side one : Side} {x : Receiver} {bytes : List ℕ} (step : Step) →
+    IsSeenFree f t side one → ReadsMessageBytes (at f.sides one) bytes x →
+    HoldsFrame step (head_in x.cap x.held) (drop 4 x.held) →
+    HoldsFrame step (head_in (channels_of (with_side f one x)).cap (pending (channels_of (with_side f one x)) side))
     (drop 4 (pending (channels_of (with_side f one x)) side))
-whole_side {f} {t} {side} {one} {x} {bytes} h r whole =
-    subst (λ (b : List ℕ). IsWholeBody (head_in (channels_of (with_side f one x)).cap b) (drop 4 b))
+held_side {f} {t} {side} {one} {x} {bytes} step h r held =
+    subst (λ (b : List ℕ). HoldsFrame step (head_in (channels_of (with_side f one x)).cap b) (drop 4 b))
     (sym (pending_arrived f side one x h.seen.its r.unanswered))
-    (subst (λ (n : ℕ). IsWholeBody (head_in n x.held) (drop 4 x.held))
-    (r.cap ∙ sym h.seen.cap ∙ sym (cap_kept f t one x h.seen.is r.cap)) whole)
+    (subst (λ (n : ℕ). HoldsFrame step (head_in n x.held) (drop 4 x.held))
+    (r.cap ∙ sym h.seen.cap ∙ sym (cap_kept f t one x h.seen.is r.cap)) held)
 
 -- the frame was dropped
 cleared_of : (old new : Receiver) → StartsFrame old old.level [] new → IsCleared (arrival_of old) (arrival_of new)

@@ -19,6 +19,7 @@ use Rattle.daide_reader.specs.declared.verdict.Verdict.TheVariants.{Relay, Prn, 
 use Rattle.daide_reader.specs.Verdict.{IsPlaceIn}
 use Rattle.daide_protocol.specs.declared.hlo.HloScan.{HloScan}
 use Rattle.daide_protocol.specs.Answers.{answer_body, answer_head, prn_open, huh_open, err_bytes, close_bytes}
+use Rattle.daide_protocol.specs.Bounds.{longest_body}
 use Rattle.daide_protocol.specs.HloLevel.{lvl_scan_of}
 use Rattle.daide_protocol.specs.Machine.{side2_of}
 use Rattle.daide_protocol.specs.Weight.{tokens_held}
@@ -58,11 +59,12 @@ abbrev pub bytes_by : List ℕ → List ℕ → Option Verdict → List ℕ
 bytes_by header body None = []
 bytes_by header body (Some verdict) = header ++ answer_body body verdict
 
--- the answer in its parts: its header, the frame's body, and the fixed words round that body
+-- The answer in its parts: its header, the word that opens it, the frame's body with ERR in it, and the word that closes
+-- it. A part that the answer lacks is empty.
 abbrev pub parts_by : List ℕ → List ℕ → Option Verdict → List (List ℕ)
 parts_by header body None = []
-parts_by header body (Some Relay) = header ∷ body ∷ [] ∷ [] ∷ [] ∷ [] ∷ []
-parts_by header body (Some Prn) = header ∷ prn_open ∷ body ∷ close_bytes ∷ [] ∷ [] ∷ []
+parts_by header body (Some Relay) = header ∷ [] ∷ body ∷ [] ∷ [] ∷ [] ∷ []
+parts_by header body (Some Prn) = header ∷ prn_open ∷ body ∷ [] ∷ [] ∷ close_bytes ∷ []
 parts_by header body (Some (Huh place)) =
     header ∷ huh_open ∷ take (2 * place) body ∷ err_bytes ∷ drop (2 * place) body ∷ close_bytes ∷ []
 
@@ -118,7 +120,7 @@ pub record IsReadOn {T : Type 0} (table : Ghosts T) (asked : T → ℕ) (side : 
     (v : Reading T) (hlo : HloScan) (header : List ℕ) (verdict : Option Verdict) : Type 0 where
   pub four : length header ≡ 4
   pub place : HasHuhIndex cut.bytes verdict
-  pub capped : cut.cap ≤ 65526
+  pub capped : cut.cap ≤ longest_body
   pub stands : HasReadPrefix table (table.words v.table) (start_symbol_of (side2_of side) level) v.max_depth v
       (tokens_held cut.cap cut.bytes)
   pub found : hlo.found ≡ lvl_scan_of (tokens_held cut.cap cut.bytes)

@@ -6,9 +6,8 @@
 
 ghost use Rattle.std.specs.Prelude.{◌≡◌, ℕ, ◌*◌, ◌/◌, ◌+◌, ◌<◌, ◌≤◌, ◌⊎◌, [], ◌∷◌, ◌++◌, length, take, drop, Some, None};
 ghost use Rattle.std.specs.Prelude.{false, is_some, IfOk, OnErr, if◌then◌else◌};
-ghost use Rattle.daide_frame.specs.Frames.{fed, fed_items, items_of_step, IsFault, IsWholeBody, head_in, missing};
+ghost use Rattle.daide_frame.specs.Frames.{fed, fed_items, items_of_step, IsFault, HoldsFrame, head_in, missing};
 ghost use Rattle.daide_frame.specs.Frames.{announced};
-ghost use Rattle.daide_frame.specs.declared.cutter.Step.TheVariants.{Bodied};
 ghost use Rattle.daide_frame.specs.declared.side.Side.{Side};
 ghost use Rattle.daide_grammar.specs.Depth.{open_brackets};
 ghost use Rattle.daide_frame.specs.Side.{other};
@@ -240,14 +239,13 @@ impl<A: Allocator> Channels<A> {
         ensures looked_at { IsRaised (length piece.now / 2 + 1) (side_holding self.old side).looked_at
             (side_holding self.new side).looked_at }
         ensures items { fed_items self.old.cap (pending self.old side) piece.now
-            ≡ items_of_step result (head_in self.new.cap (pending self.new side)) (drop 4 (pending self.new side)) }
+            ≡ items_of_step result (drop 4 (pending self.new side)) }
 
         // Without a fault the whole piece is consumed.
         ensures whole { IsFault result ⊎ (pending self.new side ≡ pending self.old side ++ piece.now) }
 
-        // `Bodied` is returned when the body has exactly the length that the header announces.
-        ensures full { result ≡ Bodied →
-            IsWholeBody (head_in self.new.cap (pending self.new side)) (drop 4 (pending self.new side)) }
+        // The step carries the header that is held. At `Bodied` the body has exactly the length that it announces.
+        ensures held { HoldsFrame result (head_in self.new.cap (pending self.new side)) (drop 4 (pending self.new side)) }
     {
         self.receivers.at_mut(side).feed(piece)
     }

@@ -8,9 +8,8 @@
 
 ghost use Rattle.std.specs.Prelude.{◌≡◌, ℕ, ◌+◌, ◌-◌, ◌*◌, ◌/◌, ◌<◌, ◌≤◌, List, [], ◌∷◌, ◌++◌, length, take, drop, ◌⊎◌};
 ghost use Rattle.std.specs.Prelude.{true, false, is_some, Some, None, IfOk, OnErr, if◌then◌else◌};
-ghost use Rattle.daide_frame.specs.Frames.{fed, fed_items, items_of_step, IsFault, IsWholeBody, head_in, missing};
+ghost use Rattle.daide_frame.specs.Frames.{fed, fed_items, items_of_step, IsFault, HoldsFrame, head_in, missing};
 ghost use Rattle.daide_frame.specs.Frames.{announced};
-ghost use Rattle.daide_frame.specs.declared.cutter.Step.TheVariants.{Bodied};
 ghost use Rattle.daide_grammar.specs.Depth.{open_brackets};
 ghost use Rattle.daide_grammar.specs.declared.level.Level.{Level};
 ghost use Rattle.daide_protocol.specs.HloLevel.{lvl_scan_of};
@@ -30,7 +29,9 @@ use daide_frame::memory::Memory;
 use daide_frame::side::Side;
 use daide_grammar::level::Level;
 use daide_grammar::predict::Predict;
-use daide_protocol::answers::{CLOSE_WORD, ERR_WORD, HUH_OPEN, PRN_OPEN, answer_head};
+use daide_protocol::answers::{
+    CLOSE_WORD, ERR_WORD, HUH_BYTES, HUH_OPEN, PRN_BYTES, PRN_OPEN, answer_head,
+};
 use daide_protocol::bounds::STACK_ENTRIES;
 use daide_protocol::hlo::{HloScan, LvlScan};
 use daide_protocol::transitions::side2_of;
@@ -75,40 +76,53 @@ fn is_message(head: Option<Head>) -> bool
     }
 }
 
-/// Returns the rest, from offset `place` on, of the part among six consecutive parts that contains this offset.
-fn front_of_parts<'a>(
-    a: &'a [u8],
-    b: &'a [u8],
-    c: &'a [u8],
-    d: &'a [u8],
-    e: &'a [u8],
-    f: &'a [u8],
-    place: usize,
-) -> &'a [u8]
-    ensures { result.now ≡ front_in (a.now ∷ b.now ∷ c.now ∷ d.now ∷ e.now ∷ f.now ∷ []) place }
+/// The parts of an answer in order: its header, and the frame's body within fixed words. A part that an answer lacks is
+/// empty.
+#[derive(Clone, Copy)]
+struct AnswerParts<'a> {
+    header: &'a [u8],
+    opening: &'a [u8],
+    before: &'a [u8],
+    mark: &'a [u8],
+    after: &'a [u8],
+    closing: &'a [u8],
+}
+
+/// Returns the rest, from offset `place` on, of the part that contains this offset.
+fn front_of_parts<'a>(parts: AnswerParts<'a>, place: usize) -> &'a [u8]
+    ensures { result.now ≡ front_in (parts.entry.header.now ∷ parts.entry.opening.now ∷ parts.entry.before.now
+        ∷ parts.entry.mark.now ∷ parts.entry.after.now ∷ parts.entry.closing.now ∷ []) place }
 {
-    if place < a.len() {
-        return &a[place..];
+    let AnswerParts {
+        header,
+        opening,
+        before,
+        mark,
+        after,
+        closing,
+    } = parts;
+    if place < header.len() {
+        return &header[place..];
     }
-    let place = place - a.len();
-    if place < b.len() {
-        return &b[place..];
+    let place = place - header.len();
+    if place < opening.len() {
+        return &opening[place..];
     }
-    let place = place - b.len();
-    if place < c.len() {
-        return &c[place..];
+    let place = place - opening.len();
+    if place < before.len() {
+        return &before[place..];
     }
-    let place = place - c.len();
-    if place < d.len() {
-        return &d[place..];
+    let place = place - before.len();
+    if place < mark.len() {
+        return &mark[place..];
     }
-    let place = place - d.len();
-    if place < e.len() {
-        return &e[place..];
+    let place = place - mark.len();
+    if place < after.len() {
+        return &after[place..];
     }
-    let place = place - e.len();
-    if place < f.len() {
-        return &f[place..];
+    let place = place - after.len();
+    if place < closing.len() {
+        return &closing[place..];
     }
     &[]
 }
@@ -219,10 +233,9 @@ impl<A: Allocator> Receiver<A> {
         ensures raised { IsRaised (4 * tokens_ended self.old.cap self.old.held piece.now) self.old.total
             self.new.total }
         ensures looked_at { IsRaised (length piece.now / 2 + 1) self.old.looked_at self.new.looked_at }
-        ensures items { fed_items self.old.cap self.old.held piece.now
-            ≡ items_of_step result (head_in self.new.cap self.new.held) (drop 4 self.new.held) }
+        ensures items { fed_items self.old.cap self.old.held piece.now ≡ items_of_step result (drop 4 self.new.held) }
         ensures whole { IsFault result ⊎ (self.new.held ≡ self.old.held ++ piece.now) }
-        ensures full { result ≡ Bodied → IsWholeBody (head_in self.new.cap self.new.held) (drop 4 self.new.held) }
+        ensures held { HoldsFrame result (head_in self.new.cap self.new.held) (drop 4 self.new.held) }
     {
         let step = self.cutter.feed(piece);
         if self.cutter.body().is_empty() {
@@ -265,9 +278,9 @@ impl<A: Allocator> Receiver<A> {
         let body = self.cutter.body();
         match self.verdict {
             None => 0,
-            Some(Verdict::Relay) => 4 + body.len(),
-            Some(Verdict::Prn) => 10 + body.len(),
-            Some(Verdict::Huh(_)) => 12 + body.len(),
+            Some(Verdict::Relay) => self.header.len() + body.len(),
+            Some(Verdict::Prn) => self.header.len() + PRN_BYTES + body.len(),
+            Some(Verdict::Huh(_)) => self.header.len() + HUH_BYTES + body.len(),
         }
     }
 
@@ -279,25 +292,39 @@ impl<A: Allocator> Receiver<A> {
         let body = self.cutter.body();
         match self.verdict {
             None => &[],
-            Some(Verdict::Relay) => { front_of_parts(&self.header, body, &[], &[], &[], &[], gone) }
+            Some(Verdict::Relay) => front_of_parts(
+                AnswerParts {
+                    header: &self.header,
+                    opening: &[],
+                    before: body,
+                    mark: &[],
+                    after: &[],
+                    closing: &[],
+                },
+                gone,
+            ),
             Some(Verdict::Prn) => front_of_parts(
-                &self.header,
-                &PRN_OPEN,
-                body,
-                &CLOSE_WORD,
-                &[],
-                &[],
+                AnswerParts {
+                    header: &self.header,
+                    opening: &PRN_OPEN,
+                    before: body,
+                    mark: &[],
+                    after: &[],
+                    closing: &CLOSE_WORD,
+                },
                 gone,
             ),
             Some(Verdict::Huh(place)) => {
                 let (before, after) = body.split_at(2 * place as usize);
                 front_of_parts(
-                    &self.header,
-                    &HUH_OPEN,
-                    before,
-                    &ERR_WORD,
-                    after,
-                    &CLOSE_WORD,
+                    AnswerParts {
+                        header: &self.header,
+                        opening: &HUH_OPEN,
+                        before,
+                        mark: &ERR_WORD,
+                        after,
+                        closing: &CLOSE_WORD,
+                    },
                     gone,
                 )
             }

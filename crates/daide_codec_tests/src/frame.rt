@@ -154,8 +154,8 @@ const BODY: &[u8] = &[0x48, 0x0F];
 /// A piece of that frame | the step that it causes | the room after it.
 const PIECES: &[(&[u8], Step, usize)] = &[
     (&[], Step::More, 4),
-    (&[0x02, 0x00, 0x00, 0x02], Step::Headed, 2),
-    (&[0x48, 0x0F], Step::Bodied, 0),
+    (&[0x02, 0x00, 0x00, 0x02], Step::Headed(HEAD), 2),
+    (&[0x48, 0x0F], Step::Bodied(HEAD), 0),
     (&[], Step::More, 0),
 ];
 
@@ -164,9 +164,9 @@ const SINGLE_BYTES: &[(&[u8], Step, usize)] = &[
     (&[0x02], Step::More, 3),
     (&[0x00], Step::More, 2),
     (&[0x00], Step::More, 1),
-    (&[0x02], Step::Headed, 2),
+    (&[0x02], Step::Headed(HEAD), 2),
     (&[0x48], Step::More, 1),
-    (&[0x0F], Step::Bodied, 0),
+    (&[0x0F], Step::Bodied(HEAD), 0),
 ];
 
 /// Feeds a piece, if there is room for it, and returns its step.
@@ -217,11 +217,11 @@ const FIRST_FRAMES: &[(&[u8], Step, usize, usize)] = &[
     (&[0x05, 0x00, 0x00, 0x00], Step::Fault(Code::UnknownMessage), 4, 0),
     (&[0x02, 0x00, 0x00, 0x06, 0x48, 0x03, 0x58, 0x00], Step::Fault(Code::InvalidToken), 8, 4),
     (&[0x02, 0x00, 0x00, 0x08, 0x4C, 0x00, 0x48, 0x03], Step::Fault(Code::InvalidToken), 6, 2),
-    (&[0x02, 0x00, 0x00, 0x04, 0x4B, 0xFF, 0x57, 0xFF], Step::Bodied, 8, 4),
+    (&[0x02, 0x00, 0x00, 0x04, 0x4B, 0xFF, 0x57, 0xFF], Step::Bodied(Head { kind: Kind::Dm, len: 4 }), 8, 4),
     (&[0x02, 0x00, 0x00, 0x04, 0x48, 0x4C], Step::More, 6, 2),
-    (&[0x00, 0x00, 0x00, 0x04, 0xFF, 0xFF, 0xFF, 0xFF], Step::Bodied, 8, 4),
-    (&[0x01, 0x00, 0x00, 0x06, 0x50, 0x00, 0x42, 0x4F, 0x48, 0x00], Step::Bodied, 10, 6),
-    (&[0x03, 0x00, 0x00, 0x00], Step::Bodied, 4, 0),
+    (&[0x00, 0x00, 0x00, 0x04, 0xFF, 0xFF, 0xFF, 0xFF], Step::Bodied(Head { kind: Kind::Im, len: 4 }), 8, 4),
+    (&[0x01, 0x00, 0x00, 0x06, 0x50, 0x00, 0x42, 0x4F, 0x48, 0x00], Step::Bodied(Head { kind: Kind::Rm, len: 6 }), 10, 6),
+    (&[0x03, 0x00, 0x00, 0x00], Step::Bodied(Head { kind: Kind::Fm, len: 0 }), 4, 0),
 ];
 
 /// Cuts a first frame in pieces of at most `longest` bytes.
@@ -263,7 +263,7 @@ fn cut_within(heap: &LocalHeap) -> Option<(usize, Step, usize)> {
 fn is_cut_within(alloc: Global, bytes: usize) -> Result<bool, Fail> {
     let heap = LocalHeap::new(alloc, bytes)?;
     let seen = cut_within(&heap);
-    let is_right = seen.is_none() || seen == Some((512, Step::Bodied, 512));
+    let is_right = seen.is_none() || seen == Some((512, Step::Bodied(HEAD), 512));
     same(&(is_right, heap.used()), &(true, 0), &bytes)?;
     Ok(seen.is_some())
 }

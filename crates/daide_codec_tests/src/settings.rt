@@ -2,13 +2,14 @@
 //!
 //! The expected lines are worked out from docs/FORMATS.md, "Settings".
 
-use daide_gate::settings::{Settings, read_settings};
+use daide_gate::settings::{AddressRange, Host, Settings, may_come, read_settings};
 use daide_grammar::level::Level;
 use daide_protocol::config::Config;
 use daide_test_support::rows::same;
 use daide_token::token::Token;
 use daide_words::{Operand, Slot, Word};
 use std::alloc::Global;
+use std::net::IpAddr;
 use std::test::Fail;
 
 /// The two lines that are required.
@@ -90,6 +91,28 @@ const LINES: &[Row] = &[
     ("stall_seconds = 86401", "stall_seconds out of range"),
     ("stall_seconds = -1", "stall_seconds out of range"),
     ("stall_seconds = \"60\"", "wrong type for stall_seconds"),
+    ("endless = true", ""),
+    ("endless = false", ""),
+    ("endless = 1", "wrong type for endless"),
+    ("endless = \"true\"", "wrong type for endless"),
+    ("endless = 1\nstall_seconds = 86401", "stall_seconds out of range"),
+    ("allow = [ \"127.0.0.0/8\" ]", ""),
+    ("allow = [ \"0.0.0.0/0\", \"::/0\" ]", ""),
+    ("allow = [ \"10.1.2.3\", \"2001:db8::/32\", \"::1\" ]", ""),
+    ("allow = []", "allow out of range"),
+    ("allow = [ \"127.0.0.0/33\" ]", "allow out of range"),
+    ("allow = [ \"::1/129\" ]", "allow out of range"),
+    ("allow = [ \"::ffff:127.0.0.1\" ]", "allow out of range"),
+    ("allow = [ \"localhost\" ]", "allow out of range"),
+    ("allow = [ \"127.0.0.1\", \"\" ]", "allow out of range"),
+    ("allow = \"127.0.0.1\"", "wrong type for allow"),
+    ("allow = [ \"x\", 1 ]", "wrong type for allow"),
+    ("allow = 1\nendless = 1", "wrong type for endless"),
+    ("max_per_address = 0", ""),
+    ("max_per_address = 256", ""),
+    ("max_per_address = 257", "max_per_address out of range"),
+    ("max_per_address = true", "wrong type for max_per_address"),
+    ("max_per_address = 257\nallow = []", "allow out of range"),
     ("top_level = 0x3C", ""),
     ("max_depth = 6_2", ""),
     ("turns = -1", "turns out of range"),
@@ -135,7 +158,7 @@ const WORDS: &[Row] = &[
     ("[ { name = \"XYZ\", code = 0x4A40, slot = \"press\", level = 20, operand = \"power\" }, { name = \"XYZ\", code = 0x4A41, slot = \"press\", level = 20, operand = \"power\" } ]", "words out of range"),
 ];
 
-/// Lines with words | their fault: words are checked after all other keys but `stall_seconds`.
+/// Lines with words | their fault: words are checked before `stall_seconds` and the keys after it.
 const BESIDE_WORDS: &[Row] = &[
     ("turns = 0\nwords = 1", "turns out of range"),
     (
@@ -147,6 +170,7 @@ const BESIDE_WORDS: &[Row] = &[
         "turns out of range",
     ),
     ("stall_seconds = 86401\nwords = 1", "wrong type for words"),
+    ("endless = 1\nwords = 1", "wrong type for words"),
 ];
 
 /// Seventeen words, each of which would be accepted after those before it.
@@ -236,7 +260,7 @@ fn assert_settings(
     settings: &Settings,
     addresses: (&str, &str),
     limits: (Config, u32),
-    run: (usize, u32, u64, u32, u32),
+    run: (usize, u32, u64, u32, u32, bool, u16),
     words: usize,
 ) -> Result<(), Fail> {
     let are_there = (settings.listen.as_str(), settings.server.as_str());
@@ -246,6 +270,8 @@ fn assert_settings(
         settings.turns,
         settings.idle_seconds,
         settings.stall_seconds,
+        settings.endless,
+        settings.max_per_address,
     );
     let of_session = (settings.config, settings.im_seconds);
     let told = (are_there, of_session, of_run);
@@ -264,13 +290,24 @@ const DEFAULTS: Config = Config {
 fn two_addresses_give_the_defaults(rt: HostRuntime) -> Result<(), Fail> {
     let settings = read_settings(rt.alloc(), ADDRESSES)?;
     let addresses = ("127.0.0.1:16713", "127.0.0.1:16714");
-    let run = (16, 1, 1_000_000_000, 0, 60);
-    assert_settings(&settings, addresses, (DEFAULTS, 30), run, 0)
+    let run = (16, 1, 1_000_000_000, 0, 60, false, 0);
+    assert_settings(&settings, addresses, (DEFAULTS, 30), run, 0)?;
+    let everyone = [in_range(Host::V4(0), 0), in_range(Host::V6(0), 0)];
+    same(
+        &settings.allow.as_slice(),
+        &everyone.as_slice(),
+        &"everyone",
+    )
+}
+
+/// Returns a range of addresses.
+fn in_range(host: Host, prefix: u8) -> AddressRange {
+    AddressRange { host, prefix }
 }
 
 /// Each key with a value of its own, in reverse order.
 const EACH_KEY: &str =
-    "stall_seconds = 9\nwords = [ { name = \"XYZ\", code = 0x4A40, slot = \"press\", level = 20, operand = \"power\" } ]\n\
+    "max_per_address = 10\nallow = [ \"127.0.0.0/8\", \"::1\" ]\nendless = true\nstall_seconds = 9\nwords = [ { name = \"XYZ\", code = 0x4A40, slot = \"press\", level = 20, operand = \"power\" } ]\n\
     idle_seconds = 8\nturns = 7\nsessions = 6\nmax_sessions = 5\nim_seconds = 4\nmax_depth = 13\nmax_body = 1024\n\
     top_level = 20\nserver = \"s\"\nlisten = \"l\"\n";
 
@@ -284,7 +321,8 @@ const OWN_LIMITS: Config = Config {
 #[test]
 fn each_key_sets_its_own_field(rt: HostRuntime) -> Result<(), Fail> {
     let settings = read_settings(rt.alloc(), EACH_KEY)?;
-    assert_settings(&settings, ("l", "s"), (OWN_LIMITS, 4), (5, 6, 7, 8, 9), 1)?;
+    let run = (5, 6, 7, 8, 9, true, 10);
+    assert_settings(&settings, ("l", "s"), (OWN_LIMITS, 4), run, 1)?;
     let word = Word {
         name: *b"XYZ",
         code: Token::from_code(0x4A40),
@@ -292,5 +330,27 @@ fn each_key_sets_its_own_field(rt: HostRuntime) -> Result<(), Fail> {
         level: Level::L20,
         operand: Operand::Power,
     };
-    same(&settings.words.get(0), &Some(word), &"the word")
+    same(&settings.words.get(0), &Some(word), &"the word")?;
+    let home = [
+        in_range(Host::V4(0x7F00_0000), 8),
+        in_range(Host::V6(1), 128),
+    ];
+    same(&settings.allow.as_slice(), &home.as_slice(), &"ranges")?;
+    same(&comes(&settings, [127, 0, 0, 1]), &true, &"a bot at home")?;
+    same(
+        &comes(&settings, [128, 0, 0, 1]),
+        &false,
+        &"a bot from elsewhere",
+    )
+}
+
+/// Returns true if a bot at an IPv4 address may come while nine from it are there.
+fn comes(settings: &Settings, octets: [u8; 4]) -> bool {
+    let host = Host::of(IpAddr::from(octets));
+    may_come(
+        settings.allow.as_slice(),
+        settings.max_per_address,
+        &[host; 9],
+        host,
+    )
 }

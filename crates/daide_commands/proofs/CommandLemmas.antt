@@ -1,15 +1,10 @@
--- A command after arguments and subcommands were added to it, and the values of a parsed subcommand.
-use Rattle.std.proofs.Common.{◌≡◌, ◌||◌, Bool, true, false, List, [], ◌∷◌, map, Option, Some, None, option_map, refl, sym, ap, ap₂, ◌∙◌, subst}
+-- A command after arguments and subcommands were added to it.
+use Rattle.std.proofs.Common.{◌≡◌, ◌||◌, Bool, true, false, List, [], ◌∷◌, map, refl, sym, ap, ap₂, ◌∙◌, subst}
 use Rattle.std.specs.List.{list_any}
-use Rattle.std.specs.Prelude.{Box}
-use Rattle.std.specs.Box.{box_value}
-use Rattle.clap.specs.Words.{App, Row, Rule, Shape, Text, app_of, shape_of, rule_of, with_rule, with_subcommand, AddsArg, AddsSubcommand, AddsInTurn, subcommand_name_of, subcommand_rows, subcommand_rows_of}
+use Rattle.clap.specs.Words.{App, Rule, Shape, app_of, shape_of, rule_of, with_rule, with_subcommand, AddsArg, AddsSubcommand, AddsInTurn}
 use Rattle.clap.specs.declared.builder.arg.Arg.{Arg}
 use Rattle.clap.specs.declared.builder.command.Command.{Command}
 use Rattle.clap.specs.declared.builder.command.Command.TheViews.{out-Command}
-use Rattle.clap.specs.declared.parser.matches.ArgMatches.{ArgMatches}
-use Rattle.clap.specs.declared.parser.matches.ArgMatches.TheViews.{out-ArgMatches, out-SubCommand}
-use Rattle.clap.specs.declared.parser.matches.SubCommand.{SubCommand}
 
 -- an application with rules added in turn
 abbrev pub with_all_rules : App → List Rule → App
@@ -62,23 +57,3 @@ subcommands_added [] old new local adds = ap app_of (sym adds)
 subcommands_added (command ∷ commands) old new local adds =
     subcommands_added commands adds.0 new local.1 adds.2
     ∙ ap (λ (app : App). with_all_subcommands app (map shape_of commands)) (adds.1.shape local.0)
-
--- the name and the values of a parsed subcommand
-met_in : {Z : Type 0} (met : Option (Box SubCommand Z)) (name : Text) (rows : List Row) →
-    Some name ≡ option_map (λ b. (out-SubCommand (box_value b)).name.now) met →
-    Some rows ≡ option_map (λ p. p.1) (subcommand_rows met) → subcommand_rows met ≡ Some (name, rows)
-met_in None name rows e f = absurd (cc)
-met_in (Some met) name rows e f = cc
-
-pub met_subcommand : (m : ArgMatches) (name : Text) (rows : List Row) → Some name ≡ subcommand_name_of m →
-    Some rows ≡ option_map (λ p. p.1) (subcommand_rows (out-ArgMatches m).subcommand) →
-    subcommand_rows_of m ≡ Some (name, rows)
-met_subcommand m name rows e f = met_in (out-ArgMatches m).subcommand name rows e f
-
-pub none_met : (m : ArgMatches) → None ≡ subcommand_name_of m → subcommand_rows_of m ≡ None
-none_met m e = go (out-ArgMatches m).subcommand e
-  where
-    go : {Z : Type 0} (met : Option (Box SubCommand Z)) →
-        None ≡ option_map (λ b. (out-SubCommand (box_value b)).name.now) met → subcommand_rows met ≡ None
-    go None e = refl
-    go (Some met) e = absurd (cc)

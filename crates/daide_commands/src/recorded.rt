@@ -5,7 +5,7 @@ ghost use Rattle.std.specs.Prelude.{◌≡◌, ◌⊎◌, ℕ, []};
 ghost use Rattle.daide_sockets.specs.Lingering.{GoOnFor};
 ghost use Rattle.daide_sockets.specs.Pairing.{Transits};
 
-use crate::folder::{Folder, SessionFile, end};
+use crate::folder::{Folder, SessionFile, end, tell_if_ended};
 use crate::running::Finish;
 use daide_io::{Connect, Network, Notice, SessionEnd, System};
 use daide_log::Recording;
@@ -69,6 +69,14 @@ impl<'w, N: Network, R: AllocGlobal + Files, E: Write + Drop> System<
         ports: &mut Recording<SocketPorts<'w, N::Connection>, SessionFile<R::File>>,
     ) {
         ports.begin_turn(&mut self.sockets);
+    }
+
+    fn end_turn(
+        &mut self,
+        ports: &Recording<SocketPorts<'w, N::Connection>, SessionFile<R::File>>,
+    ) {
+        tell_if_ended(ports, &mut self.sockets.errors);
+        self.sockets.end_turn(ports.ports());
     }
 
     fn accept(&mut self) -> bool {

@@ -141,8 +141,9 @@ fn serve_sockets<R: AllocGlobal + Clock + Net, O: Sink, E: Write>(
         network,
         servers,
         table,
+        pool,
     } = bind(rt, settings).map_err(RunFault::Gateway)?;
-    let ground = (network, servers.as_slice(), &table);
+    let ground = (network, servers.as_slice(), table, &pool);
     let Some(mut sockets) = sockets_on(rt.alloc(), settings, ground, errors) else {
         return Err(RunFault::Memory);
     };
@@ -205,8 +206,9 @@ fn serve_recorded<'r, R: AllocGlobal + Files + Clock + Net, O: Sink, E: Write>(
         network,
         servers,
         table,
+        pool,
     } = bind(rt, settings).map_err(RunFault::Gateway)?;
-    let ground = (network, servers.as_slice(), &table);
+    let ground = (network, servers.as_slice(), table, &pool);
     let Some(mut sockets) = sockets_on(rt.alloc(), settings, ground, errors) else {
         return Err(RunFault::Memory);
     };

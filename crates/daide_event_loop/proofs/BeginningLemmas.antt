@@ -1,39 +1,41 @@
--- The turns of a round: the system calls that begin them, and the hub that lends their ports.
+-- The turns of a round: the system calls that begin and end them, and the hub that lends their ports.
 use Rattle.std.proofs.Common.{◌≡◌, ℕ, zero, suc, ◌+◌, ◌<◌, Bool, true, false, List, [], ◌∷◌, ◌++◌, length}
 use Rattle.std.proofs.Common.{Option, Some, None}
 use Rattle.std.proofs.Common.{refl, sym, ap, ◌∙◌, subst, arith, add-one}
-use Rattle.std.specs.Prelude.{IfSome, All, slice_get}
+use Rattle.std.specs.Prelude.{IfSome, All, slice_get, slice_set}
 use Rattle.std.proofs.lemmas.List.{length-set}
 use Rattle.std.proofs.lemmas.List.Elements.{All-nil, All-cons}
 use Rattle.daide_protocol.specs.Wires.{SessionView}
 use Rattle.daide_io.specs.Ports.{PortCall, TurnBegins}
-use Rattle.daide_io.specs.System.{SystemCall, Begins, ReportsNews, BeginsTurn, Accepts, Connects, Retires, Notifies}
-use Rattle.daide_io.specs.System.{Waits, TransitsBy}
+use Rattle.daide_io.specs.System.{SystemCall, Begins, ReportsNews, BeginsTurn, EndsTurn, Accepts, Connects, Retires}
+use Rattle.daide_io.specs.System.{Notifies, Waits, TransitsBy}
 use Rattle.daide_driver.specs.Hub.{HubView, with_ports, with_ports_at, Changes, IsTurned}
-use Rattle.daide_event_loop.specs.QuotaPorts.{QuotaPortsView, Meters, beginning, beginning_where}
-use Rattle.daide_event_loop.specs.Serving.{IsDueBy, OpensTurn, TakesTurn, TurnsIf, VisitsPlace, TurnsBelow}
+use Rattle.daide_event_loop.specs.QuotaPorts.{QuotaPortsView, Meters, beginning, beginning_where, turn_end, turn_end_where}
+use Rattle.daide_event_loop.specs.Serving.{IsDueBy, OpensTurn, RunsTurn, TurnsIf, VisitsPlace, TurnsBelow}
 use Rattle.daide_event_loop.specs.Served.{sum_over_calls}
 use Rattle.daide_event_loop.proofs.TransitLemmas.{transits_then}
 
 -- ---- the system calls
 
 module _ {P : Type 0} where
-  -- each of these calls reports news or begins a turn
-  abbrev pub OnlyBegin : List (SystemCall P) → Type 0
-  OnlyBegin [] = Unit {0}
-  OnlyBegin (ReportsNews ports news ∷ answers) = OnlyBegin answers
-  OnlyBegin (BeginsTurn before after ∷ answers) = OnlyBegin answers
-  OnlyBegin (Begins ∷ answers) = ⊥
-  OnlyBegin (Accepts came ∷ answers) = ⊥
-  OnlyBegin (Connects connect ∷ answers) = ⊥
-  OnlyBegin (Retires ports end ∷ answers) = ⊥
-  OnlyBegin (Notifies notice ∷ answers) = ⊥
-  OnlyBegin (Waits ∷ answers) = ⊥
+  -- each of these calls reports news, or begins or ends a turn
+  abbrev pub OnlyTurns : List (SystemCall P) → Type 0
+  OnlyTurns [] = Unit {0}
+  OnlyTurns (ReportsNews ports news ∷ answers) = OnlyTurns answers
+  OnlyTurns (BeginsTurn before after ∷ answers) = OnlyTurns answers
+  OnlyTurns (EndsTurn ports ∷ answers) = OnlyTurns answers
+  OnlyTurns (Begins ∷ answers) = ⊥
+  OnlyTurns (Accepts came ∷ answers) = ⊥
+  OnlyTurns (Connects connect ∷ answers) = ⊥
+  OnlyTurns (Retires ports end ∷ answers) = ⊥
+  OnlyTurns (Notifies notice ∷ answers) = ⊥
+  OnlyTurns (Waits ∷ answers) = ⊥
 
-  only_append : (xs ys : List (SystemCall P)) → OnlyBegin xs → OnlyBegin ys → OnlyBegin (xs ++ ys)
+  only_append : (xs ys : List (SystemCall P)) → OnlyTurns xs → OnlyTurns ys → OnlyTurns (xs ++ ys)
   only_append [] ys h k = k
   only_append (ReportsNews ports news ∷ xs) ys h k = only_append xs ys h k
   only_append (BeginsTurn before after ∷ xs) ys h k = only_append xs ys h k
+  only_append (EndsTurn ports ∷ xs) ys h k = only_append xs ys h k
   only_append (Begins ∷ xs) ys h k = absurd h
   only_append (Accepts came ∷ xs) ys h k = absurd h
   only_append (Connects connect ∷ xs) ys h k = absurd h
@@ -44,69 +46,84 @@ module _ {P : Type 0} where
   -- so they add nothing to any other count
   pub none_counted : (count : SystemCall P → ℕ) (xs : List (SystemCall P)) →
       ((ports : P) (news : Bool) → count (ReportsNews ports news) ≡ 0) →
-      ((before after : P) → count (BeginsTurn before after) ≡ 0) → OnlyBegin xs → sum_over_calls count xs ≡ 0
-  none_counted count [] silent none h = refl
-  none_counted count (ReportsNews ports news ∷ xs) silent none h =
+      ((before after : P) → count (BeginsTurn before after) ≡ 0) → ((ports : P) → count (EndsTurn ports) ≡ 0) →
+      OnlyTurns xs → sum_over_calls count xs ≡ 0
+  none_counted count [] silent none over h = refl
+  none_counted count (ReportsNews ports news ∷ xs) silent none over h =
       let one = silent ports news in
-      let rest = none_counted count xs silent none h in
+      let rest = none_counted count xs silent none over h in
       omega (arith, one, rest)
-  none_counted count (BeginsTurn before after ∷ xs) silent none h =
+  none_counted count (BeginsTurn before after ∷ xs) silent none over h =
       let one = none before after in
-      let rest = none_counted count xs silent none h in
+      let rest = none_counted count xs silent none over h in
       omega (arith, one, rest)
-  none_counted count (Begins ∷ xs) silent none h = absurd h
-  none_counted count (Accepts came ∷ xs) silent none h = absurd h
-  none_counted count (Connects connect ∷ xs) silent none h = absurd h
-  none_counted count (Retires ports end ∷ xs) silent none h = absurd h
-  none_counted count (Notifies notice ∷ xs) silent none h = absurd h
-  none_counted count (Waits ∷ xs) silent none h = absurd h
+  none_counted count (EndsTurn ports ∷ xs) silent none over h =
+      let one = over ports in
+      let rest = none_counted count xs silent none over h in
+      omega (arith, one, rest)
+  none_counted count (Begins ∷ xs) silent none over h = absurd h
+  none_counted count (Accepts came ∷ xs) silent none over h = absurd h
+  none_counted count (Connects connect ∷ xs) silent none over h = absurd h
+  none_counted count (Retires ports end ∷ xs) silent none over h = absurd h
+  none_counted count (Notifies notice ∷ xs) silent none over h = absurd h
+  none_counted count (Waits ∷ xs) silent none over h = absurd h
 
-  pub all_begin : (Q : SystemCall P → Type 0) (xs : List (SystemCall P)) →
+  pub all_turns : (Q : SystemCall P → Type 0) (xs : List (SystemCall P)) →
       ((ports : P) (news : Bool) → Q (ReportsNews ports news)) → ((before after : P) → Q (BeginsTurn before after)) →
-      OnlyBegin xs → All Q xs
-  all_begin Q [] silent each h = All-nil Q
-  all_begin Q (ReportsNews ports news ∷ xs) silent each h =
-      All-cons Q (ReportsNews ports news) xs (silent ports news) (all_begin Q xs silent each h)
-  all_begin Q (BeginsTurn before after ∷ xs) silent each h =
-      All-cons Q (BeginsTurn before after) xs (each before after) (all_begin Q xs silent each h)
-  all_begin Q (Begins ∷ xs) silent each h = absurd h
-  all_begin Q (Accepts came ∷ xs) silent each h = absurd h
-  all_begin Q (Connects connect ∷ xs) silent each h = absurd h
-  all_begin Q (Retires ports end ∷ xs) silent each h = absurd h
-  all_begin Q (Notifies notice ∷ xs) silent each h = absurd h
-  all_begin Q (Waits ∷ xs) silent each h = absurd h
+      ((ports : P) → Q (EndsTurn ports)) → OnlyTurns xs → All Q xs
+  all_turns Q [] silent each over h = All-nil Q
+  all_turns Q (ReportsNews ports news ∷ xs) silent each over h =
+      All-cons Q (ReportsNews ports news) xs (silent ports news) (all_turns Q xs silent each over h)
+  all_turns Q (BeginsTurn before after ∷ xs) silent each over h =
+      All-cons Q (BeginsTurn before after) xs (each before after) (all_turns Q xs silent each over h)
+  all_turns Q (EndsTurn ports ∷ xs) silent each over h =
+      All-cons Q (EndsTurn ports) xs (over ports) (all_turns Q xs silent each over h)
+  all_turns Q (Begins ∷ xs) silent each over h = absurd h
+  all_turns Q (Accepts came ∷ xs) silent each over h = absurd h
+  all_turns Q (Connects connect ∷ xs) silent each over h = absurd h
+  all_turns Q (Retires ports end ∷ xs) silent each over h = absurd h
+  all_turns Q (Notifies notice ∷ xs) silent each over h = absurd h
+  all_turns Q (Waits ∷ xs) silent each over h = absurd h
 
-  one_begins : (left : Option ℕ) (before after : P) → OnlyBegin (beginning_where left before after)
+  one_begins : (left : Option ℕ) (before after : P) → OnlyTurns (beginning_where left before after)
   one_begins None before after = tt
   one_begins (Some turns) before after = tt
 
+  one_ends : (left : Option ℕ) (ports : P) → OnlyTurns (turn_end_where left ports)
+  one_ends None ports = tt
+  one_ends (Some turns) ports = tt
+
   one_reports : (moved : Bool) (ports : P) (report : List (SystemCall P)) (due : Bool) → IsDueBy moved ports report due →
-      OnlyBegin report
-  one_reports true ports report due h = subst OnlyBegin (sym h.0) tt
-  one_reports false ports report due h = subst OnlyBegin (sym h) tt
+      OnlyTurns report
+  one_reports true ports report due h = subst OnlyTurns (sym h.0) tt
+  one_reports false ports report due h = subst OnlyTurns (sym h) tt
 
   turn_only : (port_transition : P → PortCall → P → Type 0) (due : Bool) (old : HubView (QuotaPortsView P)) (i : ℕ)
       (turn : List (SystemCall P)) (new : HubView (QuotaPortsView P)) → TurnsIf port_transition due old i turn new →
-      OnlyBegin turn
+      OnlyTurns turn
   turn_only port_transition true old i turn new h =
-      let opens = h.1.4 in
-      subst OnlyBegin (sym opens.1) (one_begins h.1.1.1.turns_left h.1.0.1.ports h.1.1.1.ports)
-  turn_only port_transition false old i turn new h = subst OnlyBegin (sym h.0) tt
+      let before = h.begins.0.1 in
+      let begun = h.begins.1.1 in
+      let after = h.runs.1.1 in
+      subst OnlyTurns (sym h.asked) (only_append h.first h.last
+      (subst OnlyTurns (sym h.begins.4.1) (one_begins begun.turns_left before.ports begun.ports))
+      (subst OnlyTurns (sym h.runs.4.1) (one_ends after.turns_left after.ports)))
+  turn_only port_transition false old i turn new h = subst OnlyTurns (sym h.0) tt
 
   visit_only : (port_transition : P → PortCall → P → Type 0) (old : HubView (QuotaPortsView P)) (i : ℕ)
       (answers : List (SystemCall P)) (new : HubView (QuotaPortsView P)) → VisitsPlace port_transition old i answers new →
-      OnlyBegin answers
+      OnlyTurns answers
   visit_only port_transition old i answers new h =
-      subst OnlyBegin (sym h.asked)
+      subst OnlyTurns (sym h.asked)
       (only_append h.report h.turn (one_reports h.place.1.made_progress h.place.1.ports h.report h.due h.looks)
       (turn_only port_transition h.due old i h.turn new h.turns))
 
   pub turns_only : (port_transition : P → PortCall → P → Type 0) (n : ℕ) (old : HubView (QuotaPortsView P))
       (answers : List (SystemCall P)) (new : HubView (QuotaPortsView P)) → TurnsBelow port_transition n old answers new →
-      OnlyBegin answers
-  turns_only port_transition zero old answers new h = subst OnlyBegin (sym h.0) tt
+      OnlyTurns answers
+  turns_only port_transition zero old answers new h = subst OnlyTurns (sym h.0) tt
   turns_only port_transition (suc n) old answers new h =
-      subst OnlyBegin (sym h.3)
+      subst OnlyTurns (sym h.3)
       (only_append h.1 h.2 (turns_only port_transition n old h.1 h.0 h.4) (visit_only port_transition h.0 n h.2 new h.5))
 
 -- ---- the ports of one place are lent
@@ -115,6 +132,11 @@ pub slice_some : {X : Type 0} (xs : List X) (i : ℕ) → i < length xs → (x :
 slice_some [] i h = absurd (omega (arith, h))
 slice_some (x ∷ xs) zero h = (x, refl)
 slice_some (x ∷ xs) (suc i) h = slice_some xs i (omega (arith, h))
+
+pub get_set : {X : Type 0} (xs : List X) (i : ℕ) (x : X) → i < length xs → slice_get (slice_set xs i x) i ≡ Some x
+get_set [] i x h = absurd (omega (arith, h))
+get_set (y ∷ xs) zero x h = refl
+get_set (y ∷ xs) (suc i) x h = get_set xs i x (omega (arith, h))
 
 module _ {P : Type 0} (port_transition : P → PortCall → P → Type 0) where
   -- when its turn begins, the place has the ports that the loan left, and the session is unchanged
@@ -148,8 +170,8 @@ module _ {P : Type 0} (port_transition : P → PortCall → P → Type 0) where
       (new : HubView (QuotaPortsView P)) → TurnsIf port_transition due old i turn new →
       (new.max ≡ old.max) × (length new.places ≡ length old.places)
   turned_count true old i turn new takes =
-      let opened = same_count (OpensTurn port_transition turn) old i takes.0 takes.1 in
-      let made = same_count (IsTurned (Meters port_transition)) takes.0 i new takes.2 in
+      let opened = same_count (OpensTurn port_transition takes.first) old i takes.begun takes.begins in
+      let made = same_count (RunsTurn port_transition takes.last) takes.begun i new takes.runs in
       (made.0 ∙ opened.0, made.1 ∙ opened.1)
   turned_count false old i turn new stays = (
     ap (λ (k : HubView (QuotaPortsView P)). k.max) stays.1,
@@ -169,6 +191,25 @@ module _ {P : Type 0} (port_transition : P → PortCall → P → Type 0) where
       let same = (same_count (OpensTurn port_transition (beginning old new)) hub i (with_ports hub i new)
       (lent hub i old new inside value begins)).1 in
       omega (arith, inside, same)
+
+  -- after its turn the number of places is the same
+  pub run_inside : (hub : HubView (QuotaPortsView P)) (i : ℕ) (new : HubView (QuotaPortsView P)) → i < length hub.places →
+      Changes (IsTurned (Meters port_transition)) hub i new → i < length new.places
+  run_inside hub i new inside h =
+      let same = (same_count (IsTurned (Meters port_transition)) hub i new h).1 in
+      omega (arith, inside, same)
+
+  -- the turn ends with the ports that it left at its place
+  pub run_ended : (hub : HubView (QuotaPortsView P)) (i : ℕ) (new : HubView (QuotaPortsView P)) (ports : QuotaPortsView P) →
+      i < length hub.places → Changes (IsTurned (Meters port_transition)) hub i new →
+      IfSome (slice_get new.places i) (λ place. ports ≡ place.1) →
+      Changes (RunsTurn port_transition (turn_end ports)) hub i new
+  run_ended hub i new ports inside h value =
+      let there : slice_get new.places i ≡ Some h.1 =
+      ap (λ (k : HubView (QuotaPortsView P)). slice_get k.places i) h.3 ∙ get_set hub.places i h.1 inside in
+      let same : ports ≡ h.1.1 =
+      subst (λ (o : Option (SessionView × QuotaPortsView P)). IfSome o (λ p. ports ≡ p.1)) there value in
+      (h.0, h.1, h.2, h.3, (h.4, ap turn_end same))
 
   module _ {S : Type 0} (transition : S → SystemCall P → S → Type 0) where
     -- the turns of the first places so far

@@ -13,7 +13,7 @@ use Rattle.daide_io.specs.System.{SystemCall, Begins, Accepts, Connects, Retires
 use Rattle.daide_event_loop.specs.Serving.{arrived, come, AdmitsWhere, MeetsWhere, MeetsBy, last_words, retirement_where}
 use Rattle.daide_event_loop.specs.Serving.{end_of, retirement, retirements, wait_where}
 use Rattle.daide_event_loop.specs.Served.{comes, connects, unreached, sum_over_calls}
-use Rattle.daide_event_loop.proofs.BeginningLemmas.{OnlyBegin, none_counted}
+use Rattle.daide_event_loop.proofs.BeginningLemmas.{OnlyTurns, none_counted}
 
 -- a number that is not zero is a successor
 one_fewer : (n : ℕ) → (n == 0) ≡ false → (m : ℕ) × (n ≡ suc m)
@@ -80,12 +80,12 @@ module _ {P : Type 0} where
       silent_counts (Begins ∷ []) counters (record { came = refl; joined = refl; failed = refl })
 
   -- reporting news and beginning turns accepts no bot
-  pub turns_count : (answers : List (SystemCall P)) (counters : AdmissionCounters) → OnlyBegin answers → Counts answers counters counters
+  pub turns_count : (answers : List (SystemCall P)) (counters : AdmissionCounters) → OnlyTurns answers → Counts answers counters counters
   turns_count answers counters h =
       silent_counts answers counters (record {
-        came = none_counted comes answers (λ ports news. refl) (λ before after. refl) h;
-        joined = none_counted connects answers (λ ports news. refl) (λ before after. refl) h;
-        failed = none_counted unreached answers (λ ports news. refl) (λ before after. refl) h;
+        came = none_counted comes answers (λ ports news. refl) (λ before after. refl) (λ ports. refl) h;
+        joined = none_counted connects answers (λ ports news. refl) (λ before after. refl) (λ ports. refl) h;
+        failed = none_counted unreached answers (λ ports news. refl) (λ before after. refl) (λ ports. refl) h;
       })
 
   pub admission_counts : (b : Bool) (old : AdmissionCounters) (answers : List (SystemCall P)) (new : AdmissionCounters) →

@@ -1,15 +1,24 @@
 -- Each law of `laws`, used once at small values. Each fact takes only the law, so that a weaker law does not check.
-use Rattle.std.proofs.Common.{◌≡◌, ℕ, ◌+◌, true, false, List, [], ◌∷◌, length, refl, ◌∙◌, ap, arith}
-use Rattle.std.specs.Prelude.{is_none}
-use Rattle.daide_protocol.specs.Wires.{SessionView}
-use Rattle.daide_io.specs.Ports.{PortCall, TurnBegins, Clock, EvolvesBy}
-use Rattle.daide_io.specs.System.{SystemCall}
+use Rattle.std.proofs.Common.{◌≡◌, ℕ, ◌+◌, ◌<◌, ⊎_elim, ◌++◌, true, false, List, [], ◌∷◌, length, refl, sym, ◌∙◌, ap, arith}
+use Rattle.std.specs.Prelude.{is_none, min, Contains, All}
+use Rattle.std.proofs.lemmas.List.Elements.{All-nil, All-cons, All-tail, All-contains}
+use Rattle.daide_frame.specs.declared.side.Side.{Side}
+use Rattle.daide_frame.specs.declared.side.Side.TheVariants.{Bot, Server}
+use Rattle.daide_protocol.specs.Wires.{SessionView, room_of}
+use Rattle.daide_io.specs.declared.ports.Pull.TheVariants.{Got, Idle, Ended}
+use Rattle.daide_io.specs.declared.ports.Put.TheVariants.{Took, Failed}
+use Rattle.daide_io.specs.declared.system.SessionEnd.{SessionEnd}
+use Rattle.daide_io.specs.Ports.{PortCall, TurnBegins, Clock, Pulled, Offered, EvolvesBy, taken}
+use Rattle.daide_io.specs.System.{SystemCall, EndsTurn, Accepts, Waits}
 use Rattle.daide_settings.specs.declared.settings.Settings.{Settings}
 use Rattle.daide_driver.specs.Hub.{IsBegun, IsTurned}
-use Rattle.daide_event_loop.specs.QuotaPorts.{QuotaPortsView, Meters, progress_by}
+use Rattle.daide_event_loop.specs.QuotaPorts.{QuotaPortsView, Meters, progress_by, is_gain, is_loss}
 use Rattle.daide_event_loop.specs.Served.{SessionsAreServed, MovesAreAnswered, TurnsAreCounted}
 use Rattle.daide_event_loop.specs.Served.{comes, sum_over_calls, retires, unreached}
-use Rattle.daide_event_loop.specs.Serving.{ServiceView, Rounds, fresh, initial_service}
+use Rattle.daide_event_loop.specs.Served.{run_limits, IsServed, IsEndOf}
+use Rattle.daide_event_loop.specs.Serving.{ServiceView, may_accept, Round, Rounds, fresh, initial_service, is_done}
+use Rattle.daide_event_loop.specs.Independence.{SessionsAreIndependent, HaveSameRules, results_of, Received, Handed}
+use Rattle.daide_event_loop.specs.Waiting.{RunsAreIdleAtWaits, IsIdleAtWait, MakesNoProgress}
 
 module _ {P : Type 0} (port_transition : P → PortCall → P → Type 0) where
   -- with two turns the third to begin is beyond the quota, and the second is not
@@ -40,3 +49,112 @@ module _ {P : Type 0} (port_transition : P → PortCall → P → Type 0) where
       let joined = served.2 in
       let came = served.4 in
       (served.3, omega (arith, joined, came, none, empty))
+
+-- ---- a wait
+
+-- ports each of whose pulls returns a byte
+abbrev Gives : PortCall → Type 0
+Gives TurnBegins = Unit {0}
+Gives (Clock im_timer_expired) = Unit {0}
+Gives (Pulled side buffer pull bytes) = pull ≡ Got 1
+Gives (Offered side bytes put) = Unit {0}
+
+module _ {P : Type 0} where
+  abbrev AlwaysGives : P → PortCall → P → Type 0
+  AlwaysGives old call new = Gives call
+
+  each_gives : (calls : List PortCall) (old new : P) → EvolvesBy AlwaysGives old calls new → All Gives calls
+  each_gives [] old new h = All-nil Gives
+  each_gives (call ∷ calls) old new h = All-cons Gives call calls h.1 (each_gives calls h.0 new h.2)
+
+  -- over such ports a first round does not wait while a session has room
+  no_wait_with_room : RunsAreIdleAtWaits AlwaysGives → (settings : Settings) (round : List (SystemCall P))
+      (run : ServiceView P) (place : SessionView × QuotaPortsView P) →
+      is_done (initial_service {P = P} settings) ≡ false →
+      Round AlwaysGives (initial_service settings) (round ++ Waits ∷ []) run → Contains run.hub.places place →
+      (side : Side) → 0 < room_of place.0 side → ⊥
+  no_wait_with_room law settings round run place ongoing waits there side room =
+      let all = law settings 0 [] round (initial_service settings) run (refl, refl) ongoing waits in
+      let idle = (All-contains (IsIdleAtWait AlwaysGives [] round) run.hub.places place all.sessions there).idle in
+      let calls = TurnBegins ∷ idle.turn in
+      let pulled = idle.pulled side room in
+      let call = Pulled side (min (room_of place.0 side) 512) pulled.0 pulled.1 in
+      let gives = All-tail Gives TurnBegins idle.turn (each_gives calls idle.ports place.1.ports idle.evolves) in
+      let some = ap is_gain (All-contains Gives idle.turn call gives pulled.2) in
+      ⊎_elim (λ (e : pulled.0 ≡ Idle). let none = ap is_gain e in absurd (cc))
+      (λ (e : pulled.0 ≡ Got 0). let none = ap is_gain e in absurd (cc))
+      (All-contains MakesNoProgress idle.turn call idle.still pulled.2)
+
+  -- in a first round that waits, the system ended the turn of each session that is left
+  ended_at_once : (transition : P → PortCall → P → Type 0) → RunsAreIdleAtWaits transition → (settings : Settings)
+      (round : List (SystemCall P)) (run : ServiceView P) (place : SessionView × QuotaPortsView P) →
+      is_done (initial_service {P = P} settings) ≡ false →
+      Round transition (initial_service settings) (round ++ Waits ∷ []) run → Contains run.hub.places place →
+      Contains round (EndsTurn place.1.ports)
+  ended_at_once transition law settings round run place ongoing waits there =
+      let all = law settings 0 [] round (initial_service settings) run (refl, refl) ongoing waits in
+      (All-contains (IsIdleAtWait transition [] round) run.hub.places place all.sessions there).ended
+
+  -- a first round that waits asked for a bot, and none came
+  asked_for_a_bot : (transition : P → PortCall → P → Type 0) → RunsAreIdleAtWaits transition → (settings : Settings)
+      (round : List (SystemCall P)) (run : ServiceView P) → is_done (initial_service {P = P} settings) ≡ false →
+      Round transition (initial_service settings) (round ++ Waits ∷ []) run →
+      may_accept run.counters (length run.hub.places) ≡ true → Contains round (Accepts false)
+  asked_for_a_bot transition law settings round run ongoing waits may =
+      (law settings 0 [] round (initial_service settings) run (refl, refl) ongoing waits).bots may
+
+-- an expired timer, a byte, an end and a failure are progress
+progress : (MakesNoProgress (Clock true) → ⊥) × (MakesNoProgress (Pulled Bot 4 (Got 1) (0 ∷ [])) → ⊥)
+    × (MakesNoProgress (Pulled Server 4 Ended []) → ⊥) × (MakesNoProgress (Offered Bot (0 ∷ []) (Took 1)) → ⊥)
+    × (MakesNoProgress (Offered Server (0 ∷ []) Failed) → ⊥)
+progress = (λ e. absurd (cc), got_one, ended, took_one, failed)
+  where
+    got_one : MakesNoProgress (Pulled Bot 4 (Got 1) (0 ∷ [])) → ⊥
+    got_one e = ⊎_elim (λ (i : Got 1 ≡ Idle). let x = ap is_gain i in absurd (cc))
+        (λ (i : Got 1 ≡ Got 0). let x = ap is_gain i in absurd (cc)) e
+
+    ended : MakesNoProgress (Pulled Server 4 Ended []) → ⊥
+    ended e = ⊎_elim (λ (i : Ended ≡ Idle). let x = ap is_gain i in absurd (cc))
+        (λ (i : Ended ≡ Got 0). let x = ap is_gain i in absurd (cc)) e
+
+    took_one : MakesNoProgress (Offered Bot (0 ∷ []) (Took 1)) → ⊥
+    took_one e = let x = ap is_loss e in absurd (cc)
+
+    failed : MakesNoProgress (Offered Server (0 ∷ []) Failed) → ⊥
+    failed e = let x = ap is_loss e in absurd (cc)
+
+-- ---- sessions of two runs
+
+-- a result has nothing of what the session handed in
+results : results_of (Offered Bot (0x02 ∷ []) (Took 1) ∷ Pulled Server 512 (Got 1) (0x03 ∷ []) ∷ [])
+    ≡ Handed Bot (Took 1) ∷ Received Server (Got 1) (0x03 ∷ []) ∷ []
+results = refl
+
+-- the same settings with 256 places, and without an end
+abbrev crowded_by : Settings → Settings
+crowded_by settings = record settings { max_sessions = 256; some = (omega arith, omega arith); endless = true }
+
+-- the number of places, and of bots, is no rule of a session
+other_crowd : (settings : Settings) → HaveSameRules settings (crowded_by settings)
+other_crowd settings = record { limits = refl; turns = refl }
+
+-- a session alone and one among 256, of which two bytes were taken: they are the same bytes, and the same ends
+alone_or_not : {P Q : Type 0} (port_transition : P → PortCall → P → Type 0) (other_transition : Q → PortCall → Q → Type 0) →
+    SessionsAreIndependent port_transition other_transition → (settings : Settings) (answers : List (SystemCall P))
+    (others : List (SystemCall Q)) (now : SessionView × QuotaPortsView P) (then : SessionView × QuotaPortsView Q)
+    (alone : IsServed port_transition settings answers now)
+    (crowded : IsServed other_transition (crowded_by settings) others then)
+    (a b c d : ℕ) →
+    alone.history ≡ TurnBegins ∷ Clock false ∷ Offered Server (a ∷ b ∷ []) (Took 2) ∷ Pulled Bot 4 Idle [] ∷ [] →
+    crowded.history ≡ TurnBegins ∷ Clock false ∷ Offered Server (c ∷ d ∷ []) (Took 2) ∷ Pulled Bot 512 Idle [] ∷ [] →
+    (a ∷ b ∷ [] ≡ c ∷ d ∷ []) × (now.0.state ≡ then.0.state) × (now.0.summary ≡ then.0.summary)
+    × ((end last : SessionEnd) → IsEndOf (run_limits settings) settings.turns alone.history now.0 end →
+    IsEndOf (run_limits settings) settings.turns crowded.history then.0 last → end ≡ last)
+alone_or_not port_transition other_transition law settings answers others now then alone crowded a b c d one other =
+    let same = ap results_of one ∙ sym (ap results_of other) in
+    let both = law settings (crowded_by settings) answers others now then alone crowded
+    (other_crowd settings) same in
+    let first = ap (taken Server) one in
+    let second = ap (taken Server) other in
+    let sent = both.0.sent Server (ap length first ∙ sym (ap length second)) in
+    (sym first ∙ sent.0 ∙ second, both.0.state, both.0.counts, both.1)

@@ -21,6 +21,9 @@ use Rattle.daide_io.specs.declared.system.Notice.TheVariants.{TurnsSpent}
 use Rattle.daide_io.specs.declared.system.Cause.TheVariants as Causes
 use Rattle.daide_event_loop.specs.QuotaPorts.{QuotaPortsView, left_after, progress_after, progress_by, reported_after, beginning}
 use Rattle.daide_event_loop.specs.Served.{turns_in, while_left}
+use Rattle.daide_settings.specs.declared.settings.Settings.{Settings}
+use Rattle.daide_event_loop.specs.declared.admission_counters.AdmissionCounters.{AdmissionCounters}
+use Rattle.daide_event_loop.specs.Serving.{may_accept, is_served, bots_in_all}
 use Rattle.daide_event_loop.specs.Serving.{cause_by, retirements, remaining}
 use Rattle.daide_io.specs.System.{BeginsTurn, Retires, Notifies}
 
@@ -140,3 +143,33 @@ turns_counted : (turns_in (TurnBegins ∷ Clock false ∷ TurnBegins ∷ Clock f
     × (beginning (ports 4 (Some 1)) (ports 5 (Some 0)) ≡ BeginsTurn 4 5 ∷ [])
     × (beginning (ports 4 (Some 0)) (spent 4 (Lost Bot)) ≡ [])
 turns_counted = (refl, refl, refl, refl)
+
+-- ---- the number of bots
+
+-- an endless run does not look at the number of sessions
+bots : (settings : Settings) → (bots_in_all (record settings { endless = false; sessions = 7 }) ≡ 7)
+    × (bots_in_all (record settings { endless = true; sessions = 7 }) ≡ 4294967295)
+    × (bots_in_all (record settings { endless = true; sessions = 1 }) ≡ 4294967295)
+bots settings = (refl, refl, refl)
+
+-- the counters of a run with two places, after this many bots were accepted
+abbrev counted : Settings → ℕ → AdmissionCounters
+counted settings accepted = record {
+  max_sessions = 2;
+  sessions = bots_in_all settings;
+  turns = 9;
+  connecting = 0;
+  accepted = accepted;
+}
+
+-- After seven of seven bots, none of which is left, a run is served. An endless one accepts the eighth, and so on up to
+-- the last number; then it is served too.
+served_or_not : (settings : Settings) →
+    (may_accept (counted (record settings { endless = false; sessions = 7 }) 7) 0 ≡ false)
+    × (is_served (counted (record settings { endless = false; sessions = 7 }) 7) 0 ≡ true)
+    × (may_accept (counted (record settings { endless = true; sessions = 7 }) 7) 0 ≡ true)
+    × (is_served (counted (record settings { endless = true; sessions = 7 }) 7) 0 ≡ false)
+    × (may_accept (counted (record settings { endless = true; sessions = 7 }) 4294967294) 0 ≡ true)
+    × (may_accept (counted (record settings { endless = true; sessions = 7 }) 4294967295) 0 ≡ false)
+    × (is_served (counted (record settings { endless = true; sessions = 7 }) 4294967295) 0 ≡ true)
+served_or_not settings = (refl, refl, refl, refl, refl, refl, refl)

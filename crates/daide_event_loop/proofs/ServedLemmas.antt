@@ -1,7 +1,7 @@
 -- The sessions of a run, step by step.
 use Rattle.std.proofs.Common.{◌≡◌, ℕ, zero, suc, ◌<◌, ◌≤◌, Bool, true, false, List, [], ◌∷◌, ◌++◌, length, take, set}
 use Rattle.std.proofs.Common.{◌+◌, refl, sym, ap, ◌∙◌, subst, arith, append-nil, length-append}
-use Rattle.std.specs.Prelude.{◌==◌, ◌&&◌, ◌||◌, Option, Some, None, Ok, Contains, All, is_none, is_some, not, slice_get}
+use Rattle.std.specs.Prelude.{◌==◌, ◌&&◌, ◌||◌, Option, Some, None, Contains, All, is_none, is_some, not, slice_get}
 use Rattle.std.proofs.lemmas.Bool.{eqb-true}
 use Rattle.std.proofs.lemmas.List.{take_all, length-set}
 use Rattle.std.proofs.lemmas.List.Elements.{All-nil, All-cons, All-head, All-tail, All-same, All-append, All-set}
@@ -14,7 +14,7 @@ use Rattle.daide_protocol.specs.declared.ending.Ending.{Ending}
 use Rattle.daide_protocol.proofs.EndingLemmas.{ending_known}
 use Rattle.daide_protocol.specs.Machine.{Limits, is_over, ending_in}
 use Rattle.daide_protocol.specs.Wires.{SessionView, IsNew, is_closed}
-use Rattle.daide_io.specs.Ports.{PortCall, TurnBegins, EvolvesBy, events_of}
+use Rattle.daide_io.specs.Ports.{PortCall, TurnBegins, EvolvesBy}
 use Rattle.daide_driver.specs.Headline.{untouched}
 use Rattle.daide_driver.specs.Totals.{RefinesRun}
 use Rattle.daide_driver.specs.Hub.{HubView, IsBegun, IsTurned, Changes}
@@ -29,16 +29,16 @@ use Rattle.daide_io.specs.declared.system.Connect.TheVariants.{Ready, Failed, Pe
 use Rattle.daide_io.specs.declared.system.Notice.TheVariants.{CannotReach, TurnsSpent}
 use Rattle.daide_event_loop.specs.declared.admission_counters.AdmissionCounters.{AdmissionCounters}
 use Rattle.daide_event_loop.specs.QuotaPorts.{QuotaPortsView, Meters, progress_by}
-use Rattle.daide_io.specs.System.{SystemCall, Begins, ReportsNews, BeginsTurn, Accepts, Connects, Retires, Notifies}
-use Rattle.daide_io.specs.System.{Waits}
-use Rattle.daide_event_loop.specs.Serving.{ServiceView, fresh, initial_service, may_accept, come, AdmitsWhere, MeetsWhere, OpensTurn}
+use Rattle.daide_io.specs.System.{SystemCall, Begins, ReportsNews, BeginsTurn, EndsTurn, Accepts, Connects, Retires}
+use Rattle.daide_io.specs.System.{Notifies, Waits}
+use Rattle.daide_event_loop.specs.Serving.{ServiceView, fresh, initial_service, may_accept, come, AdmitsWhere, MeetsWhere, OpensTurn, RunsTurn}
 use Rattle.daide_event_loop.specs.Serving.{IsDueBy, TurnsIf, VisitsPlace, TurnsBelow, TurnsAll, last_words, retirement, retirement_where}
 use Rattle.daide_event_loop.specs.Serving.{retirements, remaining, parting}
 use Rattle.daide_event_loop.specs.Serving.{cause_by, end_of}
 use Rattle.daide_event_loop.specs.Serving.{MeetsBy, wait_where, any_progress, any_moved, Round, Rounds, is_done}
 use Rattle.daide_event_loop.specs.Served.{IsServedSession, run_limits, IsSessionOfRun, IsServed, IsEndOf, RetiresClosed, connects, retires, sum_over_calls}
 use Rattle.daide_event_loop.specs.Served.{IsWholeRun}
-use Rattle.daide_event_loop.proofs.BeginningLemmas.{OnlyBegin, none_counted, all_begin, turns_only}
+use Rattle.daide_event_loop.proofs.BeginningLemmas.{OnlyTurns, none_counted, all_turns, turns_only}
 use Rattle.daide_event_loop.proofs.CauseLemmas.{IsCut, cut_begins, cut_begun, cut_turn, cut_cause}
 use Rattle.daide_event_loop.proofs.CountLemmas.{counted_append, Counts, counts_then, admission_counts, meeting_counts}
 use Rattle.daide_event_loop.proofs.CountLemmas.{beginning_counts, turns_count, removal_counts, wait_counts}
@@ -80,10 +80,10 @@ module _ {P : Type 0} where
   beginning_passes : Passes (Begins ∷ []) 0 0
   beginning_passes = record { came = refl; went = refl }
 
-  turns_pass : (answers : List (SystemCall P)) → OnlyBegin answers → Passes answers 0 0
+  turns_pass : (answers : List (SystemCall P)) → OnlyTurns answers → Passes answers 0 0
   turns_pass answers h = record {
-    came = none_counted connects answers (λ ports news. refl) (λ before after. refl) h;
-    went = none_counted retires answers (λ ports news. refl) (λ before after. refl) h;
+    came = none_counted connects answers (λ ports news. refl) (λ before after. refl) (λ ports. refl) h;
+    went = none_counted retires answers (λ ports news. refl) (λ before after. refl) (λ ports. refl) h;
   }
 
   admission_passes : (b : Bool) (old : AdmissionCounters) (answers : List (SystemCall P)) (new : AdmissionCounters) →
@@ -192,6 +192,7 @@ module _ {P : Type 0} (port_transition : P → PortCall → P → Type 0) (setti
   gone_later xs ys Begins h = tt
   gone_later xs ys (ReportsNews ports news) h = tt
   gone_later xs ys (BeginsTurn before after) h = tt
+  gone_later xs ys (EndsTurn ports) h = tt
   gone_later xs ys (Accepts came) h = tt
   gone_later xs ys (Connects connect) h = tt
   gone_later xs ys (Notifies notice) h = tt
@@ -333,15 +334,15 @@ module _ {P : Type 0} (port_transition : P → PortCall → P → Type 0) (setti
           limits = ap (λ (k : HubView (QuotaPortsView P)). k.limits) c.3 ∙ h.limits;
         }
 
-    -- the turn runs
-    one_below : (n : ℕ) (old mid new : HubView (QuotaPortsView P)) → Below n (suc n) old mid →
-        Changes (IsTurned (Meters port_transition)) mid n new → Below (suc n) (suc n) old new
-    one_below n old mid new h c =
+    -- the turn runs, and ends
+    one_below : (n : ℕ) (old mid new : HubView (QuotaPortsView P)) (answers : List (SystemCall P)) → Below n (suc n) old mid →
+        Changes (RunsTurn port_transition answers) mid n new → Below (suc n) (suc n) old new
+    one_below n old mid new answers h c =
         let places : new.places ≡ set mid.places n c.1 = ap (λ (k : HubView (QuotaPortsView P)). k.places) c.3 in
         let inside : n < length mid.places = slice_get_within mid.places n c.0 c.2 in
         let was : Held c.0 =
         subst Held (get_or_from_slice_get mid.places n c.0 c.0 c.2) (h.held n c.0 inside) in
-        let now : Served c.1 = turned c.0 c.1 c.4 was in
+        let now : Served c.1 = turned c.0 c.1 c.4.0 was in
         record {
           held = All-same Held new.places (set mid.places n c.1) places
               (All-set Held mid.places n c.1 (still c.1 now) h.held);
@@ -384,7 +385,7 @@ module _ {P : Type 0} (port_transition : P → PortCall → P → Type 0) (setti
             IsDueBy moved v.place.1.ports report due → (turn : List (SystemCall P)) →
             TurnsIf port_transition due mid n turn new → Below (suc n) (suc n) old new
         by moved true e report looks turn takes =
-            one_below n old takes.0 new (begun_below n old mid takes.0 turn h takes.1) takes.2
+            one_below n old takes.begun new takes.last (begun_below n old mid takes.begun takes.first h takes.begins) takes.runs
         by false false e report looks turn stays =
             subst (λ (k : HubView (QuotaPortsView P)). Below (suc n) (suc n) old k) (sym stays.1)
             (same_below n old mid v.place v.there (own.1 e) h)
@@ -603,7 +604,7 @@ module _ {P : Type 0} (port_transition : P → PortCall → P → Type 0) (setti
             (All-append (Gone all) (Begins ∷ r.admission ++ r.meeting ++ r.beginnings) r.removal
             (All-append (Gone all) (Begins ∷ r.admission ++ r.meeting) r.beginnings
             (All-append (Gone all) (Begins ∷ r.admission) r.meeting (All-cons (Gone all) Begins r.admission tt come.0)
-            connected.gone) (all_begin (Gone all) r.beginnings (λ ports news. tt) (λ before after. tt) only))
+            connected.gone) (all_turns (Gone all) r.beginnings (λ ports news. tt) (λ before after. tt) (λ ports. tt) only))
             (All-same (Gone all) r.removal (retirements r.turned.places) r.removes.0
             (all_parted all r.turned.places turned.0)))
             (waited all made_progress)));

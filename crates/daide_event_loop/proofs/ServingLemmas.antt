@@ -1,6 +1,6 @@
 -- The progress of a round, and the rounds of a run.
 use Rattle.std.proofs.Common.{◌≡◌, ℕ, zero, suc, ◌+◌, Bool, true, false, List, [], ◌∷◌, ◌++◌}
-use Rattle.std.proofs.Common.{refl, ap, ◌∙◌, subst, add-one, take, arith, ◌<◌, inl, inr, sym, Result, Ok, Err}
+use Rattle.std.proofs.Common.{refl, ap, ◌∙◌, subst, add-one, take, arith, ◌<◌, inr, sym, Result, Ok, Err}
 use Rattle.std.specs.Prelude.{◌||◌, ◌==◌, length, slice_get, IfSome, IfErr}
 use Rattle.std.specs.Result.{IsErrAnd}
 use Rattle.std.proofs.Math.Dec.{eqb-suc-zero}

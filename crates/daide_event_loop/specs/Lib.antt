@@ -1,3 +1,5 @@
 pub mod QuotaPorts
 pub mod Serving
 pub mod Served
+pub mod Independence
+pub mod Waiting

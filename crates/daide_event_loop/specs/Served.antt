@@ -1,6 +1,6 @@
 -- The effect of a run on each of its sessions: those that it has, and those that it retired.
 use Rattle.std.specs.Prelude.{◌≡◌, ℕ, zero, suc, ◌+◌, nat_lt, true, false, List, [], ◌∷◌, length}
-use Rattle.std.specs.Prelude.{Option, Some, None, is_none, Ok, Contains, All}
+use Rattle.std.specs.Prelude.{Option, Some, None, is_none, Contains, All}
 use Rattle.daide_protocol.specs.declared.ending.Ending.{Ending}
 use Rattle.daide_protocol.specs.Machine.{Limits, SessionState, Effect, Runs, ending_in}
 use Rattle.daide_protocol.specs.Wires.{SessionView, is_closed}
@@ -16,9 +16,9 @@ use Rattle.daide_io.specs.declared.system.Cause.{Cause}
 use Rattle.daide_io.specs.declared.system.Cause.TheVariants as Causes
 use Rattle.daide_io.specs.declared.system.SessionEnd.{SessionEnd}
 use Rattle.daide_event_loop.specs.QuotaPorts.{QuotaPortsView, Meters, progress_by}
-use Rattle.daide_io.specs.System.{SystemCall, Begins, ReportsNews, BeginsTurn, Accepts, Connects, Retires, Notifies}
-use Rattle.daide_io.specs.System.{Waits}
-use Rattle.daide_event_loop.specs.Serving.{ServiceView, fresh, initial_service, Rounds, Serves}
+use Rattle.daide_io.specs.System.{SystemCall, Begins, ReportsNews, BeginsTurn, EndsTurn, Accepts, Connects, Retires}
+use Rattle.daide_io.specs.System.{Notifies, Waits}
+use Rattle.daide_event_loop.specs.Serving.{ServiceView, fresh, initial_service, bots_in_all, Rounds, Serves}
 
 -- the limits of a run's sessions
 abbrev pub run_limits : Settings → Limits
@@ -76,6 +76,7 @@ RetiresClosed {P} transition settings answers (Retires ports end) =
 RetiresClosed transition settings answers Begins = Unit {0}
 RetiresClosed transition settings answers (ReportsNews ports news) = Unit {0}
 RetiresClosed transition settings answers (BeginsTurn before after) = Unit {0}
+RetiresClosed transition settings answers (EndsTurn ports) = Unit {0}
 RetiresClosed transition settings answers (Accepts came) = Unit {0}
 RetiresClosed transition settings answers (Connects connect) = Unit {0}
 RetiresClosed transition settings answers (Notifies notice) = Unit {0}
@@ -89,6 +90,7 @@ connects (Connects Pending) = 0
 connects Begins = 0
 connects (ReportsNews ports news) = 0
 connects (BeginsTurn before after) = 0
+connects (EndsTurn ports) = 0
 connects (Accepts came) = 0
 connects (Retires ports end) = 0
 connects (Notifies notice) = 0
@@ -99,6 +101,7 @@ retires (Retires ports end) = 1
 retires Begins = 0
 retires (ReportsNews ports news) = 0
 retires (BeginsTurn before after) = 0
+retires (EndsTurn ports) = 0
 retires (Accepts came) = 0
 retires (Connects connect) = 0
 retires (Notifies notice) = 0
@@ -111,6 +114,7 @@ comes (Accepts false) = 0
 comes Begins = 0
 comes (ReportsNews ports news) = 0
 comes (BeginsTurn before after) = 0
+comes (EndsTurn ports) = 0
 comes (Connects connect) = 0
 comes (Retires ports end) = 0
 comes (Notifies notice) = 0
@@ -123,6 +127,7 @@ unreached (Connects Pending) = 0
 unreached Begins = 0
 unreached (ReportsNews ports news) = 0
 unreached (BeginsTurn before after) = 0
+unreached (EndsTurn ports) = 0
 unreached (Accepts came) = 0
 unreached (Retires ports end) = 0
 unreached (Notifies notice) = 0
@@ -145,14 +150,14 @@ SessionsAreServed {P} transition = (settings : Settings) (n : ℕ) (answers : Li
 
 -- A whole run of settings: rounds until all bots were served and no session is left. So each
 -- completed connect was a session, which was served, and retired as a closed one. By all its port calls it is bounded
--- and exact, and none is lost. As many bots were accepted as the settings say; for each, ports were retired or the
--- server was unreachable.
+-- and exact, and none is lost. As many bots were accepted as the settings say (`bots_in_all`); for each, ports were
+-- retired or the server was unreachable.
 pub record IsWholeRun {P : Type 0} (transition : P → PortCall → P → Type 0) (settings : Settings)
     (answers : List (SystemCall P)) : Type 0 where
   pub serves : Serves transition settings answers
   pub each : All (RetiresClosed transition settings answers) answers
   pub none_lost : sum_over_calls connects answers ≡ sum_over_calls retires answers
-  pub all_came : sum_over_calls comes answers ≡ settings.sessions
+  pub all_came : sum_over_calls comes answers ≡ bots_in_all settings
   pub all_served : sum_over_calls comes answers ≡ sum_over_calls retires answers + sum_over_calls unreached answers
 
 -- Whether a turn made progress, which decides if a round waits, follows from the port calls of the turn.

@@ -1,7 +1,7 @@
 -- The loop of a run: the system calls and the effect of each step of a round, a round, and a whole run, completed or
 -- broken off. Each step is stated with its trace of system calls, recorded or not.
 use Rattle.std.specs.Prelude.{◌≡◌, ℕ, zero, suc, ◌+◌, ◌-◌, ◌≤◌, nat_lt, Bool, true, false, not, ◌&&◌, ◌||◌, ◌==◌, ◌⊎◌}
-use Rattle.std.specs.Prelude.{List, [], ◌∷◌, ◌++◌, length, filter, Option, Some, None, Ok, is_none, slice_get}
+use Rattle.std.specs.Prelude.{List, [], ◌∷◌, ◌++◌, length, filter, Option, Some, None, is_none, slice_get}
 use Rattle.std.specs.Prelude.{if◌then◌else◌}
 use Rattle.std.specs.List.{list_any}
 use Rattle.daide_protocol.specs.declared.ending.Ending.{Ending}
@@ -23,9 +23,9 @@ use Rattle.daide_io.specs.declared.system.Notice.TheVariants.{CannotReach, Turns
 use Rattle.daide_io.specs.declared.system.Cause.{Cause}
 use Rattle.daide_io.specs.declared.system.Cause.TheVariants as Causes
 use Rattle.daide_io.specs.declared.system.SessionEnd.{SessionEnd}
-use Rattle.daide_event_loop.specs.QuotaPorts.{QuotaPortsView, Meters, beginning}
-use Rattle.daide_io.specs.System.{SystemCall, Begins, ReportsNews, BeginsTurn, Accepts, Connects, Retires, Notifies}
-use Rattle.daide_io.specs.System.{Waits}
+use Rattle.daide_event_loop.specs.QuotaPorts.{QuotaPortsView, Meters, beginning, turn_end}
+use Rattle.daide_io.specs.System.{SystemCall, Begins, ReportsNews, BeginsTurn, EndsTurn, Accepts, Connects, Retires}
+use Rattle.daide_io.specs.System.{Notifies, Waits}
 use Rattle.daide_protocol.specs.Machine.{ending_in}
 
 -- the state of a run: the sessions, and the counters
@@ -34,6 +34,10 @@ pub record ServiceView (P : Type 0) : Type 0 where
   pub counters : AdmissionCounters
 
 -- ---- the counters
+
+-- the bots of a run in all: as many as the settings say; an endless run has a bot for each number from 1 to 2^32 - 1 (own)
+abbrev pub bots_in_all : Settings → ℕ
+bots_in_all settings = if settings.endless then 4294967295 else settings.sessions
 
 -- one more bot may be accepted beside `count` sessions; a connect under way needs a place too
 abbrev pub may_accept : AdmissionCounters → ℕ → Bool
@@ -113,12 +117,20 @@ abbrev pub OpensTurn : {P : Type 0} → (P → PortCall → P → Type 0) → Li
     SessionView × QuotaPortsView P → SessionView × QuotaPortsView P → Type 0
 OpensTurn transition answers old new = IsBegun (Meters transition) old new × (answers ≡ beginning old.1 new.1)
 
--- the session at this place has one turn: it begins, and runs
-abbrev pub TakesTurn : {P : Type 0} → (P → PortCall → P → Type 0) → HubView (QuotaPortsView P) → ℕ →
-    List (SystemCall P) → HubView (QuotaPortsView P) → Type 0
-TakesTurn {P} transition old i answers new =
-    (mid : HubView (QuotaPortsView P)) × Changes (OpensTurn transition answers) old i mid
-    × Changes (IsTurned (Meters transition)) mid i new
+-- a turn of a session runs, and the system ends it with the ports that it left, if the system began it
+abbrev pub RunsTurn : {P : Type 0} → (P → PortCall → P → Type 0) → List (SystemCall P) →
+    SessionView × QuotaPortsView P → SessionView × QuotaPortsView P → Type 0
+RunsTurn transition answers old new = IsTurned (Meters transition) old new × (answers ≡ turn_end new.1)
+
+-- the session at this place has one turn: it begins, runs, and ends
+pub record TakesTurn {P : Type 0} (transition : P → PortCall → P → Type 0) (old : HubView (QuotaPortsView P)) (i : ℕ)
+    (answers : List (SystemCall P)) (new : HubView (QuotaPortsView P)) : Type 0 where
+  pub begun : HubView (QuotaPortsView P)
+  pub first : List (SystemCall P)
+  pub last : List (SystemCall P)
+  pub begins : Changes (OpensTurn transition first) old i begun
+  pub runs : Changes (RunsTurn transition last) begun i new
+  pub asked : answers ≡ first ++ last
 
 -- whether a session is due a turn: if its last turn made progress, without a call; else if the system has news for its
 -- ports
@@ -217,6 +229,7 @@ abbrev pub is_progress : {P : Type 0} → SystemCall P → Bool
 is_progress Begins = false
 is_progress (ReportsNews ports news) = false
 is_progress (BeginsTurn before after) = false
+is_progress (EndsTurn ports) = false
 is_progress (Accepts came) = came
 is_progress (Connects (Ready ports)) = true
 is_progress (Connects Failed) = true
@@ -234,7 +247,8 @@ wait_where true = []
 wait_where false = Waits ∷ []
 
 -- The system begins a round. At most one bot is accepted, and at most one connect completes or fails. Each session that
--- is due a turn has one, which the system begins. Closed sessions are removed. There is one wait, exactly if no progress was made.
+-- is due a turn has one, which the system begins and ends. Closed sessions are removed. There is one wait, exactly if no
+-- progress was made.
 pub record Round {P : Type 0} (transition : P → PortCall → P → Type 0) (old : ServiceView P)
     (answers : List (SystemCall P)) (new : ServiceView P) : Type 0 where
   pub admission : List (SystemCall P)
@@ -278,7 +292,7 @@ initial_service settings = record {
   };
   counters = record {
     max_sessions = settings.max_sessions;
-    sessions = settings.sessions;
+    sessions = bots_in_all settings;
     turns = settings.turns;
     connecting = 0;
     accepted = 0;

@@ -3,8 +3,8 @@
 ghost use Rattle.std.specs.Prelude.{◌≡◌, ◌+◌, ◌≤◌};
 ghost use Rattle.daide_event_loop.specs.Serving.{may_accept, is_served};
 
-/// The limits of a run: sessions at once, bots in all, turns a session. Its counts: bots with a connect to the server
-/// under way, and bots accepted.
+/// The limits of a run: sessions at once, bots in all (`sessions`), turns a session. Its counts: bots with a connect to
+/// the server under way, and bots accepted. The count of bots never exceeds its limit, so it does not wrap.
 #[derive(Clone, Copy, Debug)]
 pub struct AdmissionCounters {
     pub max_sessions: usize,

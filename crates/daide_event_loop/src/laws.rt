@@ -1,6 +1,8 @@
 //! Laws of runs: functions with no parameters and an empty body, whose contracts are the laws.
 
 ghost use Rattle.daide_event_loop.specs.Served.{SessionsAreServed, MovesAreAnswered, TurnsAreCounted};
+ghost use Rattle.daide_event_loop.specs.Independence.{SessionsAreIndependent};
+ghost use Rattle.daide_event_loop.specs.Waiting.{RunsAreIdleAtWaits};
 
 use daide_io::ports::Ports;
 
@@ -23,4 +25,27 @@ pub fn moves_are_answered<P: Ports>()
 /// ports are called and answer for themselves.
 pub fn turns_are_counted<P: Ports>()
     ensures { TurnsAreCounted P.transition }
+{}
+
+/// Sessions do not influence one another. Take a session of each of two runs, of any two systems with any two kinds of
+/// ports, whose settings have the same limits, words and turns. If the calls of the two sessions' own ports returned the
+/// same (`results_of`), the sessions have the same state and the same counts. If as many bytes were taken of each, the
+/// same bytes were taken, and the same are queued (`AreAlike`). The ends that are reported of them are the same, too.
+/// What any other session does is in no premise.
+///
+/// Not said: that calls return the same: what a port returns, and when, is the system's.
+pub fn sessions_are_independent<P: Ports, Q: Ports>()
+    ensures { SessionsAreIndependent P.transition Q.transition }
+{}
+
+/// At each wait a run is idle (`IsIdleRun`). The last turn of each session made no progress: the IM timer had not
+/// expired, each side for whose bytes it has room returned none, and each wire for which bytes are queued took none
+/// (`IsIdleSession`). The system ended that turn with the ports as they are now, and in the round that waits it did
+/// that or reported no news for these ports (`IsIdleAtWait`). If one more bot may be accepted, none came; if connects
+/// are under way, none has a result. So if the system reports all news, and waits for the rest, no wake-up is lost.
+///
+/// Not said: that the system reports all news. Two sessions may have equal ports; then the clauses on calls speak of
+/// both.
+pub fn runs_are_idle_at_waits<P: Ports>()
+    ensures { RunsAreIdleAtWaits P.transition }
 {}

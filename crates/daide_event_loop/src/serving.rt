@@ -1,4 +1,5 @@
-//! The event loop of a run: it accepts bots, gives each session its turns, and ends when all bots were served.
+//! The event loop of a run: it accepts bots, gives each session its turns, and ends when all bots were served. An
+//! endless run serves until it is stopped.
 //!
 //! It uses no socket. The system is a parameter, so that tests can drive whole runs in memory.
 
@@ -9,7 +10,7 @@ ghost use Rattle.daide_event_loop.specs.Serving.{IsWithinQuotas, Admits, Finishe
 ghost use Rattle.daide_event_loop.specs.Serving.{TurnsAll, any_moved};
 ghost use Rattle.daide_event_loop.specs.Serving.{RemovesClosed, parting};
 ghost use Rattle.daide_event_loop.specs.Serving.{is_reported, cause_by, end_by};
-ghost use Rattle.daide_event_loop.specs.Serving.{wait_where, any_progress, Round, is_done, initial_service};
+ghost use Rattle.daide_event_loop.specs.Serving.{wait_where, any_progress, Round, is_done, initial_service, bots_in_all};
 ghost use Rattle.daide_event_loop.specs.Served.{IsWholeRun};
 ghost use Rattle.daide_event_loop.specs.Serving.{IsServeCause, BreaksOff, GivesUp, arrived};
 
@@ -119,7 +120,7 @@ fn finish_connect<P: Ports, A: Memory + Copy, S: System<P>>(
     }
 }
 
-/// Makes one turn of the session at a place: the system begins it with the ports of that session.
+/// Makes one turn of the session at a place: the system begins it with the ports of that session, and ends it.
 fn take_turn<P: Ports, A: Allocator + Copy, S: System<P>>(
     hub: &mut Hub<QuotaPorts<P>, A>,
     i: usize,
@@ -131,6 +132,7 @@ fn take_turn<P: Ports, A: Allocator + Copy, S: System<P>>(
 {
     hub.ports_mut(i).begin_turn(system);
     hub.turn(i);
+    hub.ports(i).end_turn(system);
 }
 
 /// Returns whether the session at a place is due a turn: whether its last turn made progress, or else whether the system
@@ -261,6 +263,18 @@ fn rest<P: Ports, S: System<P>>(made_progress: bool, system: &mut S)
     }
 }
 
+/// Returns the number of bots of a run in all: as many as the settings say, or all that have a number if the run is
+/// endless.
+fn bots_in_all(settings: &Settings) -> u32
+    ensures { result ≡ bots_in_all settings.now }
+{
+    if settings.endless {
+        u32::MAX
+    } else {
+        settings.sessions
+    }
+}
+
 impl<P: Ports, A: Memory + Copy> Service<P, A> {
     /// Creates a run with no bot yet. Its only error is that the allocator refused the places.
     pub fn new(alloc: A, settings: &Settings) -> Result<Service<P, A>, AllocError>
@@ -272,7 +286,7 @@ impl<P: Ports, A: Memory + Copy> Service<P, A> {
             hub: Hub::with_limits(alloc, limits, settings.max_sessions, settings.words)?,
             counters: AdmissionCounters {
                 max_sessions: settings.max_sessions,
-                sessions: settings.sessions,
+                sessions: bots_in_all(settings),
                 turns: settings.turns,
                 connecting: 0,
                 accepted: 0,
@@ -293,9 +307,9 @@ impl<P: Ports, A: Memory + Copy> Service<P, A> {
     ///
     /// `round`: a bot is accepted only below two limits: of sessions and pending connects at once, and of bots in all.
     /// A session is due a turn if its last turn made progress, if it is new, or else if the system has news for its
-    /// ports (`VisitsPlace`). The system begins each turn with the session's ports (`begin_turn`), and the turn is made
-    /// by the clauses of `turn` (`TakesTurn`). Exactly the sessions that are over and for which nothing waits are taken out. It waits if
-    /// and only if nothing moved.
+    /// ports (`VisitsPlace`). The system begins each turn with the session's ports (`begin_turn`) and ends it with them
+    /// (`end_turn`); in between the turn is made by the clauses of `turn` (`TakesTurn`). Exactly the sessions that are
+    /// over and for which nothing waits are taken out. It waits if and only if nothing moved.
     ///
     /// `refused`: its only fault is no memory for a session.
     ///
@@ -322,8 +336,9 @@ impl<P: Ports, A: Memory + Copy> Service<P, A> {
 }
 
 /// Serves as many bots as the settings say, in rounds (`Round`), and returns when all were served and no session is
-/// held. A run waits for its peers, so no bound on its time is known. Each clause is about the calls that took the
-/// system from its old to its new value (`TransitsBy`). So a body that makes no call meets none.
+/// held. An endless run (`endless`) serves until the process is stopped: it would return after 2^32 - 1 bots, the
+/// greatest number of a session. A run waits for its peers, so no bound on its time is known. Each clause is about the
+/// calls that took the system from its old to its new value (`TransitsBy`). So a body that makes no call meets none.
 ///
 /// `served` (`each`): if it returns `Ok`, the calls are those of a whole run (`IsWholeRun`). Each session that it
 /// served is bounded and exact by all that its ports returned, as `sessions_are_served` says. With a session's ports
@@ -331,8 +346,8 @@ impl<P: Ports, A: Memory + Copy> Service<P, A> {
 /// what its ports returned while turns were left. It is `TurnsSpent` if and only if there is no such event, since the
 /// session was open until then.
 ///
-/// `served` (`none_lost`): no ports are lost. As many bots came as the settings say (`all_came`). For each one the
-/// ports were handed back or the server could not be reached (`all_served`).
+/// `served` (`none_lost`): no ports are lost. As many bots came as the settings say, or 2^32 - 1 if the run is endless
+/// (`all_came`). For each one the ports were handed back or the server could not be reached (`all_served`).
 ///
 /// `given_up`: else the calls are those of a run that was given up for its fault (`GivesUp`). No memory for the places
 /// is returned before any call. After no memory for a session, the round is broken off. The other fault is that

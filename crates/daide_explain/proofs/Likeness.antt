@@ -1,7 +1,7 @@
 -- Replacement of a token by a similar one: by one of the same class, or, for a token of an unknown category, by any
 -- token but a bracket.
 use Rattle.std.proofs.Common.{◌≡◌, ◌≢◌, ℕ, suc, ◌+◌, ◌-◌, ◌≤◌, max, ◌==◌, Bool, true, false, not, ◌&&◌, nat_le, List, []}
-use Rattle.std.proofs.Common.{◌∷◌, ◌++◌, map, IsTrue, cond, refl, sym, ◌∙◌, ap, subst, arith, ◌⊎◌}
+use Rattle.std.proofs.Common.{◌∷◌, ◌++◌, map, cond, refl, sym, ◌∙◌, ap, subst, arith, ◌⊎◌}
 use Rattle.std.proofs.Common.{inl, inr, if◌then◌else◌}
 use Rattle.std.proofs.lemmas.Bool.{eqb-true, eq-eqb}
 use Rattle.std.proofs.lemmas.Bool.Decides.{nat_tests}
@@ -17,7 +17,7 @@ use Rattle.daide_grammar.specs.declared.level.Level.TheVariants.{L60}
 use Rattle.daide_grammar.specs.declared.side.Side2.{Side2}
 use Rattle.daide_grammar.specs.declared.side.Side2.TheVariants.{Client, ServerEnd}
 use Rattle.daide_grammar.specs.Level.{level_number}
-use Rattle.daide_grammar.specs.Forms.{Dialect, TokenTest, is, any_but_brackets, is_of_kind, Form, one, never, empty, ◌·◌, ◌∣◌, many, group}
+use Rattle.daide_grammar.specs.Forms.{Dialect, TokenTest, is, any_but_brackets, Accepts, Form, one, never, empty, ◌·◌, ◌∣◌, many, group}
 use Rattle.daide_grammar.specs.Forms.{named, tok, from_level, Nonterminal, Added, Arrangement_name, Flat_name, Fact_name, Press_name}
 use Rattle.daide_grammar.specs.Forms.{Send_name, Request_name, Slot, Press_slot, Arrangement_slot, Flat_slot}
 use Rattle.daide_grammar.specs.Matches.{rule, Matches, token, nothing, both, first, second, no_more, one_more, bracketed, by_name}
@@ -167,23 +167,14 @@ module _ (d : Dialect) where
   same_append (x ∷ a) (y ∷ b) u v h k = (h.0, same_append a b u v h.1 k)
 
   -- a test that accepts a token accepts each similar one
-  accepted : (k : TokenTest) (x y : ℕ) → names_known (one k) ≡ true → IsLike x y → IsTrue (is_of_kind k (d.class_of x)) →
-      IsTrue (is_of_kind k (d.class_of y))
+  accepted : (k : TokenTest) (x y : ℕ) → names_known (one k) ≡ true → IsLike x y → Accepts k (d.class_of x) →
+      Accepts k (d.class_of y)
   unfolding names_known
-  accepted k x y known (inl e) h = subst (λ (c : Class). IsTrue (is_of_kind k c)) e h
+  accepted k x y known (inl e) h = subst (Accepts k) e h
   accepted (is c) x y known (inr (unknown, no_bra, no_ket)) h =
-      let same : same_class c Alien ≡ true = subst (λ (e : Class). same_class c e ≡ true) unknown h in
+      let same : same_class c Alien ≡ true = (told-apart c Alien).1 (sym h ∙ unknown) in
       absurd (let f : not true ≡ true = ap not (sym same) ∙ known in cc)
-  accepted any_but_brackets x y known (inr (unknown, no_bra, no_ket)) h =
-      both_true (not (same_class Bra (d.class_of y))) (not (same_class Ket (d.class_of y))) (differs Bra no_bra)
-      (differs Ket no_ket)
-    where
-      differs : (c : Class) → d.class_of y ≢ c → not (same_class c (d.class_of y)) ≡ true
-      differs c apart = go (same_class c (d.class_of y)) refl
-        where
-          go : (b : Bool) → same_class c (d.class_of y) ≡ b → not b ≡ true
-          go true e = absurd (apart (sym ((told-apart c (d.class_of y)).0 e)))
-          go false e = refl
+  accepted any_but_brackets x y known (inr (unknown, no_bra, no_ket)) h = (no_bra, no_ket)
 
   -- the last of the tokens
   last_one : (k : ℕ) (n : List ℕ) → AreLike (k ∷ []) n → (y : ℕ) × (n ≡ y ∷ []) × IsLike k y

@@ -12,7 +12,7 @@ use Rattle.daide_frame.specs.declared.cutter.Step.{Step}
 use Rattle.daide_frame.specs.declared.cutter.Step.TheVariants.{Headed, Bodied}
 use Rattle.daide_frame.specs.Head.{parse_head}
 use Rattle.std.proofs.Common.{◌⊎◌}
-use Rattle.daide_frame.specs.Frames.{alien_in, last_items, announced, announced_by, items_of_step, IsWholeBody, step_of_events}
+use Rattle.daide_frame.specs.Frames.{alien_in, last_items, announced, announced_by, items_of_step, HoldsFrame, step_of_events}
 use Rattle.daide_frame.specs.Frames.{head_part, head_in, missing_of_body, missing}
 use Rattle.daide_frame.specs.Cutter.{has_alien, IsConsistent}
 use Rattle.daide_frame.proofs.ListLemmas.{eqb_apart, take_whole, take_whole', drop_past}
@@ -215,25 +215,33 @@ empty_closed limit have header body head l e b q z =
     header_left limit have header body (Ok head) l e q ∙ ap (missing_of_body (Some head)) b
     ∙ rw (alien_in-nothing head) (omega (arith, z))
 
--- with length 0, the body is whole
-pub empty_whole : (limit have : ℕ) (header body : List ℕ) (head : Head) → have ≡ 4 → length header ≡ 4 → body ≡ [] →
-    parse_head header limit ≡ Ok head → head.len ≡ 0 →
-    IsWholeBody (head_in limit (take have header ++ body)) (drop 4 (take have header ++ body))
-empty_whole limit have header body head l e b q z =
+-- the step at the last byte of a good header
+abbrev pub IsHeaderStep : Head → Step → Type 0
+IsHeaderStep head step = ((head.len ≡ 0) × (step ≡ Bodied head)) ⊎ ((head.len ≡ 0 → ⊥) × (step ≡ Headed head))
+
+-- carries the header that is held, without a body; with length 0 the body is whole
+pub header_held : (limit have : ℕ) (header body : List ℕ) (head : Head) (step : Step) → have ≡ 4 → length header ≡ 4 →
+    body ≡ [] → parse_head header limit ≡ Ok head → IsHeaderStep head step →
+    HoldsFrame step (head_in limit (take have header ++ body)) (drop 4 (take have header ++ body))
+header_held limit have header body head step l e b q h =
     let bytes = bytes_of_header have header body l e b in
     let none : drop 4 (take have header ++ body) ≡ [] = ap (drop 4) bytes ∙ drop_past 4 header (omega arith) in
     let good = parse_head-good header limit head q in
-    rw none (rw (head_in-bytes limit have header body l e ∙ ap head_part q) (good.right, sym z))
+    let read = head_in-bytes limit have header body l e ∙ ap head_part q in
+    elim h [
+      | inl s ↦ rw s.1 (read, rw none (good.right, sym s.0))
+      | inr s ↦ rw s.1 (read, none)
+    ]
 
 pub length_of_header : (have : ℕ) (header body : List ℕ) → have ≤ 4 → length header ≡ 4 → body ≡ [] →
     length (take have header ++ body) ≡ have
 length_of_header have header body l e b =
     rw b (omega (arith, length-append (take have header) [], length-take have header))
 
-pub step_of_events-empty : (head : Head) → head.len ≡ 0 → step_of_events (at_head (Ok head)) ≡ Bodied
+pub step_of_events-empty : (head : Head) → head.len ≡ 0 → step_of_events (at_head (Ok head)) ≡ Bodied head
 step_of_events-empty head e = rw e refl
 
-pub step_of_events-begun : (head : Head) → (head.len ≡ 0 → ⊥) → step_of_events (at_head (Ok head)) ≡ Headed
+pub step_of_events-begun : (head : Head) → (head.len ≡ 0 → ⊥) → step_of_events (at_head (Ok head)) ≡ Headed head
 step_of_events-begun head e = rw (eqb_apart head.len 0 e) refl
 
 pub missing_of-open : (head : Head) (body : List ℕ) → is_some (alien_in head body) ≡ false →
@@ -244,28 +252,23 @@ pub missing_of-spoilt : (head : Head) (body : List ℕ) → is_some (alien_in he
     missing_of_body (Some head) body ≡ 0
 missing_of-spoilt head body e = rw e refl
 
-at_head-empty : (head : Head) → head.len ≡ 0 → at_head (Ok head) ≡ items_of_step Bodied (Some head) []
+at_head-empty : (head : Head) → head.len ≡ 0 → at_head (Ok head) ≡ items_of_step (Bodied head) []
 at_head-empty head e = rw e refl
 
-at_head-begun : (head : Head) → (head.len ≡ 0 → ⊥) → at_head (Ok head) ≡ items_of_step Headed (Some head) []
+at_head-begun : (head : Head) → (head.len ≡ 0 → ⊥) → at_head (Ok head) ≡ items_of_step (Headed head) []
 at_head-begun head e = rw (eqb_apart head.len 0 e) refl
 
 pub header_told : (limit have : ℕ) (header body : List ℕ) (r : Result Head Code) (step : Step) → have ≡ 4 →
-    length header ≡ 4 → body ≡ [] → parse_head header limit ≡ r → at_head r ≡ items_of_step step (head_part r) [] →
-    last_items limit (take have header ++ body)
-    ≡ items_of_step step (head_in limit (take have header ++ body)) (drop 4 (take have header ++ body))
+    length header ≡ 4 → body ≡ [] → parse_head header limit ≡ r → at_head r ≡ items_of_step step [] →
+    last_items limit (take have header ++ body) ≡ items_of_step step (drop 4 (take have header ++ body))
 header_told limit have header body r step l e b q t =
     let bytes = bytes_of_header have header body l e b in
     let none : drop 4 (take have header ++ body) ≡ [] = ap (drop 4) bytes ∙ drop_past 4 header (omega arith) in
-    ap (last_items limit) bytes ∙ last_items-head limit header e ∙ ap at_head q ∙ t
-    ∙ ap (λ (o : Option Head). items_of_step step o []) (sym (head_in-bytes limit have header body l e ∙ ap head_part q))
-    ∙ ap (items_of_step step (head_in limit (take have header ++ body))) (sym none)
+    ap (last_items limit) bytes ∙ last_items-head limit header e ∙ ap at_head q ∙ t ∙ ap (items_of_step step) (sym none)
 
-pub told_ok : (head : Head) (step : Step) →
-    ((head.len ≡ 0) × (step ≡ Bodied)) ⊎ ((head.len ≡ 0 → ⊥) × (step ≡ Headed)) →
-    at_head (Ok head) ≡ items_of_step step (Some head) []
-told_ok head step (inl h) = at_head-empty head h.0 ∙ ap (λ (s : Step). items_of_step s (Some head) []) (sym h.1)
-told_ok head step (inr h) = at_head-begun head h.0 ∙ ap (λ (s : Step). items_of_step s (Some head) []) (sym h.1)
+pub told_ok : (head : Head) (step : Step) → IsHeaderStep head step → at_head (Ok head) ≡ items_of_step step []
+told_ok head step (inl h) = at_head-empty head h.0 ∙ ap (λ (s : Step). items_of_step s []) (sym h.1)
+told_ok head step (inr h) = at_head-begun head h.0 ∙ ap (λ (s : Step). items_of_step s []) (sym h.1)
 
 announced_of : (limit have : ℕ) (header : List ℕ) (head : Option Head) (f : Bool) (body : List ℕ) (capacity : ℕ) →
     IsConsistent limit have header head f body capacity →

@@ -266,14 +266,14 @@ wrong_at limit header head w piece n e q none p l a =
       answer = ap step_of_events (sym items);
       items = items;
       whole = inl tt;
-      full = λ (h : Fault InvalidToken ≡ Bodied). absurd (cc);
+      held = tt;
       closed = λ _. body_left limit header (take n v) head e q
           ∙ ap (λ (o : Option ℕ). cond (is_some o) 0 (head.len - length (take n v))) (alien_in-end head v n a l).1;
     }
 
 -- without an alien token, the body is whole or incomplete
 abbrev pub IsRightStep : List ℕ → Head → Step → Type 0
-IsRightStep v head step = ((length v ≡ head.len) × (step ≡ Bodied)) ⊎ ((length v ≡ head.len → ⊥) × (step ≡ More))
+IsRightStep v head step = ((length v ≡ head.len) × (step ≡ Bodied head)) ⊎ ((length v ≡ head.len → ⊥) × (step ≡ More))
 
 right_at : (limit : ℕ) (header : List ℕ) (head : Head) (w piece : List ℕ) (step : Step) → length header ≡ 4 →
     parse_head header limit ≡ Ok head → IsGood limit head → alien_in head w ≡ None → 0 < length piece →
@@ -290,10 +290,9 @@ right_at limit header head w piece step e q good none p l a (inl h) =
       bytes = sym (b.bytes ∙ ap (λ (o : Option ℕ). header ++ kept o v) a);
       answer = ap step_of_events (sym items);
       items = items ∙ sym (told_whole head v (omega (arith, length-append w piece)))
-          ∙ ap (λ (o : Option Head). items_of_step Bodied o v) (sym read)
-          ∙ ap (items_of_step Bodied (head_in limit (header ++ v))) (sym after);
+          ∙ ap (items_of_step (Bodied head)) (sym after);
       whole = inr (sym (append_assoc header w piece));
-      full = λ _. rw after (rw read (good.right, h.0));
+      held = (read, rw after (good.right, h.0));
       closed = λ _. body_left limit header v head e q
           ∙ ap (λ (o : Option ℕ). cond (is_some o) 0 (head.len - length v)) a ∙ omega (arith, h.0);
     })
@@ -307,7 +306,7 @@ right_at limit header head w piece step e q good none p l a (inr h) =
       answer = ap step_of_events (sym items);
       items = items;
       whole = inr (sym (append_assoc header w piece));
-      full = λ (h : More ≡ Bodied). absurd (cc);
+      held = tt;
       closed = λ none. absurd none;
     })
 

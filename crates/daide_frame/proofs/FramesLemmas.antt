@@ -141,7 +141,7 @@ not_dm Em h = refl
 pub alien_in-other : (head : Head) (v : List ℕ) → (head.kind ≡ Dm → ⊥) → alien_in head v ≡ None
 alien_in-other head v h = rw (not_dm head.kind h) refl
 
-pub told_whole : (head : Head) (v : List ℕ) → 0 < length v → items_of_step Bodied (Some head) v ≡ Whole head v ∷ []
+pub told_whole : (head : Head) (v : List ℕ) → 0 < length v → items_of_step (Bodied head) v ≡ Whole head v ∷ []
 told_whole head [] h = absurd (omega arith)
 told_whole head (x ∷ v) h = refl
 

@@ -2,8 +2,8 @@
 use Rattle.std.proofs.Common.{◌≡◌, ℕ, inr, ◌+◌, ◌<◌, ◌≤◌, List, [], ◌∷◌, ◌++◌, length, take, drop, refl, sym, ap, ◌∙◌}
 use Rattle.std.proofs.Common.{arith, length-append, append_assoc, append-nil}
 use Rattle.daide_frame.specs.declared.cutter.Step.{Step}
-use Rattle.daide_frame.specs.declared.cutter.Step.TheVariants.{More, Bodied}
-use Rattle.daide_frame.specs.Frames.{last_items, fed, fed_items, step_of_events, items_of_step, head_in, missing, IsEnd, IsWholeBody}
+use Rattle.daide_frame.specs.declared.cutter.Step.TheVariants.{More}
+use Rattle.daide_frame.specs.Frames.{last_items, fed, fed_items, step_of_events, items_of_step, head_in, missing, IsEnd, HoldsFrame}
 use Rattle.daide_frame.specs.Cutter.{IsFed}
 use Rattle.daide_frame.proofs.FramesLemmas.{last_items-short}
 use Rattle.daide_frame.proofs.FeedingLemmas.{fed-on, fed-one}
@@ -33,7 +33,7 @@ short_fed limit old [] new e h = record {
   answer = refl;
   items = refl;
   whole = inr e;
-  full = λ k. absurd (cc);
+  held = tt;
   closed = λ k. absurd k;
 }
 short_fed limit old (x ∷ piece) new e h =
@@ -44,19 +44,19 @@ short_fed limit old (x ∷ piece) new e h =
       answer = ap step_of_events (sym none);
       items = none;
       whole = inr e;
-      full = λ k. absurd (cc);
+      held = tt;
       closed = λ k. absurd k;
     }
 
 -- if the header is whole, by the event at its last byte
 pub fourth_fed : (limit : ℕ) (old piece new : List ℕ) (step : Step) → length old < 4 → new ≡ old ++ piece →
     length new ≡ 4 → step_of_events (last_items limit new) ≡ step →
-    last_items limit new ≡ items_of_step step (head_in limit new) (drop 4 new) →
-    (step ≡ Bodied → IsWholeBody (head_in limit new) (drop 4 new)) → (IsEnd step → missing limit new ≡ 0) →
+    last_items limit new ≡ items_of_step step (drop 4 new) →
+    HoldsFrame step (head_in limit new) (drop 4 new) → (IsEnd step → missing limit new ≡ 0) →
     IsFed limit old piece step new
-fourth_fed limit old [] new step less e h answer items full closed =
+fourth_fed limit old [] new step less e h answer items held closed =
     absurd (omega (arith, ap length e, length-append old []))
-fourth_fed limit old (x ∷ piece) new step less e h answer items full closed =
+fourth_fed limit old (x ∷ piece) new step less e h answer items held closed =
     let f = fed_header limit old x piece (omega (arith, h, ap length e, length-append old (x ∷ piece))) in
     let same = f.1 ∙ ap (last_items limit) (sym e) in
     record {
@@ -64,6 +64,6 @@ fourth_fed limit old (x ∷ piece) new step less e h answer items full closed =
       answer = sym answer ∙ ap step_of_events (sym same);
       items = same ∙ items;
       whole = inr e;
-      full = full;
+      held = held;
       closed = closed;
     }

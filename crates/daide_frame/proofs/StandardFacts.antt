@@ -114,7 +114,8 @@ unfolding last_items first_items parse_head is_alien
 behind_a_fault = refl
 
 -- an empty frame is reported as whole
-empty_frame : step_of_events (last_items 1024 (0x03 ∷ 0x00 ∷ 0x00 ∷ 0x00 ∷ [])) ≡ Bodied
+empty_frame : step_of_events (last_items 1024 (0x03 ∷ 0x00 ∷ 0x00 ∷ 0x00 ∷ []))
+    ≡ Bodied (record { kind = Fm; len = 0 })
 unfolding last_items first_items parse_head is_alien
 empty_frame = refl
 

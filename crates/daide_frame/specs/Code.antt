@@ -1,5 +1,6 @@
 -- The protocol's error codes.
-use Rattle.std.specs.Prelude.{ℕ, ◌/◌, ◌%◌, List, [], ◌∷◌, codes, slice_index}
+use Rattle.std.specs.Prelude.{ℕ, List, codes}
+use Rattle.daide_token.specs.HexDigits.{digits_of_byte}
 use Rattle.daide_frame.specs.declared.code.Code.{Code}
 use Rattle.daide_frame.specs.declared.code.Code.TheVariants.{ImTimeout, ImNotFirst, WrongEndian, WrongMagic}
 use Rattle.daide_frame.specs.declared.code.Code.TheVariants.{WrongVersion, SecondIm, ImFromServer, UnknownMessage}
@@ -23,13 +24,9 @@ code_number SecondRm = 0x0C
 code_number RmFromClient = 0x0D
 code_number InvalidToken = 0x0E
 
--- the hexadecimal digit of a value, with upper-case letters
-abbrev pub digit_of : ℕ → ℕ
-digit_of n = slice_index (codes "0123456789ABCDEF") n
-
 -- the number as text, in two digits
 abbrev pub code_digits : Code → List ℕ
-code_digits code = digit_of (code_number code / 16) ∷ digit_of (code_number code % 16) ∷ []
+code_digits code = digits_of_byte (code_number code)
 
 -- the meaning of a code, in a few words (own)
 abbrev pub code_name : Code → List ℕ

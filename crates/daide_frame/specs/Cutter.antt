@@ -3,9 +3,8 @@ use Rattle.std.specs.Prelude.{ℕ, ◌≡◌, ◌+◌, ◌*◌, ◌<◌, ◌≤�
 use Rattle.std.specs.Prelude.{drop, Option, None, Some, is_some, MatchOption}
 use Rattle.daide_frame.specs.declared.head.Head.{Head}
 use Rattle.daide_frame.specs.declared.cutter.Step.{Step}
-use Rattle.daide_frame.specs.declared.cutter.Step.TheVariants.{Bodied}
 use Rattle.daide_frame.specs.Frames.{is_alien, alien_in, head_in, missing, fed, fed_items, step_of_events}
-use Rattle.daide_frame.specs.Frames.{items_of_step, IsFault, IsEnd, IsWholeBody}
+use Rattle.daide_frame.specs.Frames.{items_of_step, IsFault, IsEnd, HoldsFrame}
 
 -- whether a body has an alien token
 abbrev pub has_alien : Option Head → List ℕ → Bool
@@ -28,9 +27,9 @@ pub record IsConsistent (cap have : ℕ) (header : List ℕ) (head : Option Head
 pub record IsFed (cap : ℕ) (old piece : List ℕ) (step : Step) (new : List ℕ) : Type 0 where
   pub bytes : new ≡ fed cap old piece
   pub answer : step ≡ step_of_events (fed_items cap old piece)
-  pub items : fed_items cap old piece ≡ items_of_step step (head_in cap new) (drop 4 new)
+  pub items : fed_items cap old piece ≡ items_of_step step (drop 4 new)
   pub whole : IsFault step ⊎ (new ≡ old ++ piece)
-  pub full : step ≡ Bodied → IsWholeBody (head_in cap new) (drop 4 new)
+  pub held : HoldsFrame step (head_in cap new) (drop 4 new)
   pub closed : IsEnd step → missing cap new ≡ 0
 
 -- none of n tokens of a body, from an index on, is alien

@@ -164,32 +164,37 @@ items_by_byte cap place pending (x ∷ bytes) =
 -- the step that reports some events; if a header and a body end together, it reports the body
 abbrev pub step_of_events : List FrameEvent → Step
 step_of_events [] = More
-step_of_events (Begun head ∷ []) = Headed
-step_of_events (Begun head ∷ item ∷ items) = Bodied
-step_of_events (Whole head body ∷ items) = Bodied
+step_of_events (Begun head ∷ []) = Headed head
+step_of_events (Begun head ∷ item ∷ items) = Bodied head
+step_of_events (Whole head body ∷ items) = Bodied head
 step_of_events (Wrong code ∷ items) = Fault code
 
--- the events that a step reports, by the header and the body after it
-abbrev pub items_of_step : Step → Option Head → List ℕ → List FrameEvent
-items_of_step More head body = []
-items_of_step (Fault code) head body = Wrong code ∷ []
-items_of_step Headed None body = []
-items_of_step Headed (Some head) body = Begun head ∷ []
-items_of_step Bodied None body = []
-items_of_step Bodied (Some head) [] = Begun head ∷ Whole head [] ∷ []
-items_of_step Bodied (Some head) (x ∷ body) = Whole head (x ∷ body) ∷ []
+-- the events that a step reports, by the body after it
+abbrev pub items_of_step : Step → List ℕ → List FrameEvent
+items_of_step More body = []
+items_of_step (Fault code) body = Wrong code ∷ []
+items_of_step (Headed head) body = Begun head ∷ []
+items_of_step (Bodied head) [] = Begun head ∷ Whole head [] ∷ []
+items_of_step (Bodied head) (x ∷ body) = Whole head (x ∷ body) ∷ []
 
 abbrev pub IsFault : Step → Type 0
 IsFault More = ⊥
-IsFault Headed = ⊥
-IsFault Bodied = ⊥
+IsFault (Headed head) = ⊥
+IsFault (Bodied head) = ⊥
 IsFault (Fault code) = Unit {0}
+
+-- the step reports a whole frame
+abbrev pub IsBodied : Step → Type 0
+IsBodied More = ⊥
+IsBodied (Headed head) = ⊥
+IsBodied (Bodied head) = Unit {0}
+IsBodied (Fault code) = ⊥
 
 -- the step ends the frame: it is whole, or has a fault
 abbrev pub IsEnd : Step → Type 0
 IsEnd More = ⊥
-IsEnd Headed = ⊥
-IsEnd Bodied = Unit {0}
+IsEnd (Headed head) = ⊥
+IsEnd (Bodied head) = Unit {0}
 IsEnd (Fault code) = Unit {0}
 
 -- What a cutter holds
@@ -220,9 +225,16 @@ missing cap bytes =
     if nat_lt (length bytes) 4 then 4 - length bytes else missing_of_body (head_in cap bytes) (drop 4 bytes)
 
 -- a body with the length that its header announces, which is right for the header's kind: an IM's body has four bytes
-abbrev pub IsWholeBody : Option Head → List ℕ → Type 0
-IsWholeBody None body = ⊥
-IsWholeBody (Some head) body = (has_right_length head.kind head.len ≡ true) × (length body ≡ head.len)
+abbrev pub IsWholeBody : Head → List ℕ → Type 0
+IsWholeBody head body = (has_right_length head.kind head.len ≡ true) × (length body ≡ head.len)
+
+-- The header and the body that are held when a step is reported: the header that the step carries, without a body at
+-- `Headed`, and with its whole body at `Bodied`.
+abbrev pub HoldsFrame : Step → Option Head → List ℕ → Type 0
+HoldsFrame More held body = Unit {0}
+HoldsFrame (Headed head) held body = (held ≡ Some head) × (body ≡ [])
+HoldsFrame (Bodied head) held body = (held ≡ Some head) × IsWholeBody head body
+HoldsFrame (Fault code) held body = Unit {0}
 
 -- the abstract value of a cutter: the cap, and the bytes of the frame so far
 pub record Cut : Type 0 where

@@ -6,8 +6,7 @@
 ghost use Rattle.std.specs.Prelude.{◌≡◌};
 ghost use Rattle.daide_frame.specs.Code.{code_digits, code_name, code_number};
 
-/// The hexadecimal digits, with upper-case letters.
-const DIGITS: [u8; 16] = *b"0123456789ABCDEF";
+use daide_token::digits_of_byte;
 
 /// What was wrong with a frame, or that a frame is missing.
 #[derive(Clone, Copy, Debug, PartialEq, Eq)]
@@ -54,8 +53,7 @@ impl Code {
     pub fn digits(self) -> [u8; 2]
         ensures { result ≡ code_digits self }
     {
-        let number = usize::from(self.number());
-        [DIGITS[number / 16], DIGITS[number % 16]]
+        digits_of_byte(self.number())
     }
 
     /// Returns the meaning of the code, in a few words.

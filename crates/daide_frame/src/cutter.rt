@@ -4,9 +4,9 @@
 //! now. It allocates its memory in `new`; no later call allocates.
 
 ghost use Rattle.std.specs.Prelude.{◌≡◌, ◌+◌, ◌*◌, ◌<◌, ◌≤◌, [], ◌∷◌, ◌++◌, length, take, drop, slice_index, ◌⊎◌, IfOk, OnErr, None, true};
-ghost use Rattle.daide_frame.specs.Frames.{alien_in, first_alien, shifted_place, last_items, fed, fed_items, step_of_events, items_of_step, IsFault, IsEnd, IsWholeBody, head_in, missing, announced};
+ghost use Rattle.daide_frame.specs.Frames.{alien_in, first_alien, shifted_place, last_items, fed, fed_items, step_of_events, items_of_step, IsFault, IsEnd, HoldsFrame, head_in, missing, announced};
 ghost use Rattle.daide_frame.specs.Cutter.{AreKnown, IsFed};
-ghost use Rattle.daide_frame.specs.declared.cutter.Step.TheVariants.{More, Bodied};
+ghost use Rattle.daide_frame.specs.declared.cutter.Step.TheVariants.{More};
 
 use crate::code::Code;
 use crate::head::{Head, Kind, read_head};
@@ -26,10 +26,10 @@ const TOGETHER: usize = 8;
 pub enum Step {
     /// Neither the header nor the frame.
     More,
-    /// A good header; its body is not empty.
-    Headed,
-    /// The whole frame. For an empty body this is returned in place of `Headed`.
-    Bodied,
+    /// A good header, this one; its body is not empty.
+    Headed(Head),
+    /// The whole frame with this header. For an empty body this is returned in place of `Headed`.
+    Bodied(Head),
     /// A fault: the header is refused, or a token of a diplomacy message has an unknown category.
     Fault(Code),
 }
@@ -220,9 +220,9 @@ impl<A: Allocator> Cutter<A> {
             Ok(head) => {
                 self.head = Some(head);
                 if head.len == 0 {
-                    Step::Bodied
+                    Step::Bodied(head)
                 } else {
-                    Step::Headed
+                    Step::Headed(head)
                 }
             }
         }
@@ -250,7 +250,7 @@ impl<A: Allocator> Cutter<A> {
             return Step::Fault(Code::InvalidToken);
         }
         if self.body.len() == usize::from(head.len) {
-            Step::Bodied
+            Step::Bodied(head)
         } else {
             Step::More
         }
@@ -266,14 +266,13 @@ impl<A: Allocator> Cutter<A> {
         ensures cap { self.new.cap ≡ self.old.cap }
         ensures bytes { self.new.bytes ≡ fed self.old.cap self.old.bytes piece.now }
         ensures step { result ≡ step_of_events (fed_items self.old.cap self.old.bytes piece.now) }
-        ensures items { fed_items self.old.cap self.old.bytes piece.now
-            ≡ items_of_step result (head_in self.new.cap self.new.bytes) (drop 4 self.new.bytes) }
+        ensures items { fed_items self.old.cap self.old.bytes piece.now ≡ items_of_step result (drop 4 self.new.bytes) }
 
         // Without a fault the whole piece is taken.
         ensures whole { IsFault result ⊎ (self.new.bytes ≡ self.old.bytes ++ piece.now) }
 
-        // `Bodied` is returned when the body has exactly the length that the header announces.
-        ensures full { result ≡ Bodied → IsWholeBody (head_in self.new.cap self.new.bytes) (drop 4 self.new.bytes) }
+        // The step carries the header that is held. At `Bodied` the body has exactly the length that it announces.
+        ensures held { HoldsFrame result (head_in self.new.cap self.new.bytes) (drop 4 self.new.bytes) }
         ensures closed { IsEnd result → missing self.new.cap self.new.bytes ≡ 0 }
     {
         if self.have < HEADER {

@@ -6,7 +6,7 @@ pub mod code;
 pub mod cutter;
 pub mod head;
 pub mod initial_message;
-pub mod kind;
+mod kind;
 mod law_facts;
 pub mod laws;
 pub mod memory;

@@ -1,16 +1,13 @@
 -- The brackets of every message balance, and `any` is every list whose brackets balance.
-use Rattle.std.proofs.Common.{◌≡◌, ◌≢◌, ℕ, Bool, true, false, not, ◌&&◌, List, [], ◌∷◌, ◌++◌, ◌↔◌, refl, sym, ◌∙◌, ap}
+use Rattle.std.proofs.Common.{◌≡◌, ◌≢◌, ℕ, Bool, true, ◌&&◌, List, [], ◌∷◌, ◌++◌, ◌↔◌, refl, sym}
 use Rattle.std.proofs.Common.{subst, append_assoc, append-nil}
-use Rattle.std.proofs.lemmas.Bool.{eqb-true, eq-eqb}
-use Rattle.daide_token.specs.declared.class.Class.{Class}
 use Rattle.daide_token.specs.declared.class.Class.TheVariants.{Bra, Ket}
 use Rattle.daide_token.specs.Token.{bra, ket}
 use Rattle.daide_grammar.specs.declared.level.Level.{Level}
 use Rattle.daide_grammar.specs.declared.level.Level.TheVariants.{L60}
 use Rattle.daide_grammar.specs.declared.side.Side2.{Side2}
 use Rattle.daide_grammar.specs.declared.side.Side2.TheVariants.{Client, ServerEnd}
-use Rattle.daide_grammar.specs.Classes.{class_number, same_class}
-use Rattle.daide_grammar.specs.Forms.{is, any_but_brackets, is_of_kind, Slot, Nonterminal, Request_name, Send_name, Press_name}
+use Rattle.daide_grammar.specs.Forms.{is, any_but_brackets, Accepts, Slot, Nonterminal, Request_name, Send_name, Press_name}
 use Rattle.daide_grammar.specs.Forms.{Arrangement_name, Flat_name, Fact_name, Added, Form, one, never, empty, ◌·◌, ◌∣◌}
 use Rattle.daide_grammar.specs.Forms.{many, group, named, Dialect}
 use Rattle.daide_grammar.specs.Message.Lists.{any, anything}
@@ -20,8 +17,8 @@ use Rattle.daide_grammar.specs.Balanced.{IsBalanced}
 use Rattle.daide_grammar.specs.Balanced as Rules
 use Rattle.daide_grammar.specs.SideMessages.{message_form}
 use Rattle.daide_grammar.specs.Table.Proved.Alternatives.{both-pass}
-use Rattle.daide_grammar.specs.Table.Proved.MovesAgree.{is_of_kind-like, not-both}
-use Rattle.daide_grammar.specs.Table.Proved.StacksInOrder.{number-Bra, number-Ket}
+use Rattle.daide_grammar.specs.Table.Proved.TokenTests.{accepted}
+use Rattle.daide_grammar.specs.Table.Symbols.{is_of_kind}
 
 -- a dialect in which a bracket is the only token of its class
 pub record KeepsBrackets (d : Dialect) : Type 0 where
@@ -40,28 +37,9 @@ paired (many f) = paired f
 paired (group f) = paired f
 paired (named n) = true
 
--- a token that passes `any_but_brackets` is no bracket
-no-bracket : (d : Dialect) → KeepsBrackets d → (t : ℕ) → is_of_kind any_but_brackets (d.class_of t) ≡ true → (t ≢ bra) × (t ≢ ket)
-no-bracket d keeps t h =
-    let p = both-pass (not (same_class Bra (d.class_of t))) (not (same_class Ket (d.class_of t))) h in
-    (λ e. differs Bra p.0 ((keeps.bras t).1 e), λ e. differs Ket p.1 ((keeps.kets t).1 e))
-  where
-    differs : (c : Class) → not (same_class c (d.class_of t)) ≡ true → d.class_of t ≡ c → ⊥
-    differs c p e =
-        not-both (same_class c (d.class_of t))
-        (eq-eqb (class_number c) (class_number (d.class_of t)) (ap class_number (sym e))) p
-
--- so it is a balanced list by itself
-word-balanced : (d : Dialect) → KeepsBrackets d → (t : ℕ) → is_of_kind any_but_brackets (d.class_of t) ≡ true → IsBalanced (t ∷ [])
-word-balanced d keeps t h = let p = no-bracket d keeps t h in Rules.plain t p.0 p.1
-
--- a token of a bracket's class is the bracket
-the-bra : (d : Dialect) → KeepsBrackets d → (t : ℕ) → is_of_kind (is Bra) (d.class_of t) ≡ true → t ≡ bra
-the-bra d keeps t h = (keeps.bras t).0 (number-Bra (d.class_of t) (sym (eqb-true 0 (class_number (d.class_of t)) h)))
-
--- the same for KET
-the-ket : (d : Dialect) → KeepsBrackets d → (t : ℕ) → is_of_kind (is Ket) (d.class_of t) ≡ true → t ≡ ket
-the-ket d keeps t h = (keeps.kets t).0 (number-Ket (d.class_of t) (sym (eqb-true 1 (class_number (d.class_of t)) h)))
+-- a token that `any_but_brackets` accepts is no bracket, so it is a balanced list by itself
+word-balanced : (d : Dialect) → KeepsBrackets d → (t : ℕ) → Accepts any_but_brackets (d.class_of t) → IsBalanced (t ∷ [])
+word-balanced d keeps t h = Rules.plain t (λ e. h.0 ((keeps.bras t).1 e)) (λ e. h.1 ((keeps.kets t).1 e))
 
 -- a balanced list between two tokens that are brackets
 in-brackets : (b k : ℕ) (u : List ℕ) → b ≡ bra → k ≡ ket → IsBalanced u → IsBalanced (b ∷ (u ++ k ∷ []))
@@ -75,8 +53,7 @@ pub matches-balance : (d : Dialect) → KeepsBrackets d → ((n : Nonterminal) �
     paired f ≡ true → Matches d f w → IsBalanced w
 unfolding paired
 matches-balance d keeps all (one (is c)) w e (token {t = t} h) =
-    word-balanced d keeps t (sym (is_of_kind-like any_but_brackets c (d.class_of t)
-    (eqb-true (class_number c) (class_number (d.class_of t)) h)) ∙ e)
+    word-balanced d keeps t (subst (Accepts any_but_brackets) (sym h) (accepted any_but_brackets c e))
 matches-balance d keeps all (one any_but_brackets) w e (token {t = t} h) = word-balanced d keeps t h
 matches-balance d keeps all never w e m = elim m [ ]
 matches-balance d keeps all empty w e nothing = Rules.empty
@@ -91,7 +68,7 @@ matches-balance d keeps all (many f) w e no_more = Rules.empty
 matches-balance d keeps all (many f) w e (one_more {u = u} {v = v} m n) =
     Rules.joined u v (matches-balance d keeps all f u e m) (matches-balance d keeps all (many f) v e n)
 matches-balance d keeps all (group f) w e (bracketed {u = u} b k h m i) =
-    in-brackets b k u (the-bra d keeps b h) (the-ket d keeps k i) (matches-balance d keeps all f u e m)
+    in-brackets b k u ((keeps.bras b).0 h) ((keeps.kets k).0 i) (matches-balance d keeps all f u e m)
 matches-balance d keeps all (named n) w e (by_name m) = matches-balance d keeps all (rule d n) w (all n) m
 
 -- every rule has paired brackets if the added words have
@@ -134,23 +111,16 @@ some-one : (d : Dialect) (f : Form) (u : List ℕ) → Matches d f u → Matches
 some-one d f u m = subst (Matches d (many f)) (append-nil u) (one_more m no_more)
 
 -- a token other than a bracket is a word
-any-word : (d : Dialect) → KeepsBrackets d → (t : ℕ) → t ≢ bra → t ≢ ket → is_of_kind any_but_brackets (d.class_of t) ≡ true
-any-word d keeps t b k =
-    neither (same_class Bra (d.class_of t)) (same_class Ket (d.class_of t)) (λ e. b (the-bra d keeps t e))
-    (λ e. k (the-ket d keeps t e))
-  where
-    neither : (x y : Bool) → (x ≡ true → ⊥) → (y ≡ true → ⊥) → (not x && not y) ≡ true
-    neither true y f g = absurd (f refl)
-    neither false true f g = absurd (g refl)
-    neither false false f g = refl
+any-word : (d : Dialect) → KeepsBrackets d → (t : ℕ) → t ≢ bra → t ≢ ket → Accepts any_but_brackets (d.class_of t)
+any-word d keeps t b k = (λ e. b ((keeps.bras t).0 e), λ e. k ((keeps.kets t).0 e))
 
 -- BRA is a token of its own class
-pub bra-accepted : (d : Dialect) → KeepsBrackets d → is_of_kind (is Bra) (d.class_of bra) ≡ true
-bra-accepted d keeps = ap (is_of_kind (is Bra)) ((keeps.bras bra).1 refl)
+pub bra-accepted : (d : Dialect) → KeepsBrackets d → d.class_of bra ≡ Bra
+bra-accepted d keeps = (keeps.bras bra).1 refl
 
 -- KET is a token of its own class
-pub ket-accepted : (d : Dialect) → KeepsBrackets d → is_of_kind (is Ket) (d.class_of ket) ≡ true
-ket-accepted d keeps = ap (is_of_kind (is Ket)) ((keeps.kets ket).1 refl)
+pub ket-accepted : (d : Dialect) → KeepsBrackets d → d.class_of ket ≡ Ket
+ket-accepted d keeps = (keeps.kets ket).1 refl
 
 -- a balanced list consists of words and lists in brackets
 balanced-anything : (d : Dialect) → KeepsBrackets d → {w : List ℕ} → IsBalanced w → Matches d anything w

@@ -20,9 +20,10 @@ use Rattle.daide_grammar.specs.declared.symbol.Sym.TheVariants.{SendTail, Server
 use Rattle.daide_grammar.specs.declared.symbol.Sym.TheVariants.{UnitGroups}
 use Rattle.daide_grammar.specs.Level.{level_number}
 use Rattle.daide_grammar.specs.Classes.{same_class}
-use Rattle.daide_grammar.specs.Forms.{is_of_kind, is}
+use Rattle.daide_grammar.specs.Forms.{is}
 use Rattle.daide_grammar.specs.Table.Answers.{TableEntry, Stop}
 use Rattle.daide_grammar.specs.Table.Symbols.{Alternative, on, answer_by, asking_entries, entries, entry_at, joining_entries}
+use Rattle.daide_grammar.specs.Table.Symbols.{is_of_kind}
 use Rattle.daide_grammar.specs.Table.Symbols.{may_end_of, only_from, request_entries, simple_entries, table_answer, this_or}
 
 -- no entry of the list takes the class

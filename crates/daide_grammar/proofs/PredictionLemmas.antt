@@ -10,9 +10,9 @@ use Rattle.daide_grammar.specs.declared.level.Level.TheVariants.{L60}
 use Rattle.daide_grammar.specs.declared.symbol.Sym.{Sym}
 use Rattle.daide_grammar.specs.declared.symbol.Sym.TheVariants.{Request, Client, MaybeSendGroup, Server, Press}
 use Rattle.daide_grammar.specs.declared.symbol.Sym.TheVariants.{Arrangement, Operand, Fact}
-use Rattle.daide_grammar.specs.Forms.{is_of_kind}
 use Rattle.daide_grammar.specs.Table.Answers.{TableEntry, Take, Skip, Stop}
 use Rattle.daide_grammar.specs.Table.Symbols.{Alternative, entries, entry_at, may_end_of, table_answer}
+use Rattle.daide_grammar.specs.Table.Symbols.{is_of_kind}
 use Rattle.daide_grammar.specs.Table.Stacks.{StackMatches, stack_after}
 use Rattle.daide_grammar.specs.Table.LawfulStack.{IsLawful}
 use Rattle.daide_grammar.specs.SideMessages.{standard}

@@ -112,7 +112,7 @@ a_free_word : IsMessageOver added Client L10 (sent (TRY ∷ BRA ∷ XYZ ∷ KET 
 unfolding class_of
 a_free_word = request_of L10 _ refl (by_name {n = Press_name L10}
     (second (second (first (both {u = TRY ∷ []} {v = BRA ∷ XYZ ∷ KET ∷ []} (token refl)
-    (in_brackets words (XYZ ∷ []) (one_more {u = XYZ ∷ []} {v = []} (token refl) no_more)))))))
+    (in_brackets words (XYZ ∷ []) (one_more {u = XYZ ∷ []} {v = []} (token (λ e. cc, λ e. cc)) no_more)))))))
 
 -- ---- the word of an arrangement
 

@@ -2,7 +2,6 @@
 use Rattle.std.proofs.Common.{◌≡◌, ℕ, suc, Bool, true, false, not, ◌==◌, ◌||◌, List, [], ◌∷◌, ◌++◌}
 use Rattle.std.proofs.Common.{refl, sym, ◌∙◌, ap, subst, inl, inr, ◌↔◌}
 use Rattle.std.specs.Prelude.{nat_le}
-use Rattle.std.specs.Prelude.{IsTrue}
 use Rattle.std.specs.List.{list_all}
 use Rattle.std.proofs.lemmas.List.Folds.{list_all-append}
 use Rattle.daide_token.specs.declared.class.Class.TheVariants.{Bra, Ket, Word}
@@ -11,7 +10,7 @@ use Rattle.daide_token.proofs.ClassLaws.{standard_class}
 use Rattle.daide_grammar.specs.declared.level.Level.{Level}
 use Rattle.daide_grammar.specs.declared.side.Side2.{Side2}
 use Rattle.daide_grammar.specs.Level.{level_number}
-use Rattle.daide_grammar.specs.Forms.{Slot, Press_slot, Arrangement_slot, Flat_slot, TokenTest, is_of_kind, Form, never, tok}
+use Rattle.daide_grammar.specs.Forms.{Slot, Press_slot, Arrangement_slot, Flat_slot, TokenTest, Accepts, Form, never, tok}
 use Rattle.daide_grammar.specs.Forms.{from_level}
 use Rattle.daide_grammar.specs.Forms.{◌·◌, group}
 use Rattle.daide_grammar.specs.Forms.{Any_name, Place_name, Unit_name, Order_name, Arrangement_name, Flat_name}
@@ -23,7 +22,6 @@ use Rattle.daide_grammar.specs.Words.{operand_in}
 use Rattle.daide_grammar.specs.Words.{stands_in, word_form}
 use Rattle.daide_grammar.specs.SideMessages.{standard, dialect_from, dialect_of, message_form, IsMessage, IsMessageOver}
 use Rattle.daide_grammar.specs.Table.Proved.Alternatives.{both-pass}
-use Rattle.daide_token.proofs.ClassNumbers.{told-apart}
 
 -- no token of the list is a word
 abbrev HasNone : Words → List ℕ → Type 0
@@ -55,12 +53,12 @@ module _ (words : Words) where
 
   -- a test gives the same result for a token that is no word
   asks-the-same : (k : TokenTest) (t : ℕ) → not (is_code words t) ≡ true →
-      IsTrue (is_of_kind k (class_of t)) → IsTrue (is_of_kind k (spoken.class_of t))
-  asks-the-same k t h e = subst (λ c. IsTrue (is_of_kind k c)) (sym (class-stays 0 words t h)) e
+      Accepts k (class_of t) → Accepts k (spoken.class_of t)
+  asks-the-same k t h e = subst (Accepts k) (sym (class-stays 0 words t h)) e
 
   asked-before : (k : TokenTest) (t : ℕ) → not (is_code words t) ≡ true →
-      IsTrue (is_of_kind k (spoken.class_of t)) → IsTrue (is_of_kind k (class_of t))
-  asked-before k t h e = subst (λ c. IsTrue (is_of_kind k c)) (class-stays 0 words t h) e
+      Accepts k (spoken.class_of t) → Accepts k (class_of t)
+  asked-before k t h e = subst (Accepts k) (class-stays 0 words t h) e
 
   -- a single token, and the brackets around a list
   one-has-none : (t : ℕ) → HasNone words (t ∷ []) → not (is_code words t) ≡ true
@@ -101,10 +99,9 @@ module _ (words : Words) where
 
   -- a token that is no operator's word has no word's class
   no-word : (place : ℕ) (t : ℕ) → not (is_code words t) ≡ true →
-      IsTrue (is_of_kind (is (Word place)) (spoken.class_of t)) → ⊥
+      spoken.class_of t ≡ Word place → ⊥
   no-word place t h e =
-      let is_word : Word place ≡ class_of t =
-      (told-apart (Word place) (spoken.class_of t)).0 e ∙ class-stays 0 words t h in
+      let is_word : Word place ≡ class_of t = sym e ∙ class-stays 0 words t h in
       let standard_word : is_standard (Word place) ≡ true = ap is_standard is_word ∙ standard_class t in
       absurd cc
 

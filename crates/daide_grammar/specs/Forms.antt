@@ -1,21 +1,20 @@
 -- Forms of messages: the notation of the grammar. A form describes a set of token lists, independent of any reading
 -- order; `Matches` defines which lists match it.
-use Rattle.std.specs.Prelude.{ℕ, Bool, true, false, ◌&&◌, not, nat_le}
+use Rattle.std.specs.Prelude.{◌≡◌, ◌≢◌, ℕ, true, false, nat_le}
 use Rattle.daide_token.specs.declared.class.Class.{Class}
 use Rattle.daide_token.specs.declared.class.Class.TheVariants.{Bra, Ket}
 use Rattle.daide_grammar.specs.declared.level.Level.{Level}
 use Rattle.daide_grammar.specs.Level.{level_number}
-use Rattle.daide_grammar.specs.Classes.{same_class}
 
 -- the test of a single token in a form
 pub data TokenTest : Type 0 where
   is : Class → TokenTest  -- a token of this class
   any_but_brackets : TokenTest  -- any token but the two brackets
 
--- whether a token of the class passes the test
-abbrev pub is_of_kind : TokenTest → Class → Bool
-is_of_kind (is c) d = same_class c d
-is_of_kind any_but_brackets d = not (same_class Bra d) && not (same_class Ket d)
+-- the test accepts a token of the class
+abbrev pub Accepts : TokenTest → Class → Type 0
+Accepts (is c) d = d ≡ c
+Accepts any_but_brackets d = (d ≢ Bra) × (d ≢ Ket)
 
 -- the positions of an operator's word: as a press, as an arrangement, and as an arrangement without AND and ORR
 pub data Slot : Type 0 where

@@ -1,7 +1,7 @@
 -- The lists of tokens that match a form.
-use Rattle.std.specs.Prelude.{◌≡◌, ℕ, List, [], ◌∷◌, ◌++◌, IsTrue}
+use Rattle.std.specs.Prelude.{◌≡◌, ℕ, List, [], ◌∷◌, ◌++◌}
 use Rattle.daide_token.specs.declared.class.Class.TheVariants.{Bra, Ket}
-use Rattle.daide_grammar.specs.Forms.{TokenTest, is, is_of_kind, Nonterminal, Any_name, Place_name, Unit_name, Order_name}
+use Rattle.daide_grammar.specs.Forms.{TokenTest, Accepts, Nonterminal, Any_name, Place_name, Unit_name, Order_name}
 use Rattle.daide_grammar.specs.Forms.{Arrangement_name, Flat_name, Fact_name, Press_name, Send_name, Request_name}
 use Rattle.daide_grammar.specs.Forms.{Added, Form, one, empty, ◌·◌, ◌∣◌, many, group, named, Dialect}
 use Rattle.daide_grammar.specs.Message.Lists.{anything}
@@ -27,15 +27,14 @@ rule d (Added s l) = d.added s l
 
 -- matching in a dialect: one line for each kind of form, independent of any reading order
 pub data Matches (d : Dialect) : Form → List ℕ → Type 0 where
-  token : {k : TokenTest} {t : ℕ} → IsTrue (is_of_kind k (d.class_of t)) → Matches d (one k) (t ∷ [])
+  token : {k : TokenTest} {t : ℕ} → Accepts k (d.class_of t) → Matches d (one k) (t ∷ [])
   nothing : Matches d empty []
   both : {f g : Form} {u v : List ℕ} → Matches d f u → Matches d g v → Matches d (f · g) (u ++ v)
   first : {f g : Form} {w : List ℕ} → Matches d f w → Matches d (f ∣ g) w
   second : {f g : Form} {w : List ℕ} → Matches d g w → Matches d (f ∣ g) w
   no_more : {f : Form} → Matches d (many f) []
   one_more : {f : Form} {u v : List ℕ} → Matches d f u → Matches d (many f) v → Matches d (many f) (u ++ v)
-  bracketed : {f : Form} {u : List ℕ} (b k : ℕ) →
-      IsTrue (is_of_kind (is Bra) (d.class_of b)) → Matches d f u → IsTrue (is_of_kind (is Ket) (d.class_of k)) →
+  bracketed : {f : Form} {u : List ℕ} (b k : ℕ) → d.class_of b ≡ Bra → Matches d f u → d.class_of k ≡ Ket →
       Matches d (group f) (b ∷ (u ++ k ∷ []))
   by_name : {n : Nonterminal} {w : List ℕ} → Matches d (rule d n) w → Matches d (named n) w
 

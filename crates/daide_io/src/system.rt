@@ -1,6 +1,6 @@
 //! The interface of the loop over sessions to the system. Its calls begin a round, report whether there is news for a
-//! session, begin a turn of it, accept a bot, and return the result of a connect to the server. They also retire the
-//! ports of a closed session, with how it ended, log a line for the operator, and wait.
+//! session, begin and end a turn of it, accept a bot, and return the result of a connect to the server. They also retire
+//! the ports of a closed session, with how it ended, log a line for the operator, and wait.
 //!
 //! ```text
 //! accept --true--> pending connect --Ready--> a session's ports --over--> retire
@@ -8,8 +8,8 @@
 //! ```
 
 ghost use Rattle.daide_io.specs.Ports.{TurnBegins};
-ghost use Rattle.daide_io.specs.System.{SystemCall, Begins, ReportsNews, BeginsTurn, Accepts, Connects, Retires};
-ghost use Rattle.daide_io.specs.System.{Notifies, Waits};
+ghost use Rattle.daide_io.specs.System.{SystemCall, Begins, ReportsNews, BeginsTurn, EndsTurn, Accepts, Connects};
+ghost use Rattle.daide_io.specs.System.{Retires, Notifies, Waits};
 
 use crate::ports::Ports;
 use daide_protocol::ending::Ending;
@@ -82,6 +82,11 @@ pub trait System<P: Ports> {
     fn begin_turn(&mut self, ports: &mut P)
         ensures ports { P.transition ports.old TurnBegins ports.new }
         ensures system { transition self.old (BeginsTurn ports.old ports.new) self.new };
+
+    /// Ends a turn of the session with these ports. The system notes what the ports need from it until their next turn,
+    /// such as their nearest deadline. It changes no port, and calls none.
+    fn end_turn(&mut self, ports: &P)
+        ensures { transition self.old (EndsTurn ports.now) self.new };
 
     /// Returns whether a bot arrived. From then on its connect to the server is pending, and its IM timer runs. If an
     /// accept fails, also for lack of descriptors, it returns false.

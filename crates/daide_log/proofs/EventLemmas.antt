@@ -288,6 +288,12 @@ module _ {Answer : Type 0} (form : ReportForm Answer) where
       q.written f)
       (λ other. appends_and_keeps before all c (texts_of form.text q.reported) q.written (k other))
 
+  -- a fault that `?` returns is no answer
+  pub nothing_reported : (Q : LogFault → Type 0) (P : Answer → Type 0) (result : Result Answer LogFault) →
+      IsErrAnd result Q → IfOk result P
+  nothing_reported Q P (Ok summary) e = absurd e
+  nothing_reported Q P (Err reported) e = tt
+
   -- the same at a fault that `?` returns
   pub fault_handed_on : (start : Reader → Option (List ℕ) → Type 0) (new : Reader) (c : Option (List ℕ)) (fault : LogFault)
       (result : Result Answer LogFault) → IsErrAnd result (λ reported. reported ≡ fault) →

@@ -21,9 +21,11 @@ pub mod SomeReport
 pub mod ReadLemmas
 pub mod MatchLogFacts
 pub mod SevenLinesFacts
+pub mod EventLines
 pub mod RecordLines
 pub mod RecordHead
 pub mod RecordCounts
 pub mod RecordReported
+pub mod PauseLemmas
 pub mod RecordedPorts
 pub mod LawFacts

@@ -1,5 +1,5 @@
 -- The record of ports and their calls.
-use Rattle.std.proofs.Common.{◌≡◌, ◌≢◌, ℕ, ◌+◌, ◌≤◌, List, [], ◌∷◌, ◌++◌, Option, Some, None, refl, sym, ap, ◌∙◌, subst}
+use Rattle.std.proofs.Common.{◌≡◌, ◌≢◌, ◌⊎◌, inl, inr, ℕ, ◌+◌, ◌≤◌, List, [], ◌∷◌, ◌++◌, Option, Some, None, refl, sym, ap, ◌∙◌, subst}
 use Rattle.std.proofs.Common.{arith, append_assoc, append-nil}
 use Rattle.std.specs.List.{AllByRecursion}
 use Rattle.std.specs.Io.KnownBytes.{Keeps, Appends}
@@ -11,7 +11,7 @@ use Rattle.daide_log.specs.declared.record.RecordEnd.{RecordEnd}
 use Rattle.daide_log.specs.declared.record.RecordEnd.TheVariants.{Whole, Failed, Full}
 use Rattle.daide_log.specs.RecordText.{event_line, reported_by, line_reported, count_reported, line_of_answer, count_of_answer}
 use Rattle.daide_log.specs.RecordText.{lines_of_answers, count_of_answers, head_text, record_text, record_count}
-use Rattle.daide_log.specs.Recording.{Written, Recorded, Records, RecordsEvent, TakesLine, TakesEvent, IsPiece}
+use Rattle.daide_log.specs.Recording.{Written, Recorded, Records, KeepsText, TakesCall, TakesLine, TakesEvent, IsPiece}
 use Rattle.daide_log.specs.RecordLaw.{HasFront, PortsAreRecorded}
 
 -- ---- one more call
@@ -99,37 +99,59 @@ lined failure config words answers answer event old new h piece reported Failed 
 
 taken : (failure : Type 0) (config : Config) (words : List Word) (answers : List PortCall) (answer : PortCall)
     (old new : Written) → IsOf config words answers old → IsPiece answer → (reported : Option LogEvent) →
-    reported_by answer ≡ reported → RecordsEvent failure old reported new →
+    reported_by answer ≡ reported → TakesCall failure old reported new →
     Outcome config words answers answer new
-taken failure config words answers answer old new h piece None e t =
-    let line : line_of_answer answer ≡ [] = ap line_reported e in
-    let count : count_of_answer answer ≡ 0 = ap count_reported e in
-    let same = ap (λ (w : Written). w.lines) t in
-    let lines = h.lines in
-    let few = h.few in
-    let more = count_more answers answer in
-    further (record {
-      text = ap (λ (w : Written). w.text) t ∙ h.text
-          ∙ ap Some (sym (append-nil (record_text config words answers))
-          ∙ ap (λ (l : List ℕ). record_text config words answers ++ l) (sym line) ∙ text_more config words answers answer);
-      lines = omega arith;
-      few = omega arith;
-      pieces = pieces_more answers answer h.pieces piece;
-      ending = ap (λ (w : Written). w.ending) t ∙ h.ending;
-    })
+taken failure config words answers answer old new h piece None e t = unlined t
+  where
+    as_before : record_text config words answers ≡ record_text config words (answers ++ answer ∷ [])
+    as_before =
+        let line : line_of_answer answer ≡ [] = ap line_reported e in
+        sym (append-nil (record_text config words answers))
+        ∙ ap (λ (l : List ℕ). record_text config words answers ++ l) (sym line) ∙ text_more config words answers answer
+
+    same : new.text ≡ Some (record_text config words answers) → new.lines ≡ old.lines → new.ending ≡ Whole →
+        Outcome config words answers answer new
+    same text lines_kept ending =
+        let count : count_of_answer answer ≡ 0 = ap count_reported e in
+        let lines = h.lines in
+        let few = h.few in
+        let more = count_more answers answer in
+        further (record {
+          text = text ∙ ap Some as_before;
+          lines = omega (arith, lines_kept);
+          few = omega arith;
+          pieces = pieces_more answers answer h.pieces piece;
+          ending = ending;
+        })
+
+    flushed : new.lines ≡ old.lines →
+        ((new.ending ≡ Whole) × (new.unwritten ≡ []) × Keeps old.text new.text) ⊎ ((new.ending ≡ Failed) × failure) →
+        Outcome config words answers answer new
+    flushed lines (inl w) = same (kept old.text new.text (record_text config words answers) h.text w.2) lines w.0
+    flushed lines (inr w) = failed w.0
+
+    unlined : KeepsText failure old new → Outcome config words answers answer new
+    unlined (inl t) =
+        same (ap (λ (w : Written). w.text) t ∙ h.text) (ap (λ (w : Written). w.lines) t)
+        (ap (λ (w : Written). w.ending) t ∙ h.ending)
+    unlined (inr f) = flushed f.lines f.written
 taken failure config words answers answer old new h piece (Some event) e t =
     lined failure config words answers answer event old new h piece e new.ending refl
     (subst (λ (x : RecordEnd). TakesEvent failure x old event new) h.ending t)
 
--- a record that is whole is not full
+-- a record that is whole is not full, and has not failed
 never : Whole ≡ Full → ⊥
 never e = absurd (cc)
+
+not_failed : Whole ≡ Failed → ⊥
+not_failed e = absurd (cc)
 
 -- ---- a record that ended
 
 untaken : (failure : Type 0) (ending : RecordEnd) (old new : Written) (reported : Option LogEvent) → ending ≢ Whole →
-    old.ending ≡ ending → RecordsEvent failure old reported new → new ≡ old
-untaken failure ending old new None other e t = t
+    old.ending ≡ ending → TakesCall failure old reported new → new ≡ old
+untaken failure ending old new None other e (inl t) = t
+untaken failure ending old new None other e (inr f) = absurd (other (sym e ∙ f.whole))
 untaken failure Whole old new (Some event) other e t = absurd (other refl)
 untaken failure Failed old new (Some event) other e t =
     subst (λ (x : RecordEnd). TakesEvent failure x old event new) e t
@@ -140,8 +162,14 @@ untaken failure Full old new (Some event) other e t =
 
 -- an event makes a record fail only by a failed write
 fails_by : (failure : Type 0) (ending : RecordEnd) (old new : Written) (reported : Option LogEvent) → old.ending ≡ ending →
-    old.ending ≢ Failed → RecordsEvent failure old reported new → new.ending ≡ Failed → failure
-fails_by failure ending old new None e other t f = absurd (other (sym (ap (λ (w : Written). w.ending) t) ∙ f))
+    old.ending ≢ Failed → TakesCall failure old reported new → new.ending ≡ Failed → failure
+fails_by failure ending old new None e other (inl t) f = absurd (other (sym (ap (λ (w : Written). w.ending) t) ∙ f))
+fails_by failure ending old new None e other (inr t) f = cause t.written
+  where
+    cause : ((new.ending ≡ Whole) × (new.unwritten ≡ []) × Keeps old.text new.text) ⊎ ((new.ending ≡ Failed) × failure) →
+        failure
+    cause (inl w) = absurd (not_failed (sym w.0 ∙ f))
+    cause (inr w) = w.1
 fails_by failure Whole old new (Some event) e other t f =
     (subst (λ (x : RecordEnd). TakesLine failure x old event new) f
     (subst (λ (x : RecordEnd). TakesEvent failure x old event new) e t)).1

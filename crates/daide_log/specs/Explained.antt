@@ -2,10 +2,10 @@
 -- was judged, its answer and the reason; the name and the bytes of each fault; the comments of the log; and at the end
 -- each incomplete frame. All these lines but the comments begin with four spaces. (own)
 use Rattle.std.specs.Prelude.{◌≡◌, ℕ, ◌+◌, ◌-◌, ◌/◌, ◌==◌, nat_lt, Bool, true, false, if◌then◌else◌, List, [], ◌∷◌, ◌++◌}
-use Rattle.std.specs.Prelude.{◌%◌, slice_index, codes, length, drop, Option, Some, None}
+use Rattle.std.specs.Prelude.{codes, length, drop, Option, Some, None}
 use Rattle.std.specs.Fmt.{decimal}
-use Rattle.hex.specs.Hex.{upper_digits}
 use Rattle.daide_token.specs.Token.{tokens_of}
+use Rattle.daide_token.specs.HexDigits.{digits_of_byte}
 use Rattle.daide_token.specs.Text.{text_with}
 use Rattle.daide_frame.specs.declared.side.Side.{Side}
 use Rattle.daide_frame.specs.declared.side.Side.TheVariants.{Bot, Server}
@@ -90,15 +90,11 @@ ExplainsFrame words max_depth (Some q) body deed lines =
 
 -- ---- a fault
 
--- the two upper-case digits of a byte
-abbrev pub pair : ℕ → List ℕ
-pair byte = slice_index upper_digits (byte / 16) ∷ slice_index upper_digits (byte % 16) ∷ []
-
 -- pairs of upper-case digits, separated by spaces
 abbrev pub pairs : List ℕ → List ℕ
 pairs [] = []
-pairs (byte ∷ []) = pair byte
-pairs (byte ∷ next ∷ bytes) = pair byte ++ 32 ∷ pairs (next ∷ bytes)
+pairs (byte ∷ []) = digits_of_byte byte
+pairs (byte ∷ next ∷ bytes) = digits_of_byte byte ++ 32 ∷ pairs (next ∷ bytes)
 
 -- the last two bytes, which are an invalid token, and its index in the message
 abbrev pub token_line : List ℕ → List ℕ

@@ -74,10 +74,14 @@ RecordsAreReported =
 
 -- ---- ports
 
--- a record without a call, over a writer that records its bytes
+-- a record without a call, over a writer that records its bytes; its head is not written yet
 abbrev pub begun_record : Config → List Word → Written
-begun_record config words =
-    record { text = Some (head_text config words); lines = head_count words; ending = Whole }
+begun_record config words = record {
+  text = Some (head_text config words);
+  unwritten = head_text config words;
+  lines = head_count words;
+  ending = Whole;
+}
 
 -- The record of these calls: its head, and the lines of a prefix of them, at most as many as a log may have. A whole
 -- record has the lines of all calls, and a full one has the greatest number of lines.

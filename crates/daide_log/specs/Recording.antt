@@ -1,13 +1,19 @@
 -- Ports that record their calls: the effect of a call on the ports and on the record. (own)
-use Rattle.std.specs.Prelude.{◌≡◌, ⊤, ℕ, ◌+◌, ◌-◌, ◌<◌, ◌≤◌, min, List, length, Option, Some, None}
+use Rattle.std.specs.Prelude.{◌≡◌, ◌⊎◌, ⊤, ℕ, ◌+◌, ◌-◌, ◌<◌, ◌≤◌, min, Bool, true, false, List, [], length, Option, Some, None}
 use Rattle.std.specs.Io.KnownBytes.{Appends, Keeps}
 use Rattle.hex.specs.Hex.{IsBytes}
 use Rattle.daide_io.specs.Ports.{PortCall, TurnBegins, Clock, Pulled, Offered}
-use Rattle.daide_log_lines.specs.LogLine.{LogEvent, most_lines, longest_line, longest_piece}
+use Rattle.daide_io.specs.declared.ports.Pull.TheVariants as pulls
+use Rattle.daide_io.specs.declared.ports.Put.TheVariants as puts
+use Rattle.daide_log_lines.specs.LogLine.{LogEvent, EndOf, ImTimerLine, most_lines, longest_line, longest_piece}
 use Rattle.daide_log_lines.specs.Output.{page_size}
 use Rattle.daide_log.specs.declared.record.RecordEnd.{RecordEnd}
 use Rattle.daide_log.specs.declared.record.RecordEnd.TheVariants.{Whole, Failed, Full}
-use Rattle.daide_log.specs.RecordText.{reported_by, event_line}
+use Rattle.daide_log.specs.declared.record.RecordedEvent.{RecordedEvent}
+use Rattle.daide_log.specs.declared.recording.Activity.{Activity}
+use Rattle.daide_log.specs.declared.recording.Activity.TheVariants.{Moving, Idle, Ended}
+use Rattle.daide_log.specs.declared.record.RecordedEvent.TheVariants as events
+use Rattle.daide_log.specs.RecordText.{piece_of, reported_by, event_line}
 
 -- ---- a record
 
@@ -15,10 +21,11 @@ use Rattle.daide_log.specs.RecordText.{reported_by, event_line}
 abbrev pub most_held : ℕ
 most_held = page_size - longest_line
 
--- The text of a record, written or in the page, if the writer records its bytes; the number of its lines; and whether
--- the record is whole so far, or ended earlier.
+-- The text of a record, written or in the page, if the writer records its bytes; the part of it in the page, which is
+-- not written yet; the number of its lines; and whether the record is whole so far, or ended earlier.
 pub record Written : Type 0 where
   pub text : Option (List ℕ)
+  pub unwritten : List ℕ
   pub lines : ℕ
   pub ending : RecordEnd
 
@@ -45,12 +52,68 @@ abbrev pub RecordsEvent : Type 0 → Written → Option LogEvent → Written →
 RecordsEvent failed old None new = new ≡ old
 RecordsEvent failed old (Some event) new = TakesEvent failed old.ending old event new
 
+-- The page of a whole record was written: the text is the same, or the write failed.
+pub record WritesPage (failed : Type 0) (old new : Written) : Type 0 where
+  pub whole : old.ending ≡ Whole
+  pub lines : new.lines ≡ old.lines
+  pub written : ((new.ending ≡ Whole) × (new.unwritten ≡ []) × Keeps old.text new.text) ⊎ ((new.ending ≡ Failed) × failed)
+
+-- a record without a further event is unchanged, or was written
+abbrev pub KeepsText : Type 0 → Written → Written → Type 0
+KeepsText failed old new = (new ≡ old) ⊎ WritesPage failed old new
+
+-- the effect of a call with an event or none
+abbrev pub TakesCall : Type 0 → Written → Option LogEvent → Written → Type 0
+TakesCall failed old None new = KeepsText failed old new
+TakesCall failed old (Some event) new = TakesEvent failed old.ending old event new
+
+-- the event of a line; no bytes have no line
+abbrev pub line_event : RecordedEvent → Option LogEvent
+line_event (events.Received side bytes) = piece_of side bytes.now
+line_event (events.EndOf side) = Some (EndOf side)
+line_event events.ImTimer = Some ImTimerLine
+
+-- its bytes fit a line
+abbrev pub FitsLine : RecordedEvent → Type 0
+FitsLine (events.Received side bytes) = length bytes.now ≤ longest_piece
+FitsLine (events.EndOf side) = ⊤
+FitsLine events.ImTimer = ⊤
+
 -- ---- ports
 
--- ports, and the record of their calls
+-- ports, the record of their calls, and whether bytes moved in the last of them
 pub record Recorded (P : Type 0) : Type 0 where
   pub ports : P
   pub record_of : Written
+  pub activity : Activity
+
+-- Whether bytes move, after a call. A pull shows it, and so does an event that ends the session.
+abbrev pub activity_after : PortCall → Activity → Activity
+activity_after TurnBegins before = before
+activity_after (Clock true) before = Ended
+activity_after (Clock false) Ended = Idle
+activity_after (Clock false) Moving = Moving
+activity_after (Clock false) Idle = Idle
+activity_after (Pulled side buffer (pulls.Got n) bytes) before = Moving
+activity_after (Pulled side buffer pulls.Idle bytes) before = Idle
+activity_after (Pulled side buffer pulls.Ended bytes) before = Ended
+activity_after (Offered side bytes (puts.Took n)) before = before
+activity_after (Offered side bytes puts.Failed) before = Ended
+
+-- The page is written in this call: at the second idle pull in a row, and at the first call after an end that returns
+-- nothing.
+abbrev pub is_written_at : PortCall → Activity → Bool
+is_written_at TurnBegins before = false
+is_written_at (Clock true) before = false
+is_written_at (Clock false) Moving = false
+is_written_at (Clock false) Idle = false
+is_written_at (Clock false) Ended = true
+is_written_at (Pulled side buffer (pulls.Got n) bytes) before = false
+is_written_at (Pulled side buffer pulls.Idle bytes) Moving = false
+is_written_at (Pulled side buffer pulls.Idle bytes) Idle = true
+is_written_at (Pulled side buffer pulls.Idle bytes) Ended = true
+is_written_at (Pulled side buffer pulls.Ended bytes) before = false
+is_written_at (Offered side bytes put) before = false
 
 -- the same call of the inner ports; a pull passes on at most as many bytes of the buffer as fit a line
 abbrev pub asked_within : PortCall → PortCall
@@ -71,4 +134,6 @@ pub record Records {P : Type 0} (transition : P → PortCall → P → Type 0) (
     (answer : PortCall) (new : Recorded P) : Type 0 where
   pub ports : transition old.ports (asked_within answer) new.ports
   pub piece : IsPiece answer
-  pub taken : RecordsEvent failed old.record_of (reported_by answer) new.record_of
+  pub taken : TakesCall failed old.record_of (reported_by answer) new.record_of
+  pub activity : new.activity ≡ activity_after answer old.activity
+  pub written : is_written_at answer old.activity ≡ true → new.record_of.ending ≡ Whole → new.record_of.unwritten ≡ []

@@ -42,8 +42,7 @@ use std::io::{Read, Write};
 /// Writes the end of a report: what its style adds after all moves, and the line of the counts.
 fn finish<A: Allocator, W: Write, S: Style>(
     sessions: &[Session<A>],
-    style: &mut S,
-    account: &mut ReportBuilder<'_, W>,
+    account: &mut ReportBuilder<'_, '_, W, S>,
 ) -> Result<S::Answer, LogFault>
     requires few { length sessions.now ≤ most_sessions }
     requires ready { All (IsReady account.old.head.limits.config (words_of account.old.head.words)) sessions.now }
@@ -53,7 +52,7 @@ fn finish<A: Allocator, W: Write, S: Style>(
     ensures refused { IfErr result (IsLateFault (S.form (words_of account.old.head.words))) }
     ensures same_writer { IsSameWriter account.old.output account.new.output }
 {
-    let answer = match style.close(
+    let answer = match account.style.close(
         &account.head,
         sessions,
         account.summary,
@@ -94,24 +93,18 @@ fn play<A: Allocator, R: LogReader, W: Write, S: Style>(
     sessions: &mut Vec<Session<A>, A>,
     lines: u32,
     input: &mut Input<'_, R>,
-    style: &mut S,
-    account: &mut ReportBuilder<'_, W>,
+    account: &mut ReportBuilder<'_, '_, W, S>,
 ) -> Result<S::Answer, LogFault>
     requires some { 1 ≤ length sessions.old.items }
     requires few { length sessions.old.items ≤ most_sessions }
     requires ready { All (IsReady account.old.head.limits.config (words_of account.old.head.words)) sessions.old.items }
     requires lines { lines ≤ most_lines }
     requires nothing { account.old.summary ≡ nothing_counted }
-    ensures report { (first : Reader) (before : Option (List ℕ)) →
+    ensures answered { (first : Reader) (before : Option (List ℕ)) →
         StartsReport (S.form (words_of account.old.head.words)) (R.reader_view input.old.reader.now) input.old.block
         lines account.old.head.version (states_of sessions.old.items) (all_of W.contents account.old.output) first before →
-        IfOk result (Reported (S.form (words_of account.old.head.words)) first (R.reader_view input.new.reader.now) before
-        (all_of W.contents account.new.output)) }
-    ensures refused { (first : Reader) (before : Option (List ℕ)) →
-        StartsReport (S.form (words_of account.old.head.words)) (R.reader_view input.old.reader.now) input.old.block
-        lines account.old.head.version (states_of sessions.old.items) (all_of W.contents account.old.output) first before →
-        IfErr result (IsFaultAfter (S.form (words_of account.old.head.words)) first (R.reader_view input.new.reader.now) before
-        (all_of W.contents account.new.output)) }
+        IsAnswered (S.form (words_of account.old.head.words)) first (R.reader_view input.new.reader.now) before
+        (all_of W.contents account.new.output) result }
     ensures same_reader { IsSameReader input.old input.new }
     ensures same_writer { IsSameWriter account.old.output account.new.output }
 {
@@ -120,23 +113,16 @@ fn play<A: Allocator, R: LogReader, W: Write, S: Style>(
     'lines: loop {
         let found = find_line(input, count, &mut account.output)?;
         if is_end(found) {
-            return finish(sessions, style, account);
+            return finish(sessions, account);
         }
         count += 1;
         let origin = LineContext {
             version: account.head.version,
             line: count,
         };
-        judge_line(
-            sessions,
-            input.line(found),
-            origin,
-            &mut bytes,
-            style,
-            account,
-        )?;
+        judge_line(sessions, input.line(found), origin, &mut bytes, account)?;
         if is_last(found) {
-            return finish(sessions, style, account);
+            return finish(sessions, account);
         }
         pass_line(&mut input.block, found);
     }
@@ -146,8 +132,7 @@ fn play<A: Allocator, R: LogReader, W: Write, S: Style>(
 fn report<A: Allocator + Copy, R: LogReader, W: Write, S: Style>(
     alloc: A,
     input: &mut Input<'_, R>,
-    style: &mut S,
-    account: &mut ReportBuilder<'_, W>,
+    account: &mut ReportBuilder<'_, '_, W, S>,
 ) -> Result<S::Answer, LogFault>
     requires unread { input.old.block ≡ [] }
     requires nothing { account.old.summary ≡ nothing_counted }
@@ -167,9 +152,9 @@ fn report<A: Allocator + Copy, R: LogReader, W: Write, S: Style>(
         Err(fault) => return Err(fault),
     };
     if !opened.is_ended {
-        return finish(&sessions, style, account);
+        return finish(&sessions, account);
     }
-    play(&mut sessions, opened.lines, input, style, account)
+    play(&mut sessions, opened.lines, input, account)
 }
 
 /// Writes the page at the end of a report, and returns the report's result, or `Write` if the page can't be written.
@@ -196,8 +181,7 @@ fn hand_over_rest<T: Copy, W: Write>(
 pub(crate) fn report_whole<A: Allocator + Copy, R: LogReader, W: Write, S: Style>(
     alloc: A,
     input: &mut Input<'_, R>,
-    style: &mut S,
-    account: &mut ReportBuilder<'_, W>,
+    account: &mut ReportBuilder<'_, '_, W, S>,
 ) -> Result<S::Answer, LogFault>
     requires unread { input.old.block ≡ [] }
     requires nothing { account.old.summary ≡ nothing_counted }
@@ -208,7 +192,7 @@ pub(crate) fn report_whole<A: Allocator + Copy, R: LogReader, W: Write, S: Style
     ensures same_reader { IsSameReader input.old input.new }
     ensures same_writer { IsSameWriter account.old.output account.new.output }
 {
-    let answer = report(alloc, input, style, account);
+    let answer = report(alloc, input, account);
     hand_over_rest(answer, &mut account.output)
 }
 
@@ -243,8 +227,9 @@ pub fn check_stream<A: Allocator + Copy, R: LogReader, W: Write>(
             writer,
         },
         head: Preamble::new(),
+        style: &mut PlainStyle,
     };
-    report_whole(alloc, &mut input, &mut PlainStyle, &mut account)
+    report_whole(alloc, &mut input, &mut account)
 }
 
 /// Reads a log, and writes its report: a line for each frame that became whole, each fault and each end, and the counts

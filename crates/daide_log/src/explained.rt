@@ -3,6 +3,7 @@
 ghost use Rattle.std.specs.Prelude.{◌≡◌, ◌*◌, ◌≤◌, ℕ, ◌++◌, ◌%◌, false, All, List, Option, drop, length, IfOk, IfSome, OnOk};
 ghost use Rattle.std.specs.Io.KnownBytes.{Appends};
 ghost use Rattle.daide_token.specs.Token.{tokens_of};
+ghost use Rattle.daide_token.specs.HexDigits.{digits_of_byte as digits_in};
 ghost use Rattle.daide_grammar.specs.SideMessages.{IsMessageOver};
 ghost use Rattle.daide_words.specs.Word.{grammar_words};
 ghost use Rattle.daide_words.specs.declared.word.Word.{Word};
@@ -10,7 +11,7 @@ ghost use Rattle.daide_words.specs.Words.{words_of};
 ghost use Rattle.daide_reader.specs.Verdict.{HasVerdict, IsPlaceIn};
 ghost use Rattle.daide_log_lines.specs.Output.{IsSameWriter, all_of};
 ghost use Rattle.daide_log_lines.specs.Reader.{silent};
-ghost use Rattle.daide_log.specs.Explained.{explained, is_remark, with_line_feed, message_text, pair, pairs, token_line, bytes_line, fault_lines};
+ghost use Rattle.daide_log.specs.Explained.{explained, is_remark, with_line_feed, message_text, pairs, token_line, bytes_line, fault_lines};
 ghost use Rattle.daide_log.specs.Explained.{AreRefusedLines, AreMessageLines, is_at_fault, verdict_by as verdict_of_deed};
 ghost use Rattle.daide_log.specs.Explained.{part_of as spec_part_of, unfinished_parts, parts_from, session_number as number_of};
 ghost use Rattle.daide_log.specs.Explaining.{part_by, part_with, HasPut};
@@ -21,13 +22,12 @@ ghost use Rattle.daide_protocol.specs.declared.config.Config.{Config};
 ghost use Rattle.daide_protocol.specs.Wires.{holding, is_awaited, queued};
 ghost use Rattle.daide_log.specs.Explaining.{IsRuled, IsRightFate, IsRightlyReported, AreLinesBy};
 ghost use Rattle.daide_log.specs.Progress.{IsAnswered, states_of};
-ghost use Rattle.daide_log.specs.Reporting.{IsIdle, IsUnder};
+ghost use Rattle.daide_log.specs.Reporting.{IsIdle};
 ghost use Rattle.daide_log.specs.Lawful.{explained_lawful};
 
 use crate::check::report_whole;
 use crate::heading::{Preamble, Version};
 use crate::page::{Unreported, put_byte, put_indented, put_message, put_part, put_text};
-use crate::record_text::DIGITS;
 use crate::report::Part;
 use crate::report_builder::ReportBuilder;
 use crate::style::Style;
@@ -44,7 +44,7 @@ use daide_protocol::transitions::side2_of;
 use daide_protocol::{Deed, Note, Summary};
 use daide_reader::Verdict;
 use daide_session::{Ending, Session};
-use daide_token::write_text_with;
+use daide_token::{digits_of_byte, write_text_with};
 use daide_words::Words;
 use std::alloc::Allocator;
 use std::io;
@@ -62,7 +62,6 @@ pub struct Explained {
 /// The style of a report with explanations. One text is allocated for all of them, and cleared before each.
 #[derive(Drop)]
 struct Explaining<B: Allocator> {
-    alloc: B,
     text: Vec<u8, B>,
 }
 
@@ -136,10 +135,9 @@ fn verdict_by(deed: Deed) -> Verdict
 
 /// Writes a byte as two upper-case hexadecimal digits.
 fn write_pair<B: Allocator>(byte: u8, text: &mut Vec<u8, B>) -> io::Result<()>
-    ensures { OnOk result (text.new.items ≡ text.old.items ++ pair byte) }
+    ensures { OnOk result (text.new.items ≡ text.old.items ++ digits_in byte) }
 {
-    let pair = [DIGITS[(byte / 16) as usize], DIGITS[(byte % 16) as usize]];
-    text.write_all(&pair)
+    text.write_all(&digits_of_byte(byte))
 }
 
 /// Writes bytes as pairs of upper-case digits, separated by spaces.
@@ -203,31 +201,35 @@ fn is_message(kind: Kind) -> bool
 
 /// Writes the lines for a side's message, which the session still holds.
 fn write_held<A: Allocator, B: Allocator + Copy>(
-    alloc: B,
     head: &Preamble,
     session: &Session<A>,
-    fate: (Side, Deed),
+    side: Side,
+    deed: Deed,
     text: &mut Vec<u8, B>,
 ) -> io::Result<()>
-    requires right { IsRightFate (words_of head.now.words) head.now.limits.config fate.0 fate.1 session.now }
+    requires right { IsRightFate (words_of head.now.words) head.now.limits.config side deed session.now }
     ensures { OnOk result ((lines : List ℕ)
-        × AreMessageLines (words_of head.now.words) (side2_of fate.0) (coming session.now.state fate.0).noted
-        head.now.limits.config.max_depth (drop 4 (holding session.now fate.0).held) (verdict_of_deed fate.1) lines
+        × AreMessageLines (words_of head.now.words) (side2_of side) (coming session.now.state side).noted
+        head.now.limits.config.max_depth (drop 4 (holding session.now side).held) (verdict_of_deed deed) lines
         × (text.new.items ≡ text.old.items ++ lines)) }
 {
-    let (side, deed) = fate;
     let rules = Rules {
         words: &head.words,
         end: side2_of(side),
         level: session.noted(side),
         max_depth: head.limits.config.max_depth,
     };
-    write_message(alloc, &rules, verdict_by(deed), session.body(side), text)
+    write_message(
+        *text.allocator(),
+        &rules,
+        verdict_by(deed),
+        session.body(side),
+        text,
+    )
 }
 
 /// Writes the lines for a side's faulty frame, which the session still holds.
 fn write_faulty<A: Allocator, B: Allocator + Copy>(
-    alloc: B,
     session: &Session<A>,
     side: Side,
     code: Code,
@@ -236,33 +238,32 @@ fn write_faulty<A: Allocator, B: Allocator + Copy>(
     ensures { OnOk result (text.new.items ≡ text.old.items ++ fault_lines code (holding session.now side).held) }
 {
     let parts: [&[u8]; 2] = [session.header(side), session.body(side)];
-    let bytes = parts.concat(alloc)?;
+    let bytes = parts.concat(*text.allocator())?;
     write_fault(code, bytes.as_slice(), text)
 }
 
 /// Writes the lines that explain a side's move, from the frame that the session still holds.
 fn write_lines<A: Allocator, B: Allocator + Copy>(
-    alloc: B,
     head: &Preamble,
     session: &Session<A>,
-    moved: (Side, Note),
+    side: Side,
+    reported: Note,
     text: &mut Vec<u8, B>,
 ) -> io::Result<()>
-    requires right { IsRightlyReported (words_of head.now.words) head.now.limits.config moved.0 moved.1 session.now }
+    requires right { IsRightlyReported (words_of head.now.words) head.now.limits.config side reported session.now }
     ensures { OnOk result ((lines : List ℕ)
-        × AreLinesBy (words_of head.now.words) head.now.limits.config.max_depth moved.0 moved.1 session.now lines
+        × AreLinesBy (words_of head.now.words) head.now.limits.config.max_depth side reported session.now lines
         × (text.new.items ≡ text.old.items ++ lines)) }
 {
-    let (side, reported) = moved;
     match reported {
         Note::Nothing => Ok(()),
         Note::Frame(frame, deed) => {
             if is_message(frame.kind) {
-                return write_held(alloc, head, session, (side, deed), text);
+                return write_held(head, session, side, deed, text);
             }
             Ok(())
         }
-        Note::Fault(code) => write_faulty(alloc, session, side, code, text),
+        Note::Fault(code) => write_faulty(session, side, code, text),
     }
 }
 
@@ -446,7 +447,7 @@ impl<B: Allocator + Copy> Style for Explaining<B> {
             return put_message(&head.words, body, output);
         }
         self.text.clear();
-        let Ok(()) = write_lines(self.alloc, head, session, (side, reported), &mut self.text) else {
+        let Ok(()) = write_lines(head, session, side, reported, &mut self.text) else {
             return Err(Unreported::Memory);
         };
         put_indented(self.text.as_slice(), output)
@@ -504,8 +505,9 @@ fn explain_over<A: Allocator + Copy, R: LogReader, W: Write>(
             writer,
         },
         head: Preamble::new(),
+        style,
     };
-    report_whole(alloc, &mut input, style, &mut account)
+    report_whole(alloc, &mut input, &mut account)
 }
 
 /// Reads a log, and writes its report with explanations, as `explain_log` does. Each read is made in time, as for
@@ -519,7 +521,6 @@ pub fn explain_stream<A: Allocator + Copy, R: LogReader, W: Write>(
         (W.contents writer.old) (W.contents writer.new) result }
 {
     let mut style = Explaining {
-        alloc,
         text: Vec::new(alloc),
     };
     explain_over(alloc, &mut style, reader, writer)

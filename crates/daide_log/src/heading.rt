@@ -3,10 +3,9 @@
 ghost use Rattle.std.specs.Prelude.{◌≡◌, IfSome, option_map};
 ghost use Rattle.daide_words.specs.Words.{words_of};
 ghost use Rattle.daide_log_lines.specs.LogLine.{is_name as has_name};
-ghost use Rattle.daide_log.specs.Heading.{version_of, limits_in, single_session, append_word, heading_after, has_all_words};
+ghost use Rattle.daide_log.specs.Heading.{version_of, limits_in, append_word, heading_after};
 ghost use Rattle.daide_log.specs.Heading.{HasSessions};
-ghost use Rattle.daide_log_lines.specs.WordLine.{word_of_line};
-ghost use Rattle.daide_log.specs.PreambleKnown.{preamble_of, heading_of, IsPreambleKnown, whole_preamble};
+ghost use Rattle.daide_log.specs.PreambleKnown.{heading_of, IsPreambleKnown, whole_preamble};
 
 use crate::config_line::{MatchConfig, read_config, read_match_config};
 use daide_log_lines::match_line::is_match_name;

@@ -45,8 +45,7 @@ pub fn judge<A: Allocator, W: Write, S: Style>(
     reported: ParsedEvent,
     source: ReportKey,
     bytes: &[u8; MOST],
-    style: &mut S,
-    account: &mut ReportBuilder<'_, W>,
+    account: &mut ReportBuilder<'_, '_, W, S>,
 ) -> Result<(), LogFault>
     requires ready { IsReady account.old.head.limits.config (words_of account.old.head.words) session.old }
     requires within { IsWithinPieceLimit reported }
@@ -63,10 +62,10 @@ pub fn judge<A: Allocator, W: Write, S: Style>(
 {
     match reported {
         ParsedEvent::Received(side, count) => {
-            as_fault(feed_all(session, side, &bytes[..count], source, style, account))
+            as_fault(feed_all(session, side, &bytes[..count], source, account))
         }
-        ParsedEvent::EndOf(side) => as_fault(end(session, side, source, style, account)),
-        ParsedEvent::ImTimerLine => as_fault(time_out(session, source, style, account)),
+        ParsedEvent::EndOf(side) => as_fault(end(session, side, source, account)),
+        ParsedEvent::ImTimerLine => as_fault(time_out(session, source, account)),
         ParsedEvent::Silence => Ok(()),
     }
 }
@@ -116,8 +115,7 @@ impl LineContext {
 /// Writes what the style reports for the line itself.
 fn quote<W: Write, S: Style>(
     line: &[u8],
-    style: &mut S,
-    account: &mut ReportBuilder<'_, W>,
+    account: &mut ReportBuilder<'_, '_, W, S>,
 ) -> Result<(), LogFault>
     ensures text { OnOk result ((text : List ℕ)
         × IsQuietWith (S.form (words_of account.old.head.words)) line.now text
@@ -127,7 +125,11 @@ fn quote<W: Write, S: Style>(
     ensures same_summary { account.new.summary ≡ account.old.summary }
     ensures same_writer { IsSameWriter account.old.output account.new.output }
 {
-    as_fault(style.quote(&account.head, line, &mut account.output))
+    as_fault(
+        account
+            .style
+            .quote(&account.head, line, &mut account.output),
+    )
 }
 
 /// Judges a line by the session that it names. Decodes a side's bytes into the buffer.
@@ -138,8 +140,7 @@ pub fn judge_line<A: Allocator, W: Write, S: Style>(
     line: &[u8],
     origin: LineContext,
     bytes: &mut [u8; MOST],
-    style: &mut S,
-    account: &mut ReportBuilder<'_, W>,
+    account: &mut ReportBuilder<'_, '_, W, S>,
 ) -> Result<(), LogFault>
     requires some { 1 ≤ length sessions.old.items }
     requires few { length sessions.old.items ≤ most_sessions }
@@ -161,19 +162,12 @@ pub fn judge_line<A: Allocator, W: Write, S: Style>(
     let count = sessions.len() as u16;
     match read_reported(origin.version, line, count, bytes) {
         None => Err(LogFault::BadLine(origin.line)),
-        Some(ParsedMatchEvent::Quiet) => quote(line, style, account),
+        Some(ParsedMatchEvent::Quiet) => quote(line, account),
         Some(ParsedMatchEvent::Of(session, reported)) => {
-            quote(line, style, account)?;
+            quote(line, account)?;
             let place = session as usize - 1;
             let source = origin.source(session);
-            judge(
-                &mut sessions[place],
-                reported,
-                source,
-                bytes,
-                style,
-                account,
-            )
+            judge(&mut sessions[place], reported, source, bytes, account)
         }
     }
 }

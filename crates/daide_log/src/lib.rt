@@ -27,6 +27,6 @@ pub use check::{check_log, check_stream};
 pub use daide_log_lines::LogFault;
 pub use daide_log_lines::reader::LogReader;
 pub use explained::{Explained, explain_log, explain_stream};
-pub use record::{Record, RecordEnd};
-pub use recording::Recording;
+pub use record::{Record, RecordEnd, RecordedEvent};
+pub use recording::{Activity, Recording};
 pub use sink::Sink;

@@ -38,8 +38,7 @@ fn tell<A: Allocator, W: Write, S: Style>(
     source: ReportKey,
     side: Side,
     reported: Note,
-    style: &mut S,
-    account: &mut ReportBuilder<'_, W>,
+    account: &mut ReportBuilder<'_, '_, W, S>,
 ) -> Result<(), Unreported>
     requires under { IsUnder account.old.head.limits.config (words_of account.old.head.words) session.now }
     requires made { (old : SessionView) × (events : List Event) × IsMade old events side reported session.now }
@@ -56,7 +55,7 @@ fn tell<A: Allocator, W: Write, S: Style>(
 {
     account.summary.count(reported);
     put_move(source, side, reported, &mut account.output)?;
-    style.explain(&account.head, session, side, reported, &mut account.output)
+    account.style.explain(&account.head, session, side, reported, &mut account.output)
 }
 
 /// Feeds a side's next bytes, which must fit its room, and reports the move that they cause, if there is one. Empties
@@ -67,8 +66,7 @@ fn feed_piece<A: Allocator, W: Write, S: Style>(
     side: Side,
     piece: &[u8],
     source: ReportKey,
-    style: &mut S,
-    account: &mut ReportBuilder<'_, W>,
+    account: &mut ReportBuilder<'_, '_, W, S>,
 ) -> Result<(), Unreported>
     requires ready { IsReady account.old.head.limits.config (words_of account.old.head.words) session.old }
     requires few { length piece.now ≤ room_of session.old side }
@@ -87,7 +85,7 @@ fn feed_piece<A: Allocator, W: Write, S: Style>(
     if let Note::Nothing = reported {
         return Ok(());
     }
-    let written = tell(session, source, side, reported, style, account);
+    let written = tell(session, source, side, reported, account);
     take_answers(session);
     written
 }
@@ -98,8 +96,7 @@ pub fn feed_all<A: Allocator, W: Write, S: Style>(
     side: Side,
     bytes: &[u8],
     source: ReportKey,
-    style: &mut S,
-    account: &mut ReportBuilder<'_, W>,
+    account: &mut ReportBuilder<'_, '_, W, S>,
 ) -> Result<(), Unreported>
     requires ready { IsReady account.old.head.limits.config (words_of account.old.head.words) session.old }
     requires room { HasRoom (length bytes.now) account.old.summary }
@@ -115,7 +112,7 @@ pub fn feed_all<A: Allocator, W: Write, S: Style>(
     let mut rest = bytes;
     while !rest.is_empty() && !session.is_over() {
         let (piece, more) = rest.split_at(rest.len().min(session.room(side)));
-        feed_piece(session, side, piece, source, style, account)?;
+        feed_piece(session, side, piece, source, account)?;
         rest = more;
     }
     Ok(())
@@ -126,8 +123,7 @@ pub fn end<A: Allocator, W: Write, S: Style>(
     session: &mut Session<A>,
     side: Side,
     source: ReportKey,
-    style: &mut S,
-    account: &mut ReportBuilder<'_, W>,
+    account: &mut ReportBuilder<'_, '_, W, S>,
 ) -> Result<(), Unreported>
     requires ready { IsReady account.old.head.limits.config (words_of account.old.head.words) session.old }
     requires room { HasRoom 1 account.old.summary }
@@ -142,7 +138,7 @@ pub fn end<A: Allocator, W: Write, S: Style>(
 {
     let ended = session.ended(side);
     if ended {
-        let written = tell(session, source, side, Note::Nothing, style, account);
+        let written = tell(session, source, side, Note::Nothing, account);
         take_answers(session);
         return written;
     }
@@ -154,8 +150,7 @@ pub fn end<A: Allocator, W: Write, S: Style>(
 pub fn time_out<A: Allocator, W: Write, S: Style>(
     session: &mut Session<A>,
     source: ReportKey,
-    style: &mut S,
-    account: &mut ReportBuilder<'_, W>,
+    account: &mut ReportBuilder<'_, '_, W, S>,
 ) -> Result<(), Unreported>
     requires ready { IsReady account.old.head.limits.config (words_of account.old.head.words) session.old }
     requires room { HasRoom 1 account.old.summary }
@@ -175,7 +170,7 @@ pub fn time_out<A: Allocator, W: Write, S: Style>(
         take_answers(session);
         return Ok(());
     }
-    let written = tell(session, source, Side::Bot, reported, style, account);
+    let written = tell(session, source, Side::Bot, reported, account);
     take_answers(session);
     written
 }

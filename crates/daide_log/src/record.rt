@@ -1,15 +1,16 @@
 //! The record of a session: a log of its ports' calls, in the form that `check_log` reads.
 //!
-//! Lines are collected in a page, and written in blocks of whole lines.
+//! Lines are collected in a page. It is written, as a block of whole lines, when it is full, and when `Recording` finds
+//! that no more bytes move.
 
-ghost use Rattle.std.specs.Prelude.{◌≡◌, ◌≢◌, ◌<◌, ◌≤◌, [], Some, OnOk, OnErr, length};
+ghost use Rattle.std.specs.Prelude.{◌≡◌, ◌≢◌, ◌<◌, ◌≤◌, true, false, [], None, Some, OnOk, OnErr, length};
 ghost use Rattle.std.specs.Io.KnownBytes.{Keeps, append_known};
 ghost use Rattle.daide_words.specs.Words.{words_of};
-ghost use Rattle.daide_log_lines.specs.LogLine.{most_lines, longest_piece, EndOf, ImTimerLine};
-ghost use Rattle.daide_log.specs.RecordText.{piece_of, head_text, head_count};
-ghost use Rattle.daide_log.specs.Recording.{RecordsEvent, HasFailed, most_held};
+ghost use Rattle.daide_log_lines.specs.LogLine.{LogEvent, most_lines};
+ghost use Rattle.daide_log.specs.RecordText.{head_text, head_count};
+ghost use Rattle.daide_log.specs.Recording.{RecordsEvent, KeepsText, HasFailed, FitsLine, line_event, most_held};
 
-use crate::record_text::{put_end, put_head, put_piece, put_timer};
+use crate::record_text::{put_event, put_head};
 use crate::sink::Sink;
 use daide_frame::Side;
 pub use daide_log_lines::lines::MOST_LINES;
@@ -22,6 +23,31 @@ use std::marker::Model;
 
 /// The most bytes of a page after which the longest line still fits.
 const FRONT: usize = PAGE - LONGEST_LINE;
+
+/// What a record has a line of.
+#[derive(Clone, Copy)]
+pub enum RecordedEvent<'a> {
+    /// Bytes received from a side. No bytes have no line.
+    Received(Side, &'a [u8]),
+    /// The end of a side, or a failed wire toward it.
+    EndOf(Side),
+    /// The IM timer expired.
+    ImTimer,
+}
+
+impl RecordedEvent<'_> {
+    /// Returns whether the event has no line.
+    fn is_silent(self) -> bool
+        ensures silent { result ≡ true → line_event self.entry ≡ None }
+        ensures lined { result ≡ false → (event : LogEvent) × (line_event self.entry ≡ Some event) }
+    {
+        match self {
+            RecordedEvent::Received(_, bytes) => bytes.is_empty(),
+            RecordedEvent::EndOf(_) => false,
+            RecordedEvent::ImTimer => false,
+        }
+    }
+}
 
 /// How a record ended, or would end now.
 #[derive(Clone, Copy, Debug, PartialEq, Eq)]
@@ -51,6 +77,7 @@ impl<W: Sink + Drop> Model for Record<W> {
 
     ghost view = { λ r. record {
       text = append_known (W.contents r.writer) r.held.items;
+      unwritten = r.held.items;
       lines = r.lines;
       ending = r.ending;
     } };
@@ -123,6 +150,7 @@ impl<W: Sink + Drop> Record<W> {
     pub fn new(writer: W, config: Config, words: Words) -> Record<W>
         ensures { result ≡ record {
           text = append_known (W.contents writer) (head_text config (words_of words));
+          unwritten = head_text config (words_of words);
           lines = head_count (words_of words);
           ending = RecordEnd.Whole;
         } }
@@ -144,47 +172,38 @@ impl<W: Sink + Drop> Record<W> {
         self.ending
     }
 
-    /// Records bytes of a side, at most as many as a line has.
-    pub fn came(&mut self, side: Side, bytes: &[u8])
-        requires { length bytes.now ≤ longest_piece }
-        ensures { RecordsEvent (HasFailed W.Fails) self.old (piece_of side bytes.now) self.new }
+    /// Records an event, with at most as many bytes as a line has.
+    pub fn record(&mut self, event: RecordedEvent<'_>)
+        requires { FitsLine event }
+        ensures { RecordsEvent (HasFailed W.Fails) self.old (line_event event.entry) self.new }
     {
-        if bytes.is_empty() || self.ending != RecordEnd::Whole {
+        if event.is_silent() || self.ending != RecordEnd::Whole {
             return;
         }
         self.ending = make_room(&mut self.held, self.lines, &mut self.writer);
         if self.ending == RecordEnd::Whole {
-            put_piece(side, bytes, &mut self.held);
+            put_event(event, &mut self.held);
             self.lines += 1;
         }
     }
 
-    /// Records that a side ended, or that the wire toward it failed.
-    pub fn ended(&mut self, side: Side)
-        ensures { RecordsEvent (HasFailed W.Fails) self.old (Some (EndOf side)) self.new }
+    /// Writes the page of a whole record. If that fails, the record has failed.
+    #[tactic(auto, using(crate::proofs::PauseLemmas::unwritten_kept, crate::proofs::PauseLemmas::page_written, crate::proofs::PauseLemmas::page_lost))]
+    pub fn flush(&mut self)
+        ensures kept { KeepsText (HasFailed W.Fails) self.old self.new }
+        ensures written { self.new.ending ≡ RecordEnd.Whole → self.new.unwritten ≡ [] }
     {
         if self.ending != RecordEnd::Whole {
             return;
         }
-        self.ending = make_room(&mut self.held, self.lines, &mut self.writer);
-        if self.ending == RecordEnd::Whole {
-            put_end(side, &mut self.held);
-            self.lines += 1;
+        if let Err(_) = hand_over(&mut self.held, &mut self.writer) {
+            self.ending = RecordEnd::Failed;
         }
     }
 
-    /// Records that the time for the initial message is over.
-    pub fn timed_out(&mut self)
-        ensures { RecordsEvent (HasFailed W.Fails) self.old (Some ImTimerLine) self.new }
-    {
-        if self.ending != RecordEnd::Whole {
-            return;
-        }
-        self.ending = make_room(&mut self.held, self.lines, &mut self.writer);
-        if self.ending == RecordEnd::Whole {
-            put_timer(&mut self.held);
-            self.lines += 1;
-        }
+    /// Returns the writer.
+    pub fn writer(&self) -> &W {
+        &self.writer
     }
 
     /// Hands over what is held of a record that did not fail, and returns the writer and how the record ended.

@@ -1,33 +1,33 @@
 //! The lines of a record, each appended to its page.
 
-ghost use Rattle.std.specs.Prelude.{◌≡◌, ◌≤◌, ◌+◌, ◌*◌, ◌/◌, ◌%◌, ◌∷◌, ◌++◌, [], length, slice_index};
-ghost use Rattle.hex.specs.Hex.{encode_upper, upper_digits};
+ghost use Rattle.std.specs.Prelude.{◌≡◌, ◌≤◌, ◌+◌, ◌*◌, ◌∷◌, ◌++◌, [], Some, length};
+ghost use Rattle.hex.specs.Hex.{encode_upper};
+ghost use Rattle.daide_token.specs.HexDigits.{digits_of_byte as digits_in};
 ghost use Rattle.daide_words.specs.Words.{words_of};
-ghost use Rattle.daide_log_lines.specs.LogLine.{Received, EndOf, ImTimerLine, longest_piece};
+ghost use Rattle.daide_log_lines.specs.LogLine.{LogEvent, Received, EndOf, longest_piece};
 ghost use Rattle.daide_log_lines.specs.Output.{page_size};
-ghost use Rattle.daide_log.specs.Recording.{most_held};
-ghost use Rattle.daide_log.specs.RecordText.{event_line};
+ghost use Rattle.daide_log.specs.Recording.{FitsLine, line_event, most_held};
+ghost use Rattle.daide_log.specs.RecordText.{event_line, line_reported};
 ghost use Rattle.daide_log.specs.RecordText.{word_text, config_text, head_text};
 
+use crate::record::RecordedEvent;
 use crate::report::{put, put_number, put_side};
 use daide_frame::Side;
 use daide_log_lines::page::Page;
 use daide_protocol::Config;
+use daide_token::digits_of_byte;
 use daide_words::{Word, Words};
-
-/// The hexadecimal digits, in upper case.
-pub(crate) const DIGITS: &[u8; 16] = b"0123456789ABCDEF";
 
 /// Appends the two digits of a byte.
 #[inline(always)]
 fn put_byte(byte: u8, line: &mut Page)
     requires { length line.old.items + 2 ≤ page_size }
-    ensures text { line.new.items ≡ line.old.items ++ slice_index upper_digits (byte / 16)
-        ∷ slice_index upper_digits (byte % 16) ∷ [] }
+    ensures text { line.new.items ≡ line.old.items ++ digits_in byte }
     ensures length { length line.new.items ≡ length line.old.items + 2 }
 {
-    line.push(DIGITS[(byte / 16) as usize]);
-    line.push(DIGITS[(byte % 16) as usize]);
+    let [high, low] = digits_of_byte(byte);
+    line.push(high);
+    line.push(low);
 }
 
 /// Appends bytes in hexadecimal digits.
@@ -44,7 +44,7 @@ fn put_bytes(bytes: &[u8], line: &mut Page)
 
 /// Appends the line of bytes received from a side.
 #[tactic(auto, unfolding(crate::specs::RecordText::event_line, crate::specs::RecordText::event_text))]
-pub fn put_piece(side: Side, bytes: &[u8], line: &mut Page)
+fn put_piece(side: Side, bytes: &[u8], line: &mut Page)
     requires few { length bytes.now ≤ longest_piece }
     requires room { length line.old.items ≤ most_held }
     ensures { line.new.items ≡ line.old.items ++ event_line (Received side bytes.now) }
@@ -57,7 +57,7 @@ pub fn put_piece(side: Side, bytes: &[u8], line: &mut Page)
 
 /// Appends the line of a side's end.
 #[tactic(auto, unfolding(crate::specs::RecordText::event_line, crate::specs::RecordText::event_text))]
-pub fn put_end(side: Side, line: &mut Page)
+fn put_end(side: Side, line: &mut Page)
     requires { length line.old.items ≤ most_held }
     ensures { line.new.items ≡ line.old.items ++ event_line (EndOf side) }
 {
@@ -67,13 +67,19 @@ pub fn put_end(side: Side, line: &mut Page)
     }
 }
 
-/// Appends the line of the IM timer.
+/// Appends the line of an event, if it has one.
 #[tactic(auto, unfolding(crate::specs::RecordText::event_line, crate::specs::RecordText::event_text))]
-pub fn put_timer(line: &mut Page)
-    requires { length line.old.items ≤ most_held }
-    ensures { line.new.items ≡ line.old.items ++ event_line ImTimerLine }
+pub fn put_event(event: RecordedEvent<'_>, line: &mut Page)
+    requires few { FitsLine event }
+    requires lined { (lined : LogEvent) × (line_event event ≡ Some lined) }
+    requires room { length line.old.items ≤ most_held }
+    ensures { line.new.items ≡ line.old.items ++ line_reported (line_event event.entry) }
 {
-    put(b"1 timer\n", line);
+    match event {
+        RecordedEvent::Received(side, bytes) => put_piece(side, bytes, line),
+        RecordedEvent::EndOf(side) => put_end(side, line),
+        RecordedEvent::ImTimer => put(b"1 timer\n", line),
+    }
 }
 
 /// Appends the line of the limits, with one session and this number of words.

@@ -1,17 +1,27 @@
 //! Ports that record their calls.
 
-ghost use Rattle.std.specs.Prelude.{◌≡◌};
+ghost use Rattle.std.specs.Prelude.{◌≡◌, ◌≢◌, []};
 ghost use Rattle.daide_io.specs.Ports.{TurnBegins};
 ghost use Rattle.daide_io.specs.System.{BeginsTurn};
-ghost use Rattle.std.specs.Io.KnownBytes.{Keeps};
 
-use crate::record::{Record, RecordEnd};
+use crate::record::{Record, RecordEnd, RecordedEvent};
 use crate::sink::Sink;
 use daide_frame::Side;
 use daide_io::ports::{Ports, Pull, Put};
 use daide_io::system::System;
 use daide_log_lines::event_line::MOST;
 use std::marker::Model;
+
+/// Whether bytes move between the two sides, by what the ports returned last.
+#[derive(Clone, Copy, Debug, PartialEq, Eq)]
+pub enum Activity {
+    /// The last pull returned bytes, or none was made yet.
+    Moving,
+    /// The last pull returned nothing.
+    Idle,
+    /// A side ended or failed, or the IM timer expired, and nothing was returned since.
+    Ended,
+}
 
 /// Ports that record what they return to a session: bytes received, ends, the IM timer, and a failed wire as the end of
 /// its side. They return what the inner ports return, which get at most 1,024 bytes of a buffer (`asked_within`).
@@ -20,11 +30,17 @@ use std::marker::Model;
 /// while it has fewer than 1,000,000 lines; else it hands over what it holds, and is full. A record that failed or is
 /// full does not change.
 ///
+/// The record is written when no more bytes move, so that its writer has all of it before a run waits: at the second
+/// idle pull in a row, and in the turn after an end (`written`).
+///
 /// Premise: a writer that records its bytes.
 #[derive(Drop)]
 pub struct Recording<P: Ports, W: Sink + Drop> {
     ports: P,
     log: Record<W>,
+    activity: Activity,
+    /// How the record would have ended when the turn began.
+    ending_before: RecordEnd,
 }
 
 impl<P: Ports, W: Sink + Drop> Model for Recording<P, W> {
@@ -32,17 +48,23 @@ impl<P: Ports, W: Sink + Drop> Model for Recording<P, W> {
 
     ghost Value = { Recorded P };
 
-    ghost view = { λ r. record { ports = r.ports; record_of = r.log } };
+    ghost view = { λ r. record { ports = r.ports; record_of = r.log; activity = r.activity } };
 }
 
 impl<P: Ports, W: Sink + Drop> Recording<P, W> {
-    ghost use Rattle.daide_log.specs.Recording.{Records, HasFailed};
+    ghost use Rattle.daide_log.specs.Recording.{Records, KeepsText, TakesCall, HasFailed, FitsLine, line_event};
 
     /// Wraps ports, whose calls are recorded from now on.
     pub fn new(ports: P, log: Record<W>) -> Recording<P, W>
-        ensures { result ≡ record { ports = ports; record_of = log } }
+        ensures { result ≡ record { ports = ports; record_of = log; activity = Activity.Moving } }
     {
-        Recording { ports, log }
+        let ending_before = log.ending();
+        Recording {
+            ports,
+            log,
+            activity: Activity::Moving,
+            ending_before,
+        }
     }
 
     /// Has the system begin a turn with the inner ports. The record is unchanged.
@@ -50,7 +72,40 @@ impl<P: Ports, W: Sink + Drop> Recording<P, W> {
         ensures begins { Records P.transition (HasFailed W.Fails) self.old TurnBegins self.new }
         ensures asked { S.transition system.old (BeginsTurn self.old.ports self.new.ports) system.new }
     {
+        self.ending_before = self.log.ending();
         system.begin_turn(&mut self.ports);
+    }
+
+    /// Returns whether the record failed or became full since the last turn began.
+    pub fn has_just_ended(&self) -> bool {
+        self.log.ending() != self.ending_before
+    }
+
+    /// Records an event, after which bytes move or do not.
+    #[tactic(auto, using(crate::proofs::PauseLemmas::event_taken))]
+    fn record_event(&mut self, event: RecordedEvent<'_>, activity: Activity)
+        requires { FitsLine event }
+        ensures ports { self.new.ports ≡ self.old.ports }
+        ensures taken { TakesCall (HasFailed W.Fails) self.old.record_of (line_event event.entry) self.new.record_of }
+        ensures activity { self.new.activity ≡ activity }
+    {
+        self.log.record(event);
+        self.activity = activity;
+    }
+
+    /// Notes that nothing was returned, and writes the record if no bytes moved before.
+    #[tactic(auto, using(crate::proofs::PauseLemmas::unwritten_kept))]
+    fn pause(&mut self)
+        ensures ports { self.new.ports ≡ self.old.ports }
+        ensures kept { KeepsText (HasFailed W.Fails) self.old.record_of self.new.record_of }
+        ensures written { self.old.activity ≢ Activity.Moving → self.new.record_of.ending ≡ RecordEnd.Whole →
+            self.new.record_of.unwritten ≡ [] }
+        ensures activity { self.new.activity ≡ Activity.Idle }
+    {
+        if self.activity != Activity::Moving {
+            self.log.flush();
+        }
+        self.activity = Activity::Idle;
     }
 
     /// Returns the inner ports.
@@ -71,7 +126,12 @@ impl<P: Ports, W: Sink + Drop> Recording<P, W> {
     pub fn into_parts(self) -> (P, Record<W>)
         ensures { result ≡ (self.ports, self.record_of) }
     {
-        let Recording { ports, log } = self;
+        let Recording {
+            ports,
+            log,
+            activity: _,
+            ending_before: _,
+        } = self;
         (ports, log)
     }
 }
@@ -85,9 +145,14 @@ impl<P: Ports, W: Sink + Drop> Ports for Recording<P, W> {
         let most = buffer.len().min(MOST);
         let pull = self.ports.pull(side, &mut buffer[..most]);
         match pull {
-            Pull::Got(count) => self.log.came(side, &buffer[..count]),
-            Pull::Idle => {}
-            Pull::Ended => self.log.ended(side),
+            Pull::Got(count) => {
+                self.record_event(
+                    RecordedEvent::Received(side, &buffer[..count]),
+                    Activity::Moving,
+                );
+            }
+            Pull::Idle => self.pause(),
+            Pull::Ended => self.record_event(RecordedEvent::EndOf(side), Activity::Ended),
         }
         pull
     }
@@ -95,7 +160,7 @@ impl<P: Ports, W: Sink + Drop> Ports for Recording<P, W> {
     fn put(&mut self, side: Side, bytes: &[u8]) -> Put {
         let put = self.ports.put(side, bytes);
         if put == Put::Failed {
-            self.log.ended(side);
+            self.record_event(RecordedEvent::EndOf(side), Activity::Ended);
         }
         put
     }
@@ -103,7 +168,9 @@ impl<P: Ports, W: Sink + Drop> Ports for Recording<P, W> {
     fn clock_popped(&mut self) -> bool {
         let im_timer_expired = self.ports.clock_popped();
         if im_timer_expired {
-            self.log.timed_out();
+            self.record_event(RecordedEvent::ImTimer, Activity::Ended);
+        } else if self.activity == Activity::Ended {
+            self.pause();
         }
         im_timer_expired
     }

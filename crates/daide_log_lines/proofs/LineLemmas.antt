@@ -6,7 +6,7 @@ use Rattle.std.proofs.lemmas.List.{drop-take, drop-drop, take-append-drop, take-
 use Rattle.std.proofs.lemmas.Bool.{eqb-true}
 use Rattle.std.specs.Prelude.{IfSome, IfOk}
 use Rattle.std.proofs.Math.Seq.{take-append-add}
-use Rattle.std.specs.Io.KnownBytes.{Consumes, Keeps, append_known}
+use Rattle.std.specs.Io.KnownBytes.{Consumes, Keeps}
 use Rattle.daide_log_lines.specs.Reader.{Reader, LogRead, AddsReads, all_came, AtEach, Gives}
 use Rattle.daide_log_lines.specs.LogLine.{IsUnbroken, MayBeginLine, longest_line, most_lines, without_cr}
 use Rattle.daide_log_lines.specs.declared.fault.LogFault.{LogFault}
@@ -14,8 +14,8 @@ use Rattle.daide_log_lines.specs.declared.fault.LogFault.TheVariants as Faults
 use Rattle.daide_log_lines.specs.declared.lines.LineEnd.{LineEnd}
 use Rattle.daide_log_lines.specs.declared.lines.LineEnd.TheVariants.{Held, Line, Last, End}
 use Rattle.daide_log_lines.specs.Input.{IsCopied, LiesIn, line_in, rest_in}
-use Rattle.daide_log_lines.specs.Lines.{ReadsBlock, ReadsOn, IsInLine, Scans, HasMore, IsFound, IsHeldLine, IsLineEnd, block_size}
-use Rattle.daide_log_lines.proofs.PageLemmas.{keeps_more, none_held}
+use Rattle.daide_log_lines.specs.Lines.{ReadsOn, IsInLine, Scans, HasMore, IsFound, IsHeldLine, IsLineEnd, block_size}
+use Rattle.daide_log_lines.proofs.PageLemmas.{keeps_more}
 
 pub unbroken_append : (a b : List ℕ) → IsUnbroken a → IsUnbroken b → IsUnbroken (a ++ b)
 unbroken_append [] b h k = k
@@ -379,22 +379,10 @@ more_read all old new held block (Err Faults.Read) e r = (
   r.1.2,
 )
 
--- the block has a byte, and nothing was read
-pub more_held : (all : Option (List ℕ)) (old : Reader) (held : List ℕ) → 0 < length held → length held ≤ block_size →
-    HasMore all old held (Ok true) old held
-more_held all old held some few = (([], gives_none (IsInLine all held most_lines) old, append-nil held), some, few)
-
 -- the page was written before
 pub reads_kept : (all now : Option (List ℕ)) (old new : Reader) (block : List ℕ) (result : Result Bool LogFault) →
     Keeps all now → ReadsOn now old new block result → ReadsOn all old new block result
 reads_kept all now old new block result k r = (r.0, r.1, keeps_more all now r.0 k r.2)
-
--- one read, before which the page was written
-pub read_handed : (all kept : Option (List ℕ)) (page : List ℕ) (old new : Reader) (block : List ℕ)
-    (result : Result Bool LogFault) → Keeps all (append_known kept page) → page ≡ [] →
-    ReadsBlock kept old new block result → ReadsOn all old new block result
-read_handed all kept page old new block result k none r =
-    (kept, r, subst (Keeps all) (ap (append_known kept) none ∙ none_held kept) k)
 
 -- ---- a block
 

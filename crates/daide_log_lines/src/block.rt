@@ -1,7 +1,6 @@
 //! The read buffer of a log.
 
-ghost use Rattle.std.specs.Prelude.{◌≡◌, ◌≤◌, [], length, drop, Ok, IfOk, IfErr, true, false};
-ghost use Rattle.std.specs.Io.KnownBytes.{Consumes, Keeps, IsAtEnd};
+ghost use Rattle.std.specs.Prelude.{◌≡◌, ◌≤◌, [], length, drop, Ok};
 ghost use Rattle.daide_log_lines.specs.Lines.{ReadsBlock, block_size};
 
 use crate::fault::LogFault;

@@ -1,7 +1,7 @@
 //! The parts of lines: numbers, and words followed by a space.
 
 ghost use Rattle.std.specs.Prelude.{◌≡◌, option_map};
-ghost use Rattle.daide_log_lines.specs.LogLine.{number_on, plain_number, Parted, parted_at_space};
+ghost use Rattle.daide_log_lines.specs.LogLine.{number_on, plain_number, parted_at_space};
 
 /// Parses decimal digits as a number of 16 bits.
 fn number_of(digits: &[u8]) -> Option<u16>

@@ -1,6 +1,7 @@
 -- The answer to a frame: the frame itself, or a DM with its body within PRN or HUH, by docs/PROTOCOL.md, "Verdicts". It
 -- is written with pad 0.
 use Rattle.std.specs.Prelude.{ℕ, ◌+◌, ◌*◌, List, [], ◌∷◌, ◌++◌, take, drop}
+use Rattle.daide_token.specs.Token.{bra, ket, huh, prn, err, bytes_of_tokens}
 use Rattle.daide_frame.specs.declared.head.Kind.TheVariants.{Dm}
 use Rattle.daide_frame.specs.declared.head.Head.{Head}
 use Rattle.daide_frame.specs.Head.{head_bytes}
@@ -9,16 +10,16 @@ use Rattle.daide_reader.specs.declared.verdict.Verdict.TheVariants.{Relay, Prn, 
 
 -- the bytes of the tokens PRN (, of HUH (, of ERR and of )
 abbrev pub prn_open : List ℕ
-prn_open = 0x48 ∷ 0x13 ∷ 0x40 ∷ 0x00 ∷ []
+prn_open = bytes_of_tokens (prn ∷ bra ∷ [])
 
 abbrev pub huh_open : List ℕ
-huh_open = 0x48 ∷ 0x06 ∷ 0x40 ∷ 0x00 ∷ []
+huh_open = bytes_of_tokens (huh ∷ bra ∷ [])
 
 abbrev pub err_bytes : List ℕ
-err_bytes = 0x49 ∷ 0x02 ∷ []
+err_bytes = bytes_of_tokens (err ∷ [])
 
 abbrev pub close_bytes : List ℕ
-close_bytes = 0x40 ∷ 0x01 ∷ []
+close_bytes = bytes_of_tokens (ket ∷ [])
 
 -- the body of the answer to a body: PRN ( body ) if its brackets are not paired; HUH ( body ), with ERR after `place`
 -- of its tokens, if the grammar has no such message

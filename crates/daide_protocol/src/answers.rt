@@ -10,18 +10,35 @@ ghost use Rattle.daide_protocol.specs.Machine.{em_bytes};
 
 use daide_frame::{Code, Head, Kind};
 use daide_reader::Verdict;
+use daide_token::{BRA, ERR, HUH, KET, PRN};
 
 /// `PRN (`, before a message with unpaired brackets.
-pub const PRN_OPEN: [u8; 4] = [0x48, 0x13, 0x40, 0x00];
+pub const PRN_OPEN: [u8; 4] = [
+    (PRN / 256) as u8,
+    (PRN % 256) as u8,
+    (BRA / 256) as u8,
+    (BRA % 256) as u8,
+];
 
 /// `HUH (`, before a message that is not in the grammar.
-pub const HUH_OPEN: [u8; 4] = [0x48, 0x06, 0x40, 0x00];
+pub const HUH_OPEN: [u8; 4] = [
+    (HUH / 256) as u8,
+    (HUH % 256) as u8,
+    (BRA / 256) as u8,
+    (BRA % 256) as u8,
+];
 
 /// `ERR`, before the first token that no message continues.
-pub const ERR_WORD: [u8; 2] = [0x49, 0x02];
+pub const ERR_WORD: [u8; 2] = [(ERR / 256) as u8, (ERR % 256) as u8];
 
 /// `)`, after the message.
-pub const CLOSE_WORD: [u8; 2] = [0x40, 0x01];
+pub const CLOSE_WORD: [u8; 2] = [(KET / 256) as u8, (KET % 256) as u8];
+
+/// How many bytes `PRN ( .. )` adds to a message.
+pub const PRN_BYTES: usize = PRN_OPEN.len() + CLOSE_WORD.len();
+
+/// How many bytes `HUH ( .. ERR .. )` adds to a message.
+pub const HUH_BYTES: usize = HUH_OPEN.len() + ERR_WORD.len() + CLOSE_WORD.len();
 
 /// A final message.
 pub const FM: [u8; 4] = [3, 0, 0, 0];
@@ -57,11 +74,11 @@ pub fn answer_head(head: Head, verdict: Verdict) -> Head
         Verdict::Relay => head,
         Verdict::Prn => Head {
             kind: Kind::Dm,
-            len: head.len + 6,
+            len: head.len + PRN_BYTES as u16,
         },
         Verdict::Huh(_) => Head {
             kind: Kind::Dm,
-            len: head.len + 8,
+            len: head.len + HUH_BYTES as u16,
         },
     }
 }

@@ -1,8 +1,10 @@
 //! The limits on a peer (the longest body, the deepest message), and on the number of sessions.
 
+use crate::answers::HUH_BYTES;
+
 /// The longest body of a frame, in bytes: 65,534, the greatest even length, less the eight bytes that a HUH adds to its
 /// message, so that every answer fits in a frame.
-pub const MAX_BODY: u16 = 65_534 - 8;
+pub const MAX_BODY: u16 = u16::MAX - 1 - HUH_BYTES as u16;
 
 /// The minimum of `Config::max_body`.
 pub const MIN_BODY: u16 = 512;

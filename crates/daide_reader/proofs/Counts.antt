@@ -3,7 +3,7 @@ use Rattle.std.proofs.Common.{◌≡◌, ◌≢◌, ℕ, ◌+◌, ◌-◌, ◌*�
 use Rattle.std.proofs.Common.{◌∙◌, arith}
 use Rattle.std.proofs.lemmas.List.{length-reverse, length-take-le}
 use Rattle.daide_grammar.specs.declared.symbol.Sym.{Sym}
-use Rattle.daide_reader.specs.Bounds.{longest_message, most_symbols, most_tokens}
+use Rattle.daide_reader.specs.Bounds.{below_zero, longest_message, most_symbols, most_tokens}
 
 -- a token of a body
 module _ (size next : ℕ) (less : next < size / 2) where
@@ -51,7 +51,7 @@ all_of next end upto all = omega arith
 
 -- the number of brackets that may be open is small
 pub count_low : (opened max_depth size : ℕ) → opened ≤ max_depth → size ≤ most_symbols → 8 * max_depth + 16 ≤ size
-    → opened < 65534
+    → opened + 1 < below_zero
 count_low opened max_depth size deep small at_depth_limit = omega arith
 
 -- fewer tokens are left

@@ -17,6 +17,7 @@ use Rattle.daide_grammar.specs.Table.Laws.{IsCorrectPrediction}
 use Rattle.daide_grammar.specs.Paired.{begins_with_prn}
 use Rattle.daide_grammar.specs.Table.Brackets.{is_bra, is_ket, excess_or_none, count_one}
 use Rattle.daide_reader.specs.declared.outline.Outline.{Outline}
+use Rattle.daide_reader.specs.Bounds.{below_zero}
 use Rattle.daide_reader.specs.Outline.{IsOutlineOf, with_token, outline_of, count_all}
 use Rattle.daide_reader.specs.Reading.{Reading, HasReadPrefix, StackOrPlace, IsSteady, reading, tokens_read}
 use Rattle.std.specs.Prelude.{nat_eq, if◌then◌else◌}
@@ -249,7 +250,7 @@ steady_on old_lawful lawful size max_depth old_stack stack old o old_unclosed ol
     }
 
 pub open_told : (n k : ℕ) → open_count n ≡ Some k → n ≡ k
-open_told n k e = go (nat_eq n 65535) e
+open_told n k e = go (nat_eq n below_zero) e
   where
     go : (b : Bool) → (if b then None else Some n) ≡ Some k → n ≡ k
     go true e = cc

@@ -20,6 +20,7 @@ use Rattle.daide_grammar.specs.declared.symbol.Sym.{Sym}
 use Rattle.daide_reader.specs.Outline.{outline_of}
 use Rattle.daide_reader.specs.Reading.{IsRaised, HasReadPrefix, reading}
 use Rattle.daide_reader.specs.Slice.{ReadsTo, SliceState, place_behind}
+use Rattle.daide_reader.specs.Bounds.{below_zero}
 use Rattle.daide_reader.specs.Stack.{open_count, steps_at}
 use Rattle.daide_grammar.proofs.BracketSteps.{step_by_class}
 use Rattle.daide_reader.proofs.CellLemmas.{after_skipped, after_taken, steps_skipped, steps_taken}
@@ -29,17 +30,17 @@ use Rattle.daide_reader.proofs.SliceLemmas.{run_refused, run_taken}
 use Rattle.daide_reader.proofs.StackLemmas.{lawful_more}
 
 -- adding the step of a token's class counts the token
-pub counted_by_step : (n t : ℕ) (known : Class) → known ≡ class_of t → n < 65534
+pub counted_by_step : (n t : ℕ) (known : Class) → known ≡ class_of t → n + 1 < below_zero
     → count_one (is_bra t) (is_ket t) (Some n) ≡ open_count ((n + bracket_step known) % 65536)
 counted_by_step n t known is low =
     go (is_bra t) (is_ket t) n low
     ∙ ap (λ (k : ℕ). open_count ((n + k) % 65536)) (sym (ap bracket_step is ∙ step_by_class t))
   where
-    other : (k : ℕ) → k < 65535 → open_count k ≡ Some k
-    other k less = let no : nat_eq k 65535 ≡ false = grind (arith, nat_tests) in
+    other : (k : ℕ) → k < below_zero → open_count k ≡ Some k
+    other k less = let no : nat_eq k below_zero ≡ false = grind (arith, nat_tests) in
         ap (λ (b : Bool). if b then None else Some k) no
 
-    go : (b k : Bool) (n : ℕ) → n < 65534
+    go : (b k : Bool) (n : ℕ) → n + 1 < below_zero
         → count_one b k (Some n) ≡ open_count ((n + (if b then 1 else if k then 65535 else 0)) % 65536)
     go true k n low =
         let same : (n + 1) % 65536 ≡ n + 1 = omega arith in

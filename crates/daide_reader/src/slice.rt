@@ -7,18 +7,29 @@ ghost use Rattle.std.specs.Prelude.{◌≡◌, ◌≢◌, ◌≤◌, ◌<◌, �
 ghost use Rattle.daide_token.specs.Token.{tokens_of};
 ghost use Rattle.daide_grammar.specs.Table.Brackets.{is_bra, is_ket, count_one};
 ghost use Rattle.daide_grammar.specs.Table.Stacks.{stack_after};
-ghost use Rattle.daide_reader.specs.Bounds.{longest_message, most_symbols, most_tokens};
+ghost use Rattle.daide_reader.specs.Bounds.{below_zero, longest_message, most_symbols, most_tokens};
 ghost use Rattle.daide_reader.specs.Outline.{count_all};
 ghost use Rattle.daide_reader.specs.Slice.{ReadsTo, place_behind};
 ghost use Rattle.daide_reader.specs.Stack.{open_count, steps_at};
 
-use crate::brackets::recount;
+use crate::brackets::{BELOW_ZERO, recount};
 use crate::cells::{follow, follow_word, put};
 use daide_grammar::column::Column;
 use daide_grammar::predict::Predict;
 use daide_grammar::symbol::Symbol;
 use daide_token::token::Token;
 use daide_token::token_at;
+
+/// The state before a run over tokens of a body.
+#[derive(Clone, Copy)]
+struct RunStart {
+    /// The index of the next token.
+    read: usize,
+    /// The number of open brackets.
+    unclosed: u16,
+    /// The height of the stack.
+    count: usize,
+}
 
 /// The progress over the tokens of a body: to its end, or to the first token that no message continues.
 #[derive(Clone, Copy)]
@@ -43,7 +54,7 @@ fn read_token<T: Predict, const N: usize>(
 ) -> Option<usize>
     requires size { N ≤ most_symbols }
     requires count { count ≤ N }
-    requires low { opened.old < 65534 }
+    requires low { opened.old + 1 < below_zero }
     requires room { (is_bra token ≡ true → opened.old ≢ limit) →
         IfSome (stack_after (T.moves (T.words table.old)) (T.class_of (T.words table.old) token)
         (reverse (take count cells.old))) (λ after. length after ≤ N) }
@@ -81,44 +92,46 @@ fn reject_at(opened: u16, place: usize) -> RunEnd
 {
     RunEnd {
         tokens: place + 1,
-        unclosed: if opened == 65535 { None } else { Some(opened) },
+        unclosed: if opened == BELOW_ZERO {
+            None
+        } else {
+            Some(opened)
+        },
         place: Some(place as u16),
         count: 0,
     }
 }
 
-/// Reads tokens of a body from `read` on, at most as many as brackets may still be opened. So no token can open a
-/// bracket too many, and the loop checks neither the depth nor the room on the stack.
+/// Reads tokens of a body, at most as many as brackets may still be opened. So no token can open a bracket too many, and
+/// the loop checks neither the depth nor the room on the stack.
 #[inline(always)]
 fn run_below_depth_limit<T: Predict, const N: usize>(
     table: &mut T,
     cells: &mut [Symbol; N],
-    count: usize,
     body: &[u8],
-    read: usize,
-    unclosed: u16,
+    start: RunStart,
     max_depth: u16,
 ) -> RunEnd
     requires size { N ≤ most_symbols }
-    requires count { count ≤ N }
+    requires count { start.count ≤ N }
     requires at_depth_limit { 8 * max_depth + 16 ≤ N }
     requires room { length body.now ≤ longest_message }
-    requires read { read < length body.now / 2 }
-    requires deep { unclosed < max_depth }
-    requires lawful { T.lawful (T.words table.old) (reverse (take count cells.old)) unclosed }
+    requires read { start.read < length body.now / 2 }
+    requires deep { start.unclosed < max_depth }
+    requires lawful { T.lawful (T.words table.old) (reverse (take start.count cells.old)) start.unclosed }
     ensures inside { result.count ≤ N }
-    ensures moves { read < result.tokens }
+    ensures moves { start.read < result.tokens }
     ensures tokens { result.tokens ≤ length body.now / 2 }
-    ensures reads { ReadsTo T.Predict max_depth body.now read unclosed
-        (record { table = table.old; stack = reverse (take count cells.old) })
+    ensures reads { ReadsTo T.Predict max_depth body.now start.read start.unclosed
+        (record { table = table.old; stack = reverse (take start.count cells.old) })
         result.tokens result.unclosed result.place
         (record { table = table.new; stack = reverse (take result.count cells.new) }) }
     ensures none_left { IsSome result.place → result.count ≡ 0 }
 {
-    let end = (body.len() / 2).min(read + (max_depth - unclosed) as usize);
-    let mut opened = unclosed;
-    let mut left = count;
-    let mut next = read;
+    let end = (body.len() / 2).min(start.read + (max_depth - start.unclosed) as usize);
+    let mut opened = start.unclosed;
+    let mut left = start.count;
+    let mut next = start.read;
     while next < end {
         let token = token_at(body, next);
         let known = Column::known(token);
@@ -180,7 +193,12 @@ pub fn read_tokens<T: Predict, const N: usize>(
     let mut next = 0;
     while next < body.len() / 2 {
         if opened < max_depth {
-            let reached = run_below_depth_limit(table, cells, left, body, next, opened, max_depth);
+            let start = RunStart {
+                read: next,
+                unclosed: opened,
+                count: left,
+            };
+            let reached = run_below_depth_limit(table, cells, body, start, max_depth);
             if reached.place.is_some() {
                 return reached;
             }

@@ -2,16 +2,17 @@
 //! a pending connect, and small writes.
 
 use crate::doors::any_port;
-use crate::wires::row_of;
+use daide_buffered_io::pool::Pool;
 use daide_gate::settings::{Settings, read_settings};
 use daide_gate::system::{Connect, System};
+use daide_io::network::{ConnectStatus, Network};
 use daide_sockets::admission::Acceptor;
 use daide_sockets::connection::Connection;
 use daide_sockets::os_network::{NetworkError, OsNetwork};
 use daide_sockets::poller::{EVENTS, Poller};
 use daide_sockets::ports::SocketPorts;
 use daide_sockets::system::Sockets;
-use daide_sockets::table::{Flags, SocketTable};
+use daide_sockets::table::SocketTable;
 use daide_test_support::rows::holds;
 use std::alloc::Global;
 use std::io::ErrorKind;
@@ -33,31 +34,25 @@ fn network_of(
 /// Checks that after a failed accept no accept is tried for a while, and that the bot is then accepted and no deadline
 /// is left.
 fn check_acceptor<'w>(
-    poller: &mut Poller<'w, OsNetwork<'w, HostRuntime>>,
-    acceptor: &mut Acceptor<'w>,
-    flags: &Flags,
+    poller: &mut Poller<OsNetwork<'w, HostRuntime>>,
+    acceptor: &mut Acceptor,
 ) -> Result<(), Fail> {
     poller.wait();
-    acceptor.pause(poller.table().after(Duration::ZERO), ErrorKind::Other);
+    acceptor.pause(poller.table.after(Duration::ZERO), ErrorKind::Other);
     holds(acceptor.accept(poller).is_none(), "none is made")?;
     poller.wait();
     holds(acceptor.accept(poller).is_some(), "the bot that came")?;
-    holds(flags.due.get().is_none(), "the pause is over")
+    holds(poller.table.due(0).is_none(), "the pause is over")
 }
 
-/// The same for a listener, in the only entry of a table.
-fn check_listener<'w>(
-    rt: &'w HostRuntime,
-    table: &'w SocketTable,
-    listener: daide_sockets::TcpListener,
-) -> Result<(), Fail> {
-    let flags = row_of(table)?.flags;
+/// The same for a listener, in the only row of a table.
+fn check_listener(rt: &HostRuntime, listener: daide_sockets::TcpListener) -> Result<(), Fail> {
     let Ok(network) = network_of(rt, listener) else {
         return Err(Fail::new("no network"));
     };
-    let mut poller = Poller::new(rt.alloc(), network, table)?;
+    let mut poller = Poller::new(rt.alloc(), network, SocketTable::new(rt.alloc(), 1)?)?;
     match Acceptor::new(&mut poller) {
-        Some(mut acceptor) => check_acceptor(&mut poller, &mut acceptor, flags),
+        Some(mut acceptor) => check_acceptor(&mut poller, &mut acceptor),
         None => Err(Fail::new("no row")),
     }
 }
@@ -67,7 +62,7 @@ fn check_listener<'w>(
 fn failed_accept_is_made_again(rt: HostRuntime) -> Result<(), Fail> {
     let listener = daide_sockets::TcpListener::bind(&rt, any_port())?;
     let _bot = TcpStream::connect(&rt, listener.local_addr()?)?;
-    check_listener(&rt, &SocketTable::new(rt.alloc(), 1)?, listener)
+    check_listener(&rt, listener)
 }
 
 /// The number of connections that fill the queue of a listener.
@@ -109,17 +104,19 @@ fn first_ports<'w>(system: &mut HostSockets<'w, '_>) -> Option<SocketPorts<'w, C
     None
 }
 
-/// Returns a run's sockets with this listener and these server addresses.
+/// Returns a run's sockets with this listener and these server addresses, in a table of three rows.
 fn sockets_of<'w, 't>(
     rt: &'w HostRuntime,
-    table: &'w SocketTable,
+    pool: &'w Pool,
     (listener, servers): (daide_sockets::TcpListener, &'w [SocketAddr]),
-    settings: &Settings,
+    settings: &'w Settings,
     told: &'t mut Vec<u8>,
 ) -> Option<HostSockets<'w, 't>> {
     let time = Duration::from_secs(5);
     let network = network_of(rt, listener).ok()?;
-    Sockets::new(rt.alloc(), (network, servers, table), settings, time, told)
+    let table = SocketTable::new(rt.alloc(), 3).ok()?;
+    let ground = (network, servers, table, pool);
+    Sockets::new(rt.alloc(), ground, settings, time, told)
 }
 
 /// Returns a listener with a bot in its queue, and the bot.
@@ -146,123 +143,61 @@ fn are_undelayed(ports: SocketPorts<'_, Connection>) -> bool {
     matches!(both, (Ok(true), Ok(true)))
 }
 
-/// The same for the first bot.
-fn are_first_undelayed(system: &mut HostSockets<'_, '_>) -> bool {
+/// The same for the first bot, and whether the third row then has no deadline.
+fn are_first_undelayed(system: &mut HostSockets<'_, '_>) -> (bool, bool) {
     match first_ports(system) {
-        Some(ports) => are_undelayed(ports),
-        None => false,
+        Some(ports) => (are_undelayed(ports), system.table().due(2).is_none()),
+        None => (false, false),
     }
 }
 
-/// The same for the first bot at this listener, with these server addresses.
-fn sends_at_once<'w>(
-    rt: &'w HostRuntime,
-    table: &'w SocketTable,
-    ends: (daide_sockets::TcpListener, &'w [SocketAddr]),
-    settings: &Settings,
-) -> bool {
-    let mut told = Vec::new(rt.alloc());
-    match sockets_of(rt, table, ends, settings, &mut told) {
-        Some(mut system) => are_first_undelayed(&mut system),
-        None => false,
-    }
-}
-
-/// Returns the flags of the third entry of a table without registrations.
-fn third_row(table: &SocketTable) -> Result<&Flags, Fail> {
-    let _first = row_of(table)?;
-    let _second = row_of(table)?;
-    Ok(row_of(table)?.flags)
-}
-
-/// Returns whether both sockets of the first bot's session send small writes without delay, in this table without
-/// registrations; and whether the third entry then has no deadline.
-fn sends_at_once_at<'w>(
-    rt: &'w HostRuntime,
-    table: &'w SocketTable,
-    servers: &'w [SocketAddr],
-    settings: &Settings,
+/// The same for the first bot at a listener of its own, with these server addresses.
+fn sends_at_once(
+    rt: &HostRuntime,
+    pool: &Pool,
+    servers: &[SocketAddr],
 ) -> Result<(bool, bool), Fail> {
-    let flags = third_row(table)?;
-    let (listener, _bot) = door_with_bot(rt)?;
-    let at_once = sends_at_once(rt, table, (listener, servers), settings);
-    Ok((at_once, flags.due.get().is_none()))
-}
-
-/// The same in a table of its own.
-fn sends_at_once_towards(rt: &HostRuntime, servers: &[SocketAddr]) -> Result<(bool, bool), Fail> {
     let settings = plain_settings(rt.alloc())?;
-    let table = SocketTable::new(rt.alloc(), 3)?;
-    sends_at_once_at(rt, &table, servers, &settings)
+    let (listener, _bot) = door_with_bot(rt)?;
+    let mut told = Vec::new(rt.alloc());
+    match sockets_of(rt, pool, (listener, servers), &settings, &mut told) {
+        Some(mut system) => Ok(are_first_undelayed(&mut system)),
+        None => Ok((false, false)),
+    }
 }
 
 /// The system does not delay a short frame until the frame before it was acknowledged. The server is at the second of
-/// two addresses, and its connect uses the table entry of the connect to the first. Once it is connected, the entry has
-/// no deadline.
+/// two addresses, and its connect uses the row of the connect to the first. Once it is connected, the row has no
+/// deadline.
 #[test]
 fn small_writes_are_not_delayed(rt: HostRuntime) -> Result<(), Fail> {
     let nobody = TcpListener::bind(&rt, any_port())?.local_addr()?;
     let server = TcpListener::bind(&rt, any_port())?;
-    let told = sends_at_once_towards(&rt, &[nobody, server.local_addr()?])?;
+    let pool = Pool::new(rt.alloc());
+    let told = sends_at_once(&rt, &pool, &[nobody, server.local_addr()?])?;
     holds(
         told == (true, true),
         "the bot's and the server's, and no moment",
     )
 }
 
-/// Returns whether a connect is pending although its socket, in the entry after the acceptor's and the bot's, is
-/// flagged as writable.
-fn is_under_way(system: &mut HostSockets<'_, '_>, flags: &Flags) -> bool {
-    for _ in 0..MOST_WAITS {
-        system.begin_round();
-        if system.accept() {
-            flags.note(false, true);
-            return matches!(system.connected(), Connect::Pending);
-        }
-        system.wait();
-    }
-    false
-}
-
-/// The same for the first bot at this listener, with these server addresses.
-fn is_first_under_way<'w>(
-    rt: &'w HostRuntime,
-    table: &'w SocketTable,
-    ends: (daide_sockets::TcpListener, &'w [SocketAddr]),
-    settings: &Settings,
-    flags: &Flags,
-) -> bool {
-    let mut told = Vec::new(rt.alloc());
-    match sockets_of(rt, table, ends, settings, &mut told) {
-        Some(mut system) => is_under_way(&mut system, flags),
-        None => false,
-    }
-}
-
-/// The same in this table without registrations.
-fn is_under_way_at<'w>(
-    rt: &'w HostRuntime,
-    table: &'w SocketTable,
-    servers: &'w [SocketAddr],
-    settings: &Settings,
-) -> Result<bool, Fail> {
-    let flags = third_row(table)?;
-    let (listener, _bot) = door_with_bot(rt)?;
-    let ends = (listener, servers);
-    Ok(is_first_under_way(rt, table, ends, settings, flags))
-}
-
-/// The same in a table of its own.
-fn is_under_way_towards(rt: &HostRuntime, servers: &[SocketAddr]) -> Result<bool, Fail> {
-    let settings = plain_settings(rt.alloc())?;
-    let table = SocketTable::new(rt.alloc(), 3)?;
-    is_under_way_at(rt, &table, servers, &settings)
+/// Returns the state of a connect that has just begun.
+fn status_of(
+    network: &mut OsNetwork<'_, HostRuntime>,
+    address: SocketAddr,
+) -> Result<ConnectStatus, Fail> {
+    let connection = network.connect(address)?;
+    Ok(network.connect_status(&connection))
 }
 
 /// A pending connect is no connection, whatever the poller reports of its socket.
 #[test]
 fn connect_under_way_is_no_connection(rt: HostRuntime) -> Result<(), Fail> {
     let server = full_listener(&rt)?;
-    let is_under_way = is_under_way_towards(&rt, &[server.local_addr()?])?;
-    holds(is_under_way, "it is under way")
+    let address = server.local_addr()?;
+    let Ok(mut network) = network_of(&rt, server) else {
+        return Err(Fail::new("no network"));
+    };
+    let status = status_of(&mut network, address)?;
+    holds(status == ConnectStatus::Pending, "it is under way")
 }

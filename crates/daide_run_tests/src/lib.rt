@@ -25,4 +25,6 @@ mod settings;
 #[cfg(test)]
 mod streams;
 #[cfg(test)]
+mod waits;
+#[cfg(test)]
 mod wires;

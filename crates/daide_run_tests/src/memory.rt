@@ -5,13 +5,14 @@
 //! and sent in pieces. The other streams accept each write whole, and their writes are counted.
 
 use crate::frames::{FM, IM, ITS_PRN, OBS, RM, UNCLOSED};
-use crate::wires::two_rows;
+use crate::wires::{READY, table};
+use daide_buffered_io::pool::Pool;
 use daide_driver::relaying::{RelayEnd, relay};
 use daide_io::duplex::Duplex;
 use daide_protocol::config::Config;
 use daide_session::session::Session;
 use daide_sockets::ports::{Socket, SocketPorts};
-use daide_sockets::table::{Flags, Registration, SocketTable};
+use daide_sockets::table::SocketTable;
 use daide_test_support::rows::same;
 use std::alloc::{Allocator, Global};
 use std::io;
@@ -149,16 +150,14 @@ struct Talk {
 }
 
 /// Makes turns until the session is closed, and returns whether it is. Before each turn all streams are ready.
-fn relay_to_the_end<'w, A: Allocator>(
+fn relay_to_the_end<A: Allocator>(
     session: &mut Session<A>,
-    ports: &mut SocketPorts<'w, Line>,
-    bot: &Flags,
-    server: &Flags,
+    ports: &mut SocketPorts<'_, Line>,
+    table: &mut SocketTable,
 ) -> bool {
     for _ in 0..MOST_TURNS {
-        bot.note(true, true);
-        server.note(true, true);
-        ports.begin_turn();
+        ports.note_reports(READY, READY);
+        ports.begin_turn(table);
         if relay(session, ports, 1) == RelayEnd::Closed {
             return true;
         }
@@ -169,8 +168,8 @@ fn relay_to_the_end<'w, A: Allocator>(
 /// Writes the write buffer.
 fn write_out(socket: &mut Socket<'_, Line>) {
     for _ in 0..MOST_TURNS {
-        socket.registration.flags.note(true, true);
-        socket.flush();
+        socket.note_report(READY);
+        socket.flush_at(None);
     }
 }
 
@@ -187,28 +186,15 @@ fn has_taken(line: &Line, wanted: &[&[u8]]) -> bool {
     left.is_empty() && (line.is_slow || line.writes == wanted.len())
 }
 
-/// Returns the ports of a session between the two ends of a conversation, with these table entries.
-fn ports_of<'w>(
-    alloc: Global,
-    table: &'w SocketTable,
-    flags: (&'w Flags, &'w Flags),
-    talk: &Talk,
-) -> SocketPorts<'w, Line> {
+/// Returns the ports of a session between the two ends of a conversation.
+fn ports_of<'w>(alloc: Global, pool: &'w Pool, talk: &Talk) -> SocketPorts<'w, Line> {
     let bot = Line::new(alloc, talk.bot, talk.is_slow);
     let server = Line::new(alloc, talk.server, talk.is_slow);
-    SocketPorts::new(
-        table,
-        Socket::over(table, bot, Registration { flags: flags.0 }),
-        Socket::over(table, server, Registration { flags: flags.1 }),
-    )
+    SocketPorts::new(Socket::over(pool, bot, 0), Socket::over(pool, server, 1))
 }
 
 /// Returns whether the bot's end and the server's accepted exactly these frames, after the write buffers are written.
-fn have_taken<'w>(
-    ports: SocketPorts<'w, Line>,
-    to_bot: &[&[u8]],
-    to_server: &[&[u8]],
-) -> (bool, bool) {
+fn have_taken(ports: SocketPorts<'_, Line>, to_bot: &[&[u8]], to_server: &[&[u8]]) -> (bool, bool) {
     let (mut bot, mut server) = ports.into_sockets();
     write_out(&mut bot);
     write_out(&mut server);
@@ -220,34 +206,29 @@ fn have_taken<'w>(
 
 /// Returns whether a session between the two ends of a conversation is closed, and whether both accepted exactly their
 /// frames.
-fn is_talked<'w>(
+fn is_talked(
     session: &mut Session,
-    ports: SocketPorts<'w, Line>,
-    flags: (&'w Flags, &'w Flags),
+    ports: SocketPorts<'_, Line>,
+    table: &mut SocketTable,
     talk: &Talk,
 ) -> (bool, (bool, bool)) {
     let mut ports = ports;
-    let is_closed = relay_to_the_end(session, &mut ports, flags.0, flags.1);
+    let is_closed = relay_to_the_end(session, &mut ports, table);
     (is_closed, have_taken(ports, talk.to_bot, talk.to_server))
 }
 
-/// Checks a session between the two ends of a conversation until it is closed, with entries of this table.
-fn talks_at<'w>(rt: &HostRuntime, table: &'w SocketTable, talk: &Talk) -> Result<(), Fail> {
-    let flags = two_rows(table)?;
+/// Checks a session between the two ends of a conversation until it is closed.
+fn talks(rt: &HostRuntime, talk: &Talk) -> Result<(), Fail> {
+    let pool = Pool::new(rt.alloc());
+    let mut table = table(rt)?;
     let mut session = Session::new(rt.alloc(), CONFIG)?;
-    let ports = ports_of(rt.alloc(), table, flags, talk);
-    let told = is_talked(&mut session, ports, flags, talk);
+    let ports = ports_of(rt.alloc(), &pool, talk);
+    let told = is_talked(&mut session, ports, &mut table, talk);
     same(
         &told,
         &(true, (true, true)),
         &"closed, and what the bot and the server took",
     )
-}
-
-/// The same in a table of its own.
-fn talks(rt: &HostRuntime, talk: &Talk) -> Result<(), Fail> {
-    let table = SocketTable::new(rt.alloc(), 2)?;
-    talks_at(rt, &table, talk)
 }
 
 /// A message with an unclosed bracket is returned to the bot in a `PRN`, and the server gets no byte of it.

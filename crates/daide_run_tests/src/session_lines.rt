@@ -9,6 +9,7 @@ use daide_sockets::session_notice::{SessionNotice, Why, why_of};
 use daide_sockets::timed::Timed;
 use daide_test_support::rows::{holds, same};
 use std::alloc::Global;
+use std::io::ErrorKind;
 use std::test::Fail;
 
 /// Why a session is over | the text.
@@ -120,8 +121,8 @@ fn lines_of_a_session(rt: HostRuntime) -> Result<(), Fail> {
 #[rattlefmt::skip]
 const RECORDS: &[(RecordNotice, &str)] = &[
     (RecordNotice::IsThere(1), "session 1 is not recorded: its file is there already"),
-    (RecordNotice::Unmade(2), "session 2 is not recorded: its file could not be made"),
-    (RecordNotice::Unwritten(3), "record of session 3 broke off: it could not be written"),
+    (RecordNotice::Unmade(2, ErrorKind::PermissionDenied), "session 2 is not recorded: its file could not be made (permission denied)"),
+    (RecordNotice::Unwritten(3, ErrorKind::StorageFull), "record of session 3 broke off: it could not be written (no storage space)"),
     (RecordNotice::Full(4), "record of session 4 broke off: it has 1000000 lines"),
 ];
 

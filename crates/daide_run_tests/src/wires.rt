@@ -1,21 +1,26 @@
 //! Sockets over streams in memory that accept what a row allows: the time of each write, and the readiness after each
-//! call.
-//!
-//! All of them have entries in one small table.
+//! call. A network in which nothing moves polls them.
 
 ghost use Rattle.std.specs.Prelude.{◌≡◌, IfOk};
 
 use crate::wires::Step::{Idles, Puts, Turns};
+use daide_buffered_io::pool::Pool;
 use daide_buffered_io::readiness::Readiness;
 use daide_frame::side::Side;
 use daide_io::duplex::Duplex;
+use daide_io::network::{ConnectStatus, Network, SocketEvent};
 use daide_io::ports::{Ports, Pull, Put};
+use daide_sockets::poller::Poller;
 use daide_sockets::ports::{Socket, SocketPorts};
-use daide_sockets::table::{Flags, Registration, SocketTable};
+use daide_sockets::table::SocketTable;
 use daide_test_support::rows::{holds, same};
+use std::cell::Cell;
 use std::io;
 use std::io::ErrorKind;
+use std::net::SocketAddr;
+use std::rt::Clock;
 use std::test::Fail;
+use std::time::{Duration, Instant};
 
 /// A stream in memory.
 #[derive(Drop)]
@@ -85,29 +90,24 @@ impl Duplex for Wire {
 /// The ports of a session over two such streams.
 pub type WirePorts<'w> = SocketPorts<'w, Wire>;
 
-/// Takes the first free entry of a table.
-pub fn row_of(table: &SocketTable) -> Result<Registration<'_>, Fail> {
+/// Both directions may make progress.
+pub const READY: Readiness = Readiness {
+    may_read: true,
+    may_write: true,
+    reads_on: false,
+};
+
+/// Takes the first free row of a table, and returns its key.
+pub fn row_of(table: &mut SocketTable) -> Result<usize, Fail> {
     match table.take_row() {
-        Some((_key, row)) => Ok(row),
+        Some(key) => Ok(key),
         None => Err(Fail::new("no row")),
     }
-}
-
-/// Returns the next two entries of a table, which stay free.
-pub fn two_rows(table: &SocketTable) -> Result<(&Flags, &Flags), Fail> {
-    let first = row_of(table)?;
-    let second = row_of(table)?;
-    Ok((first.flags, second.flags))
 }
 
 /// Creates a table for three sockets.
 pub fn table(rt: &HostRuntime) -> Result<SocketTable, Fail> {
     Ok(SocketTable::new(rt.alloc(), 3)?)
-}
-
-/// Returns a socket over this stream, with this table entry.
-pub fn socket_over<'w>(table: &'w SocketTable, wire: Wire, flags: &'w Flags) -> Socket<'w, Wire> {
-    Socket::over(table, wire, Registration { flags })
 }
 
 /// Returns a stream whose writes fail.
@@ -282,13 +282,13 @@ const WRITTEN: &[Written] = &[
 const BYTES: &[u8] = &[7; 5_000];
 
 /// Makes a call of the ports, and returns whether its result is right: no failure of a put, and an idle pull.
-fn does(ports: &mut WirePorts<'_>, step: Step) -> bool {
+fn does(ports: &mut WirePorts<'_>, table: &mut SocketTable, step: Step) -> bool {
     match step {
         Puts(side, count) => ports.put(side, &BYTES[..count.min(BYTES.len())]) != Put::Failed,
         Idles(side) => ports.pull(side, &mut [0; 8]) == Pull::Idle,
         Turns(count) => {
             for _ in 0..count {
-                ports.begin_turn();
+                ports.begin_turn(table);
             }
             true
         }
@@ -296,44 +296,38 @@ fn does(ports: &mut WirePorts<'_>, step: Step) -> bool {
 }
 
 /// Makes the calls of a row, with both streams ready before each, and returns whether all results are right.
-fn does_all(ports: &mut WirePorts<'_>, flags: (&Flags, &Flags), steps: &[Step]) -> bool {
+fn does_all(ports: &mut WirePorts<'_>, table: &mut SocketTable, steps: &[Step]) -> bool {
     let mut are_right = true;
     for step in steps.iter() {
-        flags.0.note(true, true);
-        flags.1.note(true, true);
-        are_right &= does(ports, *step);
+        ports.note_reports(READY, READY);
+        are_right &= does(ports, table, *step);
     }
     are_right
 }
 
 /// Returns the bytes that the streams of a row accepted, if all results are right.
-fn took_of<'w>(
-    table: &'w SocketTable,
-    flags: (&'w Flags, &'w Flags),
-    written: &Written,
-) -> Option<(usize, usize)> {
+fn took_of(pool: &Pool, table: &mut SocketTable, written: &Written) -> Option<(usize, usize)> {
     let (bot_takes, server_takes, steps, _) = *written;
-    let bot = socket_over(table, Wire::new(bot_takes, 0), flags.0);
-    let server = socket_over(table, Wire::new(server_takes, 0), flags.1);
-    let mut ports = SocketPorts::new(table, bot, server);
-    let are_right = does_all(&mut ports, flags, steps);
+    let bot = Socket::over(pool, Wire::new(bot_takes, 0), 0);
+    let server = Socket::over(pool, Wire::new(server_takes, 0), 1);
+    let mut ports = SocketPorts::new(bot, server);
+    let are_right = does_all(&mut ports, table, steps);
     let (bot, server) = ports.into_sockets();
     let took = (bot.connection().took, server.connection().took);
     if are_right { Some(took) } else { None }
 }
 
-/// Checks each row, with entries of this table.
-fn are_written(table: &SocketTable) -> Result<(), Fail> {
-    let flags = two_rows(table)?;
+/// Checks each row, with this table.
+fn are_written(pool: &Pool, table: &mut SocketTable) -> Result<(), Fail> {
     for (row, written) in WRITTEN.iter().enumerate() {
-        same(&took_of(table, flags, written), &Some(written.3), &row)?;
+        same(&took_of(pool, table, written), &Some(written.3), &row)?;
     }
     Ok(())
 }
 
 #[test]
 fn bytes_are_held_and_written_by_rows(rt: HostRuntime) -> Result<(), Fail> {
-    are_written(&table(&rt)?)
+    are_written(&Pool::new(rt.alloc()), &mut table(&rt)?)
 }
 
 /// A call of one socket: a put, a flush or a pull.
@@ -371,11 +365,11 @@ const FLAGGED: &[Flagged] = &[
 fn calls(socket: &mut Socket<'_, Wire>, call: Call) -> usize {
     match call {
         Call::Put(count) => {
-            socket.put(&BYTES[..count.min(BYTES.len())]);
+            socket.put(None, &BYTES[..count.min(BYTES.len())]);
             0
         }
         Call::Flush => {
-            socket.flush();
+            socket.flush_at(None);
             0
         }
         Call::Pull => match socket.pull(&mut [0; 4]) {
@@ -386,72 +380,148 @@ fn calls(socket: &mut Socket<'_, Wire>, call: Call) -> usize {
 }
 
 /// Returns the readiness after the calls of a row, and the number of bytes pulled.
-fn known_of<'w>(
-    table: &'w SocketTable,
-    flags: &'w Flags,
-    flagged: &Flagged,
-) -> (bool, bool, usize) {
+fn known_of(pool: &Pool, flagged: &Flagged) -> (bool, bool, usize) {
     let (takes, gives, done, _) = *flagged;
-    let mut socket = socket_over(table, Wire::new(takes, gives), flags);
-    flags.readiness.set(Readiness::UNKNOWN);
-    flags.note(true, true);
+    let mut socket = Socket::over(pool, Wire::new(takes, gives), 0);
+    socket.note_report(READY);
     let mut pulled: usize = 0;
     for call in done.iter() {
         pulled = pulled.saturating_add(calls(&mut socket, *call));
     }
-    let readiness = flags.readiness.get();
+    let readiness = socket.readiness;
     (readiness.may_read, readiness.may_write, pulled)
-}
-
-/// Checks each row, with entries of this table.
-fn are_flagged(table: &SocketTable) -> Result<(), Fail> {
-    let (flags, _) = two_rows(table)?;
-    for (row, flagged) in FLAGGED.iter().enumerate() {
-        same(&known_of(table, flags, flagged), &flagged.3, &row)?;
-    }
-    Ok(())
 }
 
 #[test]
 fn flags_by_rows(rt: HostRuntime) -> Result<(), Fail> {
-    are_flagged(&table(&rt)?)
+    let pool = Pool::new(rt.alloc());
+    for (row, flagged) in FLAGGED.iter().enumerate() {
+        same(&known_of(&pool, flagged), &flagged.3, &row)?;
+    }
+    Ok(())
 }
 
 /// Puts, flushes and puts again. Returns the result of each put, and whether the write buffer may be written then.
 fn puts_of(socket: &mut Socket<'_, Wire>) -> ((Put, bool), (Put, bool)) {
-    let first = (socket.put(b"abc"), socket.stream.is_behind());
-    socket.flush();
+    let first = (socket.put(None, b"abc"), socket.stream.is_behind());
+    socket.flush_at(None);
     let is_behind = socket.stream.is_behind();
-    (first, (socket.put(b"d"), is_behind))
+    (first, (socket.put(None, b"d"), is_behind))
 }
 
-/// The same for a stream whose writes fail.
-fn failing_puts(table: &SocketTable) -> Result<((Put, bool), (Put, bool)), Fail> {
-    let (flags, _) = two_rows(table)?;
-    flags.note(true, true);
-    Ok(puts_of(&mut socket_over(table, broken(), flags)))
+/// Returns a socket whose stream's writes fail.
+fn failing(pool: &Pool) -> Socket<'_, Wire> {
+    let mut socket = Socket::over(pool, broken(), 0);
+    socket.note_report(READY);
+    socket
 }
 
 /// The put after a failed write returns `Failed`, and the rest of the write buffer is not written again.
 #[test]
 fn failed_flush_is_told_by_the_next_put(rt: HostRuntime) -> Result<(), Fail> {
-    let told = failing_puts(&table(&rt)?)?;
+    let pool = Pool::new(rt.alloc());
+    let told = puts_of(&mut failing(&pool));
     let wanted = ((Put::Took(3), true), (Put::Failed, false));
     holds(told == wanted, "held and may be written, then the failure")
 }
 
-/// Returns the results of a put of many bytes, which are written at once, and of a small put after it, for a stream
-/// whose writes fail.
-fn failing_many(table: &SocketTable) -> Result<(Put, Put), Fail> {
-    let (flags, _) = two_rows(table)?;
-    flags.note(true, true);
-    let mut socket = socket_over(table, broken(), flags);
-    Ok((socket.put(BYTES), socket.put(b"d")))
+/// Returns the results of a put of many bytes, which are written at once, and of a small put after it.
+fn many_puts_of(socket: &mut Socket<'_, Wire>) -> (Put, Put) {
+    (socket.put(None, BYTES), socket.put(None, b"d"))
 }
 
 /// Every put after a failure returns `Failed`.
 #[test]
 fn failure_is_told_again(rt: HostRuntime) -> Result<(), Fail> {
-    let told = failing_many(&table(&rt)?)?;
+    let pool = Pool::new(rt.alloc());
+    let told = many_puts_of(&mut failing(&pool));
     holds(told == (Put::Failed, Put::Failed), "the failure, twice")
+}
+
+/// A network that follows only its listener. Its clock advances at each reading, and its polls don't block.
+#[derive(Drop)]
+pub struct Still {
+    clock: Steps,
+    /// The keys of the sockets that the next poll reports as ready.
+    pub ready: [bool; 3],
+    /// The timeout of the last poll.
+    pub timeout: Option<Duration>,
+}
+
+impl Network for Still {
+    type Connection = Wire;
+
+    ghost transition = { λ _ _ _. Unit {0} };
+
+    fn now(&mut self) -> Option<Instant> {
+        Instant::now(&self.clock).ok()
+    }
+
+    fn poll(&mut self, timeout: Option<Duration>, news: &mut Vec<SocketEvent>) {
+        news.clear();
+        self.timeout = timeout;
+        for (key, is_ready) in self.ready.iter().enumerate() {
+            if *is_ready {
+                let _ = news.push(SocketEvent {
+                    key,
+                    may_read: true,
+                    may_write: true,
+                    reads_on: false,
+                });
+            }
+        }
+        self.ready = [false; 3];
+    }
+
+    fn listen(&mut self, _key: usize) -> bool {
+        true
+    }
+
+    fn accept(&mut self) -> io::Result<(Wire, SocketAddr)> {
+        Err(ErrorKind::WouldBlock.into())
+    }
+
+    fn connect(&mut self, _address: SocketAddr) -> io::Result<Wire> {
+        Err(ErrorKind::ConnectionRefused.into())
+    }
+
+    fn follow(&mut self, _connection: &mut Wire, _key: usize) -> bool {
+        true
+    }
+
+    fn connect_status(&mut self, _connection: &Wire) -> ConnectStatus {
+        ConnectStatus::Failed
+    }
+}
+
+/// The poller of such a network.
+pub type StillPoller = Poller<Still>;
+
+/// Returns the poller of a network in which nothing moves, with a table of its own.
+pub fn still_poller(rt: &HostRuntime) -> Result<StillPoller, Fail> {
+    let network = Still {
+        clock: Steps(Cell::new(0)),
+        ready: [false; 3],
+        timeout: None,
+    };
+    Ok(Poller::new(rt.alloc(), network, table(rt)?)?)
+}
+
+/// The milliseconds that pass between two reads of the clock.
+pub const STEP: u64 = 400;
+
+/// A clock that advances at each read.
+#[derive(Drop)]
+pub struct Steps(Cell<u64>);
+
+impl Clock for Steps {
+    fn monotonic(&self) -> io::Result<Duration> {
+        let step = self.0.get();
+        self.0.set(step.saturating_add(1));
+        Ok(Duration::from_millis(step.saturating_mul(STEP)))
+    }
+
+    fn since_1970(&self) -> io::Result<Duration> {
+        self.monotonic()
+    }
 }

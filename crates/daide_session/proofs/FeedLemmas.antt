@@ -9,7 +9,7 @@ use Rattle.daide_frame.specs.declared.head.Head.{Head}
 use Rattle.daide_frame.specs.declared.cutter.Step.{Step}
 use Rattle.daide_frame.specs.declared.cutter.Step.TheVariants.{More, Headed, Bodied, Fault}
 use Rattle.daide_frame.specs.Frames.{FrameEvent, is_nothing, last_items, fed, fed_items, items_of_step, head_in, missing, IsFault}
-use Rattle.daide_frame.specs.Frames.{IsWholeBody}
+use Rattle.daide_frame.specs.Frames.{HoldsFrame, IsBodied}
 use Rattle.daide_frame.proofs.FramesLemmas.{head_in-short}
 use Rattle.daide_reader.specs.declared.verdict.Verdict.{Verdict}
 use Rattle.daide_reader.specs.Reading.{IsRaised}
@@ -39,27 +39,27 @@ use Rattle.daide_session.proofs.WorkLemmas.{at_end, end_paid, fed_paid}
 
 -- ---- the run
 
-fault_over : (s : SessionState) (side : Side) (step : Step) (head : Option Head) (body : List ℕ) (v : Verdict) →
-    is_over s.phase ≡ false → IsFault step → is_over (items_outcome s side (items_of_step step head body) v).state.phase ≡ true
-fault_over s side More head body v live h = absurd h
-fault_over s side Headed head body v live h = absurd h
-fault_over s side Bodied head body v live h = absurd h
-fault_over s side (Fault code) head body v live h = rw live refl
+fault_over : (s : SessionState) (side : Side) (step : Step) (body : List ℕ) (v : Verdict) →
+    is_over s.phase ≡ false → IsFault step → is_over (items_outcome s side (items_of_step step body) v).state.phase ≡ true
+fault_over s side More body v live h = absurd h
+fault_over s side (Headed head) body v live h = absurd h
+fault_over s side (Bodied head) body v live h = absurd h
+fault_over s side (Fault code) body v live h = rw live refl
 
 pending_phase : (s : SessionState) (side : Side) (bytes : List ℕ) → (with_pending s side bytes).phase ≡ s.phase
 pending_phase s Bot bytes = refl
 pending_phase s Server bytes = refl
 
 -- the whole piece was consumed, or a fault ended the session
-pub taken_or_over : (s : SessionState) (side : Side) (piece : List ℕ) (v : Verdict) (step : Step) (head : Option Head)
+pub taken_or_over : (s : SessionState) (side : Side) (piece : List ℕ) (v : Verdict) (step : Step)
     (body : List ℕ) → is_over s.phase ≡ false →
-    fed_items s.limits.cap (coming s side).pending piece ≡ items_of_step step head body →
+    fed_items s.limits.cap (coming s side).pending piece ≡ items_of_step step body →
     IsFault step ⊎ (fed s.limits.cap (coming s side).pending piece ≡ (coming s side).pending ++ piece) →
     IsTaken s side piece v
-taken_or_over s side piece v step head body live items h = ⊎_elim
+taken_or_over s side piece v step body live items h = ⊎_elim
     (λ (bad : IsFault step). inr
     (rw items (fault_over (with_pending s side
-    (fed s.limits.cap (coming s side).pending piece)) side step head body v
+    (fed s.limits.cap (coming s side).pending piece)) side step body v
     (ap is_over (pending_phase s side (fed s.limits.cap (coming s side).pending piece)) ∙ live) bad)))
     (λ (all : fed s.limits.cap (coming s side).pending piece ≡ (coming s side).pending ++ piece). inl all)
     h
@@ -121,15 +121,15 @@ fed_state t u s Server bytes keeps e = rw (keeps.cap, keeps.rules, keeps.other_s
 pub goes_fed : (t u v : Channels) (s r : ProtocolState) (side : Side) (piece : List ℕ) (step : Step) (note : Note) →
     is_over s.phase ≡ false → Keeps side t u → u.queued ≡ t.queued →
     IsGrown t.cap (at t.sides side) (fed t.cap (pending t side) piece) (at u.sides side) →
-    fed_items t.cap (pending t side) piece ≡ items_of_step step (head_in u.cap (pending u side)) (drop 4 (pending u side)) →
+    fed_items t.cap (pending t side) piece ≡ items_of_step step (drop 4 (pending u side)) →
     IsFault step ⊎ (pending u side ≡ pending t side ++ piece) →
-    HandlesFrameEvents (view_of u s) side (items_of_step step (head_in u.cap (pending u side)) (drop 4 (pending u side))) note
+    HandlesFrameEvents (view_of u s) side (items_of_step step (drop 4 (pending u side))) note
     (view_of v r) →
     Refines (view_of t s) (bytes_come side piece) note (view_of v r)
 goes_fed t u v s r side piece step note live keeps wait grown items whole h =
     goes_piece (view_of t s) (view_of u s) (view_of v r) side piece note live state
     (λ wire. waits_same t u s s wire wait) refl
-    (λ verdict. taken_or_over (state_of t s) side piece verdict step _ _ live here all)
+    (λ verdict. taken_or_over (state_of t s) side piece verdict step _ live here all)
     (subst (λ (x : List FrameEvent). HandlesFrameEvents (view_of u s) side x note (view_of v r)) (sym here) h)
   where
     state : state_of u s
@@ -139,7 +139,7 @@ goes_fed t u v s r side piece step note live keeps wait grown items whole h =
         (fed_state t u s side (fed t.cap (pending t side) piece) keeps grown.coming)
 
     here : fed_items t.cap (coming (state_of t s) side).pending piece
-        ≡ items_of_step step (head_in u.cap (pending u side)) (drop 4 (pending u side))
+        ≡ items_of_step step (drop 4 (pending u side))
     here = ap (λ (c : Coming). fed_items t.cap c.pending piece) (coming_at t s side) ∙ items
 
     all : IsFault step
@@ -284,8 +284,8 @@ pub piece_worked : (t u v : Channels) (s r : ProtocolState) (side : Side) (piece
     Keeps side t u → IsGrown t.cap (at t.sides side) (fed t.cap (pending t side) piece) (at u.sides side) →
     IsRaised (4 * tokens_ended t.cap (pending t side) piece) (at t.sides side).holding.total
     (at u.sides side).holding.total →
-    (step ≡ Bodied → IsWholeBody (head_in u.cap (pending u side)) (drop 4 (pending u side))) →
-    (step ≡ Bodied) ⊎ ((at v.sides side).holding.total ≡ (at u.sides side).holding.total) →
+    HoldsFrame step (head_in u.cap (pending u side)) (drop 4 (pending u side)) →
+    IsBodied step ⊎ ((at v.sides side).holding.total ≡ (at u.sides side).holding.total) →
     HandlesFrameEvents (view_of u s) side items note (view_of v r) →
     IsPaidBy (length piece) side (view_of t s) (view_of v r)
 piece_worked t u v s r side piece items step note limits wanted keeps grown raised full unasked h =
@@ -299,7 +299,7 @@ piece_worked t u v s r side piece items step note limits wanted keeps grown rais
     (subst (λ (b : List ℕ). IsRaised (at_end t.cap b) mid.total (holding (view_of v r) side).total)
     (now ∙ ap (λ (b : List ℕ). fed t.cap b piece) (sym before))
     (end_paid t.cap mid (holding (view_of v r) side) step asks whole
-    (subst (λ (k : Holding). (step ≡ Bodied) ⊎ (k.total ≡ mid.total)) (sym (holding_at v r side)) unasked)))
+    (subst (λ (k : Holding). IsBodied step ⊎ (k.total ≡ mid.total)) (sym (holding_at v r side)) unasked)))
   where
     mid : Holding
     mid = (at u.sides side).holding
@@ -314,11 +314,11 @@ piece_worked t u v s r side piece items step note limits wanted keeps grown rais
     asks = subst (λ (n : ℕ). Asks n mid (holding (view_of v r) side)) keeps.cap
         (subst (λ (k : Holding). Asks u.cap k (holding (view_of v r) side)) (holding_at u s side) h.asks)
 
-    whole : step ≡ Bodied → IsWholeBody (head_in t.cap mid.held) (drop 4 mid.held)
-    whole bodied =
-        subst (λ (b : List ℕ). IsWholeBody (head_in t.cap b) (drop 4 b))
+    whole : HoldsFrame step (head_in t.cap mid.held) (drop 4 mid.held)
+    whole =
+        subst (λ (b : List ℕ). HoldsFrame step (head_in t.cap b) (drop 4 b))
         (ap (λ (c : Coming). c.pending) grown.coming ∙ sym now)
-        (subst (λ (n : ℕ). IsWholeBody (head_in n (pending u side)) (drop 4 (pending u side))) keeps.cap (full bodied))
+        (subst (λ (n : ℕ). HoldsFrame step (head_in n (pending u side)) (drop 4 (pending u side))) keeps.cap full)
 
 -- ---- no byte
 

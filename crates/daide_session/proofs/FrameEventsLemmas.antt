@@ -1,7 +1,7 @@
 -- The effect on a session's value of the frame events that end with a byte.
-use Rattle.std.proofs.Common.{◌≡◌, ℕ, true, false, List, [], ◌∷◌, ◌++◌, length, drop, Option}
+use Rattle.std.proofs.Common.{◌≡◌, ℕ, true, false, List, [], ◌∷◌, ◌++◌, drop, Option}
 use Rattle.std.proofs.Common.{Some, None, Ok}
-use Rattle.std.proofs.Common.{refl, sym, ap, ◌∙◌, subst, append-nil, arith, inl, inr, ⊎_elim}
+use Rattle.std.proofs.Common.{refl, sym, ap, ◌∙◌, subst, append-nil, inl, inr, ⊎_elim}
 use Rattle.daide_frame.specs.declared.side.Side.{Side}
 use Rattle.daide_frame.specs.declared.side.Side.TheVariants.{Bot, Server}
 use Rattle.daide_frame.specs.declared.head.Head.{Head}
@@ -9,13 +9,10 @@ use Rattle.daide_frame.specs.declared.code.Code.{Code}
 use Rattle.daide_frame.specs.declared.head.Kind.{Kind}
 use Rattle.daide_frame.specs.declared.head.Kind.TheVariants.{Im, Rm, Dm, Fm, Em}
 use Rattle.daide_token.specs.Token.{tokens_of}
-use Rattle.daide_frame.specs.declared.cutter.Step.TheVariants.{Bodied}
-use Rattle.daide_frame.specs.Frames.{Begun, Whole, items_of_step, head_in}
+use Rattle.daide_frame.specs.Frames.{Begun, Whole, head_in}
 use Rattle.daide_frame.specs.Head.{is_im}
 use Rattle.daide_grammar.specs.declared.level.Level.{Level}
-use Rattle.daide_grammar.specs.declared.level.Level.TheVariants.{L0}
 use Rattle.daide_protocol.specs.declared.note.Deed.TheVariants.{Dropped}
-use Rattle.daide_protocol.specs.declared.ending.Ending.{Ending}
 use Rattle.daide_protocol.specs.declared.phase.SessionPhase.{SessionPhase}
 use Rattle.daide_reader.specs.declared.verdict.Verdict.{Verdict}
 use Rattle.daide_reader.specs.declared.verdict.Verdict.TheVariants.{Relay, Prn, Huh}
@@ -124,16 +121,16 @@ begun_alone t u s side head live timely bodiless tied b = record {
 -- ---- a header whose body is empty
 
 -- a note made of a code is Nothing, or the code exists
-pub some_code : (code : Option Code) (items_of_step : Note) → items_of_step ≡ note_by code → (items_of_step ≡ Notes.Nothing → ⊥) →
+pub some_code : (code : Option Code) (note : Note) → note ≡ note_by code → (note ≡ Notes.Nothing → ⊥) →
     (x : Code) × (code ≡ Some x)
-some_code None items_of_step called more = absurd (more called)
-some_code (Some x) items_of_step called more = (x, refl)
+some_code None note called more = absurd (more called)
+some_code (Some x) note called more = (x, refl)
 
 -- an untimely header ends the session, so its empty body has no effect
-pub begun_late : (o n : SessionView) (side : Side) (head : Head) (items_of_step : Note) (code : Code) →
+pub begun_late : (o n : SessionView) (side : Side) (head : Head) (note : Note) (code : Code) →
     untimely o.state.phase side head.kind ≡ Some code →
-    HandlesFrameEvents o side (Begun head ∷ []) items_of_step n → HandlesFrameEvents o side (Begun head ∷ Whole head [] ∷ []) items_of_step n
-begun_late o n side head items_of_step code late h = record {
+    HandlesFrameEvents o side (Begun head ∷ []) note n → HandlesFrameEvents o side (Begun head ∷ Whole head [] ∷ []) note n
+begun_late o n side head note code late h = record {
   verdict = h.verdict;
   right = rw late h.right;
   moves = record {
@@ -151,12 +148,12 @@ begun_late o n side head items_of_step code late h = record {
         ≡ items_outcome o.state side (Begun head ∷ Whole head [] ∷ []) h.verdict
     same = rw late refl
 
-pub begun_and_empty : (t u v : Channels) (s r q : ProtocolState) (side : Side) (head : Head) (items_of_step : Note) →
+pub begun_and_empty : (t u v : Channels) (s r q : ProtocolState) (side : Side) (head : Head) (note : Note) →
     is_over s.phase ≡ false → untimely s.phase side head.kind ≡ None → drop 4 (at t.sides side).holding.held ≡ [] →
     StartsMessage side t s u r →
-    HandlesFrameEvents (view_of u r) side (Whole head [] ∷ []) items_of_step (view_of v q) →
-    HandlesFrameEvents (view_of t s) side (Begun head ∷ Whole head [] ∷ []) items_of_step (view_of v q)
-begun_and_empty t u v s r q side head items_of_step live timely bodiless b h = record {
+    HandlesFrameEvents (view_of u r) side (Whole head [] ∷ []) note (view_of v q) →
+    HandlesFrameEvents (view_of t s) side (Begun head ∷ Whole head [] ∷ []) note (view_of v q)
+begun_and_empty t u v s r q side head note live timely bodiless b h = record {
   verdict = h.verdict;
   right = rw timely right;
   moves = record {
@@ -169,7 +166,7 @@ begun_and_empty t u v s r q side head items_of_step live timely bodiless b h = r
         ∙ ap (λ (o : Successor). tallied o.effects s.summary) same);
   };
   note = h.note ∙ ap (λ (o : Successor). note_of o.effects) same;
-  held = h.held ∙ ap (held_after items_of_step) held;
+  held = h.held ∙ ap (held_after note) held;
   asks = record {
     base = ⊎_elim
         (λ (e : (holding (view_of v q) side).total_before ≡ (holding (view_of u r) side).total_before).
@@ -351,7 +348,7 @@ phase_held t u side top head v phase keeps answered_by tied head_is =
     ∙ phase_of_held t.cap (pending t side) top head.kind head.len side v phase head_is)
 
 pub answered_whole : (t u : Channels) (s : ProtocolState) (side : Side) (head : Head) (body : List ℕ) (verdict : Verdict)
-    (phase : SessionPhase) (counts : Summary) (items_of_step : Note) →
+    (phase : SessionPhase) (counts : Summary) (note : Note) →
     is_over s.phase ≡ false → is_sent s.phase head.kind (other side) ≡ true → check_of head.kind body ≡ Ok tt →
     (at t.sides side).holding.held ≡ pending t side → head_in t.cap (pending t side) ≡ Some head →
     IsCorrectVerdict t.rules.words t.rules.max_depth (question_of side (at t.sides side).coming.noted head body) verdict →
@@ -359,10 +356,10 @@ pub answered_whole : (t u : Channels) (s : ProtocolState) (side : Side) (head : 
     IsAnswered (at t.sides side) (at u.sides side) →
     IsRaised 4 (at t.sides side).holding.total (at u.sides side).holding.total →
     (is_dm head.kind ≡ false → (at u.sides side).holding.total ≡ (at t.sides side).holding.total) →
-    phase ≡ phase_after s.top_level head.kind side verdict (tokens_of body) s.phase → items_of_step ≡ Notes.Frame head (deed_of true verdict) →
-    counts ≡ counted_on items_of_step s.summary →
-    HandlesFrameEvents (view_of t s) side (Whole head body ∷ []) items_of_step (view_of u (in_phase s phase counts))
-answered_whole t u s side head body verdict phase counts items_of_step live sent good tied head_is right keeps
+    phase ≡ phase_after s.top_level head.kind side verdict (tokens_of body) s.phase → note ≡ Notes.Frame head (deed_of true verdict) →
+    counts ≡ counted_on note s.summary →
+    HandlesFrameEvents (view_of t s) side (Whole head body ∷ []) note (view_of u (in_phase s phase counts))
+answered_whole t u s side head body verdict phase counts note live sent good tied head_is right keeps
     waits answered_by raised no_message its_phase its_note counted = record {
       verdict = verdict;
       right = subst (λ (c : Coming). IsCorrectVerdict t.rules.words t.rules.max_depth (question_of side c.noted head body) verdict)
@@ -385,7 +382,7 @@ answered_whole t u s side head body verdict phase counts items_of_step live sent
           ∙ (answered_by.held
           ∙ (sym (held_on head verdict (at t.sides side).holding.held)
           ∙ (ap (λ (n : Note). held_after n (at t.sides side).holding.held) (sym its_note)
-          ∙ ap (λ (h : Holding). held_after items_of_step h.held) (sym (holding_at t s side)))));
+          ∙ ap (λ (h : Holding). held_after note h.held) (sym (holding_at t s side)))));
       asks = record {
         base = inl (rw (holding_at u later side, holding_at t s side) answered_by.base);
         raised = rw (holding_at u later side, holding_at t s side) raised;

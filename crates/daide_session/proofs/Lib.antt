@@ -1,6 +1,5 @@
 pub mod FeedLemmas
 pub mod SessionFronts
-pub mod HeaderAlone
 pub mod EmitsLemmas
 pub mod OpenRuns
 pub mod FrameEventsLemmas

@@ -8,8 +8,8 @@ use Rattle.daide_frame.specs.declared.side.Side.{Side}
 use Rattle.daide_frame.specs.declared.side.Side.TheVariants.{Bot, Server}
 use Rattle.daide_frame.specs.declared.head.Head.{Head}
 use Rattle.daide_frame.specs.declared.cutter.Step.{Step}
-use Rattle.daide_frame.specs.declared.cutter.Step.TheVariants.{Bodied}
-use Rattle.daide_frame.specs.Frames.{IsWholeBody, alien_in, fed, head_in, missing, missing_of_body}
+use Rattle.daide_frame.specs.declared.cutter.Step.TheVariants.{More, Headed, Bodied, Fault}
+use Rattle.daide_frame.specs.Frames.{HoldsFrame, IsBodied, IsWholeBody, alien_in, fed, head_in, missing, missing_of_body}
 use Rattle.daide_frame.proofs.FramesLemmas.{head_in-short}
 use Rattle.daide_reader.specs.Reading.{IsRaised}
 use Rattle.daide_reader.proofs.BodyLemmas.{tokens_of-length}
@@ -181,26 +181,32 @@ body_missing head n None e = omega (arith, e)
 body_missing head n (Some place) e = refl
 
 -- a whole body lacks no byte
-whole_missing : (cap : ℕ) (held : List ℕ) → IsWholeBody (head_in cap held) (drop 4 held) → missing cap held ≡ 0
-whole_missing cap held full = by_head (head_in cap held) refl full (nat_lt (length held) 4) refl
+whole_missing : (cap : ℕ) (held : List ℕ) (head : Head) → head_in cap held ≡ Some head → IsWholeBody head (drop 4 held) →
+    missing cap held ≡ 0
+whole_missing cap held head e full = by_length (nat_lt (length held) 4) refl
   where
-    by_head : (o : Option Head) → head_in cap held ≡ o → IsWholeBody o (drop 4 held) → (k : Bool) →
-        nat_lt (length held) 4 ≡ k → missing cap held ≡ 0
-    by_head None e h k f = absurd h
-    by_head (Some head) e h true f = absurd
+    by_length : (k : Bool) → nat_lt (length held) 4 ≡ k → missing cap held ≡ 0
+    by_length true f = absurd
         (let none : None ≡ Some head = sym (head_in-short cap held (below_four (length held) f)) ∙ e in cc)
-    by_head (Some head) e h false f =
+    by_length false f =
         missing_behind cap held f
         ∙ (ap (λ (o : Option Head). missing_of_body o (drop 4 held)) e
-        ∙ body_missing head (length (drop 4 held)) (alien_in head (drop 4 held)) h.1)
+        ∙ body_missing head (length (drop 4 held)) (alien_in head (drop 4 held)) full.1)
+
+whole_at_end : (cap : ℕ) (held : List ℕ) (step : Step) → HoldsFrame step (head_in cap held) (drop 4 held) → IsBodied step →
+    missing cap held ≡ 0
+whole_at_end cap held More h bodied = absurd bodied
+whole_at_end cap held (Headed head) h bodied = absurd bodied
+whole_at_end cap held (Bodied head) h bodied = whole_missing cap held head h.0 h.1
+whole_at_end cap held (Fault code) h bodied = absurd bodied
 
 -- the look-ups at a message's end are made only once it is whole
 pub end_paid : (cap : ℕ) (old new : Holding) (step : Step) → Asks cap old new →
-    (step ≡ Bodied → IsWholeBody (head_in cap old.held) (drop 4 old.held)) →
-    (step ≡ Bodied) ⊎ (new.total ≡ old.total) → IsRaised (at_end cap old.held) old.total new.total
-end_paid cap old new step asks full h = ⊎_elim
-    (λ (bodied : step ≡ Bodied). by_kind (is_dm_head (head_in cap old.held)) refl
-    (whole_missing cap old.held (full bodied)))
+    HoldsFrame step (head_in cap old.held) (drop 4 old.held) →
+    IsBodied step ⊎ (new.total ≡ old.total) → IsRaised (at_end cap old.held) old.total new.total
+end_paid cap old new step asks held h = ⊎_elim
+    (λ (bodied : IsBodied step). by_kind (is_dm_head (head_in cap old.held)) refl
+    (whole_at_end cap old.held step held bodied))
     (λ (same : new.total ≡ old.total). raised_none old.total new.total same)
     h
   where

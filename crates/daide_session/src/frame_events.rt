@@ -2,10 +2,8 @@
 
 ghost use Rattle.std.specs.Prelude.{◌≡◌, ◌⊎◌, false, [], ◌∷◌, length, drop, Some, None, Ok};
 ghost use Rattle.daide_frame.specs.declared.side.Side.{Side};
-ghost use Rattle.daide_frame.specs.declared.head.Head.{Head};
 ghost use Rattle.daide_frame.specs.declared.head.Kind.TheVariants as Kinds;
-ghost use Rattle.daide_frame.specs.declared.cutter.Step.TheVariants.{Headed, Bodied};
-ghost use Rattle.daide_frame.specs.Frames.{Begun, Whole, head_in, items_of_step, IsWholeBody};
+ghost use Rattle.daide_frame.specs.Frames.{Begun, Whole, HoldsFrame, IsBodied, head_in, items_of_step, IsWholeBody};
 ghost use Rattle.daide_protocol.specs.Machine.{untimely as untimely_code, is_over as is_over_phase};
 ghost use Rattle.daide_protocol.specs.Wires.{is_awaited};
 ghost use Rattle.daide_frame.specs.PerSide.{at};
@@ -124,7 +122,7 @@ fn complete<A: Allocator>(
     requires free { is_awaited (at channels.old.queued) side ≡ false }
     requires tied { (side_holding channels.old side).held ≡ pending channels.old side }
     requires head { head_in channels.old.cap (pending channels.old side) ≡ Some head }
-    requires full { IsWholeBody (Some head) (drop 4 (pending channels.old side)) }
+    requires full { IsWholeBody head (drop 4 (pending channels.old side)) }
     ensures reacts { HandlesFrameEvents (view_of channels.old protocol.old) side
         (Whole head (drop 4 (pending channels.old side)) ∷ []) result (view_of channels.new protocol.new) }
     ensures fronts { KeepsFronts channels.old channels.new }
@@ -150,7 +148,7 @@ fn begin_and_complete<A: Allocator>(
     requires bodiless { drop 4 (pending channels.old side) ≡ [] }
     requires tied { (side_holding channels.old side).held ≡ pending channels.old side }
     requires head { head_in channels.old.cap (pending channels.old side) ≡ Some head }
-    requires full { IsWholeBody (Some head) [] }
+    requires full { IsWholeBody head [] }
     ensures reacts { HandlesFrameEvents (view_of channels.old protocol.old) side (Begun head ∷ Whole head [] ∷ []) result
         (view_of channels.new protocol.new) }
     ensures fronts { KeepsFronts channels.old channels.new }
@@ -172,25 +170,22 @@ pub fn on_frame_event<A: Allocator>(
     requires no_end { (wire : Side) → has_final_frame (at channels.old.queued wire) ≡ false }
     requires free { is_awaited (at channels.old.queued) side ≡ false }
     requires tied { (side_holding channels.old side).held ≡ pending channels.old side }
-    requires bodiless { (head : Head) → step ≡ Headed → head_in channels.old.cap (pending channels.old side) ≡ Some head
-        → drop 4 (pending channels.old side) ≡ [] }
-    requires full { step ≡ Bodied → IsWholeBody (head_in channels.old.cap (pending channels.old side))
+    requires held { HoldsFrame step (head_in channels.old.cap (pending channels.old side))
         (drop 4 (pending channels.old side)) }
     ensures reacts { HandlesFrameEvents (view_of channels.old protocol.old) side
-        (items_of_step step (head_in channels.old.cap (pending channels.old side)) (drop 4 (pending channels.old side))) result
-        (view_of channels.new protocol.new) }
+        (items_of_step step (drop 4 (pending channels.old side))) result (view_of channels.new protocol.new) }
     ensures fronts { KeepsFronts channels.old channels.new }
-    ensures unasked { (step ≡ Bodied) ⊎ ((side_holding channels.new side).total ≡ (side_holding channels.old side).total) }
+    ensures unasked { IsBodied step ⊎ ((side_holding channels.new side).total ≡ (side_holding channels.old side).total) }
 {
-    match (step, channels.head(side)) {
-        (Step::Fault(code), _) => fail(channels, protocol, side, code),
-        (Step::Headed, Some(head)) => begin(channels, protocol, side, head),
-        (Step::Bodied, Some(head)) => {
+    match step {
+        Step::More => Note::Nothing,
+        Step::Fault(code) => fail(channels, protocol, side, code),
+        Step::Headed(head) => begin(channels, protocol, side, head),
+        Step::Bodied(head) => {
             if head.len > 0 {
                 return complete(channels, protocol, side, head);
             }
             begin_and_complete(channels, protocol, side, head)
         }
-        _ => Note::Nothing,
     }
 }

@@ -39,6 +39,7 @@ pub struct ProtocolState {
 }
 
 impl ProtocolState {
+    /// Returns whether the session has ended.
     pub fn is_over(&self) -> bool
         ensures { result ≡ is_over_phase self.now.phase }
     {

@@ -1,7 +1,7 @@
 -- The ports that a scene's system got back. (own)
 use Rattle.std.specs.Prelude.{◌≡◌, ◌⊎◌, List, [], ◌∷◌, ◌++◌}
-use Rattle.daide_io.specs.System.{SystemCall, Begins, ReportsNews, BeginsTurn, Accepts, Connects, Retires, Notifies}
-use Rattle.daide_io.specs.System.{Waits}
+use Rattle.daide_io.specs.System.{SystemCall, Begins, ReportsNews, BeginsTurn, EndsTurn, Accepts, Connects, Retires}
+use Rattle.daide_io.specs.System.{Notifies, Waits}
 
 -- Retired ports are appended, or dropped if memory is refused. No other call changes the ports that are kept.
 abbrev pub KeepsRetired : {P : Type 0} → List P → SystemCall P → List P → Type 0
@@ -9,6 +9,7 @@ KeepsRetired old (Retires ports end) new = (new ≡ old ++ ports ∷ []) ⊎ (ne
 KeepsRetired old Begins new = new ≡ old
 KeepsRetired old (ReportsNews ports news) new = new ≡ old
 KeepsRetired old (BeginsTurn before after) new = new ≡ old
+KeepsRetired old (EndsTurn ports) new = new ≡ old
 KeepsRetired old (Accepts came) new = new ≡ old
 KeepsRetired old (Connects connect) new = new ≡ old
 KeepsRetired old (Notifies notice) new = new ≡ old

@@ -8,7 +8,7 @@ use crate::relays::{NEVER, QUIET, assert_sent};
 use crate::script::counts_of;
 use daide_frame::code::Code;
 use daide_frame::side::Side::{Bot, Server};
-use daide_gate::serving::{ServeFault, serve};
+use daide_gate::serving::{ServeFault, Service, serve};
 use daide_gate::settings::{Settings, read_settings};
 use daide_gate::system::{Cause, Connect, Notice, SessionEnd, System};
 use daide_protocol::ending::Ending;
@@ -34,6 +34,7 @@ enum Event {
     News,
     NoNews,
     TurnBegun,
+    TurnEnded,
     Came,
     NoneCame,
     Ready,
@@ -113,6 +114,10 @@ impl System<MemoryPorts<'static>> for Harness {
     fn begin_turn(&mut self, ports: &mut MemoryPorts<'static>) {
         self.note(Event::TurnBegun);
         ports.begin_turn();
+    }
+
+    fn end_turn(&mut self, _ports: &MemoryPorts<'static>) {
+        self.note(Event::TurnEnded);
     }
 
     fn accept(&mut self) -> bool {
@@ -231,6 +236,7 @@ const RUNS: &[(Scene, Limits, &[Event])] = &[
             Event::Begun,
             Event::Ready,
             Event::TurnBegun,
+            Event::TurnEnded,
             Event::Retired,
         ],
     ),
@@ -264,17 +270,21 @@ const RUNS: &[(Scene, Limits, &[Event])] = &[
             Event::Came,
             Event::Ready,
             Event::TurnBegun,
+            Event::TurnEnded,
             Event::Begun,
             Event::News,
             Event::TurnBegun,
+            Event::TurnEnded,
             Event::Retired,
             Event::Begun,
             Event::Came,
             Event::Ready,
             Event::TurnBegun,
+            Event::TurnEnded,
             Event::Begun,
             Event::News,
             Event::TurnBegun,
+            Event::TurnEnded,
             Event::Retired,
         ],
     ),
@@ -301,6 +311,7 @@ const RUNS: &[(Scene, Limits, &[Event])] = &[
             Event::Came,
             Event::Ready,
             Event::TurnBegun,
+            Event::TurnEnded,
             Event::Retired,
         ],
     ),
@@ -321,19 +332,23 @@ const RUNS: &[(Scene, Limits, &[Event])] = &[
             Event::Came,
             Event::Ready,
             Event::TurnBegun,
+            Event::TurnEnded,
             Event::Begun,
             Event::Ready,
             Event::News,
             Event::TurnBegun,
+            Event::TurnEnded,
             Event::TurnBegun,
+            Event::TurnEnded,
             Event::Retired,
             Event::Begun,
             Event::News,
             Event::TurnBegun,
+            Event::TurnEnded,
             Event::Retired,
         ],
     ),
-    // a silent bot: its fourth turn exceeds the quota, and the system does not begin it
+    // a silent bot: its fourth turn exceeds the quota, and the system neither begins nor ends it
     (
         Scene {
             accepts: &[],
@@ -347,13 +362,16 @@ const RUNS: &[(Scene, Limits, &[Event])] = &[
             Event::Came,
             Event::Ready,
             Event::TurnBegun,
+            Event::TurnEnded,
             Event::Begun,
             Event::News,
             Event::TurnBegun,
+            Event::TurnEnded,
             Event::Waited,
             Event::Begun,
             Event::News,
             Event::TurnBegun,
+            Event::TurnEnded,
             Event::Waited,
             Event::Begun,
             Event::News,
@@ -375,6 +393,7 @@ const RUNS: &[(Scene, Limits, &[Event])] = &[
             Event::Came,
             Event::Ready,
             Event::TurnBegun,
+            Event::TurnEnded,
             Event::Begun,
             Event::NoNews,
             Event::Waited,
@@ -384,6 +403,7 @@ const RUNS: &[(Scene, Limits, &[Event])] = &[
             Event::Begun,
             Event::News,
             Event::TurnBegun,
+            Event::TurnEnded,
             Event::Waited,
             Event::Begun,
             Event::News,
@@ -405,19 +425,23 @@ const RUNS: &[(Scene, Limits, &[Event])] = &[
             Event::Came,
             Event::Ready,
             Event::TurnBegun,
+            Event::TurnEnded,
             Event::Begun,
             Event::Came,
             Event::Ready,
             Event::NoNews,
             Event::TurnBegun,
+            Event::TurnEnded,
             Event::Begun,
             Event::NoNews,
             Event::News,
             Event::TurnBegun,
+            Event::TurnEnded,
             Event::Retired,
             Event::Begun,
             Event::News,
             Event::TurnBegun,
+            Event::TurnEnded,
             Event::Retired,
         ],
     ),
@@ -451,14 +475,19 @@ const SPENT: &[Event] = &[
     Event::Came,
     Event::Ready,
     Event::TurnBegun,
+    Event::TurnEnded,
     Event::Begun,
     Event::TurnBegun,
+    Event::TurnEnded,
     Event::Begun,
     Event::TurnBegun,
+    Event::TurnEnded,
     Event::Begun,
     Event::TurnBegun,
+    Event::TurnEnded,
     Event::Begun,
     Event::TurnBegun,
+    Event::TurnEnded,
     Event::Waited,
     Event::Begun,
     Event::News,
@@ -573,6 +602,34 @@ fn each_of_many_bots_is_served(rt: HostRuntime) -> Result<(), Fail> {
             .any(|event| matches!(event, Event::ParsedEvent(_))),
         "nothing is told",
     )
+}
+
+/// Settings for one bot, with and without an end.
+const ONE_BOT: &str =
+    "listen = \"a\"\nserver = \"b\"\nmax_body = 512\nmax_sessions = 1\nsessions = 1\n";
+
+const ENDLESS: &str =
+    "listen = \"a\"\nserver = \"b\"\nmax_body = 512\nmax_sessions = 1\nsessions = 1\nendless = true\n";
+
+/// Checks how many bots are served in these rounds, each of which serves one, and whether the run is done then.
+fn assert_served(alloc: Global, text: &str, rounds: usize, done: bool) -> Result<(), Fail> {
+    let settings = read_settings(alloc, text)?;
+    let mut stage = Harness::new(alloc, ENDING);
+    let mut service = Service::<MemoryPorts<'static>, Global>::new(alloc, &settings)?;
+    for _round in 0..rounds {
+        service.round(&mut stage)?;
+    }
+    same(
+        &(stage.retired.len(), service.is_done()),
+        &(rounds, done),
+        &"served, done",
+    )
+}
+
+#[test]
+fn endless_run_goes_on_after_its_sessions(rt: HostRuntime) -> Result<(), Fail> {
+    assert_served(rt.alloc(), ONE_BOT, 1, true)?;
+    assert_served(rt.alloc(), ENDLESS, 30, false)
 }
 
 /// Runs with its memory on a heap of this size.

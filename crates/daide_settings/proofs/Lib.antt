@@ -1,4 +1,8 @@
 pub mod Members
+pub mod Named
+pub mod RangeItems
+pub mod JudgedLemmas
 pub mod WordEntries
 pub mod SettingsFacts
 mod PairFacts
+mod RangeFacts

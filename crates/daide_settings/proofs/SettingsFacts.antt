@@ -8,11 +8,12 @@ use Rattle.toml.specs.Parse.{parse_document}
 use Rattle.toml.proofs.OnLiterals.{toml_on_literals}
 use Rattle.daide_settings.specs.declared.settings.key.Key.TheVariants.{Listen, Server, TopLevel, MaxBody, MaxDepth}
 use Rattle.daide_settings.specs.declared.settings.key.Key.TheVariants.{ImSeconds, MaxSessions, Sessions, Turns, IdleSeconds}
-use Rattle.daide_settings.specs.declared.settings.key.Key.TheVariants.{Words, StallSeconds}
+use Rattle.daide_settings.specs.declared.settings.key.Key.TheVariants.{Words, StallSeconds, Endless, Allow, MaxPerAddress}
+use Rattle.daide_settings.specs.Ranges.{everyone}
 use Rattle.daide_settings.specs.declared.settings.key.TheConstants.Key.{ALL}
 use Rattle.daide_settings.specs.declared.settings.SettingsError.TheVariants.{NotToml, Unknown, Missing}
 use Rattle.daide_settings.specs.declared.settings.SettingsError.TheVariants.{WrongType, Range}
-use Rattle.daide_settings.specs.Settings.{is_in_range, address_of, read_number, judged_members}
+use Rattle.daide_settings.specs.Settings.{is_in_range, address_of, read_flag, read_number, judged_members}
 use Rattle.daide_settings.specs.Settings.{judged_settings}
 use Rattle.daide_settings.specs.WordSettings.{words_judged}
 use Rattle.std.proofs.Common.{Result}
@@ -27,7 +28,7 @@ use Rattle.daide_settings.specs.declared.settings.SettingsError.{SettingsError}
 
 -- each key once, in the order of the checks
 all_keys : ALL ≡ Listen ∷ Server ∷ TopLevel ∷ MaxBody ∷ MaxDepth ∷ ImSeconds ∷ MaxSessions ∷ Sessions ∷ Turns
-    ∷ IdleSeconds ∷ Words ∷ StallSeconds ∷ []
+    ∷ IdleSeconds ∷ Words ∷ StallSeconds ∷ Endless ∷ Allow ∷ MaxPerAddress ∷ []
 all_keys = refl
 
 -- ---- ranges, at both ends
@@ -149,6 +150,15 @@ stalled_for_a_day = refl
 stalled_for_more_than_a_day : is_in_range StallSeconds 86401 ≡ false
 stalled_for_more_than_a_day = refl
 
+unlimited : is_in_range MaxPerAddress 0 ≡ true
+unlimited = refl
+
+as_many_as_sessions : is_in_range MaxPerAddress 256 ≡ true
+as_many_as_sessions = refl
+
+more_than_sessions : is_in_range MaxPerAddress 257 ≡ false
+more_than_sessions = refl
+
 -- ---- whole documents; the members are in the order of their keys' bytes
 
 abbrev both : Members → Members
@@ -171,6 +181,9 @@ defaults : judged_members two_addresses ≡ Ok (record {
   idle_seconds = 0;
   words = [];
   stall_seconds = 60;
+  endless = false;
+  allow = everyone;
+  max_per_address = 0;
 })
 unfolding judged_members
 defaults = refl
@@ -205,6 +218,13 @@ number_for_an_address = refl
 
 empty_address : address_of Server (Some (string (codes ""))) ≡ Err (Range Server)
 empty_address = refl
+
+-- a flag is a boolean, and no number
+flags : (read_flag Endless None ≡ Ok false) × (read_flag Endless (Some (boolean false)) ≡ Ok false)
+    × (read_flag Endless (Some (boolean true)) ≡ Ok true)
+    × (read_flag Endless (Some (integer (pos 1))) ≡ Err (WrongType Endless))
+    × (read_flag Endless (Some (string (codes "true"))) ≡ Err (WrongType Endless))
+flags = (refl, refl, refl, refl, refl)
 
 -- ---- words; the members of an entry are in the order of their keys' bytes
 

@@ -17,4 +17,7 @@ given_of settings = record {
   idle_seconds = settings.idle_seconds;
   words = words_of settings.words;
   stall_seconds = settings.stall_seconds;
+  endless = settings.endless;
+  allow = settings.allow.items;
+  max_per_address = settings.max_per_address;
 }

@@ -1,3 +1,5 @@
 pub mod WordSettings
+pub mod Ranges
 pub mod Settings
 pub mod Given
+pub mod Judged

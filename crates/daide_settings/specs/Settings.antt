@@ -1,20 +1,22 @@
 -- The settings of a TOML document: docs/FORMATS.md, "Settings", as definitions. The crate toml defines what a TOML
 -- document is, and which members it has. (own)
-use Rattle.std.specs.Prelude.{ℕ, ℤ, pos, negsuc, ◌&&◌, ◌||◌, nat_le, Bool, if◌then◌else◌}
+use Rattle.std.specs.Prelude.{ℕ, ℤ, pos, negsuc, ◌&&◌, ◌||◌, nat_le, Bool, false, if◌then◌else◌}
 use Rattle.std.specs.Prelude.{List, length, codes, Option, Some, None, Result, Ok, Err}
 use Rattle.std.specs.Str.{bytes_eq}
-use Rattle.toml.specs.Data.{Data, as_str, as_integer, Members, get_member}
+use Rattle.toml.specs.Data.{Data, as_str, as_integer, as_bool, Members, get_member}
 use Rattle.daide_protocol.specs.Bounds.{longest_body, most_sessions}
 use Rattle.daide_protocol.specs.Config.{is_level, is_body, is_depth}
 use Rattle.daide_settings.specs.declared.settings.key.Key.{Key}
 use Rattle.daide_settings.specs.declared.settings.key.Key.TheVariants.{Listen, Server, TopLevel, MaxBody, MaxDepth}
 use Rattle.daide_settings.specs.declared.settings.key.Key.TheVariants.{ImSeconds, MaxSessions, Sessions, Turns, IdleSeconds}
-use Rattle.daide_settings.specs.declared.settings.key.Key.TheVariants.{Words, StallSeconds}
+use Rattle.daide_settings.specs.declared.settings.key.Key.TheVariants.{Words, StallSeconds, Endless, Allow, MaxPerAddress}
 use Rattle.daide_settings.specs.declared.settings.SettingsError.{SettingsError}
 use Rattle.daide_settings.specs.declared.settings.SettingsError.TheVariants.{NotToml, Unknown, Missing}
 use Rattle.daide_settings.specs.declared.settings.SettingsError.TheVariants.{WrongType, Range}
 use Rattle.daide_words.specs.declared.word.Word.{Word}
 use Rattle.daide_settings.specs.WordSettings.{has_only, words_judged}
+use Rattle.daide_settings.specs.declared.settings.ranges.AddressRange.{AddressRange}
+use Rattle.daide_settings.specs.Ranges.{allow_judged}
 
 -- ---- the table of keys
 
@@ -32,11 +34,15 @@ key_text Turns = codes "turns"
 key_text IdleSeconds = codes "idle_seconds"
 key_text Words = codes "words"
 key_text StallSeconds = codes "stall_seconds"
+key_text Endless = codes "endless"
+key_text Allow = codes "allow"
+key_text MaxPerAddress = codes "max_per_address"
 
 abbrev pub is_within : ℕ → ℕ → ℕ → Bool
 is_within low high n = nat_le low n && nat_le n high
 
--- the range of a key's number; for an address, the number of its bytes, and for words, the number of them
+-- the range of a key's number; for an address, the number of its bytes, and for words or ranges, the number of them; a
+-- flag has no number
 abbrev pub is_in_range : Key → ℕ → Bool
 is_in_range Listen n = is_within 1 255 n
 is_in_range Server n = is_within 1 255 n
@@ -50,9 +56,12 @@ is_in_range Turns n = is_within 1 1000000000000 n
 is_in_range IdleSeconds n = is_within 0 86400 n
 is_in_range Words n = is_within 0 16 n
 is_in_range StallSeconds n = is_within 0 86400 n
+is_in_range Endless n = false
+is_in_range Allow n = is_within 1 16 n
+is_in_range MaxPerAddress n = is_within 0 most_sessions n
 
 -- the number of a key that is missing in a document; the two addresses are required and have none, and neither have
--- words
+-- words, ranges and a flag
 abbrev pub default_of : Key → Option ℕ
 default_of Listen = None
 default_of Server = None
@@ -66,6 +75,9 @@ default_of Turns = Some 1000000000
 default_of IdleSeconds = Some 0
 default_of Words = None
 default_of StallSeconds = Some 60
+default_of Endless = None
+default_of Allow = None
+default_of MaxPerAddress = Some 0
 
 -- whether a document may have this key
 abbrev pub is_known : List ℕ → Bool
@@ -74,7 +86,8 @@ is_known text =
     || bytes_eq text (key_text MaxBody) || bytes_eq text (key_text MaxDepth) || bytes_eq text (key_text ImSeconds)
     || bytes_eq text (key_text MaxSessions) || bytes_eq text (key_text Sessions) || bytes_eq text (key_text Turns)
     || bytes_eq text (key_text IdleSeconds) || bytes_eq text (key_text Words)
-    || bytes_eq text (key_text StallSeconds)
+    || bytes_eq text (key_text StallSeconds) || bytes_eq text (key_text Endless) || bytes_eq text (key_text Allow)
+    || bytes_eq text (key_text MaxPerAddress)
 
 abbrev pub has_only_known : Members → Bool
 has_only_known members = has_only is_known members
@@ -105,6 +118,15 @@ abbrev pub read_number : Key → Option Data → Result ℕ SettingsError
 read_number key None = absent_judged key (default_of key)
 read_number key (Some value) = integer_judged key (as_integer value)
 
+abbrev pub flag_judged : Key → Option Bool → Result Bool SettingsError
+flag_judged key None = Err (WrongType key)
+flag_judged key (Some flag) = Ok flag
+
+-- a missing flag is false; otherwise the value must be a boolean
+abbrev pub read_flag : Key → Option Data → Result Bool SettingsError
+read_flag key None = Ok false
+read_flag key (Some value) = flag_judged key (as_bool value)
+
 -- ---- the document
 
 -- the content of the settings in a document
@@ -121,6 +143,9 @@ pub record Given : Type 0 where
   pub idle_seconds : ℕ
   pub words : List Word
   pub stall_seconds : ℕ
+  pub endless : Bool
+  pub allow : List AddressRange
+  pub max_per_address : ℕ
 
 -- the next check, if the one before it passed
 abbrev pub then_with : {A B : Type 0} → Result A SettingsError → (A → Result B SettingsError) → Result B SettingsError
@@ -142,6 +167,9 @@ keys_judged members =
     then_with (read_number IdleSeconds (get_member (key_text IdleSeconds) members)) (λ idle_seconds.
     then_with (words_judged (get_member (key_text Words) members)) (λ words.
     then_with (read_number StallSeconds (get_member (key_text StallSeconds) members)) (λ stall_seconds.
+    then_with (read_flag Endless (get_member (key_text Endless) members)) (λ endless.
+    then_with (allow_judged (get_member (key_text Allow) members)) (λ allow.
+    then_with (read_number MaxPerAddress (get_member (key_text MaxPerAddress) members)) (λ max_per_address.
     Ok (record {
       listen = listen;
       server = server;
@@ -155,7 +183,10 @@ keys_judged members =
       idle_seconds = idle_seconds;
       words = words;
       stall_seconds = stall_seconds;
-    })))))))))))))
+      endless = endless;
+      allow = allow;
+      max_per_address = max_per_address;
+    }))))))))))))))))
 
 -- an unknown key is reported before any key is checked
 unfoldable pub judged_members : Members → Result Given SettingsError

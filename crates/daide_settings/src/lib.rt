@@ -5,4 +5,7 @@
 
 pub mod settings;
 
-pub use settings::{Address, Key, Settings, SettingsError, read_settings};
+pub use settings::{
+    Address, AddressRange, Host, JudgeFault, Key, Settings, SettingsError, judge_settings,
+    may_come, read_settings,
+};

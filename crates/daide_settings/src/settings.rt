@@ -4,8 +4,12 @@
 //! no file: the text is a parameter.
 
 mod address;
+mod allow;
+mod judged;
 mod key;
+mod ranges;
 mod reading;
+mod suggestion;
 mod words;
 
 ghost use Rattle.std.specs.Prelude.{◌≡◌, Ok};
@@ -13,9 +17,12 @@ ghost use Rattle.daide_protocol.specs.Bounds.{IsSessionCount};
 ghost use Rattle.daide_protocol.specs.Config.{config_fault};
 
 pub use address::Address;
+use arrayvec::ArrayVec;
 use daide_protocol::config::{Config, SessionLimits};
 use daide_words::Words;
+pub use judged::{JudgeFault, judge_settings};
 pub use key::Key;
+pub use ranges::{AddressRange, Host, MAX_RANGES, may_come};
 pub use reading::read_settings;
 use thiserror::Error;
 
@@ -68,6 +75,12 @@ pub struct Settings {
     /// The stall timeout, in seconds: a side that accepts none of its queued bytes for this long counts as lost; 0 for
     /// never.
     pub stall_seconds: u32,
+    /// Whether the run serves until it is stopped. Then `sessions` has no effect.
+    pub endless: bool,
+    /// The ranges of addresses from which a bot may come.
+    pub allow: ArrayVec<AddressRange, MAX_RANGES>,
+    /// The greatest number of sessions at once with bots from one address; 0 for no limit.
+    pub max_per_address: u16,
     pub ghost right: { config_fault config ≡ Ok tt },
     pub ghost some: { IsSessionCount max_sessions },
 }

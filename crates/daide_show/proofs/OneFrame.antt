@@ -258,19 +258,19 @@ four_past (p ∷ q ∷ r ∷ s ∷ x ∷ l) rest e = absurd (omega arith)
 
 -- the first frame ends with its body, by whether all bytes were fed
 whole_at : (head : Head) (body : List ℕ) (n more : ℕ) (all : Bool) → n ≡ 4 + length body + more → all ≡ eqb more 0
-    → parsed_input_by (parsed_input_of Bodied (Some head) all) body ≡ cond (eqb (4 + length body) n) (whole head body) not_one
+    → parsed_input_by (parsed_input_of (Bodied head) all) body ≡ cond (eqb (4 + length body) n) (whole head body) not_one
 whole_at head body n more true e is = let same : eqb (4 + length body) n ≡ true = grind (arith, nat_tests) in
     rw same refl
 whole_at head body n more false e is = let same : eqb (4 + length body) n ≡ false = grind (arith, nat_tests) in
     rw same refl
 
 -- the header was the last piece fed
-pub header_found : (cap : ℕ) (b h rest now : List ℕ) (step : Step) (head : Option Head) (all : Bool) (found : ParsedInput)
-    → b ≡ h ++ rest → length h ≡ 4 → now ≡ fed cap [] h → fed_items cap [] h ≡ items_of_step step head (drop 4 now)
-    → IsFault step ⊎ (now ≡ h) → step ≢ Headed → all ≡ eqb (length rest) 0 → found ≡ parsed_input_of step head all
-    → parsed_input_by found (drop 4 now) ≡ parse_frame cap b
-header_found cap b h rest now step head all found split four fed_now tells taken not_headed is_all is =
-    rw (is, split) (go step head tells taken not_headed)
+pub header_found : (cap : ℕ) (b h rest now : List ℕ) (step : Step) (all : Bool) (found : ParsedInput)
+    → b ≡ h ++ rest → length h ≡ 4 → now ≡ fed cap [] h → fed_items cap [] h ≡ items_of_step step (drop 4 now)
+    → IsFault step ⊎ (now ≡ h) → ((hd : Head) → step ≢ Headed hd) → all ≡ eqb (length rest) 0
+    → found ≡ parsed_input_of step all → parsed_input_by found (drop 4 now) ≡ parse_frame cap b
+header_found cap b h rest now step all found split four fed_now tells taken not_headed is_all is =
+    rw (is, split) (go step tells taken not_headed)
   where
     room : length h ≤ missing cap []
     room = let four_left = room_of_header cap [] refl in omega arith
@@ -281,34 +281,33 @@ header_found cap b h rest now step head all found split four fed_now tells taken
         cut_piece cap [] h room ∙ ap (λ (l : List FrameEvent). l ++ fed_items cap [] h) (items_nothing cap) ∙ e in
         header_items cap h four (ap (λ (l : List ℕ). frame_events_of (first_items cap l)) (sym same ∙ fed_now) ∙ items)
 
-    go : (step : Step) (head : Option Head) → fed_items cap [] h ≡ items_of_step step head (drop 4 now) →
-        IsFault step ⊎ (now ≡ h) → step ≢ Headed
-        → parsed_input_by (parsed_input_of step head all) (drop 4 now) ≡ parse_frame cap (h ++ rest)
-    go (Fault code) head t w n = sym (fed_over cap [] h rest [] (Wrong code ∷ []) room (items_nothing cap) t refl)
-    go Headed head t w n = absurd (n refl)
-    go More head t (inl fault) n = absurd fault
-    go More head t (inr same) n = absurd (none t same)
-    go Bodied head t (inl fault) n = absurd fault
-    go Bodied None t (inr same) n = absurd (none t same)
-    go Bodied (Some hd) t (inr same) n =
+    go : (step : Step) → fed_items cap [] h ≡ items_of_step step (drop 4 now) →
+        IsFault step ⊎ (now ≡ h) → ((hd : Head) → step ≢ Headed hd)
+        → parsed_input_by (parsed_input_of step all) (drop 4 now) ≡ parse_frame cap (h ++ rest)
+    go (Fault code) t w n = sym (fed_over cap [] h rest [] (Wrong code ∷ []) room (items_nothing cap) t refl)
+    go (Headed hd) t w n = absurd (n hd refl)
+    go More t (inl fault) n = absurd fault
+    go More t (inr same) n = absurd (none t same)
+    go (Bodied hd) t (inl fault) n = absurd fault
+    go (Bodied hd) t (inr same) n =
         let empty : drop 4 now ≡ [] =
         ap (λ (l : List ℕ). drop 4 l) same ∙ ap (λ (l : List ℕ). drop 4 l) (sym (append-nil h))
         ∙ four_past h [] four in
         let tells : fed_items cap [] h ≡ Begun hd ∷ Whole hd [] ∷ [] =
-        t ∙ ap (λ (l : List ℕ). items_of_step Bodied (Some hd) l) empty in
+        t ∙ ap (λ (l : List ℕ). items_of_step (Bodied hd) l) empty in
         rw empty (whole_at hd [] (length (h ++ rest)) (length rest) all (omega (arith, length-append h rest)) is_all
         ∙ sym (fed_over cap [] h rest [] (Begun hd ∷ Whole hd [] ∷ []) room (items_nothing cap) tells refl))
 
 -- a valid header was fed, and a body follows
-pub header_begun : (cap : ℕ) (h now : List ℕ) (step : Step) (head : Option Head) → length h ≡ 4 → now ≡ fed cap [] h
-    → fed_items cap [] h ≡ items_of_step step head (drop 4 now) → IsFault step ⊎ (now ≡ h) → step ≡ Headed
-    → (now ≡ h) × ((hd : Head) × (frame_events_of (first_items cap now) ≡ Begun hd ∷ []))
-header_begun cap h now step head four fed_now tells taken is = (
+pub header_begun : (cap : ℕ) (h now : List ℕ) (step : Step) (hd : Head) → length h ≡ 4 → now ≡ fed cap [] h
+    → fed_items cap [] h ≡ items_of_step step (drop 4 now) → IsFault step ⊎ (now ≡ h) → step ≡ Headed hd
+    → (now ≡ h) × (frame_events_of (first_items cap now) ≡ Begun hd ∷ [])
+header_begun cap h now step hd four fed_now tells taken is = (
   same (subst (λ (s : Step). IsFault s ⊎ (now ≡ h)) is taken),
-  go head (tells ∙ ap (λ (s : Step). items_of_step s head (drop 4 now)) is),
+  items ∙ tells ∙ ap (λ (s : Step). items_of_step s (drop 4 now)) is,
 )
   where
-    same : IsFault Headed ⊎ (now ≡ h) → now ≡ h
+    same : IsFault (Headed hd) ⊎ (now ≡ h) → now ≡ h
     same (inl fault) = absurd fault
     same (inr e) = e
 
@@ -319,22 +318,15 @@ header_begun cap h now step head four fed_now tells taken is = (
     items = ap (λ (l : List ℕ). frame_events_of (first_items cap l)) fed_now ∙ cut_piece cap [] h room
         ∙ ap (λ (l : List FrameEvent). l ++ fed_items cap [] h) (items_nothing cap)
 
-    go : (head : Option Head) → fed_items cap [] h ≡ items_of_step Headed head (drop 4 now) →
-        (hd : Head) × (frame_events_of (first_items cap now) ≡ Begun hd ∷ [])
-    go None t =
-        let still = same (subst (λ (s : Step). IsFault s ⊎ (now ≡ h)) is taken) in
-        absurd (header_items cap h four (ap (λ (l : List ℕ). frame_events_of (first_items cap l)) (sym still) ∙ items ∙ t))
-    go (Some hd) t = (hd, items ∙ t)
-
 -- as much of the body as there is room for was fed after the header
-pub body_found : (cap : ℕ) (b h p after now : List ℕ) (hd : Head) (step : Step) (head : Option Head) (all : Bool)
+pub body_found : (cap : ℕ) (b h p after now : List ℕ) (hd : Head) (step : Step) (all : Bool)
     (found : ParsedInput)
     → b ≡ (h ++ p) ++ after → length h ≡ 4 → frame_events_of (first_items cap h) ≡ Begun hd ∷ [] → length p ≤ missing cap h
-    → (length p < missing cap h → after ≡ []) → now ≡ fed cap h p → fed_items cap h p ≡ items_of_step step head (drop 4 now)
-    → IsFault step ⊎ (now ≡ h ++ p) → all ≡ eqb (length after) 0 → found ≡ parsed_input_of step head all
+    → (length p < missing cap h → after ≡ []) → now ≡ fed cap h p → fed_items cap h p ≡ items_of_step step (drop 4 now)
+    → IsFault step ⊎ (now ≡ h ++ p) → all ≡ eqb (length after) 0 → found ≡ parsed_input_of step all
     → parsed_input_by found (drop 4 now) ≡ parse_frame cap b
-body_found cap b h p after now hd step head all found split four was room full fed_now tells taken is_all is =
-    rw (is, split) (go step head tells taken)
+body_found cap b h p after now hd step all found split four was room full fed_now tells taken is_all is =
+    rw (is, split) (go step tells taken)
   where
     unended : (items : List FrameEvent) → fed_items cap h p ≡ items → is_over items ≡ false → now ≡ h ++ p →
         not_one ≡ parse_frame cap ((h ++ p) ++ after)
@@ -347,28 +339,26 @@ body_found cap b h p after now hd step head all found split four was room full f
         sym (ap (λ (l : List ℕ). parse_frame cap l) all_of_it ∙ found_items cap (h ++ p) (Begun hd ∷ items) here
         ∙ found_none (length (h ++ p)) (Begun hd ∷ items) open_end)
 
-    ended : (hd2 : Head) (q : List ℕ) → fed_items cap h p ≡ items_of_step Bodied (Some hd2) q
+    ended : (hd2 : Head) (q : List ℕ) → fed_items cap h p ≡ items_of_step (Bodied hd2) q
         → parse_frame cap ((h ++ p) ++ after)
         ≡ cond (eqb (4 + length q) (length ((h ++ p) ++ after))) (whole hd2 q) not_one
     ended hd2 [] t = fed_over cap h p after (Begun hd ∷ []) (Begun hd2 ∷ Whole hd2 [] ∷ []) room was t refl
     ended hd2 (x ∷ q) t = fed_over cap h p after (Begun hd ∷ []) (Whole hd2 (x ∷ q) ∷ []) room was t refl
 
-    go : (step : Step) (head : Option Head) → fed_items cap h p ≡ items_of_step step head (drop 4 now) →
+    go : (step : Step) → fed_items cap h p ≡ items_of_step step (drop 4 now) →
         IsFault step ⊎ (now ≡ h ++ p)
-        → parsed_input_by (parsed_input_of step head all) (drop 4 now) ≡ parse_frame cap ((h ++ p) ++ after)
-    go (Fault code) head t w = sym (fed_over cap h p after (Begun hd ∷ []) (Wrong code ∷ []) room was t refl)
-    go More head t (inl fault) = absurd fault
-    go More head t (inr same) = unended [] t refl same
-    go Headed head t (inl fault) = absurd fault
-    go Headed None t (inr same) = unended [] t refl same
-    go Headed (Some hd2) t (inr same) = unended (Begun hd2 ∷ []) t refl same
-    go Bodied head t (inl fault) = absurd fault
-    go Bodied None t (inr same) = unended [] t refl same
-    go Bodied (Some hd2) t (inr same) =
+        → parsed_input_by (parsed_input_of step all) (drop 4 now) ≡ parse_frame cap ((h ++ p) ++ after)
+    go (Fault code) t w = sym (fed_over cap h p after (Begun hd ∷ []) (Wrong code ∷ []) room was t refl)
+    go More t (inl fault) = absurd fault
+    go More t (inr same) = unended [] t refl same
+    go (Headed hd2) t (inl fault) = absurd fault
+    go (Headed hd2) t (inr same) = unended (Begun hd2 ∷ []) t refl same
+    go (Bodied hd2) t (inl fault) = absurd fault
+    go (Bodied hd2) t (inr same) =
         let body : drop 4 now ≡ p = ap (λ (l : List ℕ). drop 4 l) same ∙ four_past h p four in
         rw body (whole_at hd2 p (length ((h ++ p) ++ after)) (length after) all
         (omega (arith, length-append (h ++ p) after, length-append h p)) is_all
-        ∙ sym (ended hd2 p (t ∙ ap (λ (l : List ℕ). items_of_step Bodied (Some hd2) l) body)))
+        ∙ sym (ended hd2 p (t ∙ ap (λ (l : List ℕ). items_of_step (Bodied hd2) l) body)))
 
 right_head : (o : Option Kind) (n cap : ℕ) (head : Head) → judged o n cap ≡ Ok head
     → (has_right_length head.kind head.len ≡ true) × (head.len ≤ cap)

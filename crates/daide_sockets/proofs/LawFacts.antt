@@ -1,10 +1,18 @@
--- The law of `laws`, used once at two calls. The fact takes only the law, so that a weaker law does not check.
-use Rattle.std.proofs.Common.{◌≡◌, ℕ, ◌+◌, ◌≤◌, List, [], ◌∷◌, Option, ap, arith}
+-- The laws of `laws`, each used once. A fact takes only its law, so that a weaker law does not check.
+use Rattle.std.proofs.Common.{◌≡◌, ℕ, ◌+◌, ◌≤◌, true, List, [], ◌∷◌, Option, Some, None, ap, arith}
+use Rattle.std.specs.Prelude.{slice_get}
+use Rattle.std.specs.Duration.{as_nanos}
+use Rattle.std.specs.Time.{instant_nanos}
+use Rattle.std.specs.declared.time.Duration.{Duration}
+use Rattle.std.specs.declared.time.Instant.{Instant}
 use Rattle.daide_io.specs.System.{Connects, TransitsBy}
 use Rattle.daide_io.specs.declared.system.Connect.TheVariants.{Ready}
 use Rattle.daide_io.specs.Streams.{StreamCall}
 use Rattle.daide_sockets.specs.Pairing.{Paired, RunSockets, Transits}
 use Rattle.daide_sockets.specs.PairedOnce.{SessionsComeOnce, is_same}
+use Rattle.daide_sockets.specs.declared.table.Row.{Row}
+use Rattle.daide_sockets.specs.Table.{Table, IsWaitTime}
+use Rattle.daide_sockets.specs.InTime.{WaitsAreInTime}
 
 -- no two connects deliver ports of session 5
 never_twice : {P S : Type 0} (to_give taken : S → Option (List ℕ)) (calls : S → Option (List StreamCall)) →
@@ -18,3 +26,22 @@ never_twice to_give taken calls law pair old new a b none no_arrivals goes first
     let one : is_same (pair a).number 5 ≡ 1 = ap (λ (m : ℕ). is_same m 5) first in
     let other : is_same (pair b).number 5 ≡ 1 = ap (λ (m : ℕ). is_same m 5) second in
     absurd (omega (arith, most, one, other))
+
+-- beside a row with work a wait takes no time
+never_blocks : WaitsAreInTime → (table : Table) (time : Duration) (row : Row) → IsWaitTime table (Some time) →
+    slice_get table.rows 3 ≡ Some row → row.has_work ≡ true → as_nanos time ≡ 0
+never_blocks law table time row lasts there work = (law table (Some time) 3 row lasts there).work work
+
+-- a deadline five nanoseconds after the reading ends a wait within them
+within_five : WaitsAreInTime → (table : Table) (time : Duration) (row : Row) (now due : Instant) →
+    IsWaitTime table (Some time) → slice_get table.rows 3 ≡ Some row → table.reading ≡ Some now → row.due ≡ Some due →
+    instant_nanos due ≡ instant_nanos now + 5 → as_nanos time ≤ 5
+within_five law table time row now due lasts there reading deadline five =
+    let most = (law table (Some time) 3 row lasts there).deadline now due reading deadline in
+    omega (arith, most, five)
+
+-- with a deadline no wait is for ever
+never_for_ever : WaitsAreInTime → (table : Table) (row : Row) (now due : Instant) → IsWaitTime table None →
+    slice_get table.rows 3 ≡ Some row → table.reading ≡ Some now → row.due ≡ Some due → ⊥
+never_for_ever law table row now due lasts there reading deadline =
+    (law table None 3 row lasts there).deadline now due reading deadline

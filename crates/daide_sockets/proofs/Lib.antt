@@ -1,4 +1,6 @@
 mod PairingLemmas
 mod OnceLemmas
 mod LingeringLemmas
+mod TableLemmas
+mod InTimeLemmas
 mod LawFacts

@@ -1,23 +1,25 @@
 -- The sockets of a run beside those of its sessions, and the effect of each system call on them. (own)
 use Rattle.std.specs.Prelude.{◌≡◌, ◌⊎◌, ℕ, ◌+◌, ◌-◌, nat_lt, true, false, List, [], ◌∷◌, ◌++◌, length, remove}
 use Rattle.std.specs.Prelude.{Option, Some, None, if◌then◌else◌}
-use Rattle.daide_io.specs.System.{SystemCall, Begins, ReportsNews, BeginsTurn, Accepts, Connects, Retires, Notifies}
-use Rattle.daide_io.specs.System.{Waits}
+use Rattle.daide_io.specs.System.{SystemCall, Begins, ReportsNews, BeginsTurn, EndsTurn, Accepts, Connects, Retires}
+use Rattle.daide_io.specs.System.{Notifies, Waits}
 use Rattle.daide_io.specs.declared.system.Connect.{Connect}
 use Rattle.daide_io.specs.declared.system.Connect.TheVariants.{Ready, Failed, Pending}
 use Rattle.daide_buffered_io.specs.Buffers.{Buffer}
 use Rattle.daide_io.specs.Streams.{StreamCall}
 use Rattle.std.specs.declared.time.Instant.{Instant}
+use Rattle.daide_sockets.specs.Times.{IsAfter}
 use Rattle.daide_sockets.specs.Lingering.{ClosingStream, ClosingList, begins_closing, WritesOut, ClosingsGoOn}
 
 -- ---- values
 
--- a bot whose connect to the server is pending: its session's number, its stream, and that of the connect, if there is
--- one
+-- a bot whose connect to the server is pending: its session's number, its stream, that of the connect, if there is one,
+-- and the deadline of its initial message
 pub record Arriving (S : Type 0) : Type 0 where
   pub number : ℕ
   pub bot : Buffer S
   pub server : Option (Buffer S)
+  pub im_due : Option Instant
 
 -- the number of a session, and the streams of its bot and of the server
 pub record Paired (S : Type 0) : Type 0 where
@@ -53,6 +55,7 @@ pub record StaysPending {S : Type 0} (old new : Arriving S) : Type 0 where
   pub number : new.number ≡ old.number
   pub bot : new.bot ≡ old.bot
   pub server : (new.server ≡ old.server) ⊎ IsFreshConnect new.server
+  pub im_due : new.im_due ≡ old.im_due
 
 -- each of them stays pending
 abbrev pub AllStayPending : {S : Type 0} → List (Arriving S) → List (Arriving S) → Type 0
@@ -86,13 +89,25 @@ abbrev pub with_room : {S : Type 0} → ClosingList S → ClosingList S
 with_room closing = if nat_lt (length closing.streams) 256 then closing
     else record closing { streams = remove closing.streams 0; next = closing.next - 1; pass_end = closing.pass_end - 1 }
 
--- One more stream closes, as the last, after the pass. Its buffered bytes stay buffered, except for those that it took.
-pub record Closes {S : Type 0} (to_give taken : S → Option (List ℕ)) (calls : S → Option (List StreamCall))
-    (old : ClosingList S) (stream : Buffer S) (new : ClosingList S) : Type 0 where
-  pub clock : Option Instant
+-- One more stream closes, as the last, after the pass, at this reading of the clock. Its buffered bytes stay buffered,
+-- except for those that it took.
+pub record ClosesAt {S : Type 0} (to_give taken : S → Option (List ℕ)) (calls : S → Option (List StreamCall))
+    (reading : Option Instant) (old : ClosingList S) (stream : Buffer S) (new : ClosingList S) : Type 0 where
   pub last : ClosingStream S
-  pub writes : WritesOut to_give taken calls clock (begins_closing old.stall_time stream) last
+  pub writes : WritesOut to_give taken calls reading (begins_closing old.stall_time stream) last
   pub now : new ≡ record (with_room old) { streams = (with_room old).streams ++ last ∷ [] }
+
+-- the same at some reading
+abbrev pub Closes : {S : Type 0} → (S → Option (List ℕ)) → (S → Option (List ℕ)) → (S → Option (List StreamCall)) →
+    ClosingList S → Buffer S → ClosingList S → Type 0
+Closes to_give taken calls old stream new =
+    (reading : Option Instant) × ClosesAt to_give taken calls reading old stream new
+
+-- the bot's stream closes, and then the server's, both at this reading of the clock
+abbrev pub ClosesBothAt : {S : Type 0} → (S → Option (List ℕ)) → (S → Option (List ℕ)) →
+    (S → Option (List StreamCall)) → Option Instant → ClosingList S → Paired S → ClosingList S → Type 0
+ClosesBothAt {S} to_give taken calls reading old pair new = (mid : ClosingList S)
+    × ClosesAt to_give taken calls reading old pair.bot mid × ClosesAt to_give taken calls reading mid pair.server new
 
 -- the bot's stream closes, and then the server's
 abbrev pub ClosesBoth : {S : Type 0} → (S → Option (List ℕ)) → (S → Option (List ℕ)) → (S → Option (List StreamCall)) →
@@ -128,15 +143,21 @@ pub record Comes {S : Type 0} (old new : RunSockets S) : Type 0 where
   pub server : IsFreshConnect arrival.server
   pub closing : new.closing ≡ old.closing
 
+-- one more bot, whose IM timer runs for this time from this reading of the clock on
+abbrev pub ComesWith : {S : Type 0} → List (Arriving S) → Option Instant → ℕ → List (Arriving S) → Type 0
+ComesWith {S} old reading im_time new =
+    (arrival : Arriving S) × (new ≡ old ++ arrival ∷ []) × IsAfter reading im_time arrival.im_due
+
 -- The effect of a system call on the sockets; `pair` is the content of ports. At the beginning of a round closing
--- streams advance. A report of news changes nothing. A turn begins with the streams of one session, and leaves these
--- here unchanged.
+-- streams advance. A report of news changes nothing. A turn begins and ends with the streams of one session, and leaves
+-- these here unchanged.
 abbrev pub Transits : {P S : Type 0} → (S → Option (List ℕ)) → (S → Option (List ℕ)) →
     (S → Option (List StreamCall)) → (P → Paired S) → RunSockets S → SystemCall P → RunSockets S → Type 0
 Transits to_give taken calls pair old Begins new = (new.came ≡ old.came) × (new.arrivals ≡ old.arrivals)
     × ClosingsGoOn to_give taken calls old.closing new.closing
 Transits to_give taken calls pair old (ReportsNews ports news) new = new ≡ old
 Transits to_give taken calls pair old (BeginsTurn before after) new = new ≡ old
+Transits to_give taken calls pair old (EndsTurn ports) new = new ≡ old
 Transits to_give taken calls pair old (Accepts true) new = Comes old new
 Transits to_give taken calls pair old (Accepts false) new = new ≡ old
 Transits {S = S} to_give taken calls pair old (Connects (Ready ports)) new = (arrival : Arriving S)

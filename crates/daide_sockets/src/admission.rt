@@ -3,16 +3,24 @@
 //! Neither an accept nor a connect blocks. The server's name is resolved at the start. If it has several addresses,
 //! they are tried one after the other, within one deadline for all.
 
-ghost use Rattle.std.specs.Prelude.{◌≡◌, ◌≢◌, ◌+◌, Some, None, Err, true, false, IfOk, IfErr, IfSome, IfNone, IsSome};
-ghost use Rattle.daide_sockets.specs.Accepting.{is_accept_made, Pauses};
+ghost use Rattle.std.specs.Prelude.{◌≡◌, ◌≢◌, ◌+◌, ◌<◌, ◌++◌, ◌∷◌, [], Some, None, Err, true, false, IfOk, IfErr, IfSome, IfNone, IsSome};
+ghost use Rattle.daide_sockets.specs.Table.{left_with};
+ghost use Rattle.daide_sockets.specs.Accepting.{is_accept_made, is_accept_due, ReportsAccept, MakesAccept, Pauses};
+ghost use Rattle.std.specs.Duration.{as_nanos};
+ghost use Rattle.daide_sockets.specs.Times.{IsAfter, IsStallEnd};
+ghost use Rattle.std.specs.Net.Socket.{socket_ip};
+ghost use Rattle.daide_settings.specs.Ranges.{host_of, may_come};
 ghost use Rattle.daide_sockets.specs.Pairing.{StaysPending, IsFreshConnect, IsFresh, IsJoined};
 
 use crate::poller::Poller;
 use crate::ports::{Socket, SocketPorts};
-use crate::table::{Registration, SocketTable, after, is_past};
+use crate::present::Present;
+use crate::table::{SocketTable, after, is_past, merged};
+use daide_buffered_io::pool::Pool;
 use daide_buffered_io::readiness::Readiness;
 use daide_io::duplex::Duplex;
 use daide_io::network::{ConnectStatus, Network};
+use daide_settings::{AddressRange, Host, may_come};
 use std::io::ErrorKind;
 use std::marker::Model;
 use std::net::SocketAddr;
@@ -32,61 +40,80 @@ pub(crate) enum Declined {
 
 /// The state of the network's listener, with a pause after a failed accept.
 #[derive(Drop)]
-pub struct Acceptor<'w> {
-    registration: Registration<'w>,
+pub struct Acceptor {
+    /// The key of its row.
+    key: usize,
+    /// What is known of the listener without a system call.
+    readiness: Readiness,
     /// The end of the pause after a failed accept; `None` if there is no pause.
     resumes_at: Option<Instant>,
     /// The number of bots accepted.
     came: u32,
 }
 
-impl<'w> Acceptor<'w> {
+impl Acceptor {
     /// Has the listener followed. Returns `None` if the table has no free row, or the system refuses.
-    pub fn new<N: Network>(poller: &mut Poller<'w, N>) -> Option<Acceptor<'w>>
+    pub fn new<N: Network>(poller: &mut Poller<N>) -> Option<Acceptor>
         ensures { IfSome result (λ acceptor. (acceptor.came ≡ 0) × (acceptor.resumes_at ≡ None)) }
     {
-        let registration = poller.listen()?;
+        let key = poller.listen()?;
         Some(Acceptor {
-            registration,
+            key,
+            readiness: Readiness::UNKNOWN,
             resumes_at: None,
             came: 0,
         })
     }
 
     /// Ends the pause after a failed accept, if its time is over.
-    pub(crate) fn reopen(&mut self, table: &SocketTable)
-        ensures { self.new.came ≡ self.old.came }
+    pub(crate) fn reopen(&mut self, table: &mut SocketTable)
+        ensures came { self.new.came ≡ self.old.came }
+        ensures clock { table.new.reading ≡ table.old.reading }
     {
-        if is_past(table.now().get(), self.resumes_at) {
+        if is_past(table.now(), self.resumes_at) {
             self.resumes_at = None;
-            self.registration.flags.due.set(None);
-            self.registration.flags.note(true, false);
+            table.set_due(self.key, None);
+            self.readiness.may_read = true;
         }
     }
 
     /// Ends the pause, if there is one, so that no wait is for a bot any more.
-    pub(crate) fn stop(&mut self)
+    pub(crate) fn stop(&mut self, table: &mut SocketTable)
         ensures { self.new.came ≡ self.old.came }
     {
         self.resumes_at = None;
-        self.registration.flags.due.set(None);
+        table.leave(self.key, false, None);
+    }
+
+    /// Leaves work for the listener, so that the next wait does not block: more may wait behind a bot that may not come.
+    fn look_again(&mut self, table: &mut SocketTable)
+        ensures same { self.new ≡ self.old }
+        ensures table { table.new ≡ left_with table.old self.old.key true self.old.resumes_at }
+    {
+        table.leave(self.key, true, self.resumes_at);
     }
 
     /// Accepts a connection, and returns it with its address. Returns `None` if there is none. Makes no system call
     /// during the pause after a failed accept.
     pub fn accept<N: Network>(
         &mut self,
-        poller: &mut Poller<'w, N>,
+        poller: &mut Poller<N>,
     ) -> Option<(N::Connection, SocketAddr)>
-        ensures { self.new.came ≡ self.old.came }
+        ensures came { self.new.came ≡ self.old.came }
+        ensures clock { poller.new.table.reading ≡ poller.old.table.reading }
+        ensures made { is_accept_due poller.old.table self.old.key self.old.readiness self.old.resumes_at ≡ true →
+            MakesAccept N.transition poller.old.network }
+        ensures not_made { is_accept_due poller.old.table self.old.key self.old.readiness self.old.resumes_at ≡ false →
+            (result ≡ None) × (poller.new.network ≡ poller.old.network) }
     {
-        let flags = self.registration.flags;
-        let mut readiness = flags.readiness.get();
-        let now = poller.table().now().get();
-        let accepted = self.accept_at(poller.network(), now, &mut readiness);
-        flags.readiness.set(readiness);
-        flags.due.set(self.resumes_at);
-        accepted.ok()
+        let report = poller.table.take_report(self.key);
+        self.readiness = merged(self.readiness, report);
+        let accepted = self.accept_at(&mut poller.network, poller.table.now());
+        poller.table.leave(self.key, false, self.resumes_at);
+        match accepted {
+            Ok(came) => Some(came),
+            Err(_) => None,
+        }
     }
 
     /// Accepts at this reading of the clock.
@@ -101,20 +128,20 @@ impl<'w> Acceptor<'w> {
         &mut self,
         network: &mut N,
         now: Option<Instant>,
-        readiness: &mut Readiness,
     ) -> Result<(N::Connection, SocketAddr), Declined>
-        ensures not_made { is_accept_made now readiness.old.may_read self.old.resumes_at ≡ false →
-            (result ≡ Err Declined.NotMade) × (self.new.resumes_at ≡ self.old.resumes_at)
-            × (readiness.new ≡ readiness.old) }
-        ensures made { is_accept_made now readiness.old.may_read self.old.resumes_at ≡ true →
+        ensures not_made { is_accept_made now self.old.readiness.may_read self.old.resumes_at ≡ false →
+            (result ≡ Err Declined.NotMade) × (self.new ≡ self.old) × (network.new ≡ network.old) }
+        ensures made { is_accept_made now self.old.readiness.may_read self.old.resumes_at ≡ true →
             IfErr result (λ declined. declined ≢ Declined.NotMade) }
-        ensures accepted { IfOk result (λ _. (self.new.resumes_at ≡ None) × (readiness.new.may_read ≡ true)) }
+        ensures called { is_accept_made now self.old.readiness.may_read self.old.resumes_at ≡ true →
+            ReportsAccept N.transition network.old network.new result }
+        ensures accepted { IfOk result (λ _. (self.new.resumes_at ≡ None) × (self.new.readiness.may_read ≡ true)) }
         ensures failed { (kind : ErrorKind) → result ≡ Err (Declined.Failed kind) →
-            Pauses now kind self.new.resumes_at × (readiness.new.may_read ≡ false) }
+            Pauses now kind self.new.resumes_at × (self.new.readiness.may_read ≡ false) }
         ensures came { self.new.came ≡ self.old.came }
     {
         let is_made = match self.resumes_at {
-            None => readiness.may_read,
+            None => self.readiness.may_read,
             Some(_) => is_past(now, self.resumes_at),
         };
         if !is_made {
@@ -122,12 +149,12 @@ impl<'w> Acceptor<'w> {
         }
         match network.accept() {
             Ok(accepted) => {
-                readiness.may_read = true;
+                self.readiness.may_read = true;
                 self.resumes_at = None;
                 Ok(accepted)
             }
             Err(error) => {
-                readiness.may_read = false;
+                self.readiness.may_read = false;
                 self.pause(now, error.kind());
                 Err(Declined::Failed(error.kind()))
             }
@@ -137,7 +164,7 @@ impl<'w> Acceptor<'w> {
     /// Starts the pause after an accept that failed for this reason; `WouldBlock` is not a failure.
     pub fn pause(&mut self, now: Option<Instant>, why: ErrorKind)
         ensures pauses { Pauses now why self.new.resumes_at }
-        ensures came { self.new.came ≡ self.old.came }
+        ensures rest { self.new ≡ record self.old { resumes_at = self.new.resumes_at } }
     {
         self.resumes_at = match why {
             ErrorKind::WouldBlock => None,
@@ -145,32 +172,72 @@ impl<'w> Acceptor<'w> {
         };
     }
 
-    /// Returns the next bot that came: its session's number, its socket and its address. Returns `None` if none came,
-    /// if the system refuses to follow it, or if all numbers are given. After a refusal a pause begins, as after a failed
-    /// accept: the system does not report again the bots that wait behind it.
+    /// Starts the pause after a refusal.
+    fn stand_back(&mut self, table: &mut SocketTable)
+        ensures came { self.new.came ≡ self.old.came }
+        ensures clock { table.new.reading ≡ table.old.reading }
+    {
+        self.pause(table.now(), ErrorKind::Other);
+        table.set_due(self.key, self.resumes_at);
+    }
+
+    /// Returns the next bot that came: its session's number, its socket and its address. It is added to those present.
+    ///
+    /// Fails with the address of a bot that may not come by the ranges and the limit `rules`, beside those present: its
+    /// connection is closed at once. The next wait does not block then, since the system does not report again the bots
+    /// that wait behind it. Fails with no address if none came, if the system refuses to follow it, or if all numbers are
+    /// given. After a refusal a pause begins, as after a failed accept.
     ///
     /// `one`: exactly one bot was accepted, is followed, and is counted.
     ///
     /// `none`: no bot is counted.
     ///
     /// Not said: that the system refused to follow a connection that was accepted and closed.
-    pub(crate) fn next_bot<N: Network>(
+    pub(crate) fn next_bot<'w, N: Network>(
         &mut self,
-        poller: &mut Poller<'w, N>,
-    ) -> Option<(u32, Socket<'w, N::Connection>, SocketAddr)>
-        ensures one { IfSome result (λ bot. (self.new.came ≡ self.old.came + 1) × (bot.0 ≡ self.new.came)
+        poller: &mut Poller<N>,
+        pool: &'w Pool,
+        rules: (&[AddressRange], u16),
+        present: &mut Present,
+    ) -> Result<(u32, Socket<'w, N::Connection>, SocketAddr), Option<SocketAddr>>
+        ensures one { IfOk result (λ bot. (self.new.came ≡ self.old.came + 1) × (bot.0 ≡ self.new.came)
             × IsFresh bot.1.stream) }
-        ensures none { IfNone result (self.new.came ≡ self.old.came) }
+        ensures none { IfErr result (λ _. self.new.came ≡ self.old.came) }
+        ensures made { is_accept_due poller.old.table self.old.key self.old.readiness self.old.resumes_at ≡ true →
+            self.old.came < u32.MAX → MakesAccept N.transition poller.old.network }
+        ensures clock { poller.new.table.reading ≡ poller.old.table.reading }
+        ensures allowed { IfOk result (λ bot. may_come rules.entry.0.now rules.entry.1 present.old.hosts.items
+            (host_of (socket_ip bot.2)) ≡ true) }
+        ensures added { IfOk result (λ bot. (present.new.numbers.items ≡ present.old.numbers.items ++ bot.0 ∷ [])
+            × (present.new.hosts.items ≡ present.old.hosts.items ++ host_of (socket_ip bot.2) ∷ [])) }
+        ensures same { IfErr result (λ _. present.new ≡ present.old) }
+        ensures declined { (address : SocketAddr) → result ≡ Err (Some address) →
+            may_come rules.entry.0.now rules.entry.1 present.old.hosts.items (host_of (socket_ip address)) ≡ false }
     {
-        let number = self.came.checked_add(1)?;
-        let (stream, address) = self.accept(poller)?;
-        let Some(bot) = Socket::new(poller, stream) else {
-            self.pause(poller.table().now().get(), ErrorKind::Other);
-            self.registration.flags.due.set(self.resumes_at);
-            return None;
+        let Some(number) = self.came.checked_add(1) else {
+            return Err(None);
         };
+        let Some((stream, address)) = self.accept(poller) else {
+            return Err(None);
+        };
+        let host = Host::of(address.ip());
+        let (allow, most) = rules;
+        if !may_come(allow, most, present.hosts(), host) {
+            self.look_again(&mut poller.table);
+            return Err(Some(address));
+        }
+        let Some(bot) = Socket::new(poller, pool, stream) else {
+            self.stand_back(&mut poller.table);
+            return Err(None);
+        };
+        // The list has room for each bot of a run.
+        if !present.add(number, host) {
+            poller.table.release(bot.key);
+            self.stand_back(&mut poller.table);
+            return Err(None);
+        }
         self.came = number;
-        Some((number, bot, address))
+        Ok((number, bot, address))
     }
 }
 
@@ -186,7 +253,7 @@ pub(crate) struct PendingConnection<'w, S: Drop> {
     /// The deadline of the connect.
     gives_up: Option<Instant>,
     /// The deadline of the initial message.
-    im_timer_expired: Option<Instant>,
+    im_due: Option<Instant>,
 }
 
 impl<'w, S: Drop> Model for PendingConnection<'w, S> {
@@ -199,6 +266,7 @@ impl<'w, S: Drop> Model for PendingConnection<'w, S> {
       number = a.number;
       bot = a.bot.stream;
       server = option_map (λ socket. socket.stream) a.server;
+      im_due = a.im_due;
     } };
 
     // the connect was made for this bot
@@ -212,34 +280,46 @@ pub(crate) struct Unreached<'w, S: Drop> {
     pub bot: Socket<'w, S>,
 }
 
-/// Starts a connect for the session with this number, to the next address that permits one. Returns its socket, with
-/// the deadline `gives_up`; `None` if no address is left.
-fn begun<'w, N: Network>(
-    poller: &mut Poller<'w, N>,
+/// Starts a connect to the next address that permits one, and returns its connection with the key of its row, which has
+/// the deadline `gives_up`. Returns `None` if no address is left.
+fn begun<N: Network>(
+    poller: &mut Poller<N>,
     servers: &[SocketAddr],
     tried: &mut usize,
-    number: u32,
     gives_up: Option<Instant>,
-) -> Option<Socket<'w, N::Connection>>
-    ensures { IfSome result (λ socket. IsFresh socket.stream × (socket.made_for ≡ number)) }
-{
+) -> Option<(N::Connection, usize)> {
     for address in servers.iter().skip(*tried) {
         *tried = tried.saturating_add(1);
-        let Ok(stream) = poller.network().connect(*address) else {
+        let Ok(stream) = poller.network.connect(*address) else {
             continue;
         };
-        if let Some(socket) = Socket::new(poller, stream) {
-            socket.registration.flags.due.set(gives_up);
-            return Some(socket.of_connect(number));
+        let mut stream = stream;
+        if let Some(key) = poller.follow(&mut stream) {
+            poller.table.set_due(key, gives_up);
+            return Some((stream, key));
         }
     }
     None
 }
 
+/// Creates the socket of a connect that began for the session with this number.
+fn connecting<'w, S: Duplex + Drop>(
+    begun: Option<(S, usize)>,
+    pool: &'w Pool,
+    number: u32,
+) -> Option<Socket<'w, S>>
+    ensures { IfSome result (λ socket. IsFresh socket.stream × (socket.made_for ≡ number)) }
+{
+    match begun {
+        Some((stream, key)) => Some(Socket::over(pool, stream, key).of_connect(number)),
+        None => None,
+    }
+}
+
 impl<'w, S: Duplex + Drop> PendingConnection<'w, S> {
     /// Starts the connect of a newly accepted bot.
     pub(crate) fn new<N: Network<Connection = S>>(
-        poller: &mut Poller<'w, N>,
+        poller: &mut Poller<N>,
         servers: &[SocketAddr],
         came: (u32, Socket<'w, S>),
         times: (Duration, Duration),
@@ -247,73 +327,84 @@ impl<'w, S: Duplex + Drop> PendingConnection<'w, S> {
         ensures number { result.number ≡ came.entry.0 }
         ensures bot { result.bot ≡ came.entry.1.stream }
         ensures server { IsFreshConnect result.server }
+        ensures im_due { IsAfter poller.old.table.reading (as_nanos times.0) result.im_due }
     {
         let (number, bot) = came;
         let (im_time, connect_time) = times;
-        let gives_up = poller.table().after(connect_time);
-        let im_timer_expired = poller.table().after(im_time);
+        let gives_up = poller.table.after(connect_time);
+        let im_due = poller.table.after(im_time);
         let mut tried = 0;
-        let server = begun(poller, servers, &mut tried, number, gives_up);
+        let begun = begun(poller, servers, &mut tried, gives_up);
+        let server = connecting(begun, bot.pool, number);
         PendingConnection {
             number,
             bot,
             server,
             tried,
             gives_up,
-            im_timer_expired,
+            im_due,
         }
     }
 
     /// Returns the state of the connect to the present address.
-    fn progress<N: Network<Connection = S>>(&self, network: &mut N) -> ConnectStatus {
-        let Some(server) = &self.server else {
+    fn progress<N: Network<Connection = S>>(&mut self, poller: &mut Poller<N>) -> ConnectStatus
+        ensures { self.new ≡ self.old }
+    {
+        let Some(server) = &mut self.server else {
             return ConnectStatus::Failed;
         };
-        let flags = server.registration.flags;
-        if !flags.readiness.get().may_write {
+        server.take_report(&mut poller.table);
+        if !server.readiness.may_write {
             return ConnectStatus::Pending;
         }
-        let status = network.connect_status(server.connection());
+        let status = poller.network.connect_status(server.connection());
         if status == ConnectStatus::Pending {
-            flags.took_nothing();
+            server.readiness.may_write = false;
         }
         status
+    }
+
+    /// Closes the connect, and frees its row for the next one.
+    fn drop_connect(&mut self, table: &mut SocketTable)
+        ensures { self.new ≡ record self.old { server = None } }
+    {
+        if let Some(server) = self.server.take() {
+            table.release(server.key);
+        }
     }
 
     /// Advances the connect without blocking. Returns true if it is still under way; otherwise the server is connected,
     /// or no address is left, or the deadline is over.
     pub(crate) fn advances<N: Network<Connection = S>>(
         &mut self,
-        poller: &mut Poller<'w, N>,
+        poller: &mut Poller<N>,
         servers: &[SocketAddr],
     ) -> bool
         ensures goes_on { StaysPending self.old self.new }
         ensures reached { result ≡ false → IsSome self.new.server → self.new ≡ self.old }
     {
-        match self.progress(poller.network()) {
+        match self.progress(poller) {
             ConnectStatus::Connected => return false,
             ConnectStatus::Failed => {
-                // This frees the row of the failed connect for the next one.
-                drop(self.server.take());
-                self.server = begun(poller, servers, &mut self.tried, self.number, self.gives_up);
+                self.drop_connect(&mut poller.table);
+                let begun = begun(poller, servers, &mut self.tried, self.gives_up);
+                self.server = connecting(begun, self.bot.pool, self.number);
             }
             ConnectStatus::Pending => {}
         }
-        if poller.table().is_over(self.gives_up) {
-            drop(self.server.take());
+        if poller.table.is_over(self.gives_up) {
+            self.drop_connect(&mut poller.table);
         }
         self.server.is_some()
     }
-}
 
-impl<'w, S: Drop> PendingConnection<'w, S> {
     /// Returns the ports of a bot whose server is connected. The first time is the idle timeout of both sides, the
     /// second their stall timeout; `None` for no timeout.
     ///
     /// Fails with the bot if the server was not reached.
     pub(crate) fn join(
         self,
-        table: &'w SocketTable,
+        table: &mut SocketTable,
         times: (Option<Duration>, Option<Duration>),
     ) -> Result<SocketPorts<'w, S>, Unreached<'w, S>>
         ensures joined { IfOk result (λ ports. IsJoined self.entry (record {
@@ -321,6 +412,9 @@ impl<'w, S: Drop> PendingConnection<'w, S> {
           bot = ports.bot.stream;
           server = ports.server.stream;
         })) }
+        ensures im_due { IfOk result (λ ports. ports.im_due ≡ self.entry.im_due) }
+        ensures silent_from { IfOk result (λ ports. IsStallEnd table.old.reading times.0 ports.bot.silent_from
+            × IsStallEnd table.old.reading times.0 ports.server.silent_from) }
         ensures unreached { IfErr result (λ left. (left.number ≡ self.entry.number)
             × (left.bot.stream ≡ self.entry.bot) × (self.entry.server ≡ None)) }
     {
@@ -330,29 +424,31 @@ impl<'w, S: Drop> PendingConnection<'w, S> {
             server,
             tried: _,
             gives_up: _,
-            im_timer_expired,
+            im_due,
         } = self;
         let Some(server) = server else {
             return Err(Unreached { number, bot });
         };
-        server.registration.flags.due.set(None);
-        bot.registration.flags.due.set(im_timer_expired);
-        let ports = SocketPorts::new(table, bot, server);
-        Ok(ports.of_session(number, times))
+        let ports = SocketPorts::new(bot, server).of_session(number, table.now(), im_due, times);
+        // Its first turn begins without a wait, and has no other deadlines.
+        ports.end_turn(table);
+        Ok(ports)
     }
 
     /// The same of a bot whose connect is given up, wherever it stands.
-    pub(crate) fn give_up(self) -> Unreached<'w, S>
+    pub(crate) fn give_up(self, table: &mut SocketTable) -> Unreached<'w, S>
         ensures { (result.number ≡ self.entry.number) × (result.bot.stream ≡ self.entry.bot) }
     {
+        let mut arrival = self;
+        arrival.drop_connect(table);
         let PendingConnection {
             number,
             bot,
             server: _,
             tried: _,
             gives_up: _,
-            im_timer_expired: _,
-        } = self;
+            im_due: _,
+        } = arrival;
         Unreached { number, bot }
     }
 }

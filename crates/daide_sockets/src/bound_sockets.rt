@@ -1,6 +1,6 @@
 //! The resources of a run: its listener, the addresses of the server, and the table of its sockets.
 
-ghost use Rattle.std.specs.Prelude.{◌≡◌, ◌+◌, ◌*◌, ◌^◌, ◌<◌, IfOk, IfSome, false, [], vec_len};
+ghost use Rattle.std.specs.Prelude.{◌≡◌, ◌+◌, ◌*◌, ◌^◌, ◌<◌, IfOk, IfSome, false, []};
 ghost use Rattle.daide_sockets.specs.Lingering.{no_closing};
 ghost use Rattle.daide_sockets.specs.Times.{IsSeconds, IsIdleTime};
 
@@ -9,6 +9,7 @@ use crate::os_network::{NetworkError, OsNetwork};
 use crate::poller::EVENTS;
 use crate::system::{Sockets, most_sockets};
 use crate::table::SocketTable;
+use daide_buffered_io::pool::Pool;
 use daide_io::network::Network;
 use daide_settings::Settings;
 use mio::net::TcpListener;
@@ -71,6 +72,8 @@ pub struct BoundSockets<'r, R: Clock + Net> {
     pub servers: Vec<SocketAddr>,
     /// The table of the sockets.
     pub table: SocketTable,
+    /// The buffers of the sockets.
+    pub pool: Pool,
 }
 
 /// Binds the listen address of the settings, and resolves the server's. The table has a row for each socket of the run.
@@ -83,7 +86,7 @@ pub fn bind_sockets<'r, R: AllocGlobal + Clock + Net>(
     settings: &Settings,
 ) -> Result<BoundSockets<'r, R>, BindError>
     ensures rows { IfOk result (λ ground. settings.now.max_sessions < 2 ^ 62 →
-        vec_len ground.table.flags ≡ 2 * settings.now.max_sessions + MOST_CLOSING + 1) }
+        ground.table.max_rows ≡ 2 * settings.now.max_sessions + MOST_CLOSING + 1) }
 {
     let Some(listener) = listener_at(rt, settings.listen.as_str()) else {
         return Err(BindError::Listen);
@@ -101,6 +104,7 @@ pub fn bind_sockets<'r, R: AllocGlobal + Clock + Net>(
             network,
             servers,
             table,
+            pool: Pool::new(rt.alloc()),
         }),
         Err(_) => Err(BindError::Memory),
     }
@@ -111,8 +115,8 @@ pub fn bind_sockets<'r, R: AllocGlobal + Clock + Net>(
 /// and sessions are not logged.
 pub fn sockets_on<'w, N: Network, E: Write + Drop>(
     alloc: Global,
-    settings: &Settings,
-    ground: (N, &'w [SocketAddr], &'w SocketTable),
+    settings: &'w Settings,
+    ground: (N, &'w [SocketAddr], SocketTable, &'w Pool),
     errors: E,
 ) -> Option<Sockets<'w, N, E>>
     ensures none_came { IfSome result (λ sockets. (sockets.acceptor.came ≡ 0) × (sockets.is_verbose ≡ false)) }

@@ -1,5 +1,6 @@
 //! Laws of the sockets of a run: functions with no parameters and an empty body, whose contracts are the laws.
 
+ghost use Rattle.daide_sockets.specs.InTime.{WaitsAreInTime};
 ghost use Rattle.daide_sockets.specs.PairedOnce.{SessionsComeOnce};
 
 use daide_io::duplex::Duplex;
@@ -9,4 +10,10 @@ use daide_io::ports::Ports;
 /// its own number, to the connect that was made for it.
 pub fn sessions_come_once<P: Ports, S: Duplex + Drop>()
     ensures { SessionsComeOnce P S.to_give S.taken S.calls }
+{}
+
+/// A wait lasts at most until the deadline of each row of its table, and takes no time while a row has work. So while a
+/// turn left bytes that may be written, or a read that was interrupted, no wait blocks.
+pub fn waits_are_in_time()
+    ensures { WaitsAreInTime }
 {}

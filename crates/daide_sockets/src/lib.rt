@@ -1,14 +1,14 @@
 //! The environment of the event loop, over sockets.
 //!
 //! Only the loop's own wait blocks. The sockets are over any `Network`; `os_network` is that of the operating system,
-//! with `connection` as a full-duplex stream. `table` has the readiness and the deadlines of each socket, `poller` polls
-//! the network into it, and `ports` are the ports of a session. `admission` accepts bots and connects them,
-//! `lingering_close` closes in stages, `session_notice` has the log lines of a session, and `timed` the timeouts that
-//! it reports. `system` combines them for the loop, and `bound_sockets` creates the resources of a run.
+//! with `connection` as a full-duplex stream. `ports` has a socket with its readiness and its deadlines, and the ports of
+//! a session. `table` has what polls reported of each socket and its nearest deadline, and `poller` polls the network
+//! into it. `admission` accepts bots and connects them, `present` has the hosts of those that are there, `lingering_close` closes in stages, `session_notice` has the log
+//! lines of a session, and `timed` the timeouts that it reports. `system` combines them for the loop, and `bound_sockets`
+//! creates the resources of a run.
 //!
-//! No contract can name the results of the system, or the contents of a shared cell. So a call that depends on either
-//! is only proved safe and terminating, and its doc says what it does. Tests check that, over loopback and in
-//! `daide_run_tests`.
+//! All but the results of the system are values, which the contracts name. A call whose result depends on the operating
+//! system is described by that call of the network, by the network's own `transition`.
 #![tactic(auto)]
 
 pub mod admission;
@@ -19,6 +19,7 @@ pub mod lingering_close;
 pub mod os_network;
 pub mod poller;
 pub mod ports;
+pub mod present;
 pub mod session_notice;
 pub mod system;
 pub mod table;

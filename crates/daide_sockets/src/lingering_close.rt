@@ -12,12 +12,13 @@ ghost use Rattle.daide_buffered_io.specs.Buffers.{Passes, ReadsNothing, WritesNo
 ghost use Rattle.daide_io.specs.Streams.{StreamCall, WritingEnded};
 ghost use Rattle.daide_sockets.specs.Lingering.{ClosingStream, ClosingList, begins_closing, no_closing, TriesWriting, WritesOut};
 ghost use Rattle.daide_sockets.specs.Lingering.{Discards, is_released, Lingers, Leaves, LooksAtOne, LooksAlong, in_pass};
-ghost use Rattle.daide_sockets.specs.Lingering.{LooksAround, ClosingsGoOn, GoOnFor};
-ghost use Rattle.daide_sockets.specs.Pairing.{Closes, ClosesBoth, with_room};
+ghost use Rattle.daide_sockets.specs.Lingering.{LooksAround, GoOnFor};
+ghost use Rattle.daide_sockets.specs.Table.{WaitsOnce};
+ghost use Rattle.daide_sockets.specs.Pairing.{ClosesAt, ClosesBothAt, with_room};
 
 use crate::poller::Poller;
 use crate::ports::{Socket, SocketPorts};
-use crate::table::{SocketTable, after, is_time_over};
+use crate::table::{SocketTable, after, earlier, is_time_over, merged};
 use daide_buffered_io::dropping::Dropping;
 use daide_io::duplex::Duplex;
 use daide_io::network::Network;
@@ -69,8 +70,6 @@ impl<'w, S: Duplex + Drop> LingeringClose<'w, S> {
     {
         let mut socket = socket;
         // Until the buffered bytes are written, the stall timeout is the only deadline.
-        socket.registration.flags.due.set(None);
-        socket.registration.flags.silent_from.set(None);
         socket.restart_stall(stall_time);
         LingeringClose {
             socket,
@@ -129,7 +128,6 @@ impl<'w, S: Duplex + Drop> LingeringClose<'w, S> {
             return;
         }
         self.released_at = after(now, Duration::from_secs(SECONDS));
-        self.socket.registration.flags.due.set(self.released_at);
         self.shut_down();
     }
 
@@ -141,14 +139,11 @@ impl<'w, S: Duplex + Drop> LingeringClose<'w, S> {
     {
         let Socket {
             stream,
-            registration,
+            readiness,
             pool,
             ..
         } = &mut self.socket;
-        let flags = registration.flags;
-        let mut readiness = flags.readiness.get();
-        let is_last = self.rest.drop_piece(stream, *pool, &mut readiness);
-        flags.readiness.set(readiness);
+        let is_last = self.rest.drop_piece(stream, *pool, readiness);
         if is_last {
             return true;
         }
@@ -172,9 +167,42 @@ impl<'w, S: Duplex + Drop> LingeringClose<'w, S> {
         !self.drops_last(now)
     }
 
+    /// Takes the report of its row.
+    fn take_report(&mut self, table: &mut SocketTable)
+        ensures same { self.new ≡ self.old }
+        ensures clock { table.new.reading ≡ table.old.reading }
+    {
+        self.socket.take_report(table);
+    }
+
+    /// Leaves its nearest deadline in its row.
+    fn note_deadline(&self, table: &mut SocketTable)
+        ensures { table.new.reading ≡ table.old.reading }
+    {
+        let due = earlier(self.socket.stalls_at(), self.released_at);
+        table.leave(self.socket.key, false, due);
+    }
+
+    /// Makes a step of closing a socket (`lingers`), with the report and the deadline of its row. Frees the row if it is
+    /// to be closed now.
+    fn goes_on(&mut self, table: &mut SocketTable, now: Option<Instant>) -> bool
+        ensures lingers { result ≡ true → Lingers S.to_give S.taken S.calls now self.old self.new }
+        ensures leaves { result ≡ false → Leaves S.to_give S.taken S.calls now self.old }
+        ensures clock { table.new.reading ≡ table.old.reading }
+    {
+        self.take_report(table);
+        let stays = self.lingers(now);
+        if stays {
+            self.note_deadline(table);
+        } else {
+            table.release(self.socket.key);
+        }
+        stays
+    }
+
     /// Returns whether a call may make progress.
-    fn is_ready(&self) -> bool {
-        let readiness = self.socket.registration.flags.readiness.get();
+    fn is_ready(&self, table: &SocketTable) -> bool {
+        let readiness = merged(self.socket.readiness, table.report(self.socket.key));
         if self.socket.stream.is_behind() {
             readiness.may_write
         } else {
@@ -219,12 +247,14 @@ impl<'w, S: Duplex + Drop> ClosingSockets<'w, S> {
         self.sockets.len()
     }
 
-    /// Closes the oldest.
-    fn remove_first(&mut self)
+    /// Closes the oldest, and frees its row.
+    fn remove_first(&mut self, table: &mut SocketTable)
         requires { 0 < length self.old }
-        ensures { self.new ≡ remove self.old 0 }
+        ensures oldest { self.new ≡ remove self.old 0 }
+        ensures clock { table.new.reading ≡ table.old.reading }
     {
-        self.sockets.remove(0);
+        let oldest = self.sockets.remove(0);
+        table.release(oldest.socket.key);
     }
 
     /// Appends one.
@@ -236,12 +266,13 @@ impl<'w, S: Duplex + Drop> ClosingSockets<'w, S> {
     }
 
     /// Advances the socket at a position, closes it if it leaves, and returns the position of the next.
-    fn look_at(&mut self, now: Option<Instant>, at: usize) -> usize
+    fn look_at(&mut self, table: &mut SocketTable, now: Option<Instant>, at: usize) -> usize
         requires { at < length self.old }
-        ensures { LooksAtOne S.to_give S.taken S.calls now at self.old result self.new }
+        ensures looks { LooksAtOne S.to_give S.taken S.calls now at self.old result self.new }
+        ensures clock { table.new.reading ≡ table.old.reading }
     {
         let closing = &mut self.sockets[at];
-        if closing.lingers(now) {
+        if closing.goes_on(table, now) {
             return at + 1;
         }
         self.sockets.remove(at);
@@ -249,21 +280,35 @@ impl<'w, S: Duplex + Drop> ClosingSockets<'w, S> {
     }
 
     /// Advances those from one position up to another, and returns the position of the next.
-    fn look_along(&mut self, now: Option<Instant>, from: usize, to: usize) -> usize
+    fn look_along(
+        &mut self,
+        table: &mut SocketTable,
+        now: Option<Instant>,
+        from: usize,
+        to: usize,
+    ) -> usize
         requires order { from ≤ to }
         requires there { to ≤ length self.old }
-        ensures { LooksAlong S.to_give S.taken S.calls now from to self.old result self.new }
+        ensures looks { LooksAlong S.to_give S.taken S.calls now from to self.old result self.new }
+        ensures clock { table.new.reading ≡ table.old.reading }
     {
         let mut at = from;
         for _place in from..to {
-            at = self.look_at(now, at);
+            at = self.look_at(table, now, at);
         }
         at
     }
 
+    /// Leaves the nearest deadline of each in its row.
+    fn note_deadlines(&self, table: &mut SocketTable) {
+        for closing in self.sockets.iter() {
+            closing.note_deadline(table);
+        }
+    }
+
     /// Returns whether one of them may make progress.
-    fn is_ready(&self) -> bool {
-        self.sockets.iter().any(|closing| closing.is_ready())
+    fn is_ready(&self, table: &SocketTable) -> bool {
+        self.sockets.iter().any(|closing| closing.is_ready(table))
     }
 }
 
@@ -310,32 +355,35 @@ impl<'w, S: Duplex + Drop> Closings<'w, S> {
     }
 
     /// Closes the oldest, if there are `MOST_CLOSING`.
-    fn make_room(&mut self)
+    fn make_room(&mut self, table: &mut SocketTable)
         ensures last_ones { self.new ≡ with_room self.old }
         ensures room { length self.new.streams < MOST_CLOSING }
+        ensures clock { table.new.reading ≡ table.old.reading }
     {
         if self.sockets.len() < MOST_CLOSING {
             return;
         }
-        self.sockets.remove_first();
+        self.sockets.remove_first(table);
         self.next = self.next.saturating_sub(1);
         self.pass_end = self.pass_end.saturating_sub(1);
     }
 
     /// Begins to close a socket. If there are `MOST_CLOSING` already, the oldest is closed.
-    pub fn begin(&mut self, table: &SocketTable, socket: Socket<'w, S>)
-        ensures { Closes S.to_give S.taken S.calls self.old socket.entry.stream self.new }
+    pub fn begin(&mut self, table: &mut SocketTable, socket: Socket<'w, S>)
+        ensures closes { ClosesAt S.to_give S.taken S.calls table.old.reading self.old socket.entry.stream self.new }
+        ensures clock { table.new.reading ≡ table.old.reading }
     {
-        self.make_room();
+        let now = table.now();
+        self.make_room(table);
         let mut closing = LingeringClose::new(socket, self.stall_time);
-        let now = table.now().get();
         closing.end_writing(now);
+        closing.note_deadline(table);
         self.sockets.push(closing);
     }
 
     /// Begins to close both sockets of a session.
-    pub fn begin_both(&mut self, table: &SocketTable, ports: SocketPorts<'w, S>)
-        ensures { ClosesBoth S.to_give S.taken S.calls self.old (record {
+    pub fn begin_both(&mut self, table: &mut SocketTable, ports: SocketPorts<'w, S>)
+        ensures { ClosesBothAt S.to_give S.taken S.calls table.old.reading self.old (record {
           number = ports.entry.number;
           bot = ports.entry.bot.stream;
           server = ports.entry.server.stream;
@@ -357,31 +405,37 @@ impl<'w, S: Duplex + Drop> Closings<'w, S> {
     }
 
     /// Advances the next few of the pass, at this reading of the clock.
-    fn look_around(&mut self, now: Option<Instant>)
-        ensures { LooksAround S.to_give S.taken S.calls now (in_pass self.old) self.new }
+    fn look_around(&mut self, table: &mut SocketTable, now: Option<Instant>)
+        ensures looks { LooksAround S.to_give S.taken S.calls now (in_pass self.old) self.new }
+        ensures clock { table.new.reading ≡ table.old.reading }
     {
         self.begin_pass();
         let came_since = self.sockets.len() - self.pass_end;
         let to = self.pass_end.min(self.next + MOST_LOOKS);
-        self.next = self.sockets.look_along(now, self.next, to);
+        self.next = self.sockets.look_along(table, now, self.next, to);
         self.pass_end = self.sockets.len() - came_since;
     }
 
     /// Advances the next few: eight of the pass, or those that are left of it (`LooksAround`).
-    pub fn advance(&mut self, table: &SocketTable)
-        ensures { ClosingsGoOn S.to_give S.taken S.calls self.old self.new }
+    pub fn advance(&mut self, table: &mut SocketTable)
+        ensures looks { LooksAround S.to_give S.taken S.calls table.old.reading (in_pass self.old) self.new }
+        ensures clock { table.new.reading ≡ table.old.reading }
     {
-        self.look_around(table.now().get());
+        let now = table.now();
+        self.look_around(table, now);
     }
 
     /// Makes the same rounds until no socket closes, or until 2^64 - 1 rounds were made, and waits between them
     /// (`GoOnFor`). So at the end of a run too no buffered byte is dropped before its writing is over.
-    pub fn finish<N: Network>(&mut self, poller: &mut Poller<'w, N>)
+    pub fn finish<N: Network>(&mut self, poller: &mut Poller<N>)
         ensures { (rounds : ℕ) × GoOnFor S.to_give S.taken S.calls rounds self.old self.new
             × ((self.new.streams ≡ []) ⊎ (rounds ≡ u64.MAX)) }
     {
+        // Sessions that were broken off left deadlines, which no wait is for any more.
+        poller.table.forget_turns();
+        self.sockets.note_deadlines(&mut poller.table);
         for _round in 0..u64::MAX {
-            self.advance(poller.table());
+            self.advance(&mut poller.table);
             if self.is_empty() {
                 return;
             }
@@ -390,8 +444,11 @@ impl<'w, S: Duplex + Drop> Closings<'w, S> {
     }
 
     /// Waits for events, unless a socket may make progress at once.
-    pub fn rest<N: Network>(&self, poller: &mut Poller<'w, N>) {
-        if self.is_ready() {
+    pub fn rest<N: Network>(&self, poller: &mut Poller<N>)
+        ensures { self.now.streams ≡ [] → WaitsOnce N.transition poller.old.network poller.old.table
+            poller.new.network poller.new.table }
+    {
+        if !self.is_empty() && self.is_ready(&poller.table) {
             poller.look();
         } else {
             poller.wait();
@@ -400,13 +457,14 @@ impl<'w, S: Duplex + Drop> Closings<'w, S> {
 
     /// Returns whether there are none.
     pub fn is_empty(&self) -> bool
-        ensures { result ≡ true → self.now.streams ≡ [] }
+        ensures none { result ≡ true → self.now.streams ≡ [] }
+        ensures some { result ≡ false → 0 < length self.now.streams }
     {
         self.sockets.len() == 0
     }
 
     /// Returns whether one of them may make progress.
-    pub fn is_ready(&self) -> bool {
-        self.sockets.is_ready()
+    pub fn is_ready(&self, table: &SocketTable) -> bool {
+        self.sockets.is_ready(table)
     }
 }

@@ -1,6 +1,10 @@
 //! The network of a run, polled into its table.
 
-use crate::table::{Registration, SocketTable};
+ghost use Rattle.std.specs.Prelude.{◌≡◌, Option, false};
+ghost use Rattle.std.specs.declared.time.Duration.{Duration};
+ghost use Rattle.daide_sockets.specs.Table.{PollsOnce, IsNoTime, WaitsOnce};
+
+use crate::table::SocketTable;
 use daide_io::network::{Network, SocketEvent};
 use std::alloc::{AllocError, Global};
 use std::time::Duration;
@@ -10,64 +14,60 @@ pub const EVENTS: usize = 256;
 
 /// The network of a run, with the table of its sockets, and what the last poll reported.
 #[derive(Drop)]
-pub struct Poller<'w, N: Network> {
-    network: N,
-    table: &'w SocketTable,
+pub struct Poller<N: Network> {
+    /// The network.
+    pub network: N,
+    /// The table.
+    pub table: SocketTable,
     news: Vec<SocketEvent>,
 }
 
-impl<'w, N: Network> Poller<'w, N> {
+impl<N: Network> Poller<N> {
     /// Creates the poller of a network, and reads the clock. Fails if its memory is refused.
-    pub fn new(
-        alloc: Global,
-        network: N,
-        table: &'w SocketTable,
-    ) -> Result<Poller<'w, N>, AllocError> {
+    pub fn new(alloc: Global, network: N, table: SocketTable) -> Result<Poller<N>, AllocError> {
         let news = Vec::with_capacity(alloc, EVENTS)?;
         let mut poller = Poller {
             network,
             table,
             news,
         };
-        table.note_now(poller.network.now());
+        let now = poller.network.now();
+        poller.table.note_now(now);
         Ok(poller)
     }
 
-    /// Returns the table.
-    pub fn table(&self) -> &'w SocketTable {
-        self.table
-    }
-
-    /// Returns a row in which the network follows its listener. Returns `None` if the table has no free row, or the
-    /// system refuses.
-    pub(crate) fn listen(&mut self) -> Option<Registration<'w>> {
-        let (key, registration) = self.table.take_row()?;
+    /// Returns the key of a row under which the network follows its listener. Returns `None` if the table has no free
+    /// row, or the system refuses.
+    pub(crate) fn listen(&mut self) -> Option<usize> {
+        let key = self.table.take_row()?;
         if !self.network.listen(key) {
+            self.table.release(key);
             return None;
         }
-        Some(registration)
+        Some(key)
     }
 
-    /// Returns a row in which the network follows a connection. Returns `None` if the table has no free row, or the
-    /// system refuses.
-    pub(crate) fn follow(&mut self, connection: &mut N::Connection) -> Option<Registration<'w>> {
-        let (key, registration) = self.table.take_row()?;
+    /// Returns the key of a row under which the network follows a connection. Returns `None` if the table has no free
+    /// row, or the system refuses.
+    pub(crate) fn follow(&mut self, connection: &mut N::Connection) -> Option<usize>
+        ensures clock { self.new.table.reading ≡ self.old.table.reading }
+    {
+        let key = self.table.take_row()?;
         if !self.network.follow(connection, key) {
+            self.table.release(key);
             return None;
         }
-        Some(registration)
-    }
-
-    /// Returns the network.
-    pub fn network(&mut self) -> &mut N {
-        &mut self.network
+        Some(key)
     }
 
     /// Polls the network, at most for `timeout`, and reads the clock.
-    fn ask(&mut self, timeout: Option<Duration>) {
+    fn ask(&mut self, timeout: Option<Duration>)
+        ensures { PollsOnce N.transition timeout self.old.network self.old.table self.new.network self.new.table }
+    {
         self.network.poll(timeout, &mut self.news);
         self.table.note_news(self.news.as_slice());
-        self.table.note_now(self.network.now());
+        let now = self.network.now();
+        self.table.note_now(now);
     }
 
     /// Polls for the present events if many turns began since the last poll.
@@ -77,24 +77,25 @@ impl<'w, N: Network> Poller<'w, N> {
         }
     }
 
-    /// Polls for the present events, and marks the sockets that have a deadline in the past.
-    pub(crate) fn look(&mut self) {
+    /// Polls for the present events. Does not block.
+    pub(crate) fn look(&mut self)
+        ensures { (time : Option Duration) × IsNoTime time
+            × PollsOnce N.transition time self.old.network self.old.table self.new.network self.new.table }
+    {
         self.ask(Some(Duration::ZERO));
-        self.table.note_deadlines();
     }
 
     /// Blocks until a socket is ready, or until the next deadline. Does not block if a poll since the last wait
-    /// received events, since the system reports each of them only once.
-    pub fn wait(&mut self) {
-        if self.table.has_news() {
-            self.look();
+    /// received events, since the system reports each of them only once, or if a turn left something that may be done.
+    pub fn wait(&mut self)
+        ensures { WaitsOnce N.transition self.old.network self.old.table self.new.network self.new.table }
+    {
+        let timeout = if self.table.has_pending() {
+            Some(Duration::ZERO)
         } else {
-            let nearest = self.table.nearest();
-            self.ask(self.table.until(nearest));
-            if self.table.is_over(nearest) {
-                self.table.note_deadlines();
-            }
-        }
+            self.table.until_next()
+        };
+        self.ask(timeout);
         self.table.note_wait();
     }
 }

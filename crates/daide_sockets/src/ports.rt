@@ -5,53 +5,58 @@
 //! contracts state the bytes that these returned and accepted. A connection of the operating system records nothing, so
 //! for it the contracts state only the results of its reads and writes.
 
-ghost use Rattle.std.specs.Prelude.{◌≡◌, ◌≢◌, ◌<◌, nat_lt, IsNone, IfSome, None, [], min, length, take, true, false};
-ghost use Rattle.daide_io.specs.Ports.{TurnBegins, Clock as Popped, IsPullWithin, IsPutWithin, pulled_len};
+ghost use Rattle.std.specs.Prelude.{◌≡◌, ◌≢◌, ◌<◌, ◌||◌, ◌&&◌, nat_lt, IsNone, IfSome, None, [], min, length, take, true, false};
+ghost use Rattle.daide_io.specs.Ports.{TurnBegins, Clock as Popped, Pulled, Offered, IsPullWithin, IsPutWithin, pulled_len};
 ghost use Rattle.daide_buffered_io.specs.Buffers.{Passes, ReadsNothing, IsBufferedPull, IsFlushed};
-ghost use Rattle.daide_buffered_io.specs.declared.readiness.Readiness.{Readiness};
-ghost use Rattle.daide_buffered_io.specs.Streams.{Transfers};
+ghost use Rattle.daide_buffered_io.specs.Streams.{Transfers, stream_of};
 ghost use Rattle.daide_buffered_io.specs.Taking.{bytes_taken, taken_len};
 ghost use Rattle.daide_sockets.specs.Lingering.{IsWriting, IsWritingOver};
 ghost use Rattle.daide_sockets.specs.Pairing.{IsFresh};
-ghost use Rattle.daide_sockets.specs.Times.{StallsNext, has_stalled};
+ghost use Rattle.daide_sockets.specs.Sockets.{read_if, has_socket_work, next_deadline, due_after};
+ghost use Rattle.daide_sockets.specs.Table.{earlier, merged, report_at, without_report, has_news_at, left_with};
+ghost use Rattle.daide_sockets.specs.Times.{IsStallEnd, StallsNext, has_stalled, is_past};
 
 use crate::poller::Poller;
-use crate::table::{Flags, Registration, SocketTable, is_past, stalls_next};
+use crate::table::{SocketTable, earlier, is_past, merged, stalls_next, timeout_end};
 use crate::timed::Timed;
 use daide_buffered_io::buffered::Buffered;
 use daide_buffered_io::pool::Pool;
+use daide_buffered_io::readiness::Readiness;
 use daide_frame::side::Side;
 use daide_io::duplex::Duplex;
 use daide_io::network::Network;
 use daide_io::ports::{Ports, Pull, Put};
-use std::cell::Cell;
 use std::time::{Duration, Instant};
 
 /// The most turns for which writable bytes stay buffered, even if each turn adds more.
 const MOST_TURNS_HELD: usize = 32;
 
-/// A non-blocking connection with its buffers, and its row of the table.
+/// A non-blocking connection with its buffers, its readiness and its deadlines. It has a row of the table.
 #[derive(Drop)]
 pub struct Socket<'w, S: Drop> {
     /// The connection with its buffers.
     pub stream: Buffered<S>,
-    /// Its row, with its cached readiness.
-    pub registration: Registration<'w>,
+    /// The key of its row.
+    pub key: usize,
+    /// What is known of it without a system call.
+    pub readiness: Readiness,
     /// The pool of its buffers.
     pub(crate) pool: &'w Pool,
-    /// The last reading of the clock.
-    clock: &'w Cell<Option<Instant>>,
     /// The stall timeout of its peer; `None` if there is none.
     stall_time: Option<Duration>,
     /// The moment at which the stall timeout expires, unless its peer takes a byte before. `None` if no byte is queued
-    /// for it, or for never. Its row has a copy.
+    /// for it, or for never.
     stalls_at: Option<Instant>,
+    /// The moment at which the idle timeout of its peer expires, unless it sends something before; `None` for never.
+    silent_from: Option<Instant>,
     /// Its expired timeouts.
     timed: Timed,
     /// Whether it accepted bytes since its turn began, so that more may follow.
     is_gathering: bool,
     /// Whether its last pull returned bytes, so that an answer to them may be put to it in parts.
     gave: bool,
+    /// Whether a read or a write since its turn began must be tried again, since it was interrupted each time.
+    tries_again: bool,
     /// The number of the session whose connect created it; 0 if no connect of a run did.
     made_for: u32,
 }
@@ -59,34 +64,39 @@ pub struct Socket<'w, S: Drop> {
 impl<'w, S: Duplex + Drop> Socket<'w, S> {
     /// Has a connection followed. Returns `None` if the table has no free row, or the system refuses.
     pub fn new<N: Network<Connection = S>>(
-        poller: &mut Poller<'w, N>,
+        poller: &mut Poller<N>,
+        pool: &'w Pool,
         stream: S,
     ) -> Option<Socket<'w, S>>
-        ensures { IfSome result (λ socket. IsFresh socket.stream) }
+        ensures fresh { IfSome result (λ socket. IsFresh socket.stream) }
+        ensures clock { poller.new.table.reading ≡ poller.old.table.reading }
     {
         let mut stream = stream;
-        let registration = poller.follow(&mut stream)?;
-        Some(Socket::over(poller.table(), stream, registration))
+        let key = poller.follow(&mut stream)?;
+        Some(Socket::over(pool, stream, key))
     }
 }
 
 impl<'w, S: Drop> Socket<'w, S> {
-    /// Creates a socket from any stream, with empty buffers, and its row of the table.
-    pub fn over(table: &'w SocketTable, stream: S, registration: Registration<'w>) -> Socket<'w, S>
+    /// Creates a socket from any stream, with empty buffers, and the key of its row of the table. Nothing is known of
+    /// its readiness.
+    pub fn over(pool: &'w Pool, stream: S, key: usize) -> Socket<'w, S>
         ensures stream { result.stream ≡ record { stream = stream; read_buffer = []; write_buffer = []; has_failed = false } }
         ensures timed { result.timed ≡ record { is_silent = false; is_stalled = false; ends_stalled = false } }
         ensures stall_time { IsNone result.stall_time }
     {
         Socket {
             stream: Buffered::new(stream),
-            registration,
-            pool: table.pool(),
-            clock: table.now(),
+            key,
+            readiness: Readiness::UNKNOWN,
+            pool,
             stall_time: None,
             stalls_at: None,
+            silent_from: None,
             timed: Timed::NONE,
             is_gathering: false,
             gave: false,
+            tries_again: false,
             made_for: 0,
         }
     }
@@ -96,30 +106,9 @@ impl<'w, S: Drop> Socket<'w, S> {
         ensures stream { result.stream ≡ self.entry.stream }
         ensures made_for { result.made_for ≡ number }
     {
-        let Socket {
-            stream,
-            registration,
-            pool,
-            clock,
-            stall_time,
-            stalls_at,
-            timed,
-            is_gathering,
-            gave,
-            made_for: _,
-        } = self;
-        Socket {
-            stream,
-            registration,
-            pool,
-            clock,
-            stall_time,
-            stalls_at,
-            timed,
-            is_gathering,
-            gave,
-            made_for: number,
-        }
+        let mut socket = self;
+        socket.made_for = number;
+        socket
     }
 
     /// Sets the stall timeout of its peer; `None` if there is none.
@@ -135,7 +124,53 @@ impl<'w, S: Drop> Socket<'w, S> {
     {
         self.stall_time = time;
         self.stalls_at = None;
-        self.registration.flags.stalls_at.set(None);
+    }
+
+    /// Returns the moment at which the stall timeout of its peer expires.
+    pub(crate) fn stalls_at(&self) -> Option<Instant>
+        ensures { result ≡ self.now.stalls_at }
+    {
+        self.stalls_at
+    }
+
+    /// Adds a report to its readiness.
+    pub fn note_report(&mut self, report: Readiness)
+        ensures { self.new ≡ record self.old { readiness = merged self.old.readiness report } }
+    {
+        self.readiness = merged(self.readiness, report);
+    }
+
+    /// Adds the report of its row to its readiness, and takes it out of the row.
+    pub fn take_report(&mut self, table: &mut SocketTable)
+        ensures readiness { self.new ≡ record self.old {
+          readiness = merged self.old.readiness (report_at table.old self.old.key);
+        } }
+        ensures table { table.new ≡ without_report table.old self.old.key }
+    {
+        let report = table.take_report(self.key);
+        self.note_report(report);
+    }
+
+    /// Returns the nearest deadline of its peer's timeouts after a turn at this reading of the clock. An idle timeout
+    /// that already expired is no deadline, since the next pull reports it. Without room in the session there is no
+    /// pull, and nothing to do.
+    fn deadline(&self, now: Option<Instant>) -> Option<Instant>
+        ensures { result ≡ next_deadline now self.now.stalls_at self.now.silent_from }
+    {
+        let silent_from = if is_past(now, self.silent_from) {
+            None
+        } else {
+            self.silent_from
+        };
+        earlier(self.stalls_at, silent_from)
+    }
+
+    /// Returns whether something may be done at once: a byte is buffered that may be written, or a read or a write
+    /// must be tried again.
+    fn has_work(&self) -> bool
+        ensures { result ≡ has_socket_work self.now.stream self.now.readiness self.now.tries_again }
+    {
+        self.tries_again || self.stream.is_behind() && self.readiness.may_write
     }
 
     /// Returns the stream itself.
@@ -152,6 +187,7 @@ impl<S: Duplex + Drop> Socket<'_, S> {
         ensures time { is_waiting ≡ true → StallsNext self.old.stall_time now self.old.stalls_at took self.new.stalls_at }
         ensures none { is_waiting ≡ false → self.new.stalls_at ≡ None }
         ensures stream { self.new.stream ≡ self.old.stream }
+        ensures readiness { self.new.readiness ≡ self.old.readiness }
         ensures rest { self.new ≡ record self.old { stalls_at = self.new.stalls_at } }
     {
         self.stalls_at = if is_waiting {
@@ -159,7 +195,6 @@ impl<S: Duplex + Drop> Socket<'_, S> {
         } else {
             None
         };
-        self.registration.flags.stalls_at.set(self.stalls_at);
     }
 
     /// Gives up writing to a peer whose stall timeout is over at this reading of the clock, and leaves the socket as it
@@ -198,7 +233,6 @@ impl<S: Duplex + Drop> Socket<'_, S> {
             return;
         }
         self.stalls_at = None;
-        self.registration.flags.stalls_at.set(None);
         self.stream.give_up();
         self.timed.is_stalled = true;
     }
@@ -211,30 +245,34 @@ impl<S: Duplex + Drop> Socket<'_, S> {
         ensures len { length buffer.new ≡ length buffer.old }
         ensures passes { Passes S.to_give S.taken self.old.stream (take (pulled_len result) buffer.new) []
             self.new.stream }
-        ensures asked { (known still : Readiness)
-            × IsBufferedPull S.calls (length buffer.old) known self.old.stream result still self.new.stream }
+        ensures asked { IsBufferedPull S.calls (length buffer.old) self.old.readiness self.old.stream result
+            self.new.readiness self.new.stream }
         ensures handed { 0 < length self.old.stream.read_buffer →
             result ≡ Pull.Got (min (length self.old.stream.read_buffer) (length buffer.old)) }
         ensures timed { self.new.timed ≡ self.old.timed }
+        ensures times { (self.new.silent_from ≡ self.old.silent_from) × (self.new.stalls_at ≡ self.old.stalls_at) }
         ensures gathering { self.new.is_gathering ≡ self.old.is_gathering }
         ensures idle { result ≡ Pull.Idle → self.new.gave ≡ false }
+        ensures none_left { result ≡ Pull.Idle → 0 < length buffer.old → self.new.tries_again ≡ false →
+            (self.new.readiness.may_read ≡ false) × (self.new.stream.read_buffer ≡ []) }
     {
-        let flags = self.registration.flags;
-        let mut readiness = flags.readiness.get();
         self.gave = false;
         // Most turns of an idle session end here.
-        if !readiness.may_read && !self.stream.is_ahead() {
+        if !self.readiness.may_read && !self.stream.is_ahead() {
             return Pull::Idle;
         }
-        let pull = self.stream.pull(self.pool, &mut readiness, buffer);
-        flags.readiness.set(readiness);
+        let pull = self.stream.pull(self.pool, &mut self.readiness, buffer);
         self.gave = matches!(pull, Pull::Got(_));
+        let is_left = self.readiness.may_read || self.stream.is_ahead();
+        if is_left && pull == Pull::Idle && !buffer.is_empty() {
+            self.tries_again = true;
+        }
         pull
     }
 
     /// Buffers the bytes, or writes what the connection accepts. The bytes of `Took` are, in order, in the connection
     /// or in the write buffer. Returns `Failed` also for a failure of an earlier flush.
-    pub fn put(&mut self, bytes: &[u8]) -> Put
+    pub fn put(&mut self, now: Option<Instant>, bytes: &[u8]) -> Put
         ensures within { IsPutWithin result (length bytes.now) }
         ensures passes { Passes S.to_give S.taken self.old.stream [] (bytes_taken result bytes.now) self.new.stream }
         ensures fails { result ≡ Put.Failed → self.new.stream.has_failed ≡ true }
@@ -243,12 +281,11 @@ impl<S: Duplex + Drop> Socket<'_, S> {
         ensures timed { self.new.timed ≡ self.old.timed }
         ensures gathers { 0 < taken_len result → self.new.is_gathering ≡ true }
         ensures gathering { taken_len result ≡ 0 → self.new.is_gathering ≡ self.old.is_gathering }
+        ensures full { result ≡ Put.Took 0 → 0 < length bytes.now → self.new.tries_again ≡ false →
+            self.new.readiness.may_write ≡ false }
     {
-        let flags = self.registration.flags;
         let held = self.stream.behind_len();
-        let mut readiness = flags.readiness.get();
-        let put = self.stream.put(self.pool, &mut readiness, bytes);
-        flags.readiness.set(readiness);
+        let put = self.stream.put(self.pool, &mut self.readiness, bytes);
         match put {
             Put::Took(count) => {
                 if count > 0 {
@@ -256,7 +293,10 @@ impl<S: Duplex + Drop> Socket<'_, S> {
                 }
                 let took = self.stream.behind_len() < held.saturating_add(count);
                 let is_waiting = count < bytes.len() || self.stream.is_behind();
-                self.note_written(self.clock.get(), took, is_waiting);
+                self.note_written(now, took, is_waiting);
+                if count == 0 && !bytes.is_empty() && self.readiness.may_write {
+                    self.tries_again = true;
+                }
             }
             Put::Failed => self.note_written(None, false, false),
         }
@@ -266,11 +306,11 @@ impl<S: Duplex + Drop> Socket<'_, S> {
     /// Writes all buffered bytes to the connection once, unless a write failed before, and keeps those that it doesn't
     /// take. The stall timeout starts again at this reading of the clock if the peer took a byte.
     #[tactic(auto, using(daide_buffered_io::proofs::BufferLemmas::same_passes))]
-    pub(crate) fn flush_at(&mut self, now: Option<Instant>)
+    pub fn flush_at(&mut self, now: Option<Instant>)
         ensures passes { Passes S.to_give S.taken self.old.stream [] [] self.new.stream }
         ensures unread { ReadsNothing S.to_give self.old.stream self.new.stream }
-        ensures written { IsWriting self.old.stream → (known still : Readiness)
-            × IsFlushed S.calls known self.old.stream still self.new.stream }
+        ensures written { IsWriting self.old.stream →
+            IsFlushed S.calls self.old.readiness self.old.stream self.new.readiness self.new.stream }
         ensures nothing { IsWritingOver self.old.stream →
             (self.new.stream ≡ self.old.stream) × (self.new.stalls_at ≡ self.old.stalls_at) }
         ensures waits { IsWriting self.old.stream → IsWriting self.new.stream →
@@ -283,39 +323,28 @@ impl<S: Duplex + Drop> Socket<'_, S> {
         if !self.stream.is_behind() {
             return;
         }
-        let flags = self.registration.flags;
         let held = self.stream.behind_len();
-        let mut readiness = flags.readiness.get();
-        self.stream.flush(self.pool, &mut readiness);
-        flags.readiness.set(readiness);
+        self.stream.flush(self.pool, &mut self.readiness);
         let took = self.stream.behind_len() < held;
         let is_waiting = self.stream.is_behind();
         self.note_written(now, took, is_waiting);
     }
 
-    /// Writes buffered bytes, as many as the connection accepts.
-    pub fn flush(&mut self)
-        ensures passes { Passes S.to_give S.taken self.old.stream [] [] self.new.stream }
-        ensures unread { ReadsNothing S.to_give self.old.stream self.new.stream }
-        ensures timed { self.new.timed ≡ self.old.timed }
-        ensures gathering { self.new.is_gathering ≡ self.old.is_gathering }
-    {
-        self.flush_at(self.clock.get());
-    }
-
     /// Writes buffered bytes, unless the session may still put more: an answer to bytes that it pulled, some parts of
     /// which were put in this turn. A turn that puts something is followed by another without a wait.
     #[tactic(auto, using(daide_buffered_io::proofs::BufferLemmas::same_passes))]
-    fn flush_gathered(&mut self)
+    fn flush_gathered(&mut self, now: Option<Instant>)
         ensures passes { Passes S.to_give S.taken self.old.stream [] [] self.new.stream }
         ensures unread { ReadsNothing S.to_give self.old.stream self.new.stream }
         ensures timed { self.new.timed ≡ self.old.timed }
         ensures gathering { self.old.is_gathering ≡ true → self.old.gave ≡ true → self.new ≡ self.old }
+        ensures written { (self.old.is_gathering && self.old.gave) ≡ false → IsWriting self.old.stream →
+            IsFlushed S.calls self.old.readiness self.old.stream self.new.readiness self.new.stream }
     {
         if self.is_gathering && self.gave {
             return;
         }
-        self.flush();
+        self.flush_at(now);
     }
 }
 
@@ -351,21 +380,21 @@ impl TurnsHeld {
 impl<S: Duplex + Drop> Socket<'_, S> {
     /// Writes buffered bytes whose turns are over.
     #[tactic(auto, using(daide_buffered_io::proofs::BufferLemmas::same_passes))]
-    fn flush_late(&mut self, held: TurnsHeld)
+    fn flush_late(&mut self, now: Option<Instant>, held: TurnsHeld)
         ensures passes { Passes S.to_give S.taken self.old.stream [] [] self.new.stream }
         ensures unread { ReadsNothing S.to_give self.old.stream self.new.stream }
         ensures timed { self.new.timed ≡ self.old.timed }
         ensures gathering { self.new.is_gathering ≡ self.old.is_gathering }
     {
         if held.is_over() {
-            self.flush();
+            self.flush_at(now);
         }
     }
 
     /// Begins a turn, in which nothing is put yet: gives up a stalled peer, and writes buffered bytes whose turns are
     /// over.
     #[tactic(auto, using(daide_buffered_io::proofs::BufferLemmas::flush_then, daide_buffered_io::proofs::BufferLemmas::unread_then))]
-    fn begin_turn(&mut self, held: TurnsHeld)
+    fn begin_turn(&mut self, now: Option<Instant>, held: TurnsHeld)
         ensures passes { Passes S.to_give S.taken self.old.stream [] [] self.new.stream }
         ensures unread { ReadsNothing S.to_give self.old.stream self.new.stream }
         ensures silent { self.new.timed.is_silent ≡ self.old.timed.is_silent }
@@ -373,33 +402,33 @@ impl<S: Duplex + Drop> Socket<'_, S> {
         ensures gathering { self.new.is_gathering ≡ false }
     {
         self.is_gathering = false;
-        self.give_up_stalled(self.clock.get());
-        self.flush_late(held);
+        self.tries_again = false;
+        self.give_up_stalled(now);
+        self.flush_late(now, held);
     }
 }
 
-/// The idle timeout of the peers of a session; `None` if there is none.
-#[derive(Drop)]
-struct IdleTimeout<'w> {
-    table: &'w SocketTable,
+/// The idle timeout of the peers of a session, and the reading of the clock at which its turn began.
+#[derive(Clone, Copy)]
+struct IdleTimeout {
+    reading: Option<Instant>,
+    /// `None` if there is none.
     time: Option<Duration>,
 }
 
-impl IdleTimeout<'_> {
-    /// Starts the idle timeout of a socket anew.
-    fn begin(&self, flags: &Flags) {
-        let Some(time) = self.time else {
-            return;
-        };
-        flags.silent_from.set(self.table.after(time));
+impl IdleTimeout {
+    /// Returns the moment at which an idle timeout expires that begins now; `None` for never.
+    fn end(self) -> Option<Instant>
+        ensures { IsStallEnd self.reading self.time result }
+    {
+        timeout_end(self.reading, self.time)
     }
 
-    /// Returns true if the idle timeout of a socket is over; never true without one. The time is read from the system's
-    /// clock.
-    fn is_over(&self, flags: &Flags) -> bool
-        ensures { IsNone self.now.time → result ≡ false }
+    /// Returns true if the idle timeout of a socket is over; never true without one.
+    fn is_over(self, silent_from: Option<Instant>) -> bool
+        ensures { result ≡ has_stalled self.time self.reading silent_from }
     {
-        self.time.is_some() && self.table.is_over(flags.silent_from.get())
+        self.time.is_some() && is_past(self.reading, silent_from)
     }
 }
 
@@ -411,10 +440,15 @@ impl IdleTimeout<'_> {
 ///
 /// `silent`: a side that counts as ended for its silence moves no byte.
 ///
-/// Not said: when silence is too long. Tests show that it comes after `idle_seconds`, for a bot and a server, and not
-/// for a side that sends now and then.
+/// `early`, `late`: a side counts as silent only if its idle timeout is over at the reading of the turn, and then a read
+/// that finds nothing is its end.
+///
+/// `starts`, `goes_on`: the timeout starts again at the reading of the turn whenever the side sends something. A pull that
+/// finds nothing leaves it as it is.
+///
+/// `written`: what is held for the other side is written once, if this side has nothing more.
 fn pull_or_flush_peer<S: Duplex + Drop>(
-    idle: &IdleTimeout<'_>,
+    idle: IdleTimeout,
     own: &mut Socket<'_, S>,
     other: &mut Socket<'_, S>,
     buffer: &mut [u8],
@@ -426,12 +460,21 @@ fn pull_or_flush_peer<S: Duplex + Drop>(
         result ≡ Pull.Got (min (length own.old.stream.read_buffer) (length buffer.old)) }
     ensures other { Passes S.to_give S.taken other.old.stream [] [] other.new.stream }
     ensures unread { ReadsNothing S.to_give other.old.stream other.new.stream }
-    // a side that does not count as ended by a timeout is reported as its stream is read
-    ensures asked { own.new.timed.is_silent ≡ false → own.new.timed.ends_stalled ≡ false → (known still : Readiness)
-        × IsBufferedPull S.calls (length buffer.old) known own.old.stream result still own.new.stream }
+    // a side that does not count as ended by a timeout is reported as its stream is read; one that is late is read once
+    ensures asked { own.new.timed.is_silent ≡ false → own.new.timed.ends_stalled ≡ false →
+        IsBufferedPull S.calls (length buffer.old)
+        (read_if (has_stalled idle.time idle.reading own.old.silent_from) own.old.readiness)
+        own.old.stream result own.new.readiness own.new.stream }
     // a side is marked as silent or stalled only with an end, and without an idle timeout never as silent
     ensures silent { result ≢ Pull.Ended → own.new.timed ≡ own.old.timed }
-    ensures patient { IsNone idle.now.time → own.new.timed.is_silent ≡ own.old.timed.is_silent }
+    ensures patient { IsNone idle.time → own.new.timed.is_silent ≡ own.old.timed.is_silent }
+    // a timeout that is not over ends nothing, and one that is over ends a side that sends nothing
+    ensures early { has_stalled idle.time idle.reading own.old.silent_from ≡ false →
+        own.new.timed.is_silent ≡ own.old.timed.is_silent }
+    ensures late { has_stalled idle.time idle.reading own.old.silent_from ≡ true → result ≢ Pull.Idle }
+    // the timeout starts again with what a side sends
+    ensures starts { pulled_len result ≢ 0 → IsStallEnd idle.reading idle.time own.new.silent_from }
+    ensures goes_on { result ≡ Pull.Idle → own.new.silent_from ≡ own.old.silent_from }
     ensures stays { own.old.timed.is_silent ≡ true → own.new.timed.is_silent ≡ true }
     // a side counts as ended for a stall only if its writes fail for that
     ensures stalled { own.new.timed.is_stalled ≡ own.old.timed.is_stalled }
@@ -439,17 +482,24 @@ fn pull_or_flush_peer<S: Duplex + Drop>(
     ensures other_timed { other.new.timed ≡ other.old.timed }
     // the parts of an answer are written together
     ensures gathering { other.old.is_gathering ≡ true → other.old.gave ≡ true → other.new ≡ other.old }
+    // what else is held for the other side is written
+    ensures written { result ≡ Pull.Idle → (other.old.is_gathering && other.old.gave) ≡ false →
+        IsWriting other.old.stream →
+        IsFlushed S.calls other.old.readiness other.old.stream other.new.readiness other.new.stream }
+    // with room, nothing is left that may be read, but for a read that must be tried again
+    ensures none_left { result ≡ Pull.Idle → 0 < length buffer.old → own.new.tries_again ≡ false →
+        (own.new.readiness.may_read ≡ false) × (own.new.stream.read_buffer ≡ []) }
 {
-    let is_late = idle.is_over(own.registration.flags);
+    let is_late = idle.is_over(own.silent_from);
     if is_late {
-        own.registration.flags.note(true, false);
+        own.readiness.may_read = true;
     }
     let pull = own.pull(buffer);
     if pull != Pull::Idle {
-        idle.begin(own.registration.flags);
+        own.silent_from = idle.end();
         return pull;
     }
-    other.flush_gathered();
+    other.flush_gathered(idle.reading);
     if own.timed.is_stalled {
         own.timed.ends_stalled = true;
         return Pull::Ended;
@@ -466,6 +516,7 @@ fn pull_or_flush_peer<S: Duplex + Drop>(
 ///
 /// `gathering`: the parts of an answer to the other side that were put in this turn are not flushed.
 fn put_or_flush_peer<S: Duplex + Drop>(
+    now: Option<Instant>,
     own: &mut Socket<'_, S>,
     other: &mut Socket<'_, S>,
     bytes: &[u8],
@@ -477,12 +528,17 @@ fn put_or_flush_peer<S: Duplex + Drop>(
     ensures unread { ReadsNothing S.to_give other.old.stream other.new.stream }
     ensures timed { (own.new.timed ≡ own.old.timed) × (other.new.timed ≡ other.old.timed) }
     ensures gathering { other.old.is_gathering ≡ true → other.old.gave ≡ true → other.new ≡ other.old }
+    ensures written { result ≡ Put.Took 0 → (other.old.is_gathering && other.old.gave) ≡ false →
+        IsWriting other.old.stream →
+        IsFlushed S.calls other.old.readiness other.old.stream other.new.readiness other.new.stream }
+    ensures full { result ≡ Put.Took 0 → 0 < length bytes.now → own.new.tries_again ≡ false →
+        own.new.readiness.may_write ≡ false }
 {
-    let put = own.put(bytes);
+    let put = own.put(now, bytes);
     if put != Put::Took(0) {
         return put;
     }
-    other.flush_gathered();
+    other.flush_gathered(now);
     put
 }
 
@@ -490,19 +546,25 @@ fn put_or_flush_peer<S: Duplex + Drop>(
 /// and took exactly those that it says it took (`transition`, `Transfers`). Of the other side nothing is read,
 /// and only bytes that were held for it are written. A call of the clock leaves both sides unchanged.
 ///
-/// What is held for a side is flushed after 32 turns, and once a pull of the other side or a put finds nothing to do.
-/// The parts of an answer are not flushed by such a pull or put while the turn still puts some.
+/// What is held for a side is flushed after 32 turns, and once a pull of the other side or a put finds nothing to do
+/// (`pull_or_flush_peer`, `put_or_flush_peer`: `written`). The parts of an answer are not flushed by such a pull or put
+/// while the turn still puts some.
+///
+/// A pull with room that finds nothing leaves the socket not readable, with nothing read ahead, or it must be tried again
+/// (`none_left`). A put that nothing is taken of leaves it not writable, or it must be tried again (`full`). What must be
+/// tried again, and what is held that may be written, is work, which a turn leaves in the row (`end_turn`).
 ///
 /// Not said: the bytes of the operating system's own connections (`Connection`), of which nothing is known but what its
-/// calls returned. Nor is it said when a call may do something, when a deadline expires, or that held bytes are flushed
-/// at last. These depend on cells that are shared with the loop, which no contract can name; tests show them.
+/// calls returned.
 #[derive(Drop)]
 pub struct SocketPorts<'w, S: Drop> {
     /// The number of the session, from 1, in the order in which the run accepted its bots; 0 outside a run.
     number: u32,
-    idle: IdleTimeout<'w>,
+    idle: IdleTimeout,
     held_for_bot: TurnsHeld,
     held_for_server: TurnsHeld,
+    /// The deadline of the initial message; `None` once it expired, and outside a run.
+    im_due: Option<Instant>,
     /// Whether the deadline of the initial message passed at the beginning of the turn, for the first time.
     im_timer_expired: bool,
     bot: Socket<'w, S>,
@@ -511,66 +573,70 @@ pub struct SocketPorts<'w, S: Drop> {
 
 impl<'w, S: Drop> SocketPorts<'w, S> {
     /// Creates the ports of a bot and its server.
-    pub fn new(
-        table: &'w SocketTable,
-        bot: Socket<'w, S>,
-        server: Socket<'w, S>,
-    ) -> SocketPorts<'w, S>
+    pub fn new(bot: Socket<'w, S>, server: Socket<'w, S>) -> SocketPorts<'w, S>
         ensures bot { result.bot.stream ≡ bot.entry.stream }
         ensures server { result.server.stream ≡ server.entry.stream }
         ensures number { result.number ≡ 0 }
         ensures patient { IsNone result.idle.time }
+        ensures no_im { IsNone result.im_due }
         ensures timed { (result.bot.timed ≡ bot.entry.timed) × (result.server.timed ≡ server.entry.timed) }
     {
-        let idle = IdleTimeout { table, time: None };
         SocketPorts {
             number: 0,
-            idle,
+            idle: IdleTimeout {
+                reading: None,
+                time: None,
+            },
             held_for_bot: TurnsHeld::NONE,
             held_for_server: TurnsHeld::NONE,
+            im_due: None,
             im_timer_expired: false,
             bot,
             server,
         }
     }
 
-    /// Returns these ports as those of a session of a run, with this number, which begins now. The first time is the
-    /// idle timeout of both sides, the second their stall timeout; `None` if there is none.
-    pub(crate) fn of_session(
+    /// Returns these ports as those of a session of a run, with this number, which begins at this reading of the clock.
+    /// The first time is the idle timeout of both sides, the second their stall timeout; `None` if there is none.
+    pub fn of_session(
         self,
         number: u32,
+        now: Option<Instant>,
+        im_due: Option<Instant>,
         times: (Option<Duration>, Option<Duration>),
     ) -> SocketPorts<'w, S>
         ensures bot { result.bot.stream ≡ self.entry.bot.stream }
         ensures server { result.server.stream ≡ self.entry.server.stream }
         ensures number { result.number ≡ number }
         ensures time { result.idle.time ≡ times.0 }
+        ensures im_due { result.im_due ≡ im_due }
+        ensures silent_from { IsStallEnd now times.0 result.bot.silent_from
+            × IsStallEnd now times.0 result.server.silent_from }
         ensures stall_time { (result.bot.stall_time ≡ times.1) × (result.server.stall_time ≡ times.1) }
         ensures timed { (result.bot.timed ≡ self.entry.bot.timed) × (result.server.timed ≡ self.entry.server.timed) }
     {
         let (time, stall_time) = times;
         let SocketPorts {
             number: _,
-            idle,
+            idle: _,
             held_for_bot,
             held_for_server,
+            im_due: _,
             im_timer_expired,
             mut bot,
             mut server,
         } = self;
+        let idle = IdleTimeout { reading: now, time };
         bot.set_stall_time(stall_time);
         server.set_stall_time(stall_time);
-        let idle = IdleTimeout {
-            table: idle.table,
-            time,
-        };
-        idle.begin(bot.registration.flags);
-        idle.begin(server.registration.flags);
+        bot.silent_from = idle.end();
+        server.silent_from = idle.end();
         SocketPorts {
             number,
             idle,
             held_for_bot,
             held_for_server,
+            im_due,
             im_timer_expired,
             bot,
             server,
@@ -609,6 +675,7 @@ impl<'w, S: Drop> SocketPorts<'w, S> {
             idle: _,
             held_for_bot: _,
             held_for_server: _,
+            im_due: _,
             im_timer_expired: _,
             bot,
             server,
@@ -616,21 +683,25 @@ impl<'w, S: Drop> SocketPorts<'w, S> {
         (bot, server)
     }
 
-    /// Returns whether an event of one of the sockets came, or a deadline of one expired, since the last turn began.
-    pub fn has_news(&self) -> bool {
-        self.bot.registration.flags.has_news.get() || self.server.registration.flags.has_news.get()
+    /// Returns whether there is news for one of the sockets since the last turn began.
+    pub fn has_news(&self, table: &SocketTable) -> bool
+        ensures { result ≡ (has_news_at table.now self.now.bot.key || has_news_at table.now self.now.server.key) }
+    {
+        table.has_news_at(self.bot.key) || table.has_news_at(self.server.key)
     }
 
-    /// Counts the beginning of a turn, in which the session acts on all news. Makes no system call.
-    fn count_turn(&mut self)
+    /// Counts the beginning of a turn at this reading of the clock. Makes no system call.
+    fn count_turn(&mut self, now: Option<Instant>)
         ensures bot { self.new.bot ≡ self.old.bot }
         ensures server { self.new.server ≡ self.old.server }
         ensures number { self.new.number ≡ self.old.number }
-        ensures idle { self.new.idle ≡ self.old.idle }
+        ensures idle { self.new.idle ≡ record self.old.idle { reading = now } }
+        ensures im { self.new.im_due ≡ self.old.im_due }
     {
-        self.idle.table.note_turn();
-        self.bot.registration.flags.has_news.set(false);
-        self.server.registration.flags.has_news.set(false);
+        self.idle = IdleTimeout {
+            reading: now,
+            time: self.idle.time,
+        };
         self.held_for_bot = self.held_for_bot.with_turn(self.bot.stream.behind_len());
         self.held_for_server = self
             .held_for_server
@@ -639,6 +710,33 @@ impl<'w, S: Drop> SocketPorts<'w, S> {
 }
 
 impl<S: Duplex + Drop> SocketPorts<'_, S> {
+    /// Adds reports to the readiness of the bot's socket and of the server's.
+    pub fn note_reports(&mut self, bot: Readiness, server: Readiness)
+        ensures bot { self.new.bot ≡ record self.old.bot { readiness = merged self.old.bot.readiness bot } }
+        ensures server { self.new.server ≡ record self.old.server { readiness = merged self.old.server.readiness server } }
+        ensures rest { self.new ≡ record self.old { bot = self.new.bot; server = self.new.server } }
+    {
+        self.bot.note_report(bot);
+        self.server.note_report(server);
+    }
+
+    /// Takes the reports of both rows.
+    fn take_reports(&mut self, table: &mut SocketTable)
+        ensures bot { self.new.bot ≡ record self.old.bot {
+          readiness = merged self.old.bot.readiness (report_at table.old self.old.bot.key);
+        } }
+        ensures server { self.new.server ≡ record self.old.server {
+          readiness = merged self.old.server.readiness
+              (report_at (without_report table.old self.old.bot.key) self.old.server.key);
+        } }
+        ensures rest { self.new ≡ record self.old { bot = self.new.bot; server = self.new.server } }
+        ensures streams { (self.new.bot.stream ≡ self.old.bot.stream) × (self.new.server.stream ≡ self.old.server.stream) }
+        ensures table { table.new ≡ without_report (without_report table.old self.old.bot.key) self.old.server.key }
+    {
+        self.bot.take_report(table);
+        self.server.take_report(table);
+    }
+
     /// Begins a turn of both sockets.
     fn begin_both(&mut self)
         ensures bot { Passes S.to_give S.taken self.old.bot.stream [] [] self.new.bot.stream }
@@ -652,9 +750,11 @@ impl<S: Duplex + Drop> SocketPorts<'_, S> {
         ensures gathering { (self.new.bot.is_gathering ≡ false) × (self.new.server.is_gathering ≡ false) }
         ensures number { self.new.number ≡ self.old.number }
         ensures idle { self.new.idle ≡ self.old.idle }
+        ensures im { self.new.im_due ≡ self.old.im_due }
     {
-        self.bot.begin_turn(self.held_for_bot);
-        self.server.begin_turn(self.held_for_server);
+        self.bot.begin_turn(self.idle.reading, self.held_for_bot);
+        self.server
+            .begin_turn(self.idle.reading, self.held_for_server);
     }
 
     /// Reads the deadline of the initial message. It expires once: in the first turn that begins at or after it.
@@ -663,18 +763,21 @@ impl<S: Duplex + Drop> SocketPorts<'_, S> {
         ensures server { self.new.server ≡ self.old.server }
         ensures number { self.new.number ≡ self.old.number }
         ensures idle { self.new.idle ≡ self.old.idle }
+        ensures expires { self.new.im_timer_expired ≡ is_past self.old.idle.reading self.old.im_due }
+        ensures once { self.new.im_due ≡ due_after self.old.idle.reading self.old.im_due }
     {
-        let due = &self.bot.registration.flags.due;
-        let is_over = self.idle.table.is_over(due.get());
-        if is_over {
-            due.set(None);
+        self.im_timer_expired = is_past(self.idle.reading, self.im_due);
+        if self.im_timer_expired {
+            self.im_due = None;
         }
-        self.im_timer_expired = is_over;
     }
 
-    /// Begins a turn of the session: counts it, gives up stalled peers, writes buffered bytes whose turns are over, and
-    /// reads the deadline of the initial message. Nothing is read, and nothing is put yet.
-    pub fn begin_turn(&mut self)
+    /// Begins a turn of the session: counts it, takes the reports of both rows, gives up stalled peers, writes buffered
+    /// bytes whose turns are over, and reads the deadline of the initial message. Nothing is read, and nothing is put
+    /// yet. All is by the table's reading of the clock.
+    ///
+    /// `expires`: the IM timer expires exactly in the first turn that begins at its deadline or after it (`once`).
+    pub fn begin_turn(&mut self, table: &mut SocketTable)
         ensures begins { Transfers S.to_give S.taken (self.old.bot.stream, self.old.server.stream) TurnBegins
             (self.new.bot.stream, self.new.server.stream) }
         ensures silent { (self.new.bot.timed.is_silent ≡ self.old.bot.timed.is_silent)
@@ -683,11 +786,34 @@ impl<S: Duplex + Drop> SocketPorts<'_, S> {
             × (self.new.server.timed.ends_stalled ≡ self.old.server.timed.ends_stalled) }
         ensures gathering { (self.new.bot.is_gathering ≡ false) × (self.new.server.is_gathering ≡ false) }
         ensures number { self.new.number ≡ self.old.number }
-        ensures idle { self.new.idle ≡ self.old.idle }
+        ensures idle { self.new.idle ≡ record self.old.idle { reading = table.old.reading } }
+        ensures expires { self.new.im_timer_expired ≡ is_past table.old.reading self.old.im_due }
+        ensures once { self.new.im_due ≡ due_after table.old.reading self.old.im_due }
+        ensures clock { table.new.reading ≡ table.old.reading }
     {
-        self.count_turn();
+        table.note_turn();
+        self.count_turn(table.now());
+        self.take_reports(table);
         self.begin_both();
         self.read_deadline();
+    }
+
+    /// Ends a turn of the session: leaves the nearest deadline of each socket in its row, and whether something may be
+    /// done at once. Then no wait blocks, and there is news for the session.
+    pub fn end_turn(&self, table: &mut SocketTable)
+        ensures { table.new ≡ left_with
+            (left_with table.old self.now.bot.key
+            (has_socket_work self.now.bot.stream self.now.bot.readiness self.now.bot.tries_again)
+            (earlier (next_deadline self.now.idle.reading self.now.bot.stalls_at self.now.bot.silent_from) self.now.im_due))
+            self.now.server.key
+            (has_socket_work self.now.server.stream self.now.server.readiness self.now.server.tries_again)
+            (next_deadline self.now.idle.reading self.now.server.stalls_at self.now.server.silent_from) }
+    {
+        let now = self.idle.reading;
+        let due = earlier(self.bot.deadline(now), self.im_due);
+        table.leave(self.bot.key, self.bot.has_work(), due);
+        let due = self.server.deadline(now);
+        table.leave(self.server.key, self.server.has_work(), due);
     }
 }
 
@@ -695,17 +821,56 @@ impl<S: Duplex + Drop> Ports for SocketPorts<'_, S> {
     ghost transition = { λ old answer new. Transfers S.to_give S.taken (old.bot.stream, old.server.stream) answer
         (new.bot.stream, new.server.stream) };
 
-    fn pull(&mut self, side: Side, buffer: &mut [u8]) -> Pull {
+    fn pull(&mut self, side: Side, buffer: &mut [u8]) -> Pull
+        ensures within { IsPullWithin result (length buffer.old) }
+        ensures transition { Transfers S.to_give S.taken (self.old.bot.stream, self.old.server.stream)
+            (Pulled side (length buffer.old) result (take (pulled_len result) buffer.new))
+            (self.new.bot.stream, self.new.server.stream) }
+        ensures asked { (stream_of (self.new.bot, self.new.server) side).timed.is_silent ≡ false →
+            (stream_of (self.new.bot, self.new.server) side).timed.ends_stalled ≡ false →
+            IsBufferedPull S.calls (length buffer.old) (read_if (has_stalled self.old.idle.time self.old.idle.reading
+            (stream_of (self.old.bot, self.old.server) side).silent_from) (stream_of (self.old.bot, self.old.server) side).readiness)
+            (stream_of (self.old.bot, self.old.server) side).stream result
+            (stream_of (self.new.bot, self.new.server) side).readiness (stream_of (self.new.bot, self.new.server) side).stream }
+        ensures none_left { result ≡ Pull.Idle → 0 < length buffer.old →
+            (stream_of (self.new.bot, self.new.server) side).tries_again ≡ false →
+            ((stream_of (self.new.bot, self.new.server) side).readiness.may_read ≡ false)
+            × ((stream_of (self.new.bot, self.new.server) side).stream.read_buffer ≡ []) }
+        ensures written { result ≡ Pull.Idle → ((stream_of (self.old.server, self.old.bot) side).is_gathering
+            && (stream_of (self.old.server, self.old.bot) side).gave) ≡ false →
+            IsWriting (stream_of (self.old.server, self.old.bot) side).stream →
+            IsFlushed S.calls (stream_of (self.old.server, self.old.bot) side).readiness (stream_of (self.old.server, self.old.bot) side).stream
+            (stream_of (self.new.server, self.new.bot) side).readiness (stream_of (self.new.server, self.new.bot) side).stream }
+    {
         match side {
-            Side::Bot => pull_or_flush_peer(&self.idle, &mut self.bot, &mut self.server, buffer),
-            Side::Server => pull_or_flush_peer(&self.idle, &mut self.server, &mut self.bot, buffer),
+            Side::Bot => pull_or_flush_peer(self.idle, &mut self.bot, &mut self.server, buffer),
+            Side::Server => pull_or_flush_peer(self.idle, &mut self.server, &mut self.bot, buffer),
         }
     }
 
-    fn put(&mut self, side: Side, bytes: &[u8]) -> Put {
+    fn put(&mut self, side: Side, bytes: &[u8]) -> Put
+        ensures within { IsPutWithin result (length bytes.now) }
+        ensures transition { Transfers S.to_give S.taken (self.old.bot.stream, self.old.server.stream)
+            (Offered side bytes.now result) (self.new.bot.stream, self.new.server.stream) }
+        ensures full { result ≡ Put.Took 0 → 0 < length bytes.now →
+            (stream_of (self.new.bot, self.new.server) side).tries_again ≡ false →
+            (stream_of (self.new.bot, self.new.server) side).readiness.may_write ≡ false }
+        ensures written { result ≡ Put.Took 0 → ((stream_of (self.old.server, self.old.bot) side).is_gathering
+            && (stream_of (self.old.server, self.old.bot) side).gave) ≡ false →
+            IsWriting (stream_of (self.old.server, self.old.bot) side).stream →
+            IsFlushed S.calls (stream_of (self.old.server, self.old.bot) side).readiness (stream_of (self.old.server, self.old.bot) side).stream
+            (stream_of (self.new.server, self.new.bot) side).readiness (stream_of (self.new.server, self.new.bot) side).stream }
+    {
         match side {
-            Side::Bot => put_or_flush_peer(&mut self.bot, &mut self.server, bytes),
-            Side::Server => put_or_flush_peer(&mut self.server, &mut self.bot, bytes),
+            Side::Bot => put_or_flush_peer(
+                self.idle.reading,
+                &mut self.bot,
+                &mut self.server,
+                bytes,
+            ),
+            Side::Server => {
+                put_or_flush_peer(self.idle.reading, &mut self.server, &mut self.bot, bytes)
+            }
         }
     }
 

@@ -14,13 +14,18 @@ use std::fmt;
 use std::net::SocketAddr;
 use thiserror::Error;
 
-/// A log line about a session, with its number. The run goes on.
+/// A log line about a session, with its number, or about a bot that gets none. The run goes on.
 #[derive(Clone, Copy, Debug, Error)]
 pub enum SessionNotice {
     /// Its bot connected from this address.
     #[error("session {number} began: bot at {bot}")]
     Began {
         number: u32,
+        bot: SocketAddr,
+    },
+    /// A bot at this address may not come. It gets no number.
+    #[error("bot at {bot} may not come")]
+    Declined {
         bot: SocketAddr,
     },
     /// It is over, for this reason and with these counts.

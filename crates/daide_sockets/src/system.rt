@@ -1,22 +1,29 @@
 //! The environment of the event loop, `System`, over sockets.
 
-ghost use Rattle.std.specs.Prelude.{◌≡◌, ◌⊎◌, ℕ, ◌+◌, ◌*◌, ◌^◌, ◌<◌, IfSome, None, false, [], length};
-ghost use Rattle.daide_sockets.specs.Times.{IsSeconds, IsIdleTime};
+ghost use Rattle.std.specs.Duration.{as_nanos};
+ghost use Rattle.std.specs.Prelude.{◌≡◌, ◌⊎◌, ℕ, ◌+◌, ◌*◌, ◌^◌, ◌<◌, ◌||◌, IfSome, IfNone, None, true, false, [], length, vec_capacity};
 ghost use Rattle.daide_io.specs.Ports.{TurnBegins};
-ghost use Rattle.daide_io.specs.System.{BeginsTurn};
+ghost use Rattle.daide_io.specs.System.{ReportsNews, BeginsTurn, Retires};
 ghost use Rattle.daide_buffered_io.specs.Streams.{Transfers};
-ghost use Rattle.daide_sockets.specs.Lingering.{ClosingsGoOn, GoOnFor, no_closing};
-ghost use Rattle.daide_sockets.specs.Pairing.{FirstArrivalEvolves, Transits, Closes};
+ghost use Rattle.daide_sockets.specs.Accepting.{is_accept_due, MakesAccept};
+ghost use Rattle.daide_sockets.specs.Lingering.{LooksAround, in_pass, GoOnFor, no_closing};
+ghost use Rattle.daide_sockets.specs.Pairing.{FirstArrivalEvolves, Transits, Closes, ClosesBothAt, Comes, ComesWith};
+ghost use Rattle.daide_sockets.specs.Present.{IsAllowed, IsPresentWith, position_of, without_at};
+ghost use Rattle.daide_sockets.specs.Sockets.{due_after};
+ghost use Rattle.daide_sockets.specs.Table.{WaitsOnce, has_news_at};
+ghost use Rattle.daide_sockets.specs.Times.{IsSeconds, IsIdleTime, is_past};
 
 use crate::admission::{Acceptor, PendingConnection, Unreached};
 use crate::lingering_close::{Closings, MOST_CLOSING};
 use crate::poller::Poller;
 use crate::ports::SocketPorts;
+use crate::present::Present;
 use crate::session_notice::SessionNotice;
 use crate::table::SocketTable;
+use daide_buffered_io::pool::Pool;
 use daide_io::network::Network;
 use daide_io::system::{Connect, Notice, SessionEnd, System};
-use daide_settings::Settings;
+use daide_settings::{AddressRange, Settings};
 use std::alloc::Global;
 use std::io::Write;
 use std::net::SocketAddr;
@@ -48,19 +55,26 @@ fn idle_time_of(seconds: u32) -> Option<Duration>
 /// reached begins to close. So do both connections of a session that is retired, with what is held for them. A pending
 /// connect keeps its bot, and may be begun again. Except `begin_round`, no other call changes them.
 ///
-/// In `begin_round` the sockets that close make progress, by one reading of the clock: all of them, or eight if there
-/// are more (`ClosingsGoOn`). They keep their order. If a turn begins, what was held for too long is written to that
-/// session's own sockets, and neither is read.
+/// In `begin_round` the sockets that close make progress, by the table's reading of the clock (`tidy`: `closing`): all of
+/// them, or eight if there are more (`ClosingsGoOn`). They keep their order. If a turn begins, what was held for too long
+/// is written to that session's own sockets, and neither is read. There is news for a session exactly if a row of its
+/// sockets has some (`has_news`: `news`). A wait polls for the time until the nearest deadline, unless something is
+/// pending or a socket closes (`rest`: `waits`). With room for one more, a bot is accepted if the listener is ready
+/// (`accept_next`: `made`). It is accepted only if it may come by the settings, beside the hosts of those that are there
+/// (`allowed`). A bot that comes is added to those, and the end of its session removes it (`retire` and `let_go`:
+/// `hosts`).
 ///
 /// Not said: that a wait ended because something came. Which eight of more sockets are looked at, and that a connect
 /// goes to the server's address, is read from the code. That held bytes are given up only after a failed write, or
-/// after `stall_seconds`, is read from `flush` and `give_up_stalled`. `SessionNotice::of_end` and `why_of` give the
+/// after `stall_seconds`, is read from `flush_at` and `give_up_stalled`. `SessionNotice::of_end` and `why_of` give the
 /// counts and the cause in a line of a session's end. Tests and `scripts/recorded` show that `--verbose` writes it.
 #[derive(Drop)]
 pub struct Sockets<'w, N: Network, E: Write + Drop> {
-    poller: Poller<'w, N>,
-    acceptor: Acceptor<'w>,
+    poller: Poller<N>,
+    acceptor: Acceptor,
     servers: &'w [SocketAddr],
+    /// The buffers of the sockets.
+    pool: &'w Pool,
     im_time: Duration,
     /// The idle timeout of each peer; `None` if there is none.
     idle_time: Option<Duration>,
@@ -71,6 +85,12 @@ pub struct Sockets<'w, N: Network, E: Write + Drop> {
     connect_time: Duration,
     arrivals: Vec<PendingConnection<'w, N::Connection>>,
     closings: Closings<'w, N::Connection>,
+    /// The ranges of addresses from which a bot may come.
+    allow: &'w [AddressRange],
+    /// The greatest number of sessions at once with bots from one address; 0 for no limit.
+    max_per_address: u16,
+    /// The bots that are there.
+    present: Present,
     /// The output for log lines.
     pub errors: E,
     /// Whether the beginning and the end of each session are logged.
@@ -78,12 +98,12 @@ pub struct Sockets<'w, N: Network, E: Write + Drop> {
 }
 
 impl<'w, N: Network, E: Write + Drop> Sockets<'w, N, E> {
-    /// Creates the sockets of a run with no bot yet, over a network, with the addresses of the server, and a deadline for
-    /// connects. Returns `None` if memory is refused or the listener cannot be followed. Sessions are not logged.
+    /// Creates the sockets of a run with no bot yet, over a network, with the addresses of the server, a table and a pool,
+    /// and a deadline for connects. Returns `None` if memory is refused or the listener cannot be followed. Sessions are not logged.
     pub fn new(
         alloc: Global,
-        ground: (N, &'w [SocketAddr], &'w SocketTable),
-        settings: &Settings,
+        ground: (N, &'w [SocketAddr], SocketTable, &'w Pool),
+        settings: &'w Settings,
         connect_time: Duration,
         errors: E,
     ) -> Option<Sockets<'w, N, E>>
@@ -95,8 +115,12 @@ impl<'w, N: Network, E: Write + Drop> Sockets<'w, N, E> {
         ensures stall_time { IfSome result (λ sockets. IsIdleTime settings.now.stall_seconds sockets.stall_time
             × (sockets.stall_seconds ≡ settings.now.stall_seconds)) }
         ensures connect_time { IfSome result (λ sockets. sockets.connect_time ≡ connect_time) }
+        ensures rules { IfSome result (λ sockets. (sockets.allow.now ≡ settings.now.allow.items)
+            × (sockets.max_per_address ≡ settings.now.max_per_address)) }
+        ensures none_present { IfSome result (λ sockets. (sockets.present.numbers.items ≡ [])
+            × (sockets.present.hosts.items ≡ [])) }
     {
-        let (network, servers, table) = ground;
+        let (network, servers, table, pool) = ground;
         let Ok(mut poller) = Poller::new(alloc, network, table) else {
             return None;
         };
@@ -104,6 +128,7 @@ impl<'w, N: Network, E: Write + Drop> Sockets<'w, N, E> {
         let Ok(arrivals) = Vec::with_capacity(alloc, settings.max_sessions) else {
             return None;
         };
+        let present = Present::new(alloc, settings.max_sessions)?;
         let stall_time = idle_time_of(settings.stall_seconds);
         let Ok(closings) = Closings::new(alloc, stall_time) else {
             return None;
@@ -112,6 +137,7 @@ impl<'w, N: Network, E: Write + Drop> Sockets<'w, N, E> {
             poller,
             acceptor,
             servers,
+            pool,
             im_time: Duration::from_secs(u64::from(settings.im_seconds)),
             idle_time: idle_time_of(settings.idle_seconds),
             stall_time,
@@ -119,9 +145,19 @@ impl<'w, N: Network, E: Write + Drop> Sockets<'w, N, E> {
             connect_time,
             arrivals,
             closings,
+            allow: settings.allow.as_slice(),
+            max_per_address: settings.max_per_address,
+            present,
             errors,
             is_verbose: false,
         })
+    }
+
+    /// Returns the table.
+    pub fn table(&self) -> &SocketTable
+        ensures { result.now ≡ self.now.poller.table }
+    {
+        &self.poller.table
     }
 
     /// Sets whether the beginning and the end of each session are logged.
@@ -141,15 +177,29 @@ impl<'w, N: Network, E: Write + Drop> Sockets<'w, N, E> {
         }
     }
 
+    /// Logs the address of a bot that may not come, if there is one and sessions are logged.
+    fn tell_of_declined(&mut self, declined: Option<SocketAddr>)
+        ensures { self.new ≡ record self.old { errors = self.new.errors } }
+    {
+        if let Some(bot) = declined {
+            self.tell_of_session(SessionNotice::Declined { bot });
+        }
+    }
+
     /// Ends the session of a bot whose server was unreachable, and starts the close of its socket.
     fn let_go(&mut self, left: Unreached<'w, N::Connection>)
         ensures closes { Closes N.Connection.to_give N.Connection.taken
             N.Connection.calls self.old.closings left.entry.bot.stream self.new.closings }
         ensures came { self.new.acceptor.came ≡ self.old.acceptor.came }
         ensures arrivals { self.new.arrivals.items ≡ self.old.arrivals.items }
+        ensures numbers { self.new.present.numbers.items
+            ≡ without_at (position_of left.entry.number self.old.present.numbers.items) self.old.present.numbers.items }
+        ensures hosts { self.new.present.hosts.items
+            ≡ without_at (position_of left.entry.number self.old.present.numbers.items) self.old.present.hosts.items }
     {
+        self.present.remove(left.number);
         self.tell_of_session(SessionNotice::of_no_server(left.number));
-        self.closings.begin(self.poller.table(), left.bot);
+        self.closings.begin(&mut self.poller.table, left.bot);
     }
 
     /// Checks the first arrival. Returns its ports if its connect completed, and `Failed` if its session is over and
@@ -168,12 +218,13 @@ impl<'w, N: Network, E: Write + Drop> Sockets<'w, N, E> {
                 Ok(()) => Connect::Pending,
                 // The list had room for it before.
                 Err(refused) => {
-                    self.let_go(refused.value.give_up());
+                    let left = refused.value.give_up(&mut self.poller.table);
+                    self.let_go(left);
                     Connect::Failed
                 }
             };
         }
-        match arrival.join(self.poller.table(), (self.idle_time, self.stall_time)) {
+        match arrival.join(&mut self.poller.table, (self.idle_time, self.stall_time)) {
             Ok(ports) => Connect::Ready(ports),
             Err(left) => {
                 self.let_go(left);
@@ -186,11 +237,12 @@ impl<'w, N: Network, E: Write + Drop> Sockets<'w, N, E> {
     fn tidy(&mut self)
         ensures came { self.new.acceptor.came ≡ self.old.acceptor.came }
         ensures arrivals { self.new.arrivals.items ≡ self.old.arrivals.items }
-        ensures closing { ClosingsGoOn N.Connection.to_give N.Connection.taken
-            N.Connection.calls self.old.closings self.new.closings }
+        ensures closing { LooksAround N.Connection.to_give N.Connection.taken N.Connection.calls
+            self.old.poller.table.reading (in_pass self.old.closings) self.new.closings }
+        ensures clock { self.new.poller.table.reading ≡ self.old.poller.table.reading }
     {
-        self.acceptor.reopen(self.poller.table());
-        self.closings.advance(self.poller.table());
+        self.acceptor.reopen(&mut self.poller.table);
+        self.closings.advance(&mut self.poller.table);
     }
 
     /// Waits until the last sockets are closed. That takes at most a second after their peers accepted the buffered
@@ -202,13 +254,67 @@ impl<'w, N: Network, E: Write + Drop> Sockets<'w, N, E> {
         ensures came { self.new.acceptor.came ≡ self.old.acceptor.came }
         ensures arrivals { self.new.arrivals.items ≡ self.old.arrivals.items }
     {
-        self.acceptor.stop();
+        self.acceptor.stop(&mut self.poller.table);
         self.closings.finish(&mut self.poller);
+    }
+
+    /// Accepts the next bot, if there is one, and begins its connect. Returns the line of its session; `None` if no bot
+    /// came. Closes the connection of one that may not come, and logs its address if sessions are logged.
+    ///
+    /// `made`: with room for one more, an accept is made if the listener is ready by the table, and no pause is under way.
+    ///
+    /// `im_due`: its IM timer runs from the table's reading of the clock on.
+    ///
+    /// `allowed`: a bot that is accepted may come by the ranges, and by the limit beside those that are there.
+    ///
+    /// `present`: it is the last of those, with the number and the host of its session's line.
+    fn accept_next(&mut self) -> Option<SessionNotice>
+        ensures comes { IfSome result (λ _. Comes
+            (record { came = self.old.acceptor.came; arrivals = self.old.arrivals.items; closing = self.old.closings })
+            (record { came = self.new.acceptor.came; arrivals = self.new.arrivals.items; closing = self.new.closings })) }
+        ensures none { IfNone result ((self.new.acceptor.came ≡ self.old.acceptor.came)
+            × (self.new.arrivals.items ≡ self.old.arrivals.items) × (self.new.closings ≡ self.old.closings)) }
+        ensures made { length self.old.arrivals.items < vec_capacity self.old.arrivals →
+            self.old.acceptor.came < u32.MAX → is_accept_due self.old.poller.table self.old.acceptor.key
+            self.old.acceptor.readiness self.old.acceptor.resumes_at ≡ true →
+            MakesAccept N.transition self.old.poller.network }
+        ensures im_due { IfSome result (λ _. ComesWith self.old.arrivals.items self.old.poller.table.reading
+            (as_nanos self.old.im_time) self.new.arrivals.items) }
+        ensures allowed { IfSome result (λ began. IsAllowed self.old.allow.now self.old.max_per_address
+            self.old.present.hosts.items began) }
+        ensures present { IfSome result (λ began. IsPresentWith self.old.present.numbers.items
+            self.old.present.hosts.items began self.new.present.numbers.items self.new.present.hosts.items) }
+        ensures absent { IfNone result (self.new.present ≡ self.old.present) }
+    {
+        if self.arrivals.len() >= self.arrivals.capacity() {
+            return None;
+        }
+        let rules = (self.allow, self.max_per_address);
+        let next = self
+            .acceptor
+            .next_bot(&mut self.poller, self.pool, rules, &mut self.present);
+        let (number, bot, address) = match next {
+            Ok(next) => next,
+            Err(declined) => {
+                self.tell_of_declined(declined);
+                return None;
+            }
+        };
+        let times = (self.im_time, self.connect_time);
+        let came = (number, bot);
+        let arrival = PendingConnection::new(&mut self.poller, self.servers, came, times);
+        self.arrivals.push_reserved(arrival);
+        Some(SessionNotice::Began {
+            number,
+            bot: address,
+        })
     }
 
     /// Waits, unless a closing socket may have more to discard.
     fn rest(&mut self)
-        ensures { self.new ≡ record self.old { poller = self.new.poller } }
+        ensures rest { self.new ≡ record self.old { poller = self.new.poller } }
+        ensures waits { self.old.closings.streams ≡ [] → WaitsOnce N.transition self.old.poller.network
+            self.old.poller.table self.new.poller.network self.new.poller.table }
     {
         self.closings.rest(&mut self.poller);
     }
@@ -225,8 +331,17 @@ impl<'w, N: Network, E: Write + Drop> System<SocketPorts<'w, N::Connection>> for
         self.tidy();
     }
 
-    fn has_news(&mut self, ports: &SocketPorts<'w, N::Connection>) -> bool {
-        ports.has_news()
+    fn has_news(&mut self, ports: &SocketPorts<'w, N::Connection>) -> bool
+        ensures transition { Transits N.Connection.to_give N.Connection.taken N.Connection.calls
+            (λ ports. record { number = ports.number; bot = ports.bot.stream; server = ports.server.stream })
+            (record { came = self.old.acceptor.came; arrivals = self.old.arrivals.items; closing = self.old.closings })
+            (ReportsNews ports.now result)
+            (record { came = self.new.acceptor.came; arrivals = self.new.arrivals.items; closing = self.new.closings }) }
+        ensures news { result ≡ (has_news_at self.old.poller.table ports.now.bot.key
+            || has_news_at self.old.poller.table ports.now.server.key) }
+        ensures same { self.new ≡ self.old }
+    {
+        ports.has_news(&self.poller.table)
     }
 
     fn begin_turn(&mut self, ports: &mut SocketPorts<'w, N::Connection>)
@@ -242,26 +357,23 @@ impl<'w, N: Network, E: Write + Drop> System<SocketPorts<'w, N::Connection>> for
             × (ports.new.server.timed.is_silent ≡ ports.old.server.timed.is_silent) }
         ensures gathering { (ports.new.bot.is_gathering ≡ false) × (ports.new.server.is_gathering ≡ false) }
         ensures number { ports.new.number ≡ ports.old.number }
-        ensures same { self.new ≡ self.old }
+        ensures same { self.new ≡ record self.old { poller = self.new.poller } }
+        ensures clock { self.new.poller.table.reading ≡ self.old.poller.table.reading }
+        ensures expires { ports.new.im_timer_expired ≡ is_past self.old.poller.table.reading ports.old.im_due }
+        ensures once { ports.new.im_due ≡ due_after self.old.poller.table.reading ports.old.im_due }
     {
-        ports.begin_turn();
+        ports.begin_turn(&mut self.poller.table);
+    }
+
+    fn end_turn(&mut self, ports: &SocketPorts<'w, N::Connection>) {
+        ports.end_turn(&mut self.poller.table);
     }
 
     fn accept(&mut self) -> bool {
-        if self.arrivals.len() >= self.arrivals.capacity() {
-            return false;
-        }
-        let Some((number, bot, address)) = self.acceptor.next_bot(&mut self.poller) else {
+        let Some(began) = self.accept_next() else {
             return false;
         };
-        let times = (self.im_time, self.connect_time);
-        let came = (number, bot);
-        let arrival = PendingConnection::new(&mut self.poller, self.servers, came, times);
-        self.arrivals.push_reserved(arrival);
-        self.tell_of_session(SessionNotice::Began {
-            number,
-            bot: address,
-        });
+        self.tell_of_session(began);
         true
     }
 
@@ -280,10 +392,27 @@ impl<'w, N: Network, E: Write + Drop> System<SocketPorts<'w, N::Connection>> for
         Connect::Pending
     }
 
-    fn retire(&mut self, ports: SocketPorts<'w, N::Connection>, end: SessionEnd) {
+    fn retire(&mut self, ports: SocketPorts<'w, N::Connection>, end: SessionEnd)
+        ensures transition { Transits N.Connection.to_give N.Connection.taken N.Connection.calls
+            (λ ports. record { number = ports.number; bot = ports.bot.stream; server = ports.server.stream })
+            (record { came = self.old.acceptor.came; arrivals = self.old.arrivals.items; closing = self.old.closings })
+            (Retires ports.entry end)
+            (record { came = self.new.acceptor.came; arrivals = self.new.arrivals.items; closing = self.new.closings }) }
+        ensures closes { ClosesBothAt N.Connection.to_give N.Connection.taken N.Connection.calls
+            self.old.poller.table.reading self.old.closings (record {
+              number = ports.entry.number;
+              bot = ports.entry.bot.stream;
+              server = ports.entry.server.stream;
+            }) self.new.closings }
+        ensures numbers { self.new.present.numbers.items
+            ≡ without_at (position_of ports.entry.number self.old.present.numbers.items) self.old.present.numbers.items }
+        ensures hosts { self.new.present.hosts.items
+            ≡ without_at (position_of ports.entry.number self.old.present.numbers.items) self.old.present.hosts.items }
+    {
+        self.present.remove(ports.number());
         let notice = SessionNotice::of_end(ports.number(), end, ports.timed(), self.stall_seconds);
         self.tell_of_session(notice);
-        self.closings.begin_both(self.poller.table(), ports);
+        self.closings.begin_both(&mut self.poller.table, ports);
     }
 
     fn tell(&mut self, notice: Notice) {

@@ -1,53 +1,76 @@
-//! The table of a run: the cached readiness of each socket, its deadlines, and the last reading of the clock.
+//! The table of a run: what polls reported of each socket, its nearest deadline, and the last reading of the clock.
 //!
-//! The table is shared by `&`, so that the ports in a hub see the events that the loop's wait received. An idle session
-//! reads two flags of it, and makes no system call. The pool of the sockets' buffers is kept with the table. It calls
-//! nothing of the network: `poller` does.
+//! The table is a value, and calls nothing of the network: `poller` does. A socket has a row, which it names by a key.
+//! At the beginning of a turn it takes the report of its row, and at the end it leaves its nearest deadline there. So an
+//! idle session reads two rows, and makes no system call.
 
 ghost use Rattle.std.specs.Duration.{as_nanos};
-ghost use Rattle.std.specs.Prelude.{◌≡◌, IsNone, IfOk, false, vec_len};
+ghost use Rattle.std.specs.Prelude.{◌≡◌, ◌||◌, nat_le, IsNone, IfOk, None, [], false};
+ghost use Rattle.daide_sockets.specs.Table.{row_at, merged, report_at, has_news_at, any_work, has_pending, nearest};
+ghost use Rattle.daide_sockets.specs.Table.{changed, without_report, with_due, left_with, freed, with_event, with_news, latest};
+ghost use Rattle.daide_sockets.specs.Table.{earlier, IsUntil};
 ghost use Rattle.daide_sockets.specs.Times.{IsAfter, IsStallEnd, StallsNext, is_past, is_time_over};
 
-use daide_buffered_io::pool::Pool;
 use daide_buffered_io::readiness::Readiness;
 use daide_io::network::SocketEvent;
 use std::alloc::{AllocError, Global};
-use std::cell::Cell;
+use std::marker::Model;
 use std::time::{Duration, Instant};
 
 /// After this many turns the system is polled again even if progress is made. So this many turns share the cost of a
 /// poll. An event is received at most this many turns late, or one round if that is longer.
 const MOST_TURNS: u64 = 32;
 
-/// The cached state of one socket.
-#[derive(Drop)]
-pub struct Flags {
-    is_taken: Cell<bool>,
-    /// Whether a read, or a listener's accept, may succeed, and whether a write may accept bytes.
-    pub readiness: Cell<Readiness>,
-    /// The deadline of the socket.
-    pub due: Cell<Option<Instant>>,
-    /// The moment at which the idle timeout of the peer expires, unless it sends something before; `None` for never.
-    pub(crate) silent_from: Cell<Option<Instant>>,
-    /// A copy of the moment at which the stall timeout of the socket's peer expires. It ends a wait.
-    pub(crate) stalls_at: Cell<Option<Instant>>,
-    /// Whether an event of the socket came, or a deadline of it expired, since the last turn of its session began.
-    pub(crate) has_news: Cell<bool>,
+/// The row of one socket.
+#[derive(Clone, Copy, Debug, PartialEq, Eq)]
+pub struct Row {
+    /// Whether a socket has it.
+    pub is_taken: bool,
+    /// What polls reported of the socket since it last took the report.
+    pub report: Readiness,
+    /// Whether its last turn left something that may be done at once.
+    pub has_work: bool,
+    /// Its nearest deadline; `None` if there is none.
+    pub due: Option<Instant>,
+}
+
+impl Row {
+    /// A row without a socket.
+    const FREE: Row = Row {
+        is_taken: false,
+        report: Readiness::UNKNOWN,
+        has_work: false,
+        due: None,
+    };
 }
 
 /// The table of a run, with the time of the last poll.
 #[derive(Drop)]
 pub struct SocketTable {
-    /// `None` if the clock cannot be read: then no timeout expires.
-    now: Cell<Option<Instant>>,
+    /// The last reading of the clock; `None` if it cannot be read: then no timeout expires.
+    reading: Option<Instant>,
     /// The number of turns begun since the last poll.
-    turns: Cell<u64>,
-    /// The number of rows, from the first on, that were ever taken.
-    used: Cell<usize>,
+    turns: u64,
     /// Whether a poll received events since the last wait, which port calls before the poll may have missed.
-    has_news: Cell<bool>,
-    pool: Pool,
-    flags: Vec<Flags>,
+    has_news: bool,
+    /// The most rows.
+    max_rows: usize,
+    /// The rows that were ever taken.
+    rows: Vec<Row>,
+}
+
+impl Model for SocketTable {
+    ghost use Rattle.daide_sockets.specs.Table.{Table};
+
+    ghost Value = { Table };
+
+    ghost view = { λ t. record {
+      reading = t.reading;
+      turns = t.turns;
+      has_news = t.has_news;
+      max_rows = t.max_rows;
+      rows = t.rows.items;
+    } };
 }
 
 /// Returns true if a moment is past at the last reading of the clock; false without a moment.
@@ -79,9 +102,8 @@ pub(crate) fn after(now: Option<Instant>, duration: Duration) -> Option<Instant>
     }
 }
 
-/// Returns the moment at which the stall timeout expires if bytes are queued from this reading of the clock on. Returns
-/// `None` for never.
-fn stall_end(now: Option<Instant>, time: Option<Duration>) -> Option<Instant>
+/// Returns the moment at which a timeout expires that starts at this reading of the clock. Returns `None` for never.
+pub(crate) fn timeout_end(now: Option<Instant>, time: Option<Duration>) -> Option<Instant>
     ensures { IsStallEnd now time result }
 {
     match time {
@@ -101,10 +123,10 @@ pub(crate) fn stalls_next(
     ensures { StallsNext time now before took result }
 {
     match before {
-        None => stall_end(now, time),
+        None => timeout_end(now, time),
         Some(moment) => {
             if took {
-                stall_end(now, time)
+                timeout_end(now, time)
             } else {
                 Some(moment)
             }
@@ -113,222 +135,308 @@ pub(crate) fn stalls_next(
 }
 
 /// Returns the earlier of two moments; one or both may be missing.
-fn earlier(one: Option<Instant>, other: Option<Instant>) -> Option<Instant> {
+pub(crate) fn earlier(one: Option<Instant>, other: Option<Instant>) -> Option<Instant>
+    ensures { result ≡ earlier one other }
+{
     match (one, other) {
-        (Some(one), Some(other)) => Some(one.min(other)),
-        (one, None) => one,
         (None, other) => other,
+        (one, None) => one,
+        (Some(one), Some(other)) => {
+            if is_past(Some(other), Some(one)) {
+                Some(one)
+            } else {
+                Some(other)
+            }
+        }
     }
 }
 
-/// The row of a socket in the table. Dropping it frees the row.
-pub struct Registration<'w> {
-    /// The cached state of the socket.
-    pub flags: &'w Flags,
-}
-
-impl Drop for Registration<'_> {
-    fn drop(self) {
-        self.flags.is_taken.set(false);
-        let Registration { flags: _ } = self;
+/// Returns two reports of a socket together.
+pub(crate) fn merged(one: Readiness, other: Readiness) -> Readiness
+    ensures { result ≡ merged one other }
+{
+    Readiness {
+        may_read: one.may_read || other.may_read,
+        may_write: one.may_write || other.may_write,
+        reads_on: one.reads_on || other.reads_on,
     }
 }
 
-impl Flags {
-    /// Creates a free row.
-    fn new() -> Flags {
-        Flags {
-            is_taken: Cell::new(false),
-            readiness: Cell::new(Readiness::UNKNOWN),
-            due: Cell::new(None),
-            silent_from: Cell::new(None),
-            stalls_at: Cell::new(None),
-            has_news: Cell::new(false),
-        }
+/// Returns what a poll reports of a socket. The system reports an end, a failure or an urgent byte only once, so from
+/// then on a short read does not clear `may_read`.
+fn report_of(event: SocketEvent) -> Readiness
+    ensures { result ≡ record { may_read = event.may_read; may_write = event.may_write; reads_on = event.reads_on } }
+{
+    Readiness {
+        may_read: event.may_read,
+        may_write: event.may_write,
+        reads_on: event.reads_on,
     }
+}
 
-    /// Creates `count` free rows.
-    fn free_rows(alloc: Global, count: usize) -> Result<Vec<Flags>, AllocError>
-        ensures { IfOk result (λ rows. vec_len rows ≡ count) }
-    {
-        let mut rows = Vec::with_capacity(alloc, count)?;
-        for _ in 0..count {
-            rows.push(Flags::new())?;
-        }
-        Ok(rows)
+/// Returns the earliest deadline of the rows; `None` if there is none.
+fn nearest(rows: &[Row]) -> Option<Instant>
+    ensures { result ≡ nearest None rows.now }
+{
+    let mut found = None;
+    for row in rows {
+        found = earlier(found, row.due);
     }
+    found
+}
 
-    /// Takes the row for a socket whose readiness is unknown.
-    fn take(&self) {
-        self.is_taken.set(true);
-        self.readiness.set(Readiness::UNKNOWN);
-        self.due.set(None);
-        self.silent_from.set(None);
-        self.stalls_at.set(None);
-        self.has_news.set(false);
-    }
+/// Returns whether one of two things is so.
+fn either(one: bool, other: bool) -> bool
+    ensures { result ≡ (one || other) }
+{
+    one || other
+}
 
-    /// Sets the flag of a read or a write that may succeed. Clears neither flag.
-    pub fn note(&self, is_readable: bool, is_writable: bool) {
-        let mut readiness = self.readiness.get();
-        readiness.may_read = readiness.may_read || is_readable;
-        readiness.may_write = readiness.may_write || is_writable;
-        self.readiness.set(readiness);
+/// Returns whether the last turn of a socket left something that may be done at once.
+fn any_work(rows: &[Row]) -> bool
+    ensures { result ≡ any_work false rows.now }
+{
+    let mut found = false;
+    for row in rows {
+        found = either(found, row.has_work);
     }
-
-    /// Records that a read would find nothing.
-    pub(crate) fn found_nothing(&self) {
-        let mut readiness = self.readiness.get();
-        readiness.may_read = false;
-        self.readiness.set(readiness);
-    }
-
-    /// Records that a connect is still pending.
-    pub(crate) fn took_nothing(&self) {
-        let mut readiness = self.readiness.get();
-        readiness.may_write = false;
-        self.readiness.set(readiness);
-    }
-
-    /// Records what a poll reports of the socket. The system reports an end, a failure or an urgent byte only once, so
-    /// from then on a short read does not clear `may_read`.
-    fn note_event(&self, event: SocketEvent) {
-        self.has_news.set(true);
-        let mut readiness = self.readiness.get();
-        readiness.may_read = readiness.may_read || event.may_read;
-        readiness.may_write = readiness.may_write || event.may_write;
-        readiness.reads_on = readiness.reads_on || event.reads_on;
-        self.readiness.set(readiness);
-    }
-
-    /// Returns true if a deadline of the row is past at this reading of the clock.
-    fn has_expired(&self, now: Option<Instant>) -> bool {
-        is_past(now, self.due.get())
-            || is_past(now, self.stalls_at.get())
-            || is_past(now, self.silent_from.get())
-    }
-
-    /// Returns the next deadline of a taken row. An idle timeout that already expired is no deadline, since the next
-    /// pull reports it. Without room in the session there is no pull, and nothing to do.
-    fn awaited(&self, now: Instant) -> Option<Instant> {
-        if !self.is_taken.get() {
-            return None;
-        }
-        let silent_from = self.silent_from.get().filter(|moment| *moment > now);
-        earlier(earlier(self.due.get(), self.stalls_at.get()), silent_from)
-    }
+    found
 }
 
 impl SocketTable {
-    /// Creates a table of `sockets` free rows, before any reading of the clock. Fails if its memory is refused.
+    /// Creates a table with room for `sockets` rows, before any reading of the clock. Fails if its memory is refused.
     pub fn new(alloc: Global, sockets: usize) -> Result<SocketTable, AllocError>
-        ensures rows { IfOk result (λ table. vec_len table.flags ≡ sockets) }
+        ensures rows { IfOk result (λ table. table ≡ record { reading = None; turns = 0; has_news = false; max_rows = sockets; rows = [] }) }
     {
-        let flags = Flags::free_rows(alloc, sockets)?;
         Ok(SocketTable {
-            now: Cell::new(None),
-            turns: Cell::new(0),
-            used: Cell::new(0),
-            has_news: Cell::new(false),
-            pool: Pool::new(alloc),
-            flags,
+            reading: None,
+            turns: 0,
+            has_news: false,
+            max_rows: sockets,
+            rows: Vec::with_capacity(alloc, sockets)?,
         })
     }
 
-    /// Returns the pool of the sockets' buffers.
-    pub fn pool(&self) -> &Pool {
-        &self.pool
-    }
-
     /// Returns the last reading of the clock; `None` if it cannot be read.
-    pub(crate) fn now(&self) -> &Cell<Option<Instant>> {
-        &self.now
+    pub fn now(&self) -> Option<Instant>
+        ensures { result ≡ self.now.reading }
+    {
+        self.reading
     }
 
     /// Returns the moment this long after the last poll; `None` if the clock cannot be read, or if the moment is out of
     /// range.
-    pub fn after(&self, duration: Duration) -> Option<Instant> {
-        after(self.now.get(), duration)
+    pub fn after(&self, duration: Duration) -> Option<Instant>
+        ensures { IsAfter self.now.reading (as_nanos duration) result }
+    {
+        after(self.reading, duration)
     }
 
     /// Returns true if a moment is past; false without a moment.
     pub fn is_over(&self, moment: Option<Instant>) -> bool
-        ensures { IsNone moment → result ≡ false }
+        ensures { result ≡ is_past self.now.reading moment }
     {
-        is_past(self.now.get(), moment)
+        is_past(self.reading, moment)
     }
 
-    /// Takes the first free row, and returns it with its key, by which a poll names it; `None` if there is none.
-    pub fn take_row(&self) -> Option<(usize, Registration<'_>)> {
-        for (key, flags) in self.flags.iter().enumerate() {
-            if !flags.is_taken.get() {
-                flags.take();
-                self.used.set(self.used.get().max(key.saturating_add(1)));
-                return Some((key, Registration { flags }));
+    /// Returns the number of rows that a socket has.
+    pub fn taken_rows(&self) -> usize {
+        self.rows.iter().filter(|row| row.is_taken).count()
+    }
+
+    /// Takes the first free row, for a socket of which nothing is known, and returns its key, by which a poll names it.
+    /// Returns `None` if there is none.
+    pub fn take_row(&mut self) -> Option<usize>
+        ensures rest { (self.new.reading ≡ self.old.reading) × (self.new.turns ≡ self.old.turns)
+            × (self.new.has_news ≡ self.old.has_news) × (self.new.max_rows ≡ self.old.max_rows) }
+    {
+        let row = Row {
+            is_taken: true,
+            ..Row::FREE
+        };
+        for key in 0..self.rows.len() {
+            if !self.rows[key].is_taken {
+                self.rows[key] = row;
+                return Some(key);
             }
         }
-        None
+        let key = self.rows.len();
+        if key >= self.max_rows || self.rows.push(row).is_err() {
+            return None;
+        }
+        Some(key)
     }
 
-    /// Returns the next deadline; `None` if there is none.
-    pub(crate) fn nearest(&self) -> Option<Instant> {
-        let now = self.now.get()?;
-        let used = self.flags.iter().take(self.used.get());
-        used.filter_map(|flags| flags.awaited(now)).min()
-    }
-
-    /// Returns the time from the last reading of the clock until a moment; `None` without a moment.
-    pub(crate) fn until(&self, moment: Option<Instant>) -> Option<Duration> {
-        let now = self.now.get()?;
-        Some(moment?.saturating_duration_since(now))
-    }
-
-    /// Returns whether a poll since the last wait reported something. A wait must not block then, since each report
-    /// comes only once.
-    pub(crate) fn has_news(&self) -> bool {
-        self.has_news.get()
-    }
-
-    /// Marks the sockets that have a deadline in the past.
-    pub(crate) fn note_deadlines(&self) {
-        let now = self.now.get();
-        for flags in self.flags.iter().take(self.used.get()) {
-            if flags.has_expired(now) {
-                flags.has_news.set(true);
-            }
+    /// Replaces the row with a key, if there is one.
+    fn set_row(&mut self, key: usize, row: Row)
+        ensures { self.new ≡ record self.old { rows = changed self.old.rows key row } }
+    {
+        if key < self.rows.len() {
+            self.rows[key] = row;
         }
     }
 
-    /// Records what a poll reported, and that no turn began since.
-    pub(crate) fn note_news(&self, news: &[SocketEvent]) {
-        self.turns.set(0);
+    /// Returns the row with a key; a free one if there is none.
+    fn row(&self, key: usize) -> Row
+        ensures { result ≡ row_at self.now.rows key }
+    {
+        match self.rows.get(key) {
+            Some(row) => *row,
+            None => Row::FREE,
+        }
+    }
+
+    /// Frees the row with a key.
+    pub fn release(&mut self, key: usize)
+        ensures { self.new ≡ freed self.old key }
+    {
+        self.set_row(key, Row::FREE);
+    }
+
+    /// Returns what polls reported of a socket since it last took the report.
+    pub fn report(&self, key: usize) -> Readiness
+        ensures { result ≡ report_at self.now key }
+    {
+        self.row(key).report
+    }
+
+    /// Returns the report of a socket, and takes it out of its row.
+    pub fn take_report(&mut self, key: usize) -> Readiness
+        ensures report { result ≡ report_at self.old key }
+        ensures table { self.new ≡ without_report self.old key }
+    {
+        let row = self.row(key);
+        self.set_row(
+            key,
+            Row {
+                report: Readiness::UNKNOWN,
+                ..row
+            },
+        );
+        row.report
+    }
+
+    /// Returns whether there is news for a socket: a report that it did not take, something that may be done at once, or
+    /// a deadline that is past.
+    pub fn has_news_at(&self, key: usize) -> bool
+        ensures { result ≡ has_news_at self.now key }
+    {
+        let Row {
+            is_taken: _,
+            report,
+            has_work,
+            due,
+        } = self.row(key);
+        report.may_read
+            || report.may_write
+            || report.reads_on
+            || has_work
+            || is_past(self.reading, due)
+    }
+
+    /// Returns the nearest deadline of a socket.
+    pub fn due(&self, key: usize) -> Option<Instant>
+        ensures { result ≡ (row_at self.now.rows key).due }
+    {
+        self.row(key).due
+    }
+
+    /// Sets the nearest deadline of a socket.
+    pub fn set_due(&mut self, key: usize, due: Option<Instant>)
+        ensures { self.new ≡ with_due self.old key due }
+    {
+        let row = self.row(key);
+        self.set_row(key, Row { due, ..row });
+    }
+
+    /// Records how a turn leaves a socket: whether it may do something at once, and its nearest deadline.
+    pub(crate) fn leave(&mut self, key: usize, has_work: bool, due: Option<Instant>)
+        ensures { self.new ≡ left_with self.old key has_work due }
+    {
+        let row = self.row(key);
+        self.set_row(
+            key,
+            Row {
+                has_work,
+                due,
+                ..row
+            },
+        );
+    }
+
+    /// Forgets all deadlines, and what turns left.
+    pub(crate) fn forget_turns(&mut self) {
+        for row in self.rows.iter_mut() {
+            row.has_work = false;
+            row.due = None;
+        }
+    }
+
+    /// Returns whether a wait must not block: a poll since the last wait reported something, which comes only once, or
+    /// a socket has work.
+    pub(crate) fn has_pending(&self) -> bool
+        ensures { result ≡ has_pending self.now }
+    {
+        self.has_news || any_work(&self.rows)
+    }
+
+    /// Returns the time from the last reading of the clock until the next deadline; `None` without one.
+    pub(crate) fn until_next(&self) -> Option<Duration>
+        ensures { IsUntil self.now.reading (nearest None self.now.rows) result }
+    {
+        match (self.reading, nearest(&self.rows)) {
+            (Some(now), Some(moment)) => Some(moment.saturating_duration_since(now)),
+            _ => None,
+        }
+    }
+
+    /// Adds the report of an event to its row.
+    fn note_event(&mut self, event: SocketEvent)
+        ensures { self.new ≡ record self.old { rows = with_event self.old.rows event } }
+    {
+        let row = self.row(event.key);
+        let report = merged(row.report, report_of(event));
+        self.set_row(event.key, Row { report, ..row });
+    }
+
+    /// Adds what a poll reported to the rows, and records that no turn began since.
+    pub(crate) fn note_news(&mut self, news: &[SocketEvent])
+        ensures { self.new ≡ with_news self.old news.now }
+    {
+        self.turns = 0;
+        self.has_news = self.has_news || !news.is_empty();
         for event in news {
-            if let Some(flags) = self.flags.get(event.key) {
-                flags.note_event(*event);
-                self.has_news.set(true);
-            }
+            self.note_event(*event);
         }
     }
 
     /// Records that the wait for the news so far is over.
-    pub(crate) fn note_wait(&self) {
-        self.has_news.set(false);
+    pub(crate) fn note_wait(&mut self)
+        ensures { self.new ≡ record self.old { has_news = false } }
+    {
+        self.has_news = false;
     }
 
     /// Records a reading of the clock. Without one the last reading stays.
-    pub(crate) fn note_now(&self, now: Option<Instant>) {
+    pub(crate) fn note_now(&mut self, now: Option<Instant>)
+        ensures { self.new ≡ record self.old { reading = latest self.old.reading now } }
+    {
         if now.is_some() {
-            self.now.set(now);
+            self.reading = now;
         }
     }
 
     /// Counts the beginning of a turn.
-    pub(crate) fn note_turn(&self) {
-        self.turns.set(self.turns.get().saturating_add(1));
+    pub(crate) fn note_turn(&mut self)
+        ensures { self.new ≡ record self.old { turns = self.new.turns } }
+    {
+        self.turns = self.turns.saturating_add(1);
     }
 
     /// Returns true if `MOST_TURNS` turns began since the last poll.
-    pub(crate) fn has_many_turns(&self) -> bool {
-        self.turns.get() >= MOST_TURNS
+    pub(crate) fn has_many_turns(&self) -> bool
+        ensures { result ≡ nat_le MOST_TURNS self.now.turns }
+    {
+        self.turns >= MOST_TURNS
     }
 }

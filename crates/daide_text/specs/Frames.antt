@@ -1,9 +1,10 @@
 -- The frames of lines of text, as hexadecimal digits. (own)
-use Rattle.std.specs.Prelude.{◌≡◌, ◌≢◌, ⊤, ℕ, ◌+◌, ◌*◌, ◌/◌, ◌%◌, ◌≤◌, ◌<◌, ◌-◌, ◌==◌, ◌⊎◌, if◌then◌else◌, codes, bytes_eq, take, drop}
-use Rattle.std.specs.Prelude.{List, [], ◌∷◌, ◌++◌, length, slice_index, Option, IfSome, Err}
+use Rattle.std.specs.Prelude.{◌≡◌, ◌≢◌, ⊤, ℕ, ◌+◌, ◌*◌, ◌≤◌, ◌<◌, ◌-◌, ◌==◌, ◌⊎◌, if◌then◌else◌, bytes_eq, take, drop}
+use Rattle.std.specs.Prelude.{List, [], ◌∷◌, ◌++◌, length, Option, IfSome, Err}
 use Rattle.std.specs.Io.KnownBytes.{Appends}
 use Rattle.daide_token.specs.Names.{Named}
 use Rattle.daide_token.specs.Token.{token_bytes, bytes_of_tokens}
+use Rattle.daide_token.specs.HexDigits.{digits_of_byte}
 use Rattle.daide_text.specs.Line.{IsReadAs, IsText}
 use Rattle.daide_text.specs.declared.frames.TextFault.{TextFault}
 use Rattle.daide_text.specs.declared.frames.TextFault.TheVariants.{Read, NotMessage, TooLong, TooManyLines, Memory, Write}
@@ -42,23 +43,15 @@ trimmed line = if bytes_eq (drop (length line - 1) line) (13 ∷ []) then take (
 abbrev pub message_frame : List ℕ → List ℕ
 message_frame ts = 2 ∷ 0 ∷ (token_bytes (2 * length ts) ++ bytes_of_tokens ts)
 
--- a digit from 0 to 15, in upper case
-abbrev pub upper_digit_of : ℕ → ℕ
-upper_digit_of n = slice_index (codes "0123456789ABCDEF") n
-
--- the two digits of a byte
-abbrev pub pair_of : ℕ → List ℕ
-pair_of b = upper_digit_of (b / 16) ∷ upper_digit_of (b % 16) ∷ []
-
 -- bytes after another one, each with a space before it
 abbrev pub more_pairs : List ℕ → List ℕ
 more_pairs [] = []
-more_pairs (b ∷ bytes) = 32 ∷ (pair_of b ++ more_pairs bytes)
+more_pairs (b ∷ bytes) = 32 ∷ (digits_of_byte b ++ more_pairs bytes)
 
 -- bytes as pairs of digits, separated by single spaces
 abbrev pub pairs_of : List ℕ → List ℕ
 pairs_of [] = []
-pairs_of (b ∷ bytes) = pair_of b ++ more_pairs bytes
+pairs_of (b ∷ bytes) = digits_of_byte b ++ more_pairs bytes
 
 -- the line of a message: its frame in digits
 abbrev pub frame_line : List ℕ → List ℕ

@@ -1,15 +1,16 @@
 //! Lines of text, each written as the frame of its message.
 
-ghost use Rattle.std.specs.Prelude.{◌≡◌, ◌+◌, ◌≤◌, ◌<◌, ◌*◌, ◌++◌, ◌∷◌, ℕ, List, length, IfOk, IfErr, OnOk, Err};
+ghost use Rattle.std.specs.Prelude.{◌≡◌, ◌+◌, ◌≤◌, ◌*◌, ◌++◌, ◌∷◌, ℕ, List, length, IfOk, IfErr, OnOk, Err};
 ghost use Rattle.daide_token.specs.Token.{bytes_of_tokens};
 ghost use Rattle.daide_words.specs.Word.{names_of};
 ghost use Rattle.daide_words.specs.Words.{words_of};
-ghost use Rattle.daide_text.specs.Frames.{IsFaultOfNext, IsFrameLine, Writes, WritesUpTo, upper_digit_of};
-ghost use Rattle.daide_text.specs.Frames.{frame_line, longest_text_line, more_pairs, most_frame_tokens, pair_of, trimmed};
+ghost use Rattle.daide_text.specs.Frames.{IsFaultOfNext, IsFrameLine, Writes, WritesUpTo};
+ghost use Rattle.daide_token.specs.HexDigits.{digits_of_byte as digits_in};
+ghost use Rattle.daide_text.specs.Frames.{frame_line, longest_text_line, more_pairs, most_frame_tokens, trimmed};
 
 use crate::input::read_line;
 use crate::line::{LineFault, read_tokens};
-use daide_token::Token;
+use daide_token::{Token, digits_of_byte};
 use daide_words::Words;
 use std::alloc::{AllocError, Allocator};
 use std::io::{Read, Write};
@@ -23,9 +24,6 @@ const MOST_LINES: u32 = 1_000_000;
 
 /// The type of a frame that has a message.
 const DM: u8 = 2;
-
-/// The hexadecimal digits, in upper case.
-const DIGITS: &[u8; 16] = b"0123456789ABCDEF";
 
 /// Why no further frames are written. Lines are counted from 1.
 #[derive(Clone, Copy, Debug, PartialEq, Eq, Error)]
@@ -161,22 +159,15 @@ fn push_tokens<A: Allocator>(tokens: &[Token], text: &mut Vec<u8, A>) -> Result<
 
 /// Appends the two digits of a byte, without a space.
 fn push_first<A: Allocator>(byte: u8, text: &mut Vec<u8, A>) -> Result<(), AllocError>
-    ensures { OnOk result (text.new.items ≡ text.old.items ++ pair_of byte) }
+    ensures { OnOk result (text.new.items ≡ text.old.items ++ digits_in byte) }
 {
-    text.extend_from_slice(&[digit(byte / 16), digit(byte % 16)])
+    text.extend_from_slice(&digits_of_byte(byte))
 }
 
 /// Appends a space and the two digits of a byte.
 fn push_byte<A: Allocator>(byte: u8, text: &mut Vec<u8, A>) -> Result<(), AllocError>
-    ensures { OnOk result (text.new.items ≡ text.old.items ++ 32 ∷ pair_of byte) }
+    ensures { OnOk result (text.new.items ≡ text.old.items ++ 32 ∷ digits_in byte) }
 {
-    text.extend_from_slice(&[b' ', digit(byte / 16), digit(byte % 16)])
-}
-
-/// Returns a hexadecimal digit, in upper case.
-fn digit(value: u8) -> u8
-    requires { value < 16 }
-    ensures { result ≡ upper_digit_of value }
-{
-    DIGITS[value as usize]
+    let [high, low] = digits_of_byte(byte);
+    text.extend_from_slice(&[b' ', high, low])
 }

@@ -1,20 +1,18 @@
 -- The text of one token, by its kind.
-use Rattle.std.proofs.Common.{◌≡◌, ◌==◌, ◌&&◌, Bool, nat_le, not, ℕ, ℤ, pos, negsuc, ◌+◌, ◌/◌, ◌<◌, true, false, List, [], ◌∷◌, ◌++◌}
-use Rattle.std.proofs.Common.{◌*◌, ◌%◌, length, get_or, unwrap_or, Option, Some, None, refl, sym, ap, ◌∙◌, arith}
+use Rattle.std.proofs.Common.{◌≡◌, ◌==◌, ◌&&◌, Bool, nat_le, not, ℕ, ℤ, pos, negsuc, ◌<◌, true, false, List, [], ◌∷◌}
+use Rattle.std.proofs.Common.{length, get_or, Some, None, refl, sym, ap, ◌∙◌, arith}
 use Rattle.std.proofs.lemmas.Bool.{eqb-true}
 use Rattle.std.proofs.lemmas.Bool.Decides.{nat_tests}
 use Rattle.std.proofs.lemmas.Int.{ints}
 use Rattle.std.specs.Int.RustNames.{unsigned_abs}
 use Rattle.std.specs.Fmt.{signed_decimal}
 use Rattle.std.specs.List.{list_all}
-use Rattle.daide_token.specs.Token.{bra, ket, token_bytes, number_of}
+use Rattle.daide_token.specs.Token.{bra, ket, number_of}
 use Rattle.daide_token.specs.Names.{Named, names, name_of}
 use Rattle.daide_token.specs.NamePages.{is_spaced, name_of_cell}
-use Rattle.daide_token.specs.Text.{added_name_of, hex_text, is_quotable, text_of_token}
+use Rattle.daide_token.specs.Text.{is_quotable, text_of_token}
 use Rattle.daide_token.specs.TextSteps.{place_after, token_text}
-use Rattle.daide_token.specs.declared.text.PrinterState.{PrinterState}
-use Rattle.daide_token.specs.declared.text.PrinterState.TheVariants.{Quote, Word}
-use Rattle.daide_token.proofs.NameLaws.{name_of-length}
+use Rattle.daide_token.specs.declared.text.PrinterState.TheVariants.{Word}
 use Rattle.daide_token.proofs.TableLemmas.{found_passes}
 
 -- ---- numbers
@@ -90,22 +88,3 @@ cell_text added t (space ∷ letters) e s long a b =
 pub cell_place : (t : ℕ) (cell : List ℕ) → name_of_cell cell ≡ name_of t → length cell ≡ 4 → place_after t ≡ Word
 cell_place t [] e long = absurd (omega arith)
 cell_place t (space ∷ letters) e long = rw (named_character t letters (sym e)) refl
-
--- ---- a token by its two bytes
-
-pub of_bytes : (t : ℕ) (bytes : List ℕ) → bytes ≡ token_bytes t → get_or bytes 0 0 * 256 + get_or bytes 1 0 ≡ t
-of_bytes t bytes e =
-    let high : get_or bytes 0 0 ≡ t / 256 = ap (λ (b : List ℕ). get_or b 0 0) e in
-    let low : get_or bytes 1 0 ≡ t % 256 = ap (λ (b : List ℕ). get_or b 1 0) e in
-    omega (arith, high, low)
-
-category_apart : (t : ℕ) → (t / 256 ≡ 0x40 → ⊥) → ((t == bra) ≡ false) × ((t == ket) ≡ false)
-category_apart t other = (grind (arith, nat_tests), grind (arith, nat_tests))
-
-pub no_bracket : (t : ℕ) (bytes : List ℕ) → bytes ≡ token_bytes t → (get_or bytes 0 0 ≡ 0x40 → ⊥) →
-    ((t == bra) ≡ false) × ((t == ket) ≡ false)
-no_bracket t bytes e other = category_apart t (λ same. other (ap (λ (b : List ℕ). get_or b 0 0) e ∙ same))
-
-pub in_brackets : (t code : ℕ) (bytes : List ℕ) → bytes ≡ token_bytes t → get_or bytes 0 0 ≡ 0x40 → get_or bytes 1 0 ≡ code →
-    0x4000 + code ≡ t
-in_brackets t code bytes e high low = let all = of_bytes t bytes e in omega (arith, all, high, low)

@@ -1,4 +1,4 @@
--- A number for each class of tokens, by which two classes are compared. (own)
+-- A number for each class of tokens, by which the table compares two classes. (own)
 use Rattle.std.specs.Prelude.{ℕ, ◌+◌, Bool, nat_eq, List, [], ◌∷◌}
 use Rattle.daide_token.specs.declared.class.Class.{Class}
 use Rattle.daide_token.specs.declared.class.Class.TheVariants.{Num, Bra, Ket, Power, Note, Outcome, Coast, Season}
@@ -97,6 +97,7 @@ class_number Other = 77
 class_number Alien = 78
 class_number (Word k) = own_classes + k
 
+-- whether two classes have the same number: by the law `numbers_tell_classes_apart`, whether they are equal
 abbrev pub same_class : Class → Class → Bool
 same_class c d = nat_eq (class_number c) (class_number d)
 

@@ -4,5 +4,6 @@ pub mod ClassNumbers
 pub mod Names
 pub mod NamePages
 pub mod NamesByLetter
+pub mod HexDigits
 pub mod Text
 pub mod TextSteps

@@ -1,6 +1,6 @@
 //! A number for each class of tokens. Printed by `daide_table_printer`; the check is what is trusted.
 //!
-//! The definitions compare two classes by these numbers, and so does the code.
+//! The table compares two classes by these numbers.
 
 ghost use Rattle.std.specs.Prelude.{◌≡◌};
 ghost use Rattle.daide_token.specs.ClassNumbers.{class_number};

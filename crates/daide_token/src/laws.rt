@@ -41,8 +41,8 @@ pub fn single_tokens_stand_alone()
     ensures own { (class : Class) → is_standard class ≡ true → class_of (token_of class) ≡ class }
 {}
 
-/// Two classes have the same number if and only if they are equal. Forms and the table compare classes by number, so a
-/// place of a form takes tokens of its own class alone.
+/// Two classes have the same number if and only if they are equal. So the table, which compares classes by number, takes
+/// a token exactly if its class is the one that a place of a form accepts.
 pub fn numbers_tell_classes_apart()
     ensures { (c d : Class) → (same_class c d ≡ true) ↔ (c ≡ d) }
 {}

@@ -10,13 +10,14 @@ use Rattle.daide_grammar.specs.declared.side.Side2.{Side2}
 use Rattle.daide_grammar.specs.declared.side.Side2.TheVariants.{Client, ServerEnd}
 use Rattle.daide_grammar.specs.declared.symbol.Sym.TheVariants.{AnyGroup}
 use Rattle.daide_grammar.specs.Level.{level_number}
-use Rattle.daide_grammar.specs.Forms.{any_but_brackets, is_of_kind, Slot, Press_slot, Arrangement_slot, Flat_slot, Form, from_level, ◌·◌}
+use Rattle.daide_grammar.specs.Forms.{any_but_brackets, Slot, Press_slot, Arrangement_slot, Flat_slot, Form, from_level, ◌·◌}
 use Rattle.daide_grammar.specs.Forms.{never, tok, group}
 use Rattle.daide_grammar.specs.Matches.{Matches, bracketed}
 use Rattle.daide_grammar.specs.Balanced.{IsBalanced}
 use Rattle.daide_grammar.specs.Paired.{IsPaired}
 use Rattle.daide_grammar.specs.Table.Answers.{Take}
 use Rattle.daide_grammar.specs.Table.Symbols.{form_of, entries, may_end_of, table_answer, start_symbol_of}
+use Rattle.daide_grammar.specs.Table.Symbols.{is_of_kind}
 use Rattle.daide_grammar.specs.SideMessages.{dialect_from, dialect_of, IsMessageOver}
 use Rattle.daide_grammar.specs.Table.Languages.{SymbolMatchesIn}
 use Rattle.daide_grammar.specs.Words.{AddedWord, Words, WordSlot, press_word, arrangement_word, WordOperand}

@@ -12,8 +12,9 @@ use Rattle.daide_grammar.specs.declared.symbol.Sym.TheVariants.{Closing}
 use Rattle.daide_grammar.specs.Table.Answers.{TableEntry, Take, Skip, Stop}
 use Rattle.daide_grammar.specs.Table.Numbers.{word_number}
 use Rattle.daide_grammar.specs.Table.ParseActions.{is_stop}
-use Rattle.daide_grammar.specs.Forms.{Slot, is_of_kind}
+use Rattle.daide_grammar.specs.Forms.{Slot}
 use Rattle.daide_grammar.specs.Table.Symbols.{Alternative, entries, entry_at, this_or, form_of, slot_of, may_end_of, answer_by}
+use Rattle.daide_grammar.specs.Table.Symbols.{is_of_kind}
 use Rattle.daide_grammar.specs.Table.Symbols.{table_answer}
 use Rattle.daide_grammar.specs.Words.{AddedWord, Words}
 use Rattle.daide_grammar.specs.Table.Proved.Alternatives.{both-pass}

@@ -1,3 +1,4 @@
+pub mod TokenTests
 pub mod Reading
 pub mod Alternatives
 pub mod RightEntries

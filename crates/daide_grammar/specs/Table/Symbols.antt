@@ -1,6 +1,6 @@
 -- The table: for each symbol its form, its entries, whether it is nullable, and the slot of an operator's word. The
 -- order is that of the grammar: single tokens, lists, places and units, orders, arrangements, press, client, server.
-use Rattle.std.specs.Prelude.{Bool, true, false, nat_le, List, [], ◌∷◌, ◌++◌, Option, Some, None}
+use Rattle.std.specs.Prelude.{Bool, true, false, not, ◌&&◌, nat_le, List, [], ◌∷◌, ◌++◌, Option, Some, None}
 use Rattle.daide_token.specs.declared.class.Class.{Class}
 use Rattle.daide_token.specs.declared.class.Class.TheVariants.{Num, Bra, Ket, Power, Note, Outcome, Coast, Season}
 use Rattle.daide_token.specs.declared.class.Class.TheVariants.{Text, Province, Amy, Flt, Cto, Cvy, Hld, Mto, Sup}
@@ -37,7 +37,8 @@ use Rattle.daide_grammar.specs.declared.symbol.Sym.TheVariants.{NoteGroup, Outco
 use Rattle.daide_grammar.specs.declared.symbol.Sym.TheVariants.{CivilDisorderGroup, CivilDisorder, Players, OnePlayer}
 use Rattle.daide_grammar.specs.Level.{level_number}
 use Rattle.daide_grammar.specs.Table.Answers.{TableEntry, Take, Skip, Stop}
-use Rattle.daide_grammar.specs.Forms.{Slot, Press_slot, Arrangement_slot, Flat_slot, TokenTest, is, any_but_brackets, is_of_kind}
+use Rattle.daide_grammar.specs.Forms.{Slot, Press_slot, Arrangement_slot, Flat_slot, TokenTest, is, any_but_brackets}
+use Rattle.daide_grammar.specs.Classes.{same_class}
 use Rattle.daide_grammar.specs.Forms.{Form, empty, ◌·◌, ◌∣◌, many, tok, group, some, maybe, from_level}
 use Rattle.daide_grammar.specs.Message.Lists.{power, province, season_and_year, text, words, any}
 use Rattle.daide_grammar.specs.Message.Places.{province_or_coast, unit_type, unit}
@@ -453,6 +454,11 @@ forms (s ∷ ss) = form_of s ∷ forms ss
 abbrev pub this_or : Bool → Alternative → Option Alternative → Option Alternative
 this_or true e o = Some e
 this_or false e o = o
+
+-- whether a test accepts a token of the class, as the table computes it
+abbrev pub is_of_kind : TokenTest → Class → Bool
+is_of_kind (is c) d = same_class c d
+is_of_kind any_but_brackets d = not (same_class Bra d) && not (same_class Ket d)
 
 -- the first entry that takes the class
 abbrev pub entry_at : Class → List Alternative → Option Alternative

@@ -37,11 +37,17 @@ pub enum Key {
     /// The stall timeout, in seconds: a side that accepts none of its queued bytes for this long counts as lost. From
     /// 0, for never, to 86,400; 60 by default.
     StallSeconds,
+    /// Whether the run serves until it is stopped: a boolean; false by default.
+    Endless,
+    /// The addresses from which a bot may come: an array of 1 to 16 ranges; everyone by default.
+    Allow,
+    /// The greatest number of sessions at once with bots from one address: 0, for no limit, to 256; 0 by default.
+    MaxPerAddress,
 }
 
 impl Key {
     /// All keys, in the order of the checks.
-    pub const ALL: [Key; 12] = [
+    pub const ALL: [Key; 15] = [
         Key::Listen,
         Key::Server,
         Key::TopLevel,
@@ -54,6 +60,9 @@ impl Key {
         Key::IdleSeconds,
         Key::Words,
         Key::StallSeconds,
+        Key::Endless,
+        Key::Allow,
+        Key::MaxPerAddress,
     ];
 
     /// Returns the key as a document writes it.
@@ -73,17 +82,20 @@ impl Key {
             Key::IdleSeconds => "idle_seconds",
             Key::Words => "words",
             Key::StallSeconds => "stall_seconds",
+            Key::Endless => "endless",
+            Key::Allow => "allow",
+            Key::MaxPerAddress => "max_per_address",
         }
     }
 
     /// Returns the number of a key that is missing in a document; `None` for the two addresses, which are required, and
-    /// for the words.
+    /// for words, ranges and a flag.
     pub fn default_number(self) -> Option<u64>
         ensures number { result ≡ default_of self }
         ensures within { IfSome result (λ n. is_in_keys_range self n ≡ true) }
     {
         match self {
-            Key::Listen | Key::Server | Key::Words => None,
+            Key::Listen | Key::Server | Key::Words | Key::Endless | Key::Allow => None,
             Key::TopLevel => Some(60),
             Key::MaxBody => Some(MAX_BODY as u64),
             Key::MaxDepth => Some(62),
@@ -93,10 +105,12 @@ impl Key {
             Key::Turns => Some(1_000_000_000),
             Key::IdleSeconds => Some(0),
             Key::StallSeconds => Some(60),
+            Key::MaxPerAddress => Some(0),
         }
     }
 
-    /// Returns true if a number is in the key's range. The number is that of the bytes of an address, or of the words.
+    /// Returns true if a number is in the key's range. The number is that of the bytes of an address, of the words, or of
+    /// the ranges. A flag has no number.
     pub fn is_in_range(self, number: u64) -> bool
         ensures { result ≡ is_in_keys_range self number }
     {
@@ -117,6 +131,9 @@ impl Key {
             Key::IdleSeconds => number <= 86_400,
             Key::Words => number <= 16,
             Key::StallSeconds => number <= 86_400,
+            Key::Endless => false,
+            Key::Allow => 1 <= number && number <= 16,
+            Key::MaxPerAddress => number <= MAX_SESSIONS as u64,
         }
     }
 }
@@ -147,5 +164,8 @@ pub(crate) fn is_known(text: &str) -> bool
             | "idle_seconds"
             | "words"
             | "stall_seconds"
+            | "endless"
+            | "allow"
+            | "max_per_address"
     )
 }

@@ -1,6 +1,7 @@
 //! Reads the settings of a document.
 
 ghost use Rattle.std.specs.Prelude.{◌≡◌, ◌≢◌, true, IfOk, IfErr, MatchResult, Ok, Err, option_map, string_bytes};
+ghost use Rattle.std.specs.Result.{result_err};
 ghost use Rattle.std.specs.List.{list_all};
 ghost use Rattle.std.specs.BTreeMap.{keys};
 ghost use Rattle.toml.specs.Data.{get_member};
@@ -8,10 +9,11 @@ ghost use Rattle.toml.specs.View.{view, table_view};
 ghost use Rattle.toml.specs.Parse.{parse_document};
 ghost use Rattle.daide_settings.specs.Given.{given_of};
 ghost use Rattle.daide_settings.specs.Settings.{key_text, is_known as is_known_key, is_in_range};
-ghost use Rattle.daide_settings.specs.Settings.{address_of, read_number as judged_number, has_only_known as knows_all};
+ghost use Rattle.daide_settings.specs.Settings.{address_of, read_flag, read_number as judged_number, has_only_known as knows_all};
 ghost use Rattle.daide_settings.specs.Settings.{judged_members, judged_settings};
 
 use crate::settings::address::Address;
+use crate::settings::allow::ranges_at;
 use crate::settings::key::{Key, is_known};
 use crate::settings::words::words_at;
 use crate::settings::{Settings, SettingsError};
@@ -27,14 +29,14 @@ fn keys_are_known(table: &Table) -> bool
 }
 
 /// Returns true if a document has only known keys.
-fn has_only_known(table: &Table) -> bool
+pub(super) fn has_only_known(table: &Table) -> bool
     ensures { result ≡ knows_all (table_view table.now) }
 {
     keys_are_known(table)
 }
 
 /// Returns the value of a key.
-fn found<'a>(table: &'a Table, key: Key) -> Option<&'a Value>
+pub(super) fn found<'a>(table: &'a Table, key: Key) -> Option<&'a Value>
     ensures { option_map (λ value. view value.now) result ≡ get_member (key_text key) (table_view table.now) }
 {
     table.get(key.text())
@@ -74,6 +76,46 @@ fn number_at(table: &Table, key: Key) -> Result<u64, SettingsError>
     }
 }
 
+/// Returns the flag of a key; false if the document does not have it. Fails with `WrongType`.
+fn flag_at(table: &Table, key: Key) -> Result<bool, SettingsError>
+    ensures { result ≡ read_flag key (get_member (key_text key) (table_view table.now)) }
+{
+    match found(table, key) {
+        Some(value) => value.as_bool().ok_or(SettingsError::WrongType(key)),
+        None => Ok(false),
+    }
+}
+
+/// Returns the fault of an address.
+pub(super) fn address_fault(table: &Table, key: Key) -> Option<SettingsError>
+    ensures { result ≡ result_err (address_of key (get_member (key_text key) (table_view table.now))) }
+{
+    match address_at(table, key) {
+        Ok(_) => None,
+        Err(fault) => Some(fault),
+    }
+}
+
+/// Returns the fault of a number.
+pub(super) fn number_fault(table: &Table, key: Key) -> Option<SettingsError>
+    ensures { result ≡ result_err (judged_number key (get_member (key_text key) (table_view table.now))) }
+{
+    match number_at(table, key) {
+        Ok(_) => None,
+        Err(fault) => Some(fault),
+    }
+}
+
+/// Returns the fault of a flag.
+pub(super) fn flag_fault(table: &Table, key: Key) -> Option<SettingsError>
+    ensures { result ≡ result_err (read_flag key (get_member (key_text key) (table_view table.now))) }
+{
+    match flag_at(table, key) {
+        Ok(_) => None,
+        Err(fault) => Some(fault),
+    }
+}
+
 /// Reads the settings of a document.
 #[tactic(auto, unfolding(crate::specs::Settings::judged_members))]
 fn settings_of(alloc: Global, table: &Table) -> Result<Settings, SettingsError>
@@ -96,6 +138,9 @@ fn settings_of(alloc: Global, table: &Table) -> Result<Settings, SettingsError>
     let idle_seconds = number_at(table, Key::IdleSeconds)?;
     let words = words_at(found(table, Key::Words))?;
     let stall_seconds = number_at(table, Key::StallSeconds)?;
+    let endless = flag_at(table, Key::Endless)?;
+    let allow = ranges_at(found(table, Key::Allow))?;
+    let max_per_address = number_at(table, Key::MaxPerAddress)?;
     let Ok(listen) = Address::new(alloc, listen) else {
         return Err(SettingsError::Memory);
     };
@@ -117,6 +162,9 @@ fn settings_of(alloc: Global, table: &Table) -> Result<Settings, SettingsError>
         idle_seconds: idle_seconds as u32,
         words,
         stall_seconds: stall_seconds as u32,
+        endless,
+        allow,
+        max_per_address: max_per_address as u16,
     })
 }
 

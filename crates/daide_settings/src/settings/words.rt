@@ -4,6 +4,7 @@
 //! entry.
 
 ghost use Rattle.std.specs.Prelude.{◌≡◌, Some, Ok, Err, MatchResult, codes, option_and_then, option_copied, option_map};
+ghost use Rattle.std.specs.Result.{result_err};
 ghost use Rattle.std.specs.List.{list_all};
 ghost use Rattle.std.specs.BTreeMap.{keys};
 ghost use Rattle.std.specs.Prelude.{string_bytes};
@@ -213,5 +214,15 @@ pub(super) fn words_at(value: Option<&Value>) -> Result<Words, SettingsError>
     match value.as_array() {
         Some(entries) => words_of_entries(entries.as_slice()),
         None => Err(SettingsError::WrongType(Key::Words)),
+    }
+}
+
+/// Returns the fault of the key.
+pub(super) fn words_fault(value: Option<&Value>) -> Option<SettingsError>
+    ensures { result ≡ result_err (words_judged (option_map (λ value. view value.now) value.entry)) }
+{
+    match words_at(value) {
+        Ok(_) => None,
+        Err(fault) => Some(fault),
     }
 }

@@ -19,12 +19,12 @@ pub(crate) enum ParsedInput {
 }
 
 /// Returns the result after the cutter's last step. `is_all` states whether the cutter got all bytes.
-fn found_of(step: Step, head: Option<Head>, is_all: bool) -> ParsedInput
-    ensures { result ≡ parsed_input_of step head is_all }
+fn found_of(step: Step, is_all: bool) -> ParsedInput
+    ensures { result ≡ parsed_input_of step is_all }
 {
-    match (step, head) {
-        (Step::Fault(code), _) => ParsedInput::Fault(code),
-        (Step::Bodied, Some(head)) if is_all => ParsedInput::Whole(head),
+    match step {
+        Step::Fault(code) => ParsedInput::Fault(code),
+        Step::Bodied(head) if is_all => ParsedInput::Whole(head),
         _ => ParsedInput::NotOneFrame,
     }
 }
@@ -39,10 +39,10 @@ pub(crate) fn find_frame<A: Allocator>(cutter: &mut Cutter<A>, bytes: &[u8]) -> 
     }
     let (header, rest) = bytes.split_at(4);
     match cutter.feed(header) {
-        Step::Headed => {}
-        step => return found_of(step, cutter.head(), rest.is_empty()),
+        Step::Headed(_) => {}
+        step => return found_of(step, rest.is_empty()),
     }
     let (body, after) = rest.split_at(rest.len().min(cutter.room()));
     let step = cutter.feed(body);
-    found_of(step, cutter.head(), after.is_empty())
+    found_of(step, after.is_empty())
 }

@@ -8,12 +8,14 @@ use Rattle.daide_grammar.specs.declared.level.Level.{Level}
 use Rattle.daide_grammar.specs.declared.level.Level.TheVariants.{L0, L10, L20, L30, L40, L50, L60}
 use Rattle.daide_grammar.specs.Level.{level_number}
 use Rattle.daide_grammar.specs.Classes.{class_number, same_class}
-use Rattle.daide_grammar.specs.Forms.{TokenTest, is, any_but_brackets, is_of_kind, Nonterminal, Place_name, Unit_name, Order_name, Any_name}
+use Rattle.daide_grammar.specs.Forms.{TokenTest, is, any_but_brackets, Nonterminal, Place_name, Unit_name, Order_name, Any_name}
 use Rattle.daide_grammar.specs.Forms.{Request_name, Send_name, Press_name, Arrangement_name, Flat_name, Fact_name, Form}
 use Rattle.daide_grammar.specs.Forms.{one, never, empty, ◌·◌, ◌∣◌, many, group, named, Dialect}
 use Rattle.daide_grammar.specs.Message.Lists.{anything}
 use Rattle.daide_grammar.specs.Matches.{Matches, token, nothing, both, first, second, no_more, one_more, bracketed}
 use Rattle.daide_grammar.specs.Matches.{by_name, MatchAll}
+use Rattle.daide_grammar.specs.Table.Symbols.{is_of_kind}
+use Rattle.daide_grammar.specs.Table.Proved.TokenTests.{accepted, passed}
 use Rattle.daide_grammar.specs.Table.Proved.Reading.{Some-of, Some-first, Some-second, Some-split}
 
 -- each list of the first, followed by each of the second
@@ -334,7 +336,8 @@ many-below d f g w k (one_more {u = u} {v = v} m n) = one_more (k u m) (many-bel
 -- if the test passes, the lists of the first form are lists of the second
 pub below-sound : (d : Dialect) (f g : Form) (w : List ℕ) → below f g ≡ true → Matches d f w → Matches d g w
 unfolding below
-below-sound d (one k) (one m) w e (token {t = t} h) = token (same_kind-sound k m (d.class_of t) e h)
+below-sound d (one k) (one m) w e (token {t = t} h) =
+    let c = d.class_of t in token (accepted m c (same_kind-sound k m c e (passed k c h)))
 below-sound d empty empty w e h = h
 below-sound d (f · g) (h · k) w e (both {u = u} {v = v} a b) =
     let p = both-pass (below f h) (below g k) e in

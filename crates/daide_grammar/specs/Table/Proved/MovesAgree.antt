@@ -9,10 +9,11 @@ use Rattle.daide_token.specs.declared.class.Class.{Class}
 use Rattle.daide_token.specs.declared.class.Class.TheVariants.{Word}
 use Rattle.daide_grammar.specs.declared.level.Level.{Level}
 use Rattle.daide_grammar.specs.Classes.{class_number, own_classes, same_class}
-use Rattle.daide_grammar.specs.Forms.{TokenTest, is, any_but_brackets, is_of_kind, Slot, Press_slot, Arrangement_slot, Flat_slot, Nonterminal}
+use Rattle.daide_grammar.specs.Forms.{TokenTest, is, any_but_brackets, Slot, Press_slot, Arrangement_slot, Flat_slot, Nonterminal}
 use Rattle.daide_grammar.specs.Forms.{Added, Form, named, Dialect}
 use Rattle.daide_grammar.specs.Matches.{rule, Matches, by_name, MatchAll}
 use Rattle.daide_grammar.specs.Table.Symbols.{form_of, Alternative, entries, this_or, entry_at, forms, may_end_of, slot_of}
+use Rattle.daide_grammar.specs.Table.Symbols.{is_of_kind}
 use Rattle.daide_grammar.specs.Table.Symbols.{answer_by, table_answer}
 use Rattle.daide_grammar.specs.Table.Answers.{Take, Skip, Stop}
 use Rattle.daide_grammar.specs.Table.Languages.{SymbolMatchesIn}

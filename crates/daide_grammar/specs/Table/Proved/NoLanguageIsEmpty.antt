@@ -11,9 +11,10 @@ use Rattle.daide_grammar.specs.declared.symbol.Sym.TheVariants.{RequestGroup, Se
 use Rattle.daide_grammar.specs.declared.symbol.Sym.TheVariants.{SendFirst, Send, MaybeSendGroup, Server, Press}
 use Rattle.daide_grammar.specs.declared.symbol.Sym.TheVariants.{Arrangement, Operand, Operands, Fact}
 use Rattle.daide_grammar.specs.Classes.{class_number, own_classes}
-use Rattle.daide_grammar.specs.Forms.{TokenTest, is, any_but_brackets, is_of_kind, Form, Dialect}
+use Rattle.daide_grammar.specs.Forms.{TokenTest, is, any_but_brackets, Form, Dialect}
 use Rattle.daide_grammar.specs.Matches.{MatchAll}
 use Rattle.daide_grammar.specs.Table.Symbols.{form_of, Alternative, entries, entry_at, this_or, forms, may_end_of, slot_of}
+use Rattle.daide_grammar.specs.Table.Symbols.{is_of_kind}
 use Rattle.daide_grammar.specs.Table.Languages.{SymbolMatchesIn}
 use Rattle.daide_grammar.specs.Table.Proved.Alternatives.{both-pass, MatchAll-split}
 use Rattle.daide_grammar.specs.Table.Proved.MovesAgree.{Proper, IsStandard, standard-no-word, AllMatchIn, entry-law}

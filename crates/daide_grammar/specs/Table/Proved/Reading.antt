@@ -2,10 +2,12 @@
 use Rattle.std.proofs.Common.{◌≡◌, ℕ, zero, suc, List, [], ◌∷◌, ◌++◌, Option, Some, None, ◌⊎◌, inl, inr, IsTrue, refl}
 use Rattle.std.proofs.Common.{sym, ◌∙◌, ap, subst, append_assoc}
 use Rattle.daide_token.specs.declared.class.Class.TheVariants.{Bra, Ket}
-use Rattle.daide_grammar.specs.Forms.{TokenTest, is, is_of_kind, Nonterminal, Form, one, never, empty, ◌·◌, ◌∣◌, many, group, named}
+use Rattle.daide_grammar.specs.Forms.{TokenTest, is, Nonterminal, Form, one, never, empty, ◌·◌, ◌∣◌, many, group, named}
 use Rattle.daide_grammar.specs.Forms.{Added, Place_name, Dialect}
 use Rattle.daide_grammar.specs.Matches.{rule, Matches, token, nothing, both, first, second, no_more, one_more}
 use Rattle.daide_grammar.specs.Matches.{bracketed, by_name, MatchAll}
+use Rattle.daide_grammar.specs.Table.Proved.TokenTests.{accepted, passed}
+use Rattle.daide_grammar.specs.Table.Symbols.{is_of_kind}
 
 -- a list of forms read from the left, token by token
 pub data LeftDerivation (d : Dialect) : List Form → List ℕ → Type 0 where
@@ -26,7 +28,7 @@ pub data LeftDerivation (d : Dialect) : List Form → List ℕ → Type 0 where
 -- a match, and then a derivation of the rest
 pub LeftDerivation-front : (d : Dialect) {f : Form} {u : List ℕ} {fs : List Form} (v : List ℕ) → Matches d f u → LeftDerivation d fs v →
     LeftDerivation d (f ∷ fs) (u ++ v)
-LeftDerivation-front d v (token h) r = take h r
+LeftDerivation-front d v (token {k = k} {t = t} h) r = take (passed k (d.class_of t) h) r
 LeftDerivation-front d v nothing r = pass r
 LeftDerivation-front d v (both {u = a} {v = b} m n) r =
     open' (subst (LeftDerivation d _) (sym (append_assoc a b v)) (LeftDerivation-front d (b ++ v) m (LeftDerivation-front d v n r)))
@@ -36,7 +38,9 @@ LeftDerivation-front d v no_more r = stop r
 LeftDerivation-front d v (one_more {u = a} {v = b} m n) r =
     again (subst (LeftDerivation d _) (sym (append_assoc a b v)) (LeftDerivation-front d (b ++ v) m (LeftDerivation-front d v n r)))
 LeftDerivation-front d v (bracketed {u = u} o k b m e) r =
-    enter b (subst (LeftDerivation d _) (sym (append_assoc u (k ∷ []) v)) (LeftDerivation-front d (k ∷ v) m (take e r)))
+    enter (passed (is Bra) (d.class_of o) b)
+    (subst (LeftDerivation d _) (sym (append_assoc u (k ∷ []) v))
+    (LeftDerivation-front d (k ∷ v) m (take (passed (is Ket) (d.class_of k) e) r)))
 LeftDerivation-front d v (by_name m) r = unfold' (LeftDerivation-front d v m r)
 
 -- one form in front of a match of the rest
@@ -49,13 +53,19 @@ in_brackets : (d : Dialect) (f : Form) (fs : List Form) (t : ℕ) {w : List ℕ}
     IsTrue (is_of_kind (is Bra) (d.class_of t)) → (u v : List ℕ) →
     Matches d f u → (x y : List ℕ) → Matches d (one (is Ket)) x → MatchAll d fs y → x ++ y ≡ v → u ++ v ≡ w →
     MatchAll d (group f ∷ fs) (t ∷ w)
-in_brackets d f fs t b u v m x y (token {t = k} e) r p q =
-    (t ∷ (u ++ k ∷ []), y, bracketed t k b m e, r, ap (λ z. t ∷ z) (append_assoc u (k ∷ []) y ∙ ap (λ z. u ++ z) p ∙ q))
+in_brackets d f fs t b u v m x y (token {t = k} e) r p q = (
+  t ∷ (u ++ k ∷ []),
+  y,
+  bracketed t k (accepted (is Bra) (d.class_of t) b) m e,
+  r,
+  ap (λ z. t ∷ z) (append_assoc u (k ∷ []) y ∙ ap (λ z. u ++ z) p ∙ q),
+)
 
 -- a derivation is a match of each form, in order
 pub MatchAll_from_Reads : (d : Dialect) {fs : List Form} {w : List ℕ} → LeftDerivation d fs w → MatchAll d fs w
 MatchAll_from_Reads d end = refl
-MatchAll_from_Reads d (take {t = t} h r) = front d _ _ (token h) (MatchAll_from_Reads d r)
+MatchAll_from_Reads d (take {k = k} {t = t} h r) =
+    front d _ _ (token (accepted k (d.class_of t) h)) (MatchAll_from_Reads d r)
 MatchAll_from_Reads d (pass r) = front d _ _ nothing (MatchAll_from_Reads d r)
 MatchAll_from_Reads d (open' r) =
     let h = MatchAll_from_Reads d r in

@@ -11,9 +11,10 @@ use Rattle.daide_grammar.specs.declared.symbol.Sym.TheVariants.{RequestGroup, Se
 use Rattle.daide_grammar.specs.declared.symbol.Sym.TheVariants.{SendFirst, Send, MaybeSendGroup, Server, Press}
 use Rattle.daide_grammar.specs.declared.symbol.Sym.TheVariants.{Arrangement, Operand, Operands, Fact}
 use Rattle.daide_grammar.specs.Classes.{class_number, own_classes, same_class}
-use Rattle.daide_grammar.specs.Forms.{TokenTest, is, any_but_brackets, is_of_kind, Slot, Press_slot, Arrangement_slot, Flat_slot, Added}
+use Rattle.daide_grammar.specs.Forms.{TokenTest, is, any_but_brackets, Slot, Press_slot, Arrangement_slot, Flat_slot, Added}
 use Rattle.daide_grammar.specs.Forms.{Form, named, Dialect}
 use Rattle.daide_grammar.specs.Table.Symbols.{form_of, Alternative, entries, forms, may_end_of, slot_of}
+use Rattle.daide_grammar.specs.Table.Symbols.{is_of_kind}
 use Rattle.daide_grammar.specs.Table.Proved.Reading.{FirstItem, starts, ends, unopened, heads}
 use Rattle.daide_grammar.specs.Table.Proved.Reading
 use Rattle.daide_grammar.specs.Table.Proved.Alternatives.{same_level, same_kind, parts_all, covers}

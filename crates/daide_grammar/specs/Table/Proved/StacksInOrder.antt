@@ -12,8 +12,9 @@ use Rattle.daide_grammar.specs.declared.symbol.Sym.TheVariants.{OperandGroup, Re
 use Rattle.daide_grammar.specs.declared.symbol.Sym.TheVariants.{SendTail, SendFirst, Send, MaybeSendGroup, Server}
 use Rattle.daide_grammar.specs.declared.symbol.Sym.TheVariants.{Press, Arrangement, Operand, Operands, Fact}
 use Rattle.daide_grammar.specs.Classes.{class_number, same_class}
-use Rattle.daide_grammar.specs.Forms.{TokenTest, is, any_but_brackets, is_of_kind}
+use Rattle.daide_grammar.specs.Forms.{TokenTest, is, any_but_brackets}
 use Rattle.daide_grammar.specs.Table.Symbols.{Alternative, entries, may_end_of, entry_at, table_answer, answer_by, this_or, on}
+use Rattle.daide_grammar.specs.Table.Symbols.{is_of_kind}
 use Rattle.daide_grammar.specs.Table.Symbols.{start_symbol_of}
 use Rattle.daide_grammar.specs.Table.Answers.{TableEntry, Take, Skip, Stop}
 use Rattle.daide_grammar.specs.Table.Shapes.{is_bottom_symbol, shape, join, shapes}

@@ -13,7 +13,7 @@ use Rattle.daide_log.specs.Log.{event_in}
 use Rattle.daide_log.specs.Reporting.{IsReady, IsLateFault}
 use Rattle.daide_log.specs.Progress.{Judges, IsFinished, states_of}
 use Rattle.daide_log.proofs.EventLemmas.{plays_first, plays_more, finished_at_end, finished_at_last, fault_in_play}
-use Rattle.daide_log.proofs.EventLemmas.{unfinished, fault_handed_on, bad_in_play, at_end, at_last_line, as_line}
+use Rattle.daide_log.proofs.EventLemmas.{nothing_reported, unfinished, fault_handed_on, bad_in_play, at_end, at_last_line, as_line}
 use Rattle.daide_log.proofs.check.play.Goals as goal
 
 pub lines-init : goal.lines-init
@@ -27,17 +27,120 @@ lines-init g c = (
   refl,
 )
 
-pub returns-in_err-found-clause-refused : goal.returns-in_err-found-clause-refused
-returns-in_err-found-clause-refused g c =
-    fault_handed_on (g.S.Style.form (words_of c.args.account.now.head.words)) _ (g.R.LogReader.reader_view c.find_line.new.input.reader.now)
-    (all_of g.W.Write.contents c.find_line.new.output) c.in_err-found.field-0.0 c.from_residual.result
-    c.from_residual.ensures.1
-    (fault_in_play (g.S.Style.form (words_of c.args.account.now.head.words)) (IsReady c.args.account.now.head.limits.config (words_of c.args.account.now.head.words)) _ (g.R.LogReader.reader_view c.lines.input.reader.now)
-    (g.R.LogReader.reader_view c.find_line.new.input.reader.now) c.lines.input.block c.find_line.new.input.block
-    c.find_line.new.input.text.items c.lines.count c.args.account.now.head.version c.lines.sessions.items
-    (length c.args.sessions.now.items) c.lines.account.summary (all_of g.W.Write.contents c.lines.account.output)
-    (all_of g.W.Write.contents c.find_line.new.output) c.in_err-found.field-0.0 c.lines.invariant.0
-    c.in_err-found.ensures.found c.in_err-found.ensures.kept_at_fault)
+pub returns-in_err-found-clause-answered : goal.returns-in_err-found-clause-answered
+returns-in_err-found-clause-answered g c = λ first before starts. (
+  nothing_reported (g.S.Style.form (words_of c.args.account.now.head.words)) _ _ c.from_residual.result c.from_residual.ensures.1,
+  (
+      fault_handed_on (g.S.Style.form (words_of c.args.account.now.head.words)) _ (g.R.LogReader.reader_view c.find_line.new.input.reader.now)
+      (all_of g.W.Write.contents c.find_line.new.output) c.in_err-found.field-0.0 c.from_residual.result
+      c.from_residual.ensures.1
+      (fault_in_play (g.S.Style.form (words_of c.args.account.now.head.words)) (IsReady c.args.account.now.head.limits.config (words_of c.args.account.now.head.words)) _ (g.R.LogReader.reader_view c.lines.input.reader.now)
+      (g.R.LogReader.reader_view c.find_line.new.input.reader.now) c.lines.input.block c.find_line.new.input.block
+      c.find_line.new.input.text.items c.lines.count c.args.account.now.head.version c.lines.sessions.items
+      (length c.args.sessions.now.items) c.lines.account.summary (all_of g.W.Write.contents c.lines.account.output)
+      (all_of g.W.Write.contents c.find_line.new.output) c.in_err-found.field-0.0 c.lines.invariant.0
+      c.in_err-found.ensures.found c.in_err-found.ensures.kept_at_fault)) first before starts,
+)
+
+pub returns-in_err-judge_line-clause-answered : goal.returns-in_err-judge_line-clause-answered
+returns-in_err-judge_line-clause-answered g c = λ first before starts. (
+  nothing_reported (g.S.Style.form (words_of c.args.account.now.head.words)) _ _ c.from_residual-in_err-judge_line.result c.from_residual-in_err-judge_line.ensures.1,
+  (
+      fault_handed_on (g.S.Style.form (words_of c.args.account.now.head.words)) _ (g.R.LogReader.reader_view c.find_line.new.input.reader.now)
+      (all_of g.W.Write.contents c.judge_line.new.account.output) c.in_err-judge_line.field-0.0
+      c.from_residual-in_err-judge_line.result c.from_residual-in_err-judge_line.ensures.1
+      (bad_in_play (g.S.Style.form (words_of c.args.account.now.head.words)) (IsReady c.args.account.now.head.limits.config (words_of c.args.account.now.head.words)) _ (g.R.LogReader.reader_view c.lines.input.reader.now) (g.R.LogReader.reader_view c.find_line.new.input.reader.now)
+      c.lines.input.block (rest_after c.in_ok-found.found c.find_line.new.input.block)
+      (line_at c.in_ok-found.found c.find_line.new.input.block c.find_line.new.input.text.items) c.lines.count
+      c.args.account.now.head.version
+      c.lines.sessions.items (length c.args.sessions.now.items) c.lines.account.summary
+      (all_of g.W.Write.contents c.lines.account.output) (all_of g.W.Write.contents c.find_line.new.output)
+      (all_of g.W.Write.contents c.judge_line.new.account.output) c.in_ok-found.found c.in_err-judge_line.field-0.0
+      c.lines.invariant.0 c.in_ok-found.ensures.found (sym c.is_end.ensures ∙ c.if-is_end.false)
+      c.in_ok-found.ensures.kept
+      (subst (λ (h : Preamble). IsLateFault (g.S.Style.form (words_of h.words)) c.in_err-judge_line.field-0.0
+      ⊎ ((c.in_err-judge_line.field-0.0 ≡ BadLine (c.lines.count + 1))
+      × (event_in h.version (length c.lines.sessions.items)
+      (line_at c.in_ok-found.found c.find_line.new.input.block c.find_line.new.input.text.items) ≡ None)
+      × (all_of g.W.Write.contents c.judge_line.new.account.output ≡ all_of g.W.Write.contents c.find_line.new.output))) c.lines.invariant.3
+      (subst (λ (l : List ℕ). IsLateFault (g.S.Style.form (words_of c.lines.account.head.words)) c.in_err-judge_line.field-0.0
+      ⊎ ((c.in_err-judge_line.field-0.0 ≡ BadLine (c.lines.count + 1))
+      × (event_in c.lines.account.head.version (length c.lines.sessions.items) l ≡ None)
+      × (all_of g.W.Write.contents c.judge_line.new.account.output ≡ all_of g.W.Write.contents c.find_line.new.output)))
+      c.line.ensures c.in_err-judge_line.ensures.refused)))) first before starts,
+)
+
+pub returns-then-is_end-clause-answered : goal.returns-then-is_end-clause-answered
+returns-then-is_end-clause-answered g c = λ first before starts. (
+  (
+      finished_at_end (g.S.Style.form (words_of c.args.account.now.head.words)) (IsReady c.args.account.now.head.limits.config (words_of c.args.account.now.head.words)) _ (g.R.LogReader.reader_view c.lines.input.reader.now) (g.R.LogReader.reader_view c.find_line.new.input.reader.now)
+      c.lines.input.block c.find_line.new.input.block c.find_line.new.input.text.items c.lines.count
+      c.args.account.now.head.version
+      c.lines.sessions.items (length c.args.sessions.now.items) c.lines.account.summary
+      (all_of g.W.Write.contents c.lines.account.output) (all_of g.W.Write.contents c.find_line.new.output) (all_of g.W.Write.contents c.finish.new.account.output)
+      c.finish.result c.lines.invariant.0
+      (subst (λ (f : LineEnd). IsFound (all_of g.W.Write.contents c.lines.account.output) (g.R.LogReader.reader_view c.lines.input.reader.now) c.lines.input.block c.lines.count (Ok f)
+      (line_at f c.find_line.new.input.block c.find_line.new.input.text.items)
+      (g.R.LogReader.reader_view c.find_line.new.input.reader.now) (rest_after f c.find_line.new.input.block))
+      (at_end c.in_ok-found.found (sym c.is_end.ensures ∙ c.if-is_end.true)) c.in_ok-found.ensures.found)
+      c.in_ok-found.ensures.kept
+      (subst (λ (h : Preamble). IfOk c.finish.result (λ answer. IsFinished (g.S.Style.form (words_of h.words)) h.version
+      (states_of c.lines.sessions.items) c.lines.account.summary (all_of g.W.Write.contents c.find_line.new.output)
+      (all_of g.W.Write.contents c.finish.new.account.output) answer)) c.lines.invariant.3 (rw c.deref.ensures.value at c.finish.ensures.written))) first before starts,
+  (
+      unfinished (g.S.Style.form (words_of c.args.account.now.head.words)) (IsReady c.args.account.now.head.limits.config (words_of c.args.account.now.head.words)) _ (g.R.LogReader.reader_view c.lines.input.reader.now) (g.R.LogReader.reader_view c.find_line.new.input.reader.now)
+      c.lines.input.block (rest_after c.in_ok-found.found c.find_line.new.input.block)
+      (line_at c.in_ok-found.found c.find_line.new.input.block c.find_line.new.input.text.items) c.lines.count
+      c.args.account.now.head.version c.lines.sessions.items (length c.args.sessions.now.items) c.lines.account.summary
+      (all_of g.W.Write.contents c.lines.account.output) (all_of g.W.Write.contents c.finish.new.account.output)
+      c.in_ok-found.found c.finish.result c.lines.invariant.0 c.in_ok-found.ensures.found
+      (subst (λ (h : Preamble). IfErr c.finish.result (IsLateFault (g.S.Style.form (words_of h.words)))) c.lines.invariant.3
+      c.finish.ensures.refused)) first before starts,
+)
+
+pub returns-then-is_last-clause-answered : goal.returns-then-is_last-clause-answered
+returns-then-is_last-clause-answered g c = λ first before starts. (
+  (
+      let line = line_at c.in_ok-found.found c.find_line.new.input.block c.find_line.new.input.text.items in
+      finished_at_last (g.S.Style.form (words_of c.args.account.now.head.words)) (IsReady c.args.account.now.head.limits.config (words_of c.args.account.now.head.words)) _ (g.R.LogReader.reader_view c.lines.input.reader.now) (g.R.LogReader.reader_view c.find_line.new.input.reader.now)
+      c.lines.input.block c.find_line.new.input.block c.find_line.new.input.text.items c.lines.count
+      c.args.account.now.head.version
+      c.lines.sessions.items c.judge_line.new.sessions.items (length c.args.sessions.now.items) c.lines.account.summary
+      c.judge_line.new.account.summary (all_of g.W.Write.contents c.lines.account.output) (all_of g.W.Write.contents c.find_line.new.output)
+      (all_of g.W.Write.contents c.judge_line.new.account.output)
+      (all_of g.W.Write.contents c.finish-then-is_last.new.account.output) c.finish-then-is_last.result c.lines.invariant.0
+      (subst (λ (f : LineEnd). IsFound (all_of g.W.Write.contents c.lines.account.output) (g.R.LogReader.reader_view c.lines.input.reader.now) c.lines.input.block c.lines.count (Ok f)
+      (line_at f c.find_line.new.input.block c.find_line.new.input.text.items)
+      (g.R.LogReader.reader_view c.find_line.new.input.reader.now) (rest_after f c.find_line.new.input.block))
+      (at_last_line c.in_ok-found.found (sym c.is_last.ensures ∙ c.if-is_last.true)) c.in_ok-found.ensures.found)
+      c.in_ok-found.ensures.kept
+      (subst (λ (h : Preamble). Judges (g.S.Style.form (words_of h.words)) h.version (c.lines.count + 1)
+      (states_of c.lines.sessions.items) c.find_line.new.input.text.items
+      (states_of c.judge_line.new.sessions.items) c.lines.account.summary c.judge_line.new.account.summary
+      (all_of g.W.Write.contents c.find_line.new.output) (all_of g.W.Write.contents c.judge_line.new.account.output)) c.lines.invariant.3
+      (subst (λ (l : List ℕ). Judges (g.S.Style.form (words_of c.lines.account.head.words)) c.lines.account.head.version
+      (c.lines.count + 1) (states_of c.lines.sessions.items) l
+      (states_of c.judge_line.new.sessions.items) c.lines.account.summary c.judge_line.new.account.summary
+      (all_of g.W.Write.contents c.find_line.new.output) (all_of g.W.Write.contents c.judge_line.new.account.output))
+      (c.line.ensures
+      ∙ ap (λ (f : LineEnd). line_at f c.find_line.new.input.block c.find_line.new.input.text.items)
+      (at_last_line c.in_ok-found.found (sym c.is_last.ensures ∙ c.if-is_last.true)))
+      c.in_ok-judge_line.ensures.judged))
+      (subst (λ (h : Preamble). IfOk c.finish-then-is_last.result (λ answer. IsFinished (g.S.Style.form (words_of h.words))
+      h.version (states_of c.judge_line.new.sessions.items) c.judge_line.new.account.summary
+      (all_of g.W.Write.contents c.judge_line.new.account.output) (all_of g.W.Write.contents c.finish-then-is_last.new.account.output) answer))
+      (c.judge_line.ensures.same_head ∙ c.lines.invariant.3) (rw c.deref-then-is_last.ensures.value at c.finish-then-is_last.ensures.written))) first before starts,
+  (
+      unfinished (g.S.Style.form (words_of c.args.account.now.head.words)) (IsReady c.args.account.now.head.limits.config (words_of c.args.account.now.head.words)) _ (g.R.LogReader.reader_view c.lines.input.reader.now) (g.R.LogReader.reader_view c.find_line.new.input.reader.now)
+      c.lines.input.block (rest_after c.in_ok-found.found c.find_line.new.input.block)
+      (line_at c.in_ok-found.found c.find_line.new.input.block c.find_line.new.input.text.items) c.lines.count
+      c.args.account.now.head.version
+      c.lines.sessions.items (length c.args.sessions.now.items) c.lines.account.summary
+      (all_of g.W.Write.contents c.lines.account.output) (all_of g.W.Write.contents c.finish-then-is_last.new.account.output)
+      c.in_ok-found.found c.finish-then-is_last.result c.lines.invariant.0 c.in_ok-found.ensures.found
+      (subst (λ (h : Preamble). IfErr c.finish-then-is_last.result (IsLateFault (g.S.Style.form (words_of h.words))))
+      (c.judge_line.ensures.same_head ∙ c.lines.invariant.3) c.finish-then-is_last.ensures.refused)) first before starts,
+)
 
 pub finish-requires-clause-ready : goal.finish-requires-clause-ready
 finish-requires-clause-ready g c =
@@ -57,103 +160,6 @@ pub judge_line-requires-clause-ready : goal.judge_line-requires-clause-ready
 judge_line-requires-clause-ready g c =
     subst (λ (h : Preamble). All (IsReady h.limits.config (words_of h.words)) c.lines.sessions.items)
     (sym c.lines.invariant.3) c.lines.invariant.0.ready
-
-pub returns-then-is_end-clause-report : goal.returns-then-is_end-clause-report
-returns-then-is_end-clause-report g c =
-    finished_at_end (g.S.Style.form (words_of c.args.account.now.head.words)) (IsReady c.args.account.now.head.limits.config (words_of c.args.account.now.head.words)) _ (g.R.LogReader.reader_view c.lines.input.reader.now) (g.R.LogReader.reader_view c.find_line.new.input.reader.now)
-    c.lines.input.block c.find_line.new.input.block c.find_line.new.input.text.items c.lines.count
-    c.args.account.now.head.version
-    c.lines.sessions.items (length c.args.sessions.now.items) c.lines.account.summary
-    (all_of g.W.Write.contents c.lines.account.output) (all_of g.W.Write.contents c.find_line.new.output) (all_of g.W.Write.contents c.finish.new.account.output)
-    c.finish.result c.lines.invariant.0
-    (subst (λ (f : LineEnd). IsFound (all_of g.W.Write.contents c.lines.account.output) (g.R.LogReader.reader_view c.lines.input.reader.now) c.lines.input.block c.lines.count (Ok f)
-    (line_at f c.find_line.new.input.block c.find_line.new.input.text.items)
-    (g.R.LogReader.reader_view c.find_line.new.input.reader.now) (rest_after f c.find_line.new.input.block))
-    (at_end c.in_ok-found.found (sym c.is_end.ensures ∙ c.if-is_end.true)) c.in_ok-found.ensures.found)
-    c.in_ok-found.ensures.kept
-    (subst (λ (h : Preamble). IfOk c.finish.result (λ answer. IsFinished (g.S.Style.form (words_of h.words)) h.version
-    (states_of c.lines.sessions.items) c.lines.account.summary (all_of g.W.Write.contents c.find_line.new.output)
-    (all_of g.W.Write.contents c.finish.new.account.output) answer)) c.lines.invariant.3 (rw c.deref.ensures.value at c.finish.ensures.written))
-
-pub returns-then-is_end-clause-refused : goal.returns-then-is_end-clause-refused
-returns-then-is_end-clause-refused g c =
-    unfinished (g.S.Style.form (words_of c.args.account.now.head.words)) (IsReady c.args.account.now.head.limits.config (words_of c.args.account.now.head.words)) _ (g.R.LogReader.reader_view c.lines.input.reader.now) (g.R.LogReader.reader_view c.find_line.new.input.reader.now)
-    c.lines.input.block (rest_after c.in_ok-found.found c.find_line.new.input.block)
-    (line_at c.in_ok-found.found c.find_line.new.input.block c.find_line.new.input.text.items) c.lines.count
-    c.args.account.now.head.version c.lines.sessions.items (length c.args.sessions.now.items) c.lines.account.summary
-    (all_of g.W.Write.contents c.lines.account.output) (all_of g.W.Write.contents c.finish.new.account.output)
-    c.in_ok-found.found c.finish.result c.lines.invariant.0 c.in_ok-found.ensures.found
-    (subst (λ (h : Preamble). IfErr c.finish.result (IsLateFault (g.S.Style.form (words_of h.words)))) c.lines.invariant.3
-    c.finish.ensures.refused)
-
-pub returns-in_err-judge_line-clause-refused : goal.returns-in_err-judge_line-clause-refused
-returns-in_err-judge_line-clause-refused g c =
-    fault_handed_on (g.S.Style.form (words_of c.args.account.now.head.words)) _ (g.R.LogReader.reader_view c.find_line.new.input.reader.now)
-    (all_of g.W.Write.contents c.judge_line.new.account.output) c.in_err-judge_line.field-0.0
-    c.from_residual-in_err-judge_line.result c.from_residual-in_err-judge_line.ensures.1
-    (bad_in_play (g.S.Style.form (words_of c.args.account.now.head.words)) (IsReady c.args.account.now.head.limits.config (words_of c.args.account.now.head.words)) _ (g.R.LogReader.reader_view c.lines.input.reader.now) (g.R.LogReader.reader_view c.find_line.new.input.reader.now)
-    c.lines.input.block (rest_after c.in_ok-found.found c.find_line.new.input.block)
-    (line_at c.in_ok-found.found c.find_line.new.input.block c.find_line.new.input.text.items) c.lines.count
-    c.args.account.now.head.version
-    c.lines.sessions.items (length c.args.sessions.now.items) c.lines.account.summary
-    (all_of g.W.Write.contents c.lines.account.output) (all_of g.W.Write.contents c.find_line.new.output)
-    (all_of g.W.Write.contents c.judge_line.new.account.output) c.in_ok-found.found c.in_err-judge_line.field-0.0
-    c.lines.invariant.0 c.in_ok-found.ensures.found (sym c.is_end.ensures ∙ c.if-is_end.false)
-    c.in_ok-found.ensures.kept
-    (subst (λ (h : Preamble). IsLateFault (g.S.Style.form (words_of h.words)) c.in_err-judge_line.field-0.0
-    ⊎ ((c.in_err-judge_line.field-0.0 ≡ BadLine (c.lines.count + 1))
-    × (event_in h.version (length c.lines.sessions.items)
-    (line_at c.in_ok-found.found c.find_line.new.input.block c.find_line.new.input.text.items) ≡ None)
-    × (all_of g.W.Write.contents c.judge_line.new.account.output ≡ all_of g.W.Write.contents c.find_line.new.output))) c.lines.invariant.3
-    (subst (λ (l : List ℕ). IsLateFault (g.S.Style.form (words_of c.lines.account.head.words)) c.in_err-judge_line.field-0.0
-    ⊎ ((c.in_err-judge_line.field-0.0 ≡ BadLine (c.lines.count + 1))
-    × (event_in c.lines.account.head.version (length c.lines.sessions.items) l ≡ None)
-    × (all_of g.W.Write.contents c.judge_line.new.account.output ≡ all_of g.W.Write.contents c.find_line.new.output)))
-    c.line.ensures c.in_err-judge_line.ensures.refused)))
-
-pub returns-then-is_last-clause-report : goal.returns-then-is_last-clause-report
-returns-then-is_last-clause-report g c =
-    let line = line_at c.in_ok-found.found c.find_line.new.input.block c.find_line.new.input.text.items in
-    finished_at_last (g.S.Style.form (words_of c.args.account.now.head.words)) (IsReady c.args.account.now.head.limits.config (words_of c.args.account.now.head.words)) _ (g.R.LogReader.reader_view c.lines.input.reader.now) (g.R.LogReader.reader_view c.find_line.new.input.reader.now)
-    c.lines.input.block c.find_line.new.input.block c.find_line.new.input.text.items c.lines.count
-    c.args.account.now.head.version
-    c.lines.sessions.items c.judge_line.new.sessions.items (length c.args.sessions.now.items) c.lines.account.summary
-    c.judge_line.new.account.summary (all_of g.W.Write.contents c.lines.account.output) (all_of g.W.Write.contents c.find_line.new.output)
-    (all_of g.W.Write.contents c.judge_line.new.account.output)
-    (all_of g.W.Write.contents c.finish-then-is_last.new.account.output) c.finish-then-is_last.result c.lines.invariant.0
-    (subst (λ (f : LineEnd). IsFound (all_of g.W.Write.contents c.lines.account.output) (g.R.LogReader.reader_view c.lines.input.reader.now) c.lines.input.block c.lines.count (Ok f)
-    (line_at f c.find_line.new.input.block c.find_line.new.input.text.items)
-    (g.R.LogReader.reader_view c.find_line.new.input.reader.now) (rest_after f c.find_line.new.input.block))
-    (at_last_line c.in_ok-found.found (sym c.is_last.ensures ∙ c.if-is_last.true)) c.in_ok-found.ensures.found)
-    c.in_ok-found.ensures.kept
-    (subst (λ (h : Preamble). Judges (g.S.Style.form (words_of h.words)) h.version (c.lines.count + 1)
-    (states_of c.lines.sessions.items) c.find_line.new.input.text.items
-    (states_of c.judge_line.new.sessions.items) c.lines.account.summary c.judge_line.new.account.summary
-    (all_of g.W.Write.contents c.find_line.new.output) (all_of g.W.Write.contents c.judge_line.new.account.output)) c.lines.invariant.3
-    (subst (λ (l : List ℕ). Judges (g.S.Style.form (words_of c.lines.account.head.words)) c.lines.account.head.version
-    (c.lines.count + 1) (states_of c.lines.sessions.items) l
-    (states_of c.judge_line.new.sessions.items) c.lines.account.summary c.judge_line.new.account.summary
-    (all_of g.W.Write.contents c.find_line.new.output) (all_of g.W.Write.contents c.judge_line.new.account.output))
-    (c.line.ensures
-    ∙ ap (λ (f : LineEnd). line_at f c.find_line.new.input.block c.find_line.new.input.text.items)
-    (at_last_line c.in_ok-found.found (sym c.is_last.ensures ∙ c.if-is_last.true)))
-    c.in_ok-judge_line.ensures.judged))
-    (subst (λ (h : Preamble). IfOk c.finish-then-is_last.result (λ answer. IsFinished (g.S.Style.form (words_of h.words))
-    h.version (states_of c.judge_line.new.sessions.items) c.judge_line.new.account.summary
-    (all_of g.W.Write.contents c.judge_line.new.account.output) (all_of g.W.Write.contents c.finish-then-is_last.new.account.output) answer))
-    (c.judge_line.ensures.same_head ∙ c.lines.invariant.3) (rw c.deref-then-is_last.ensures.value at c.finish-then-is_last.ensures.written))
-
-pub returns-then-is_last-clause-refused : goal.returns-then-is_last-clause-refused
-returns-then-is_last-clause-refused g c =
-    unfinished (g.S.Style.form (words_of c.args.account.now.head.words)) (IsReady c.args.account.now.head.limits.config (words_of c.args.account.now.head.words)) _ (g.R.LogReader.reader_view c.lines.input.reader.now) (g.R.LogReader.reader_view c.find_line.new.input.reader.now)
-    c.lines.input.block (rest_after c.in_ok-found.found c.find_line.new.input.block)
-    (line_at c.in_ok-found.found c.find_line.new.input.block c.find_line.new.input.text.items) c.lines.count
-    c.args.account.now.head.version
-    c.lines.sessions.items (length c.args.sessions.now.items) c.lines.account.summary
-    (all_of g.W.Write.contents c.lines.account.output) (all_of g.W.Write.contents c.finish-then-is_last.new.account.output)
-    c.in_ok-found.found c.finish-then-is_last.result c.lines.invariant.0 c.in_ok-found.ensures.found
-    (subst (λ (h : Preamble). IfErr c.finish-then-is_last.result (IsLateFault (g.S.Style.form (words_of h.words))))
-    (c.judge_line.ensures.same_head ∙ c.lines.invariant.3) c.finish-then-is_last.ensures.refused)
 
 pub lines-preserved : goal.lines-preserved
 lines-preserved g c =

@@ -103,8 +103,5 @@ returns-clause-reported g c =
     (opened_more (g.S.Style.form words) c.in-Ok.opened first old now c.read_preamble.new.input.block (ap not c.if-not-opened.false)
     c.in-Ok.ensures.opened) in (
       words,
-      (
-        c.play.ensures.report old first (read, c.in-Ok.ensures.kept),
-        c.play.ensures.refused old first (read, c.in-Ok.ensures.kept),
-      ),
+      c.play.ensures.answered old first (read, c.in-Ok.ensures.kept),
     )

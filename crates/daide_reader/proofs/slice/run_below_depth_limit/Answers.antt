@@ -19,15 +19,15 @@ use Rattle.daide_reader.proofs.slice.run_below_depth_limit.Goals as goal
 pub loop-next-init : goal.loop-next-init
 loop-next-init g c =
     let old : SliceState g.row.T.Denot =
-    record { table = c.args.table.now; stack = reverse (take c.args.count c.args.cells.now) } in
+    record { table = c.args.table.now; stack = reverse (take c.args.start.count c.args.cells.now) } in
     record {
       inside = c.requires.count;
       from = omega arith;
       upto = omega arith;
       shallow = omega arith;
-      mid = begun g.T.Predict g.met.T.Predict.laws c.args.max_depth c.args.body.now c.args.read c.args.unclosed old
-          c.args.read c.args.unclosed c.min-end.result old
-          (at_start g.T.Predict g.met.T.Predict.laws c.args.max_depth c.args.body.now c.args.read c.args.unclosed old
+      mid = begun g.T.Predict g.met.T.Predict.laws c.args.max_depth c.args.body.now c.args.start.read c.args.start.unclosed old
+          c.args.start.read c.args.start.unclosed c.min-end.result old
+          (at_start g.T.Predict g.met.T.Predict.laws c.args.max_depth c.args.body.now c.args.start.read c.args.start.unclosed old
           (less_within _ _ c.requires.deep) c.requires.lawful);
     }
 
@@ -35,15 +35,15 @@ loop-next-init g c =
 pub returns-then-left-eq0 : goal.returns-then-left-eq0
 returns-then-left-eq0 g c = record {
   inside = subst (λ (k : ℕ). k ≤ g.row.N) (sym c.reject_at.ensures.count) (omega arith);
-  moves = one_behind c.args.read c.loop-next.next c.reject_at.result.tokens c.loop-next.invariant.from
+  moves = one_behind c.args.start.read c.loop-next.next c.reject_at.result.tokens c.loop-next.invariant.from
       c.reject_at.ensures.tokens;
   tokens = read_inside (length c.args.body.now) c.loop-next.next
-      (before_end _ c.args.read (c.args.max_depth - c.args.unclosed) c.min-end.result c.min-end.ensures
+      (before_end _ c.args.start.read (c.args.max_depth - c.args.start.unclosed) c.min-end.result c.min-end.ensures
       c.loop-next.next c.loop-next-test.true)
       c.reject_at.result.tokens c.reject_at.ensures.tokens;
   reads =
       let old : SliceState g.row.T.Denot =
-      record { table = c.args.table.now; stack = reverse (take c.args.count c.args.cells.now) } in
+      record { table = c.args.table.now; stack = reverse (take c.args.start.count c.args.cells.now) } in
       let now : SliceState g.row.T.Denot =
       record { table = c.loop-next.table; stack = reverse (take c.loop-next.left c.loop-next.cells) } in
       let inv = c.loop-next.invariant in
@@ -64,10 +64,10 @@ returns-then-left-eq0 g c = record {
       record { table = c.loop-next.table; stack = reverse (take c.reject_at.result.count c.loop-next.cells) } in
       let due : steps_at moves class now.stack ≡ 0 =
       ap (λ (k : ℕ). steps_at moves class (reverse (take k c.loop-next.cells))) c.if-left-eq0.true in
-      stops_here g.T.Predict g.met.T.Predict.laws c.args.max_depth c.args.body.now c.args.read c.args.unclosed old
+      stops_here g.T.Predict g.met.T.Predict.laws c.args.max_depth c.args.body.now c.args.start.read c.args.start.unclosed old
       i opened end t c.reject_at.result.tokens c.reject_at.result.unclosed c.reject_at.result.place now new inv.mid
       (token_inside (length c.args.body.now) i
-      (before_end _ c.args.read (c.args.max_depth - c.args.unclosed) end c.min-end.ensures i c.loop-next-test.true) _
+      (before_end _ c.args.start.read (c.args.max_depth - c.args.start.unclosed) end c.min-end.ensures i c.loop-next-test.true) _
       (tokens_of-length c.args.body.now))
       c.token_at-token.ensures.front c.token_at-token.ensures.rest
       (ap (λ (k : ℕ). stack_after moves class (reverse (take k c.loop-next.cells))) c.if-left-eq0.true)
@@ -81,7 +81,7 @@ returns-then-left-eq0 g c = record {
 pub loop-next-preserved-then-is_take : goal.loop-next-preserved-then-is_take
 loop-next-preserved-then-is_take g c =
     let old : SliceState g.row.T.Denot =
-    record { table = c.args.table.now; stack = reverse (take c.args.count c.args.cells.now) } in
+    record { table = c.args.table.now; stack = reverse (take c.args.start.count c.args.cells.now) } in
     let now : SliceState g.row.T.Denot =
     record { table = c.loop-next.table; stack = reverse (take c.loop-next.left c.loop-next.cells) } in
     let inv = c.loop-next.invariant in
@@ -104,14 +104,14 @@ loop-next-preserved-then-is_take g c =
     (top_some c.loop-next.left g.row.N c.if-left-eq0.false inv.inside) (omega arith) in
     let new : SliceState g.row.T.Denot =
     record { table = c.predict_token-answer.new.self; stack = reverse (take c.put-left.result c.put-left.new.cells) } in
-    let next = took g.T.Predict g.met.T.Predict.laws c.args.max_depth c.args.body.now c.args.read c.args.unclosed old
+    let next = took g.T.Predict g.met.T.Predict.laws c.args.max_depth c.args.body.now c.args.start.read c.args.start.unclosed old
     i opened end t ((opened + c.bracket_step-opened.result) % 65536) now new s below a inv.mid
     c.token_at-token.ensures.front c.token_at-token.ensures.rest top c.predict_token-answer.ensures.answer
     (sym c.is_take.ensures ∙ c.if-is_take.true) c.put-left.ensures.stack c.predict_token-answer.ensures.words_stay
     c.predict_token-answer.ensures.counts_each_answer less counted in
     record {
       inside = c.put-left.ensures.inside;
-      from = from_next c.args.read i inv.from;
+      from = from_next c.args.start.read i inv.from;
       upto = next_within i end c.loop-next-test.true;
       shallow = shallow_next opened end i c.args.max_depth inv.shallow c.loop-next-test.true _ next.1;
       mid = next.0;
@@ -121,7 +121,7 @@ loop-next-preserved-then-is_take g c =
 pub follow_word-requires : goal.follow_word-requires
 follow_word-requires g c =
     let old : SliceState g.row.T.Denot =
-    record { table = c.args.table.now; stack = reverse (take c.args.count c.args.cells.now) } in
+    record { table = c.args.table.now; stack = reverse (take c.args.start.count c.args.cells.now) } in
     let now : SliceState g.row.T.Denot =
     record { table = c.loop-next.table; stack = reverse (take c.loop-next.left c.loop-next.cells) } in
     let inv = c.loop-next.invariant in
@@ -134,10 +134,10 @@ follow_word-requires g c =
     let stack : reverse (take (c.loop-next.left - 1 + 1) c.loop-next.cells) ≡ now.stack =
     ap (λ (k : ℕ). reverse (take k c.loop-next.cells)) whole in
     let asked = c.predict_token-answer.new.self in
-    let said = said_same g.T.Predict g.met.T.Predict.laws c.args.max_depth c.args.body.now c.args.read c.args.unclosed
+    let said = said_same g.T.Predict g.met.T.Predict.laws c.args.max_depth c.args.body.now c.args.start.read c.args.start.unclosed
     old t now asked _ c.predict_token-answer.ensures.words_stay stack in
     let below = top_inside c.loop-next.left g.row.N c.if-left-eq0.false inv.inside in
-    let room = room_for g.T.Predict g.met.T.Predict.laws c.args.max_depth c.args.body.now c.args.read c.args.unclosed
+    let room = room_for g.T.Predict g.met.T.Predict.laws c.args.max_depth c.args.body.now c.args.start.read c.args.start.unclosed
     old
     i opened end g.row.N t now inv.mid less c.requires.at_depth_limit c.token_at-token.ensures.rest in (
       search rules,
@@ -156,15 +156,15 @@ follow_word-requires g c =
 pub returns-in_default : goal.returns-in_default
 returns-in_default g c = record {
   inside = subst (λ (k : ℕ). k ≤ g.row.N) (sym c.reject_at-in_default.ensures.count) (omega arith);
-  moves = one_behind c.args.read c.loop-next.next c.reject_at-in_default.result.tokens c.loop-next.invariant.from
+  moves = one_behind c.args.start.read c.loop-next.next c.reject_at-in_default.result.tokens c.loop-next.invariant.from
       c.reject_at-in_default.ensures.tokens;
   tokens = read_inside (length c.args.body.now) c.loop-next.next
-      (before_end _ c.args.read (c.args.max_depth - c.args.unclosed) c.min-end.result c.min-end.ensures
+      (before_end _ c.args.start.read (c.args.max_depth - c.args.start.unclosed) c.min-end.result c.min-end.ensures
       c.loop-next.next c.loop-next-test.true)
       c.reject_at-in_default.result.tokens c.reject_at-in_default.ensures.tokens;
   reads =
       let old : SliceState g.row.T.Denot =
-      record { table = c.args.table.now; stack = reverse (take c.args.count c.args.cells.now) } in
+      record { table = c.args.table.now; stack = reverse (take c.args.start.count c.args.cells.now) } in
       let now : SliceState g.row.T.Denot =
       record { table = c.loop-next.table; stack = reverse (take c.loop-next.left c.loop-next.cells) } in
       let inv = c.loop-next.invariant in
@@ -182,9 +182,9 @@ returns-in_default g c = record {
       let stack : reverse (take (c.loop-next.left - 1 + 1) c.loop-next.cells) ≡ now.stack =
       ap (λ (k : ℕ). reverse (take k c.loop-next.cells)) whole in
       let asked = c.predict_token-answer.new.self in
-      let said = said_same g.T.Predict g.met.T.Predict.laws c.args.max_depth c.args.body.now c.args.read c.args.unclosed
+      let said = said_same g.T.Predict g.met.T.Predict.laws c.args.max_depth c.args.body.now c.args.start.read c.args.start.unclosed
       old t now asked _ c.predict_token-answer.ensures.words_stay stack in
-      let due = due_same g.T.Predict g.met.T.Predict.laws c.args.max_depth c.args.body.now c.args.read c.args.unclosed
+      let due = due_same g.T.Predict g.met.T.Predict.laws c.args.max_depth c.args.body.now c.args.start.read c.args.start.unclosed
       old t now asked _ c.predict_token-answer.ensures.words_stay stack in
       let steps = c.follow_word.ensures.steps in
       let once = c.predict_token-answer.ensures.counts_each_answer in
@@ -192,11 +192,11 @@ returns-in_default g c = record {
         table = c.follow_word.new.table;
         stack = reverse (take c.reject_at-in_default.result.count c.follow_word.new.cells);
       } in
-      stops_here g.T.Predict g.met.T.Predict.laws c.args.max_depth c.args.body.now c.args.read c.args.unclosed old
+      stops_here g.T.Predict g.met.T.Predict.laws c.args.max_depth c.args.body.now c.args.start.read c.args.start.unclosed old
       i opened end t c.reject_at-in_default.result.tokens c.reject_at-in_default.result.unclosed
       c.reject_at-in_default.result.place now new inv.mid
       (token_inside (length c.args.body.now) i
-      (before_end _ c.args.read (c.args.max_depth - c.args.unclosed) end c.min-end.ensures i c.loop-next-test.true) _
+      (before_end _ c.args.start.read (c.args.max_depth - c.args.start.unclosed) end c.min-end.ensures i c.loop-next-test.true) _
       (tokens_of-length c.args.body.now))
       c.token_at-token.ensures.front c.token_at-token.ensures.rest
       (said ∙ c.in_default.ensures.reject_at)
@@ -210,7 +210,7 @@ returns-in_default g c = record {
 pub loop-next-preserved-then-is_stop : goal.loop-next-preserved-then-is_stop
 loop-next-preserved-then-is_stop g c =
     let old : SliceState g.row.T.Denot =
-    record { table = c.args.table.now; stack = reverse (take c.args.count c.args.cells.now) } in
+    record { table = c.args.table.now; stack = reverse (take c.args.start.count c.args.cells.now) } in
     let now : SliceState g.row.T.Denot =
     record { table = c.loop-next.table; stack = reverse (take c.loop-next.left c.loop-next.cells) } in
     let inv = c.loop-next.invariant in
@@ -228,22 +228,22 @@ loop-next-preserved-then-is_stop g c =
     let stack : reverse (take (c.loop-next.left - 1 + 1) c.loop-next.cells) ≡ now.stack =
     ap (λ (k : ℕ). reverse (take k c.loop-next.cells)) whole in
     let asked = c.predict_token-answer.new.self in
-    let said = said_same g.T.Predict g.met.T.Predict.laws c.args.max_depth c.args.body.now c.args.read c.args.unclosed
+    let said = said_same g.T.Predict g.met.T.Predict.laws c.args.max_depth c.args.body.now c.args.start.read c.args.start.unclosed
     old t now asked _ c.predict_token-answer.ensures.words_stay stack in
-    let due = due_same g.T.Predict g.met.T.Predict.laws c.args.max_depth c.args.body.now c.args.read c.args.unclosed old
+    let due = due_same g.T.Predict g.met.T.Predict.laws c.args.max_depth c.args.body.now c.args.start.read c.args.start.unclosed old
     t now asked _ c.predict_token-answer.ensures.words_stay stack in
     let steps = c.follow_word.ensures.steps in
     let once = c.predict_token-answer.ensures.counts_each_answer in
     let new : SliceState g.row.T.Denot =
     record { table = c.follow_word.new.table; stack = reverse (take c.in-Some.now c.follow_word.new.cells) } in
-    let next = goes_on g.T.Predict g.met.T.Predict.laws c.args.max_depth c.args.body.now c.args.read c.args.unclosed old
+    let next = goes_on g.T.Predict g.met.T.Predict.laws c.args.max_depth c.args.body.now c.args.start.read c.args.start.unclosed old
     i opened end t ((opened + c.bracket_step-opened-then-is_stop.result) % 65536) now new inv.mid
     c.token_at-token.ensures.front c.token_at-token.ensures.rest (said ∙ c.in-Some.ensures.taken)
     (c.follow_word.ensures.words ∙ c.predict_token-answer.ensures.words_stay) (1, omega arith, once_more _ _ _ _ _ due once steps) less
     counted in
     record {
       inside = c.in-Some.ensures.inside;
-      from = from_next c.args.read i inv.from;
+      from = from_next c.args.start.read i inv.from;
       upto = next_within i end c.loop-next-test.true;
       shallow = shallow_next opened end i c.args.max_depth inv.shallow c.loop-next-test.true _ next.1;
       mid = next.0;
@@ -253,7 +253,7 @@ loop-next-preserved-then-is_stop g c =
 pub loop-next-preserved : goal.loop-next-preserved
 loop-next-preserved g c =
     let old : SliceState g.row.T.Denot =
-    record { table = c.args.table.now; stack = reverse (take c.args.count c.args.cells.now) } in
+    record { table = c.args.table.now; stack = reverse (take c.args.start.count c.args.cells.now) } in
     let now : SliceState g.row.T.Denot =
     record { table = c.loop-next.table; stack = reverse (take c.loop-next.left c.loop-next.cells) } in
     let inv = c.loop-next.invariant in
@@ -278,7 +278,7 @@ loop-next-preserved g c =
       from = inv.from;
       upto = inv.upto;
       shallow = inv.shallow;
-      mid = skipped g.T.Predict g.met.T.Predict.laws c.args.max_depth c.args.body.now c.args.read c.args.unclosed old
+      mid = skipped g.T.Predict g.met.T.Predict.laws c.args.max_depth c.args.body.now c.args.start.read c.args.start.unclosed old
           i opened end t now new s a inv.mid c.loop-next-test.true c.token_at-token.ensures.rest top
           (c.predict_token-answer.ensures.answer stops) takes stops c.predict_token-answer.ensures.words_stay
           c.predict_token-answer.ensures.counts_each_answer;
@@ -287,23 +287,23 @@ loop-next-preserved g c =
 pub returns : goal.returns
 returns g c = record {
   inside = c.loop-next.invariant.inside;
-  moves = end_moves (length c.args.body.now) c.args.read (c.args.max_depth - c.args.unclosed) c.min-end.result
+  moves = end_moves (length c.args.body.now) c.args.start.read (c.args.max_depth - c.args.start.unclosed) c.min-end.result
       c.min-end.ensures c.requires.read (some_left _ _ c.requires.deep);
-  tokens = end_inside (length c.args.body.now) c.args.read (c.args.max_depth - c.args.unclosed) c.min-end.result
+  tokens = end_inside (length c.args.body.now) c.args.start.read (c.args.max_depth - c.args.start.unclosed) c.min-end.result
       c.min-end.ensures;
   reads =
       let old : SliceState g.row.T.Denot =
-      record { table = c.args.table.now; stack = reverse (take c.args.count c.args.cells.now) } in
+      record { table = c.args.table.now; stack = reverse (take c.args.start.count c.args.cells.now) } in
       let now : SliceState g.row.T.Denot =
       record { table = c.loop-next.table; stack = reverse (take c.loop-next.left c.loop-next.cells) } in
       let inv = c.loop-next.invariant in
       let last : c.loop-next.next ≡ c.min-end.result =
       all_of c.loop-next.next c.min-end.result inv.upto c.loop-next-test.false in
-      subst (λ (k : ℕ). ReadsTo g.T.Predict c.args.max_depth c.args.body.now c.args.read c.args.unclosed old k
+      subst (λ (k : ℕ). ReadsTo g.T.Predict c.args.max_depth c.args.body.now c.args.start.read c.args.start.unclosed old k
       (Some c.loop-next.opened) None now) last
-      (reads_all g.T.Predict g.met.T.Predict.laws c.args.max_depth c.args.body.now c.args.read c.args.unclosed old
+      (reads_all g.T.Predict g.met.T.Predict.laws c.args.max_depth c.args.body.now c.args.start.read c.args.start.unclosed old
       c.loop-next.next c.loop-next.opened now
-      (ended g.T.Predict g.met.T.Predict.laws c.args.max_depth c.args.body.now c.args.read c.args.unclosed old
+      (ended g.T.Predict g.met.T.Predict.laws c.args.max_depth c.args.body.now c.args.start.read c.args.start.unclosed old
       c.loop-next.next c.loop-next.opened c.min-end.result now last inv.mid));
   none_left = λ some. absurd cc;
 }
@@ -311,19 +311,19 @@ returns g c = record {
 -- the preconditions of the calls
 pub token_at-token-requires : goal.token_at-token-requires
 token_at-token-requires g c = whole_token (length c.args.body.now) c.loop-next.next
-    (before_end _ c.args.read (c.args.max_depth - c.args.unclosed) c.min-end.result c.min-end.ensures
+    (before_end _ c.args.start.read (c.args.max_depth - c.args.start.unclosed) c.min-end.result c.min-end.ensures
     c.loop-next.next c.loop-next-test.true)
 
 pub reject_at-requires : goal.reject_at-requires
 reject_at-requires g c =
     place_fits (length c.args.body.now) c.loop-next.next
-    (before_end _ c.args.read (c.args.max_depth - c.args.unclosed) c.min-end.result c.min-end.ensures
+    (before_end _ c.args.start.read (c.args.max_depth - c.args.start.unclosed) c.min-end.result c.min-end.ensures
     c.loop-next.next c.loop-next-test.true) c.requires.room
 
 pub reject_at-requires-in_default : goal.reject_at-requires-in_default
 reject_at-requires-in_default g c =
     place_fits (length c.args.body.now) c.loop-next.next
-    (before_end _ c.args.read (c.args.max_depth - c.args.unclosed) c.min-end.result c.min-end.ensures
+    (before_end _ c.args.start.read (c.args.max_depth - c.args.start.unclosed) c.min-end.result c.min-end.ensures
     c.loop-next.next c.loop-next-test.true) c.requires.room
 
 pub overflow_sub-top : goal.overflow_sub-top
@@ -343,7 +343,7 @@ predict_token-answer-requires g c = c.known-known.ensures
 pub put-left-requires : goal.put-left-requires
 put-left-requires g c =
     let old : SliceState g.row.T.Denot =
-    record { table = c.args.table.now; stack = reverse (take c.args.count c.args.cells.now) } in
+    record { table = c.args.table.now; stack = reverse (take c.args.start.count c.args.cells.now) } in
     let now : SliceState g.row.T.Denot =
     record { table = c.loop-next.table; stack = reverse (take c.loop-next.left c.loop-next.cells) } in
     let inv = c.loop-next.invariant in
@@ -355,7 +355,7 @@ put-left-requires g c =
       (
         c.requires.size,
         room_on_top c.loop-next.left g.row.N c.if-left-eq0.false inv.inside c.loop-next.cells (omega arith)
-            (low_enough g.T.Predict g.met.T.Predict.laws c.args.max_depth c.args.body.now c.args.read c.args.unclosed
+            (low_enough g.T.Predict g.met.T.Predict.laws c.args.max_depth c.args.body.now c.args.start.read c.args.start.unclosed
             old i opened end g.row.N now inv.mid less c.requires.at_depth_limit),
       ),
     )

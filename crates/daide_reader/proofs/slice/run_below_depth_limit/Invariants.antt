@@ -6,11 +6,11 @@ use Rattle.daide_reader.proofs.slice.run_below_depth_limit.Given as goal
 abbrev pub invariant-loop-next : goal.invariant-loop-next
 invariant-loop-next g l = record {
   inside : l.left ≤ g.row.N;
-  from : l.read ≤ l.next;
+  from : l.fn.start.read ≤ l.next;
   upto : l.next ≤ l.end;
   shallow : l.opened + (l.end - l.next) ≤ l.max_depth;
-  mid : MidToken g.T.Predict g.met.T.Predict.laws l.max_depth l.body l.read l.unclosed
-      (record { table = l.fn.table; stack = reverse (take l.fn.count l.fn.cells) })
+  mid : MidToken g.T.Predict g.met.T.Predict.laws l.max_depth l.body l.fn.start.read l.fn.start.unclosed
+      (record { table = l.fn.table; stack = reverse (take l.fn.start.count l.fn.cells) })
       l.next l.opened l.end (record { table = l.table; stack = reverse (take l.left l.cells) });
 }
 

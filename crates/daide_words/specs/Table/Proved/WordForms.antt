@@ -11,11 +11,11 @@ use Rattle.daide_grammar.specs.declared.level.Level.{Level}
 use Rattle.daide_grammar.specs.declared.symbol.Sym.{Sym}
 use Rattle.daide_grammar.specs.Level.{level_number}
 use Rattle.daide_grammar.specs.Classes.{class_number, own_classes}
-use Rattle.daide_grammar.specs.Forms.{TokenTest, is, any_but_brackets, is_of_kind, Slot, Press_slot, Arrangement_slot, Flat_slot, Added}
+use Rattle.daide_grammar.specs.Forms.{TokenTest, is, any_but_brackets, Slot, Press_slot, Arrangement_slot, Flat_slot, Added}
 use Rattle.daide_grammar.specs.Forms.{Form}
 use Rattle.daide_grammar.specs.Forms.{one, never, ◌·◌, tok, group, named, Dialect}
 use Rattle.daide_grammar.specs.Matches.{Matches, token, both, first, second, by_name}
-use Rattle.daide_grammar.specs.Table.Symbols.{form_of, Alternative, entries, slot_of}
+use Rattle.daide_grammar.specs.Table.Symbols.{form_of, Alternative, entries, slot_of, is_of_kind}
 use Rattle.daide_grammar.specs.SideMessages.{dialect_from}
 use Rattle.daide_grammar.specs.Table.Languages.{SymbolMatchesIn}
 use Rattle.daide_grammar.specs.Words.{AddedWord, Words, WordSlot, press_word, arrangement_word, operand_in, stands_in}
@@ -53,8 +53,7 @@ word-matches : (d : Dialect) (j k : ℕ) (f : Form) (t : ℕ) (w : List ℕ) →
     Matches d f w → Matches d (tok (Word j) · f) (t ∷ w)
 word-matches d j k f t w e q m =
     both {u = t ∷ []} {v = w}
-    (token (subst (λ (c : Class). is_of_kind (is (Word j)) c ≡ true) (sym e)
-    (eq-eqb (own_classes + j) (own_classes + k) (ap (λ n. own_classes + n) q)))) m
+    (token (e ∙ ap Word (sym q))) m
 
 -- a form that is allowed from a level on
 from-passes : (d : Dialect) (b : Bool) (f : Form) (w : List ℕ) → Matches d (elim b [ true ↦ f | false ↦ never ]) w →

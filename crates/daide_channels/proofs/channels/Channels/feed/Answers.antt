@@ -2,7 +2,7 @@ use Rattle.std.proofs.Common.{length, refl}
 use Rattle.daide_channels.proofs.AwaitedLemmas.{seen_free}
 use Rattle.daide_channels.proofs.FrontsKept.{fronts_side}
 use Rattle.daide_channels.proofs.SidesLemmas.{fits_side, grown, keeps_side, looked_side, raised_ended, read_sound}
-use Rattle.daide_channels.proofs.SidesLemmas.{same_if_read, told_of, waiting_side, whole_side}
+use Rattle.daide_channels.proofs.SidesLemmas.{same_if_read, told_of, waiting_side, held_side}
 use Rattle.daide_channels.proofs.channels.Channels.feed.Goals as goal
 
 pub feed-requires-clause-free : goal.feed-requires-clause-free
@@ -71,8 +71,8 @@ returns-clause-whole g c =
     let whole = rw c.at_mut.ensures.value at c.feed.ensures.whole in
     (told_of c.feed.new.self c.args.piece.now c.feed.result h reads (record { items = items; whole = whole })).whole
 
-pub returns-clause-full : goal.returns-clause-full
-returns-clause-full g c =
+pub returns-clause-held : goal.returns-clause-held
+returns-clause-held g c =
     let h = seen_free c.self.invariant c.self.view_is refl c.requires.free in
     let reads = rw c.at_mut.ensures.value at c.feed.ensures.reads in
-    λ bodied. whole_side h reads (c.feed.ensures.full bodied)
+    held_side c.feed.result h reads c.feed.ensures.held

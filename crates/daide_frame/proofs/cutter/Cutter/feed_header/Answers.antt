@@ -2,10 +2,10 @@ use Rattle.std.proofs.Common.{◌≡◌, ℕ, ◌+◌, ◌-◌, ◌<◌, ◌≤�
 use Rattle.std.proofs.Common.{arith, inl, inr}
 use Rattle.daide_frame.specs.declared.head.Head.{Head}
 use Rattle.daide_frame.specs.declared.code.Code.{Code}
-use Rattle.daide_frame.specs.declared.cutter.Step.TheVariants.{More, Fault, Headed, Bodied}
+use Rattle.daide_frame.specs.declared.cutter.Step.TheVariants.{More, Fault}
 use Rattle.daide_frame.specs.Frames.{Cut, missing, step_of_events, last_items, IsEnd}
 use Rattle.daide_frame.specs.Cutter.{IsFed}
-use Rattle.daide_frame.proofs.CutterLemmas.{in_header, refused_closed, empty_closed, empty_whole, consistent_short}
+use Rattle.daide_frame.proofs.CutterLemmas.{in_header, refused_closed, empty_closed, IsHeaderStep, header_held, consistent_short}
 use Rattle.daide_frame.proofs.CutterLemmas.{consistent_head, header_told, told_ok, header_step, step_of_events-empty}
 use Rattle.daide_frame.proofs.CutterLemmas.{step_of_events-begun, missing-header, length_of_header}
 use Rattle.daide_frame.proofs.HeaderFeeding.{bytes_put, short_fed, fourth_fed}
@@ -104,7 +104,7 @@ returns-in-Err-clause-fed g c =
     (step ∙ ap (λ (r : Result Head Code). step_of_events (at_head r)) read)
     (header_told a.cap n c.put.new.header a.body.items (Err c.in-Err.code) (Fault c.in-Err.code) whole four h.no_body
     read refl)
-    (λ k. absurd (cc))
+    tt
     (λ _. refused_closed a.cap n c.put.new.header a.body.items c.in-Err.code whole four read))
 
 pub returns-after-head-eq0-clause-fed : goal.returns-after-head-eq0-clause-fed
@@ -123,6 +123,10 @@ returns-after-head-eq0-clause-fed g c =
     let size = length_of_header n c.put.new.header a.body.items (omega (arith, whole)) four h.no_body in
     let old = length_of_header a.have a.header a.body.items (omega (arith, h.less)) c.self.told h.no_body in
     let new = take (a.have + length p) c.put.new.header ++ a.body.items in
+    let at : IsHeaderStep c.in-Ok.head c.if-head-eq0.result = elim c.if-head-eq0.branch [
+      | then-head-eq0 w ↦ inl (w.if-head-eq0.true, w.result-is)
+      | else-head-eq0 w ↦ inr (w.if-head-eq0.false, w.result-is)
+    ] in
     let step : step_of_events (last_items a.cap new) ≡ step_of_events (at_head (Ok c.in-Ok.head)) =
     header_step a.cap n c.put.new.header a.body.items whole four h.no_body
     ∙ ap (λ (r : Result Head Code). step_of_events (at_head r)) read in
@@ -135,15 +139,8 @@ returns-after-head-eq0-clause-fed g c =
       | else-head-eq0 w ↦ step ∙ step_of_events-begun c.in-Ok.head w.if-head-eq0.false ∙ sym w.result-is
     ])
     (header_told a.cap n c.put.new.header a.body.items (Ok c.in-Ok.head) c.if-head-eq0.result whole four h.no_body read
-    (told_ok c.in-Ok.head c.if-head-eq0.result (elim c.if-head-eq0.branch [
-      | then-head-eq0 w ↦ inl (w.if-head-eq0.true, w.result-is)
-      | else-head-eq0 w ↦ inr (w.if-head-eq0.false, w.result-is)
-    ])))
-    (λ told. empty_whole a.cap n c.put.new.header a.body.items c.in-Ok.head whole four h.no_body read
-    (elim c.if-head-eq0.branch [
-      | then-head-eq0 w ↦ w.if-head-eq0.true
-      | else-head-eq0 w ↦ absurd (let k : Headed ≡ Bodied = sym w.result-is ∙ told in cc)
-    ]))
+    (told_ok c.in-Ok.head c.if-head-eq0.result at))
+    (header_held a.cap n c.put.new.header a.body.items c.in-Ok.head c.if-head-eq0.result whole four h.no_body read at)
     (λ ends. empty_closed a.cap n c.put.new.header a.body.items c.in-Ok.head whole four h.no_body read
     (elim c.if-head-eq0.branch [
       | then-head-eq0 w ↦ w.if-head-eq0.true

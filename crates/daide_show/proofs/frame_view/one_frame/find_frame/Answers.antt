@@ -1,6 +1,5 @@
-use Rattle.std.proofs.Common.{◌≡◌, drop, ℕ, length, List, ◌++◌, Option, arith, ap, ◌∙◌, sym, append_assoc}
-use Rattle.daide_frame.specs.declared.head.Head.{Head}
-use Rattle.daide_frame.specs.Frames.{items_of_step, fed, fed_items, missing}
+use Rattle.std.proofs.Common.{◌≡◌, ℕ, length, List, ◌++◌, arith, ap, ◌∙◌, sym, append_assoc}
+use Rattle.daide_frame.specs.Frames.{fed, fed_items, missing}
 use Rattle.daide_show.proofs.OneFrame.{found_short, room_of_header, header_found, header_begun, body_found}
 use Rattle.daide_show.proofs.OneFrame.{nothing_left}
 use Rattle.daide_show.proofs.frame_view.one_frame.find_frame.Goals as goal
@@ -17,11 +16,10 @@ pub returns-in_default : goal.returns-in_default
 returns-in_default g c =
     header_found c.args.cutter.now.cap c.args.bytes.now c.split_at.result.0.now c.split_at.result.1.now
     c.feed.new.self.bytes
-    c.feed.result c.head.result c.is_empty.result c.found_of.result c.split_at.ensures.by_index.0
+    c.feed.result c.is_empty.result c.found_of.result c.split_at.ensures.by_index.0
     c.split_at.ensures.front_len
     (rw c.requires at c.feed.ensures.bytes)
-    ((rw c.requires at c.feed.ensures.items)
-    ∙ ap (λ (o : Option Head). items_of_step c.feed.result o (drop 4 c.feed.new.self.bytes)) (sym c.head.ensures))
+    (rw c.requires at c.feed.ensures.items)
     (rw c.requires at c.feed.ensures.whole)
     c.in_default.not-Headed
     c.is_empty.ensures
@@ -48,13 +46,11 @@ returns g c =
     let size = c.split_at-2.ensures.front_len in
     let left = c.split_at-2.ensures.back_len in
     let least = c.min.ensures in
-    body_found cap c.args.bytes.now fed_header body after c.feed-step.new.self.bytes begun.1.0 c.feed-step.result
-    c.head-2.result c.is_empty-2.result c.found_of-2.result
-    split four begun.1.1 (omega arith) (λ some. nothing_left after (omega arith))
+    body_found cap c.args.bytes.now fed_header body after c.feed-step.new.self.bytes _ c.feed-step.result
+    c.is_empty-2.result c.found_of-2.result
+    split four begun.1 (omega arith) (λ some. nothing_left after (omega arith))
     (c.feed-step.ensures.bytes ∙ ap (λ (k : ℕ). fed k fed_header body) c.feed.ensures.cap)
-    (ap (λ (k : ℕ). fed_items k fed_header body) (sym c.feed.ensures.cap) ∙ c.feed-step.ensures.items
-    ∙ ap (λ (o : Option Head). items_of_step c.feed-step.result o (drop 4 c.feed-step.new.self.bytes))
-    (sym c.head-2.ensures))
+    (ap (λ (k : ℕ). fed_items k fed_header body) (sym c.feed.ensures.cap) ∙ c.feed-step.ensures.items)
     c.feed-step.ensures.whole
     c.is_empty-2.ensures
     c.found_of-2.ensures

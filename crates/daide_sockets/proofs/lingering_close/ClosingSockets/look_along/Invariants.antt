@@ -1,7 +1,11 @@
+use Rattle.std.proofs.Common.{◌≡◌}
 use Rattle.daide_sockets.specs.Lingering.{LooksAlong}
 use Rattle.daide_sockets.proofs.lingering_close.ClosingSockets.look_along.Given as goal
 
--- the streams checked so far
+-- the streams checked so far, at the same reading of the clock
 abbrev pub invariant-loop-place : goal.invariant-loop-place
-invariant-loop-place g l =
-    LooksAlong g.S.Duplex.to_give g.S.Duplex.taken g.S.Duplex.calls l.fn.now l.fn.from l._place l.initial.self l.at l.self
+invariant-loop-place g l = record {
+  looked : LooksAlong g.S.Duplex.to_give g.S.Duplex.taken g.S.Duplex.calls l.fn.now l.fn.from l._place l.initial.self l.at
+      l.self;
+  clock : l.table.reading ≡ l.initial.table.reading;
+}

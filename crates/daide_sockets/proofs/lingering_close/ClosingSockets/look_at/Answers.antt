@@ -2,18 +2,18 @@ use Rattle.std.proofs.Common.{ap, length, arith, refl}
 use Rattle.daide_sockets.proofs.LingeringLemmas.{lingers_here, leaves_here}
 use Rattle.daide_sockets.proofs.lingering_close.ClosingSockets.look_at.Goals as goal
 
-pub returns-then-lingers : goal.returns-then-lingers
-returns-then-lingers g c =
+pub returns-then-goes_on-clause-looks : goal.returns-then-goes_on-clause-looks
+returns-then-goes_on-clause-looks g c =
     let len = ap length c.self.view_is in
     let inside = c.requires in
     lingers_here g.S.Duplex.to_give g.S.Duplex.taken g.S.Duplex.calls c.args.now c.self.inside.sockets.items c.args.self.now _ c.args.at
-    c.index_mut-closing.result.now c.lingers.new.self c.self.view_is (omega (arith, len, inside))
-    c.index_mut-closing.ensures.value refl (c.lingers.ensures.lingers c.if-lingers.true)
+    c.index_mut-closing.result.now c.goes_on.new.self c.self.view_is (omega (arith, len, inside))
+    c.index_mut-closing.ensures.value refl (c.goes_on.ensures.lingers c.if-goes_on.true)
 
-pub returns : goal.returns
-returns g c =
+pub returns-clause-looks : goal.returns-clause-looks
+returns-clause-looks g c =
     let len = ap length c.self.view_is in
     let inside = c.requires in
     leaves_here g.S.Duplex.to_give g.S.Duplex.taken g.S.Duplex.calls c.args.now c.self.inside.sockets.items c.args.self.now _ c.args.at
-    c.index_mut-closing.result.now c.lingers.new.self c.self.view_is (omega (arith, len, inside))
-    c.index_mut-closing.ensures.value c.remove.ensures.items (c.lingers.ensures.leaves c.if-lingers.false)
+    c.index_mut-closing.result.now c.goes_on.new.self c.self.view_is (omega (arith, len, inside))
+    c.index_mut-closing.ensures.value c.remove.ensures.items (c.goes_on.ensures.leaves c.if-goes_on.false)

@@ -5,8 +5,8 @@ use Rattle.daide_sockets.proofs.lingering_close.Closings.finish.Goals as goal
 pub returns-then-is_empty : goal.returns-then-is_empty
 returns-then-is_empty g c = (
   c.loop-round._round + 1,
-  one_round_more g.S.Duplex.to_give g.S.Duplex.taken g.S.Duplex.calls _ _ _ _ c.loop-round.invariant c.advance.ensures,
-  inl (c.is_empty.ensures c.if-is_empty.true),
+  one_round_more g.S.Duplex.to_give g.S.Duplex.taken g.S.Duplex.calls _ _ _ _ c.loop-round.invariant (_, c.advance.ensures.looks),
+  inl (c.is_empty.ensures.none c.if-is_empty.true),
 )
 
 pub returns : goal.returns
@@ -17,4 +17,4 @@ returns g c =
 
 pub loop-round-preserved : goal.loop-round-preserved
 loop-round-preserved g c =
-    one_round_more g.S.Duplex.to_give g.S.Duplex.taken g.S.Duplex.calls _ _ _ _ c.loop-round.invariant c.advance.ensures
+    one_round_more g.S.Duplex.to_give g.S.Duplex.taken g.S.Duplex.calls _ _ _ _ c.loop-round.invariant (_, c.advance.ensures.looks)

@@ -6,5 +6,6 @@ returns-clause-tries g c =
     let stalled = c.give_up_stalled.ensures in
     let flushed = c.flush_at.ensures in
     tried_writing g.S.Duplex.to_give g.S.Duplex.taken g.S.Duplex.calls c.args.now _ _ _ _ _ _ c.self.view_is stalled.gives_up
-    (λ h. (stalled.waits h).0) (λ h. (stalled.waits h).1) stalled.stall_time flushed.written
+    (λ h. (stalled.waits h).0) (λ h. (stalled.waits h).1) stalled.stall_time
+    (λ h. (_, _, flushed.written h))
     (λ h. (flushed.nothing h).0) flushed.waits flushed.stall_time

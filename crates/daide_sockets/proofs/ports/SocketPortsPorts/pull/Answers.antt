@@ -15,3 +15,21 @@ returns-in-Server-clause-transition g c =
     (pulled_moves g.S.Duplex.to_give g.S.Duplex.taken _ _ Server (length c.args.buffer.now) c.pull_or_flush_peer-in-Server.result
     c.pull_or_flush_peer-in-Server.new.buffer c.pull_or_flush_peer-in-Server.ensures.own c.pull_or_flush_peer-in-Server.ensures.other
     c.pull_or_flush_peer-in-Server.ensures.unread)
+
+pub returns-in-Bot-clause-asked : goal.returns-in-Bot-clause-asked
+returns-in-Bot-clause-asked g c = rw c.in-Bot.is c.pull_or_flush_peer.ensures.asked
+
+pub returns-in-Bot-clause-none_left : goal.returns-in-Bot-clause-none_left
+returns-in-Bot-clause-none_left g c = rw c.in-Bot.is c.pull_or_flush_peer.ensures.none_left
+
+pub returns-in-Bot-clause-written : goal.returns-in-Bot-clause-written
+returns-in-Bot-clause-written g c = rw c.in-Bot.is c.pull_or_flush_peer.ensures.written
+
+pub returns-in-Server-clause-asked : goal.returns-in-Server-clause-asked
+returns-in-Server-clause-asked g c = rw c.in-Server.is c.pull_or_flush_peer-in-Server.ensures.asked
+
+pub returns-in-Server-clause-none_left : goal.returns-in-Server-clause-none_left
+returns-in-Server-clause-none_left g c = rw c.in-Server.is c.pull_or_flush_peer-in-Server.ensures.none_left
+
+pub returns-in-Server-clause-written : goal.returns-in-Server-clause-written
+returns-in-Server-clause-written g c = rw c.in-Server.is c.pull_or_flush_peer-in-Server.ensures.written

@@ -13,3 +13,15 @@ returns-in-Server-clause-transition g c =
     rw c.in-Server.is
     (offered_moves g.S.Duplex.to_give g.S.Duplex.taken _ _ Server c.args.bytes.now c.put_or_flush_peer-in-Server.result
     c.put_or_flush_peer-in-Server.ensures.own c.put_or_flush_peer-in-Server.ensures.other c.put_or_flush_peer-in-Server.ensures.unread)
+
+pub returns-in-Bot-clause-full : goal.returns-in-Bot-clause-full
+returns-in-Bot-clause-full g c = rw c.in-Bot.is c.put_or_flush_peer.ensures.full
+
+pub returns-in-Bot-clause-written : goal.returns-in-Bot-clause-written
+returns-in-Bot-clause-written g c = rw c.in-Bot.is c.put_or_flush_peer.ensures.written
+
+pub returns-in-Server-clause-full : goal.returns-in-Server-clause-full
+returns-in-Server-clause-full g c = rw c.in-Server.is c.put_or_flush_peer-in-Server.ensures.full
+
+pub returns-in-Server-clause-written : goal.returns-in-Server-clause-written
+returns-in-Server-clause-written g c = rw c.in-Server.is c.put_or_flush_peer-in-Server.ensures.written

@@ -1,4 +1,4 @@
-use Rattle.std.proofs.Common.{◌≡◌, List, ◌∷◌, refl, rules}
+use Rattle.std.proofs.Common.{refl, rules}
 use Rattle.daide_sockets.proofs.system.Sockets.look_at_first.Goals as goal
 
 pub returns-in-Ok : goal.returns-in-Ok

@@ -1,0 +1,74 @@
+-- What a run knows when it waits. The last turn of each session made no progress and was ended, no call was made on its
+-- ports since, and there is no news for them. No bot came, and no connect has a result. (own)
+use Rattle.std.specs.Prelude.{◌≡◌, ℕ, ◌<◌, ◌⊎◌, ◌++◌, ◌==◌, min, true, false, List, [], ◌∷◌, length, Contains, All}
+use Rattle.daide_frame.specs.declared.side.Side.{Side}
+use Rattle.daide_protocol.specs.Wires.{SessionView, queued, front_of, room_of, no_frame}
+use Rattle.daide_io.specs.declared.ports.Pull.{Pull}
+use Rattle.daide_io.specs.declared.ports.Pull.TheVariants.{Got, Idle}
+use Rattle.daide_io.specs.declared.ports.Put.TheVariants.{Took}
+use Rattle.daide_io.specs.Ports.{PortCall, TurnBegins, Clock, Pulled, Offered, EvolvesBy}
+use Rattle.daide_io.specs.declared.system.Connect.TheVariants.{Pending}
+use Rattle.daide_io.specs.System.{SystemCall, ReportsNews, EndsTurn, Accepts, Connects, Waits}
+use Rattle.daide_driver.specs.Turn.{Turn, most_pulled}
+use Rattle.daide_settings.specs.declared.settings.Settings.{Settings}
+use Rattle.daide_event_loop.specs.QuotaPorts.{QuotaPortsView}
+use Rattle.daide_event_loop.specs.Serving.{ServiceView, may_accept, Round, Rounds, initial_service, is_done}
+
+-- ---- a turn without progress
+
+-- a call without progress: the IM timer had not expired; a pull returned neither a byte nor an end; a put took no byte,
+-- and did not fail
+abbrev pub MakesNoProgress : PortCall → Type 0
+MakesNoProgress TurnBegins = Unit {0}
+MakesNoProgress (Clock im_timer_expired) = im_timer_expired ≡ false
+MakesNoProgress (Pulled side buffer pull bytes) = (pull ≡ Idle) ⊎ (pull ≡ Got 0)
+MakesNoProgress (Offered side bytes put) = put ≡ Took 0
+
+-- if the session has room for bytes from a side, one of these calls pulled from the side
+abbrev pub PullsIfRoom : Side → SessionView → List PortCall → Type 0
+PullsIfRoom side session calls = 0 < room_of session side →
+    (pull : Pull) × (bytes : List ℕ) × Contains calls (Pulled side (min (room_of session side) most_pulled) pull bytes)
+
+-- if bytes are queued for a side, one of these calls offered their front, and none were taken
+abbrev pub OffersIfQueued : Side → SessionView → List PortCall → Type 0
+OffersIfQueued side session calls = no_frame (queued session side) ≡ false →
+    Contains calls (Offered side (front_of session side) (Took 0))
+
+-- The last turn of a session made no progress. By this turn its ports came to their present value. The IM timer had not
+-- expired. Each side for whose bytes the session has room was pulled, and returned none. To each side for which bytes
+-- are queued the front was offered, and none were taken.
+pub record IsIdleSession {P : Type 0} (transition : P → PortCall → P → Type 0)
+    (place : SessionView × QuotaPortsView P) : Type 0 where
+  pub session : SessionView
+  pub ports : P
+  pub turn : List PortCall
+  pub runs : Turn session turn place.0
+  pub evolves : EvolvesBy transition ports (TurnBegins ∷ turn) place.1.ports
+  pub still : All MakesNoProgress turn
+  pub clock : Contains turn (Clock false)
+  pub pulled : (side : Side) → PullsIfRoom side place.0 turn
+  pub offered : (side : Side) → OffersIfQueued side place.0 turn
+
+-- ---- a wait
+
+-- A session at a wait: it is idle. The system ended its last turn with the ports as they are now, so they were not
+-- called since. In the round that waits the system did that, or it reported no news for these ports.
+pub record IsIdleAtWait {P : Type 0} (transition : P → PortCall → P → Type 0) (before round : List (SystemCall P))
+    (place : SessionView × QuotaPortsView P) : Type 0 where
+  pub idle : IsIdleSession transition place
+  pub ended : Contains (before ++ round) (EndsTurn place.1.ports)
+  pub asked : Contains round (EndsTurn place.1.ports) ⊎ Contains round (ReportsNews place.1.ports false)
+
+-- A run at a wait, after this round: each session is idle. If one more bot may be accepted, the system was asked for one
+-- in the round, and none came. If connects are under way, it was asked for a result, and none had one.
+pub record IsIdleRun {P : Type 0} (transition : P → PortCall → P → Type 0) (before round : List (SystemCall P))
+    (run : ServiceView P) : Type 0 where
+  pub sessions : All (IsIdleAtWait transition before round) run.hub.places
+  pub bots : may_accept run.counters (length run.hub.places) ≡ true → Contains round (Accepts false)
+  pub connects : (run.counters.connecting == 0) ≡ false → Contains round (Connects Pending)
+
+-- In each round of a run that ends with a wait, the run is idle at the wait.
+abbrev pub RunsAreIdleAtWaits : {P : Type 0} → (P → PortCall → P → Type 0) → Type 0
+RunsAreIdleAtWaits {P} transition = (settings : Settings) (n : ℕ) (before round : List (SystemCall P))
+    (mid run : ServiceView P) → Rounds transition n (initial_service settings) before mid → is_done mid ≡ false →
+    Round transition mid (round ++ Waits ∷ []) run → IsIdleRun transition before round run

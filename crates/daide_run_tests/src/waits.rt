@@ -1,0 +1,44 @@
+//! When the IM timer of a session is reported, for sockets over streams in memory.
+
+use crate::wires::{Wire, WirePorts, still_poller};
+use daide_buffered_io::pool::Pool;
+use daide_io::ports::Ports;
+use daide_sockets::ports::{Socket, SocketPorts};
+use daide_sockets::table::SocketTable;
+use daide_test_support::rows::same;
+use std::test::Fail;
+
+/// Returns the ports of a session in the second and the third row, which has nothing to do.
+fn idle_ports(pool: &Pool) -> WirePorts<'_> {
+    SocketPorts::new(
+        Socket::over(pool, Wire::new(&[], 0), 1),
+        Socket::over(pool, Wire::new(&[], 0), 2),
+    )
+}
+
+/// Begins a turn, and returns the results of two timer queries in it.
+fn popped_in_turn(ports: &mut WirePorts<'_>, table: &mut SocketTable) -> (bool, bool) {
+    ports.begin_turn(table);
+    (ports.clock_popped(), ports.clock_popped())
+}
+
+/// Returns the results of timer queries before and in two turns, where the deadline is past.
+fn told_of(pool: &Pool, table: &mut SocketTable) -> (bool, (bool, bool), (bool, bool)) {
+    let now = table.now();
+    let mut ports = idle_ports(pool).of_session(1, now, now, (None, None));
+    let before = ports.clock_popped();
+    let first = popped_in_turn(&mut ports, table);
+    (before, first, popped_in_turn(&mut ports, table))
+}
+
+/// An expired IM timer is returned in one turn, however often it is queried there, and not before a turn begins.
+#[test]
+fn moment_is_told_once(rt: HostRuntime) -> Result<(), Fail> {
+    let mut poller = still_poller(&rt)?;
+    let told = told_of(&Pool::new(rt.alloc()), &mut poller.table);
+    same(
+        &told,
+        &(false, (true, true), (false, false)),
+        &"told in one turn, and told no more",
+    )
+}

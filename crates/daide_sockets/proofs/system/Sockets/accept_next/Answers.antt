@@ -1,0 +1,16 @@
+use Rattle.std.proofs.Common.{rules}
+use Rattle.daide_sockets.proofs.system.Sockets.accept_next.Goals as goal
+
+pub returns-clause-comes : goal.returns-clause-comes
+returns-clause-comes g c = record {
+  arrival = c.new-arrival.result;
+  came = search rules;
+  arrivals = search rules;
+  number = search rules;
+  bot = search rules;
+  server = search rules;
+  closing = search rules;
+}
+
+pub returns-clause-im_due : goal.returns-clause-im_due
+returns-clause-im_due g c = (c.new-arrival.result, search rules, search rules)

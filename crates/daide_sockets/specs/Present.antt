@@ -1,0 +1,28 @@
+-- The hosts of the bots of a run that are there: those with a connect under way, and those of sessions. (own)
+use Rattle.std.specs.Prelude.{◌≡◌, ℕ, ◌+◌, ◌==◌, nat_lt, true, List, [], ◌∷◌, ◌++◌, length, remove, if◌then◌else◌}
+use Rattle.std.specs.Net.Socket.{socket_ip}
+use Rattle.daide_settings.specs.Ranges.{host_of, may_come}
+use Rattle.daide_settings.specs.declared.settings.ranges.AddressRange.{AddressRange}
+use Rattle.daide_settings.specs.declared.settings.ranges.Host.{Host}
+use Rattle.daide_sockets.specs.declared.session_notice.SessionNotice.{SessionNotice}
+use Rattle.daide_sockets.specs.declared.session_notice.SessionNotice.TheVariants.{Began}
+
+-- the position of a number; the length of the list if it is not there
+abbrev pub position_of : ℕ → List ℕ → ℕ
+position_of number [] = 0
+position_of number (first ∷ others) = if first == number then 0 else 1 + position_of number others
+
+-- a list without its element at a position, if there is one
+abbrev pub without_at : {X : Type 0} → ℕ → List X → List X
+without_at at list = if nat_lt at (length list) then remove list at else list
+
+-- The bot of a session that began may come, beside these hosts.
+abbrev pub IsAllowed : List AddressRange → ℕ → List Host → SessionNotice → Type 0
+IsAllowed allow most present (Began number bot) = may_come allow most present (host_of (socket_ip bot)) ≡ true
+IsAllowed allow most present _ = ⊥
+
+-- The bot of a session that began is the last of those present, with its number and its host.
+abbrev pub IsPresentWith : List ℕ → List Host → SessionNotice → List ℕ → List Host → Type 0
+IsPresentWith numbers hosts (Began number bot) new_numbers new_hosts =
+    (new_numbers ≡ numbers ++ number ∷ []) × (new_hosts ≡ hosts ++ host_of (socket_ip bot) ∷ [])
+IsPresentWith numbers hosts _ new_numbers new_hosts = ⊥

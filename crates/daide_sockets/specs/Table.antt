@@ -1,0 +1,175 @@
+-- The table of a run: what polls reported of its sockets, their nearest deadlines, and the time of a wait. (own)
+use Rattle.std.specs.Prelude.{◌≡◌, ℕ, ◌-◌, nat_le, if◌then◌else◌, Bool, true, false, ◌||◌, List, [], ◌∷◌}
+use Rattle.std.specs.Prelude.{Option, Some, None, slice_get, slice_set}
+use Rattle.std.specs.Duration.{as_nanos}
+use Rattle.std.specs.Time.{instant_nanos}
+use Rattle.std.specs.declared.time.Duration.{Duration}
+use Rattle.std.specs.declared.time.Instant.{Instant}
+use Rattle.daide_buffered_io.specs.declared.readiness.Readiness.{Readiness}
+use Rattle.daide_io.specs.declared.network.SocketEvent.{SocketEvent}
+use Rattle.daide_io.specs.Network.{NetworkCall, Polls, ReadsClock}
+use Rattle.daide_sockets.specs.declared.table.Row.{Row}
+use Rattle.daide_sockets.specs.Times.{is_past}
+
+-- the last reading of the clock; the turns since the last poll; whether a poll since the last wait reported something;
+-- the most rows; and those that were ever taken, each of which is named by its position
+pub record Table : Type 0 where
+  pub reading : Option Instant
+  pub turns : ℕ
+  pub has_news : Bool
+  pub max_rows : ℕ
+  pub rows : List Row
+
+-- ---- one row
+
+-- nothing is reported
+abbrev pub no_report : Readiness
+no_report = record { may_read = false; may_write = false; reads_on = false }
+
+-- two reports together
+abbrev pub merged : Readiness → Readiness → Readiness
+merged one other = record {
+  may_read = one.may_read || other.may_read;
+  may_write = one.may_write || other.may_write;
+  reads_on = one.reads_on || other.reads_on;
+}
+
+-- what an event reports
+abbrev pub report_of : SocketEvent → Readiness
+report_of event = record { may_read = event.may_read; may_write = event.may_write; reads_on = event.reads_on }
+
+-- whether a report has something
+abbrev pub has_report : Readiness → Bool
+has_report report = report.may_read || report.may_write || report.reads_on
+
+-- a row without a socket
+abbrev pub free_row : Row
+free_row = record { is_taken = false; report = no_report; has_work = false; due = None }
+
+abbrev pub row_or_free : Option Row → Row
+row_or_free None = free_row
+row_or_free (Some row) = row
+
+-- the row with a key; a free one if there is none
+abbrev pub row_at : List Row → ℕ → Row
+row_at rows key = row_or_free (slice_get rows key)
+
+-- the rows with another row at a key
+abbrev pub changed : List Row → ℕ → Row → List Row
+changed rows key row = slice_set rows key row
+
+-- what polls reported of a socket since it last took the report
+abbrev pub report_at : Table → ℕ → Readiness
+report_at table key = (row_at table.rows key).report
+
+-- News for a socket: a report that it did not take, something that may be done at once, or a deadline that is past.
+abbrev pub has_news_at : Table → ℕ → Bool
+has_news_at table key = has_report (row_at table.rows key).report || (row_at table.rows key).has_work
+    || is_past table.reading (row_at table.rows key).due
+
+-- ---- changes of a row
+
+-- a row is freed
+abbrev pub freed : Table → ℕ → Table
+freed table key = record table { rows = changed table.rows key free_row }
+
+-- a socket takes the report of its row
+abbrev pub without_report : Table → ℕ → Table
+without_report table key =
+    record table { rows = changed table.rows key (record (row_at table.rows key) { report = no_report }) }
+
+-- a socket has another nearest deadline
+abbrev pub with_due : Table → ℕ → Option Instant → Table
+with_due table key due = record table { rows = changed table.rows key (record (row_at table.rows key) { due = due }) }
+
+-- a turn leaves a socket with work or without it, and with this nearest deadline
+abbrev pub left_with : Table → ℕ → Bool → Option Instant → Table
+left_with table key has_work due =
+    record table { rows = changed table.rows key (record (row_at table.rows key) { has_work = has_work; due = due }) }
+
+-- ---- a poll
+
+-- an event is added to the report of its row
+abbrev pub with_event : List Row → SocketEvent → List Row
+with_event rows event = changed rows event.key
+    (record (row_at rows event.key) { report = merged (row_at rows event.key).report (report_of event) })
+
+-- all events are added to the reports of their rows
+abbrev pub with_events : List Row → List SocketEvent → List Row
+with_events rows [] = rows
+with_events rows (event ∷ events) = with_events (with_event rows event) events
+
+abbrev pub is_some_news : List SocketEvent → Bool
+is_some_news [] = false
+is_some_news (event ∷ events) = true
+
+-- a poll reported these events
+abbrev pub with_news : Table → List SocketEvent → Table
+with_news table news =
+    record table { turns = 0; has_news = table.has_news || is_some_news news; rows = with_events table.rows news }
+
+-- the last reading stays if there is no other
+abbrev pub latest : Option Instant → Option Instant → Option Instant
+latest old None = old
+latest old (Some reading) = Some reading
+
+-- the network was polled once, for this time, and then its clock was read; all that it reported is in the rows
+pub record PollsOnce {N C : Type 0} (transition : N → NetworkCall C → N → Type 0) (timeout : Option Duration) (old : N)
+    (before : Table) (new : N) (after : Table) : Type 0 where
+  pub news : List SocketEvent
+  pub polled : N
+  pub reading : Option Instant
+  pub polls : transition old (Polls timeout news) polled
+  pub reads : transition polled (ReadsClock reading) new
+  pub table : after ≡ record (with_news before news) { reading = latest before.reading reading }
+
+-- ---- a wait
+
+-- the earlier of two moments
+abbrev pub earlier : Option Instant → Option Instant → Option Instant
+earlier None other = other
+earlier (Some one) None = Some one
+earlier (Some one) (Some other) = if nat_le (instant_nanos one) (instant_nanos other) then Some one else Some other
+
+-- the earliest of a moment and the deadlines of the rows
+abbrev pub nearest : Option Instant → List Row → Option Instant
+nearest found [] = found
+nearest found (row ∷ rows) = nearest (earlier found row.due) rows
+
+-- whether this is so or some row has work
+abbrev pub any_work : Bool → List Row → Bool
+any_work found [] = found
+any_work found (row ∷ rows) = any_work (found || row.has_work) rows
+
+-- A wait must not block after a poll that reported something, nor while a socket has work.
+abbrev pub has_pending : Table → Bool
+has_pending table = table.has_news || any_work false table.rows
+
+-- the time from a reading of the clock until a moment: none without either
+abbrev pub IsUntil : Option Instant → Option Instant → Option Duration → Type 0
+IsUntil None moment time = time ≡ None
+IsUntil (Some now) None time = time ≡ None
+IsUntil (Some now) (Some moment) None = ⊥
+IsUntil (Some now) (Some moment) (Some time) = as_nanos time ≡ instant_nanos moment - instant_nanos now
+
+-- no time at all
+abbrev pub IsNoTime : Option Duration → Type 0
+IsNoTime None = ⊥
+IsNoTime (Some time) = as_nanos time ≡ 0
+
+abbrev pub IsWaitTimeIf : Bool → Table → Option Duration → Type 0
+IsWaitTimeIf true table time = IsNoTime time
+IsWaitTimeIf false table time = IsUntil table.reading (nearest None table.rows) time
+
+-- A wait lasts at most until the next deadline, and for ever if there is none. It takes no time if something is pending.
+abbrev pub IsWaitTime : Table → Option Duration → Type 0
+IsWaitTime table time = IsWaitTimeIf (has_pending table) table time
+
+-- A wait: one poll, for the time of a wait. From then on what polls reported before is no reason not to block.
+pub record WaitsOnce {N C : Type 0} (transition : N → NetworkCall C → N → Type 0) (old : N) (before : Table) (new : N)
+    (after : Table) : Type 0 where
+  pub time : Option Duration
+  pub polled : Table
+  pub lasts : IsWaitTime before time
+  pub polls : PollsOnce transition time old before new polled
+  pub table : after ≡ record polled { has_news = false }

@@ -1,0 +1,87 @@
+//! The hosts of the bots that are there, by which a further one is let in.
+
+ghost use Rattle.std.specs.Prelude.{◌≡◌, ◌++◌, ◌∷◌, [], true, false, ◌<◌, IfSome, length, vec_capacity};
+ghost use Rattle.daide_sockets.specs.Present.{position_of, without_at};
+
+use daide_settings::Host;
+use std::alloc::Global;
+
+/// The bots that are there, with a connect under way or in a session: the number and the host of each, in the order in
+/// which they came.
+#[derive(Drop)]
+pub struct Present {
+    numbers: Vec<u32>,
+    hosts: Vec<Host>,
+}
+
+/// Returns the position of a number; the length of the list if it is not there.
+fn position_of(number: u32, numbers: &[u32]) -> usize
+    ensures { result ≡ position_of number numbers.now }
+{
+    let mut at = 0;
+    let mut rest = numbers;
+    while let [first, others @ ..] = rest {
+        if *first == number {
+            return at;
+        }
+        at += 1;
+        rest = others;
+    }
+    at
+}
+
+impl Present {
+    /// Creates the list of a run with at most this many bots at once. Returns `None` if memory is refused.
+    pub fn new(alloc: Global, most: usize) -> Option<Present>
+        ensures { IfSome result (λ present. (present.numbers.items ≡ []) × (present.hosts.items ≡ [])) }
+    {
+        let Ok(numbers) = Vec::with_capacity(alloc, most) else {
+            return None;
+        };
+        let Ok(hosts) = Vec::with_capacity(alloc, most) else {
+            return None;
+        };
+        Some(Present { numbers, hosts })
+    }
+
+    /// Returns the hosts.
+    pub fn hosts(&self) -> &[Host]
+        ensures { result.now ≡ self.now.hosts.items }
+    {
+        self.hosts.as_slice()
+    }
+
+    /// Adds a bot. Returns false if there is no room for it, and changes nothing then.
+    pub(crate) fn add(&mut self, number: u32, host: Host) -> bool
+        ensures numbers { result ≡ true → self.new.numbers.items ≡ self.old.numbers.items ++ number ∷ [] }
+        ensures hosts { result ≡ true → self.new.hosts.items ≡ self.old.hosts.items ++ host ∷ [] }
+        ensures full { result ≡ false → self.new ≡ self.old }
+        ensures room { length self.old.numbers.items < vec_capacity self.old.numbers →
+            length self.old.hosts.items < vec_capacity self.old.hosts → result ≡ true }
+    {
+        if self.numbers.len() >= self.numbers.capacity()
+            || self.hosts.len() >= self.hosts.capacity()
+        {
+            return false;
+        }
+        self.numbers.push_reserved(number);
+        self.hosts.push_reserved(host);
+        true
+    }
+
+    /// Removes the bot with this number, if it is there.
+    pub(crate) fn remove(&mut self, number: u32)
+        ensures numbers { self.new.numbers.items
+            ≡ without_at (position_of number self.old.numbers.items) self.old.numbers.items }
+        ensures hosts { self.new.hosts.items
+            ≡ without_at (position_of number self.old.numbers.items) self.old.hosts.items }
+    {
+        let at = position_of(number, self.numbers.as_slice());
+        if at < self.numbers.len() {
+            self.numbers.remove(at);
+        }
+        if at < self.hosts.len() {
+            self.hosts.remove(at);
+        }
+    }
+}
