@@ -1,6 +1,6 @@
 //! The I/O buffer: bytes between a stream and its caller.
 
-ghost use Rattle.std.specs.Prelude.{◌≡◌, ◌≤◌, ◌++◌, [], min, length, take, drop, IfOk};
+ghost use Rattle.std.specs.Prelude.{◌≡◌, ◌≤◌, ◌++◌, min, length, take, drop, IfOk};
 ghost use Rattle.std.specs.Io.KnownBytes.{Consumes};
 ghost use Rattle.daide_io.specs.Ports.{pulled_len};
 ghost use Rattle.daide_buffered_io.specs.Buffers.{all_room};
@@ -29,13 +29,13 @@ pub struct IoBuffer {
 
 impl Model for IoBuffer {
     ghost use Rattle.std.specs.Prelude.{◌≡◌, ◌≤◌, ◌-◌, take, drop, vec_len};
-    ghost use Rattle.daide_buffered_io.specs.Buffers.{Roomful};
+    ghost use Rattle.daide_buffered_io.specs.Buffers.{Roomful, buffer_size};
 
     ghost Value = { Roomful };
 
-    ghost view = { λ h. record { bytes = take (h.to - h.from) (drop h.from h.bytes.items); free_space = 4096 - h.to } };
+    ghost view = { λ h. record { bytes = take (h.to - h.from) (drop h.from h.bytes.items); free_space = buffer_size - h.to } };
 
-    ghost invariant = { λ h. (h.from ≤ h.to) × (h.to ≤ vec_len h.bytes) × (vec_len h.bytes ≡ 4096) };
+    ghost invariant = { λ h. (h.from ≤ h.to) × (h.to ≤ vec_len h.bytes) × (vec_len h.bytes ≡ buffer_size) };
 }
 
 impl IoBuffer {
