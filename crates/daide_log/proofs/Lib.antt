@@ -21,6 +21,7 @@ pub mod SomeReport
 pub mod ReadLemmas
 pub mod MatchLogFacts
 pub mod SevenLinesFacts
+pub mod CutFacts
 pub mod EventLines
 pub mod RecordLines
 pub mod RecordHead
