@@ -29,4 +29,9 @@ pub mod RecordCounts
 pub mod RecordReported
 pub mod PauseLemmas
 pub mod RecordedPorts
+pub mod TimeFacts
+pub mod TimedReported
+pub mod TimedPorts
+pub mod TimedTaken
+pub mod CommentLemmas
 pub mod LawFacts
