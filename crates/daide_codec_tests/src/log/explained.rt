@@ -112,7 +112,7 @@ fn cut_lines_are_faults_elsewhere(rt: HostRuntime) -> Result<(), Fail> {
     let mut report = Vec::new(alloc);
     let plain = check_log(alloc, &mut log.as_bytes(), &mut report);
     same(&plain.err(), &Some(LogFault::BadLine(4)), &log)?;
-    holds(report.as_slice() == b"3 bot FM 0 drop\n", log)?;
+    holds(report.as_slice() == b"3 bot FM 0 drop\n".as_slice(), log)?;
     let head = "daide-log 1\nconfig 60 10";
     let (_answer, fault, _written) = explained(alloc, head)?;
     same(&fault, &Some(LogFault::BadLine(2)), &head)
