@@ -13,8 +13,9 @@ ghost use Rattle.daide_settings.specs.Ranges.{host_of, may_come};
 ghost use Rattle.daide_sockets.specs.Pairing.{StaysPending, IsFreshConnect, IsFresh, IsJoined};
 
 use crate::poller::Poller;
-use crate::ports::{Socket, SocketPorts};
+use crate::ports::SocketPorts;
 use crate::present::Present;
+use crate::socket::Socket;
 use crate::table::{SocketTable, after, is_past, merged};
 use daide_buffered_io::pool::Pool;
 use daide_buffered_io::readiness::Readiness;

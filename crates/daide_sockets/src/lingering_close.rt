@@ -17,7 +17,8 @@ ghost use Rattle.daide_sockets.specs.Table.{WaitsOnce};
 ghost use Rattle.daide_sockets.specs.Pairing.{ClosesAt, ClosesBothAt, with_room};
 
 use crate::poller::Poller;
-use crate::ports::{Socket, SocketPorts};
+use crate::ports::SocketPorts;
+use crate::socket::Socket;
 use crate::table::{SocketTable, after, earlier, is_time_over, merged};
 use daide_buffered_io::dropping::Dropping;
 use daide_io::duplex::Duplex;

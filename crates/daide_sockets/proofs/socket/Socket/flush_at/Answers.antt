@@ -1,4 +1,4 @@
-use Rattle.daide_sockets.proofs.ports.Socket.flush_at.Goals as goal
+use Rattle.daide_sockets.proofs.socket.Socket.flush_at.Goals as goal
 
 pub returns-clause-written : goal.returns-clause-written
 returns-clause-written g c = λ h.

@@ -1,7 +1,7 @@
 use Rattle.std.proofs.Common.{ap}
 use Rattle.daide_buffered_io.specs.Buffers.{Buffer}
 use Rattle.daide_buffered_io.proofs.BufferLemmas.{still_passes}
-use Rattle.daide_sockets.proofs.ports.Socket.give_up_stalled.Goals as goal
+use Rattle.daide_sockets.proofs.socket.Socket.give_up_stalled.Goals as goal
 
 -- no byte is moved
 pub returns-clause-passes : goal.returns-clause-passes
