@@ -6,7 +6,7 @@
 
 ghost use Rattle.std.specs.Duration.{as_nanos};
 ghost use Rattle.std.specs.Prelude.{◌≡◌, ◌||◌, nat_le, IsNone, IfOk, None, [], false};
-ghost use Rattle.daide_sockets.specs.Table.{row_at, merged, report_at, has_news_at, any_work, has_pending, nearest};
+ghost use Rattle.daide_sockets.specs.Table.{row_at, merged, report_at, has_report, has_news_at, any_work, has_pending, nearest};
 ghost use Rattle.daide_sockets.specs.Table.{changed, without_report, with_due, left_with, freed, with_event, with_news, latest};
 ghost use Rattle.daide_sockets.specs.Table.{earlier, IsUntil};
 ghost use Rattle.daide_sockets.specs.Times.{IsAfter, IsStallEnd, StallsNext, is_past, is_time_over};
@@ -174,6 +174,13 @@ fn report_of(event: SocketEvent) -> Readiness
     }
 }
 
+/// Returns whether a report has something.
+fn has_report(report: Readiness) -> bool
+    ensures { result ≡ has_report report }
+{
+    report.may_read || report.may_write || report.reads_on
+}
+
 /// Returns the earliest deadline of the rows; `None` if there is none.
 fn nearest(rows: &[Row]) -> Option<Instant>
     ensures { result ≡ nearest None rows.now }
@@ -305,15 +312,12 @@ impl SocketTable {
         ensures report { result ≡ report_at self.old key }
         ensures table { self.new ≡ without_report self.old key }
     {
-        let row = self.row(key);
-        self.set_row(
-            key,
-            Row {
-                report: Readiness::UNKNOWN,
-                ..row
-            },
-        );
-        row.report
+        if key >= self.rows.len() {
+            return Readiness::UNKNOWN;
+        }
+        let report = self.rows[key].report;
+        self.rows[key].report = Readiness::UNKNOWN;
+        report
     }
 
     /// Returns whether there is news for a socket: a report that it did not take, something that may be done at once, or
@@ -321,17 +325,10 @@ impl SocketTable {
     pub fn has_news_at(&self, key: usize) -> bool
         ensures { result ≡ has_news_at self.now key }
     {
-        let Row {
-            is_taken: _,
-            report,
-            has_work,
-            due,
-        } = self.row(key);
-        report.may_read
-            || report.may_write
-            || report.reads_on
-            || has_work
-            || is_past(self.reading, due)
+        match self.rows.get(key) {
+            Some(row) => has_report(row.report) || row.has_work || is_past(self.reading, row.due),
+            None => false,
+        }
     }
 
     /// Returns the nearest deadline of a socket.
@@ -353,15 +350,10 @@ impl SocketTable {
     pub(crate) fn leave(&mut self, key: usize, has_work: bool, due: Option<Instant>)
         ensures { self.new ≡ left_with self.old key has_work due }
     {
-        let row = self.row(key);
-        self.set_row(
-            key,
-            Row {
-                has_work,
-                due,
-                ..row
-            },
-        );
+        if key < self.rows.len() {
+            self.rows[key].has_work = has_work;
+            self.rows[key].due = due;
+        }
     }
 
     /// Forgets all deadlines, and what turns left.
