@@ -51,18 +51,16 @@ pub of_whatever : {T : Type 0} (X : Type 0) (value : Option T) → X → IfSome 
 of_whatever X None h = tt
 of_whatever X (Some t) h = h
 
--- A run on a system of which sockets are a part.
+-- A run on a system of which sockets are a part. Each call has its effect on them, whatever else it does.
 module _ {P S T : Type 0} (to_give taken : S → Option (List ℕ)) (calls : S → Option (List StreamCall))
-    (pair : P → Paired S) (transition : P → PortCall → P → Type 0) (sockets_of : T → RunSockets S) where
-  -- the effect of one call on the system
-  abbrev step : T → SystemCall P → T → Type 0
-  step old answer new = Transits to_give taken calls pair (sockets_of old) answer (sockets_of new)
-
+    (pair : P → Paired S) (transition : P → PortCall → P → Type 0) (sockets_of : T → RunSockets S)
+    (step : T → SystemCall P → T → Type 0) (moves : (old : T) (answer : SystemCall P) (new : T) → step old answer new →
+    Transits to_give taken calls pair (sockets_of old) answer (sockets_of new)) where
   -- the sockets of a system follow its calls
   sockets_go : (answers : List (SystemCall P)) (old new : T) → TransitsBy step old answers new →
       TransitsBy (Transits to_give taken calls pair) (sockets_of old) answers (sockets_of new)
   sockets_go [] old new e = ap sockets_of e
-  sockets_go (answer ∷ answers) old new h = (sockets_of h.0, h.1, sockets_go answers h.0 new h.2)
+  sockets_go (answer ∷ answers) old new h = (sockets_of h.0, moves old answer h.0 h.1, sockets_go answers h.0 new h.2)
 
   runs : (seconds : ℕ) (Kind : List (SystemCall P) → Type 0) (old last : T) → HasNoSockets seconds (sockets_of old) →
       ((answers : List (SystemCall P)) × TransitsBy step old answers last × Kind answers) →

@@ -19,7 +19,7 @@ pub mod lingering_close;
 pub mod os_network;
 pub mod poller;
 pub mod ports;
-pub mod present;
+mod present;
 pub mod session_notice;
 pub mod socket;
 pub mod system;

@@ -10,9 +10,11 @@ ghost use Rattle.daide_buffered_io.specs.Buffers.{Passes, ReadsNothing, IsBuffer
 ghost use Rattle.daide_buffered_io.specs.Streams.{Transfers, stream_of};
 ghost use Rattle.daide_buffered_io.specs.Taking.{bytes_taken};
 ghost use Rattle.daide_sockets.specs.Lingering.{IsWriting};
-ghost use Rattle.daide_sockets.specs.Sockets.{read_if, has_socket_work, next_deadline, due_after};
-ghost use Rattle.daide_sockets.specs.Table.{earlier, merged, report_at, without_report, has_news_at, left_with};
+ghost use Rattle.daide_sockets.specs.Sockets.{read_if, due_after};
+ghost use Rattle.daide_sockets.specs.Table.{merged, report_at, without_report, watching};
 ghost use Rattle.daide_sockets.specs.Times.{IsStallEnd, has_stalled, is_past};
+ghost use Rattle.daide_sockets.specs.Wakeups.{StaysUnread, IsPulled, IsOffered, Settles};
+ghost use Rattle.daide_sockets.specs.Wakeups.{may_session_go_on, session_due, has_session_news};
 
 use crate::socket::{Socket, TurnsHeld};
 use crate::table::{SocketTable, earlier, is_past, merged, timeout_end};
@@ -102,8 +104,8 @@ fn pull_or_flush_peer<S: Duplex + Drop>(
         IsWriting other.old.stream →
         IsFlushed S.calls other.old.readiness other.old.stream other.new.readiness other.new.stream }
     // with room, nothing is left that may be read, but for a read that must be tried again
-    ensures none_left { result ≡ Pull.Idle → 0 < length buffer.old → own.new.tries_again ≡ false →
-        (own.new.readiness.may_read ≡ false) × (own.new.stream.read_buffer ≡ []) }
+    ensures pulled { IsPulled (length buffer.old) result own.old own.new }
+    ensures other_stays { StaysUnread other.old other.new }
 {
     let is_late = idle.is_over(own.silent_from);
     if is_late {
@@ -146,8 +148,8 @@ fn put_or_flush_peer<S: Duplex + Drop>(
     ensures written { result ≡ Put.Took 0 → (other.old.is_gathering && other.old.gave) ≡ false →
         IsWriting other.old.stream →
         IsFlushed S.calls other.old.readiness other.old.stream other.new.readiness other.new.stream }
-    ensures full { result ≡ Put.Took 0 → 0 < length bytes.now → own.new.tries_again ≡ false →
-        own.new.readiness.may_write ≡ false }
+    ensures offered { IsOffered bytes.now result own.old own.new }
+    ensures other_stays { StaysUnread other.old other.new }
 {
     let put = own.put(now, bytes);
     if put != Put::Took(0) {
@@ -165,9 +167,9 @@ fn put_or_flush_peer<S: Duplex + Drop>(
 /// (`pull_or_flush_peer`, `put_or_flush_peer`: `written`). The parts of an answer are not flushed by such a pull or put
 /// while the turn still puts some.
 ///
-/// A pull with room that finds nothing leaves the socket not readable, with nothing read ahead, or it must be tried again
-/// (`none_left`). A put that nothing is taken of leaves it not writable, or it must be tried again (`full`). What must be
-/// tried again, and what is held that may be written, is work, which a turn leaves in the row (`end_turn`).
+/// A pull with room that finds nothing leaves the socket not readable, with nothing read ahead, or it must be tried again.
+/// A put that nothing is taken of leaves it not writable, or it must be tried again (`transition`, `Settles`). What must be
+/// tried again, and what is held that may be written, is work, which each wait watches (`watch`).
 ///
 /// Not said: the bytes of the operating system's own connections (`Connection`), of which nothing is known but what its
 /// calls returned.
@@ -298,11 +300,62 @@ impl<'w, S: Drop> SocketPorts<'w, S> {
         (bot, server)
     }
 
-    /// Returns whether there is news for one of the sockets since the last turn began.
-    pub fn has_news(&self, table: &SocketTable) -> bool
-        ensures { result ≡ (has_news_at table.now self.now.bot.key || has_news_at table.now self.now.server.key) }
+    /// Returns whether something may be done at once for the session: a poll reported something that was not taken yet,
+    /// or there is work.
+    fn may_go_on(&self, table: &SocketTable) -> bool
+        ensures { result ≡ may_session_go_on table.now (record {
+          bot = self.now.bot;
+          server = self.now.server;
+          reading = self.now.idle.reading;
+          im_due = self.now.im_due;
+        }) }
     {
-        table.has_news_at(self.bot.key) || table.has_news_at(self.server.key)
+        self.bot.may_go_on(table) || self.server.may_go_on(table)
+    }
+
+    /// Returns the nearest deadline of the session after its last turn; `None` if there is none.
+    fn due(&self) -> Option<Instant>
+        ensures { result ≡ session_due (record {
+          bot = self.now.bot;
+          server = self.now.server;
+          reading = self.now.idle.reading;
+          im_due = self.now.im_due;
+        }) }
+    {
+        let now = self.idle.reading;
+        let due = earlier(self.bot.deadline(now), self.server.deadline(now));
+        earlier(due, self.im_due)
+    }
+
+    /// Returns whether there is news since the last turn: something may be done at once, or a deadline is past.
+    pub fn has_news(&self, table: &SocketTable) -> bool
+        ensures { result ≡ has_session_news table.now (record {
+          bot = self.now.bot;
+          server = self.now.server;
+          reading = self.now.idle.reading;
+          im_due = self.now.im_due;
+        }) }
+    {
+        self.may_go_on(table) || is_past(table.now(), self.due())
+    }
+
+    /// Has the next wait watch the session: whether something may be done at once for it, by its ports or for another
+    /// reason, and its nearest deadline. So no wait blocks beyond these.
+    pub fn watch(&self, table: &mut SocketTable, other: bool)
+        ensures { table.new ≡ watching table.old (may_session_go_on table.old (record {
+          bot = self.now.bot;
+          server = self.now.server;
+          reading = self.now.idle.reading;
+          im_due = self.now.im_due;
+        }) || other) (session_due (record {
+          bot = self.now.bot;
+          server = self.now.server;
+          reading = self.now.idle.reading;
+          im_due = self.now.im_due;
+        })) }
+    {
+        let has_work = self.may_go_on(table) || other;
+        table.watch(has_work, self.due());
     }
 
     /// Counts the beginning of a turn at this reading of the clock. Makes no system call.
@@ -412,45 +465,25 @@ impl<S: Duplex + Drop> SocketPorts<'_, S> {
         self.begin_both();
         self.read_deadline();
     }
-
-    /// Ends a turn of the session: leaves the nearest deadline of each socket in its row, and whether something may be
-    /// done at once. Then no wait blocks, and there is news for the session.
-    pub fn end_turn(&self, table: &mut SocketTable)
-        ensures { table.new ≡ left_with
-            (left_with table.old self.now.bot.key
-            (has_socket_work self.now.bot.stream self.now.bot.readiness self.now.bot.tries_again)
-            (earlier (next_deadline self.now.idle.reading self.now.bot.stalls_at self.now.bot.silent_from) self.now.im_due))
-            self.now.server.key
-            (has_socket_work self.now.server.stream self.now.server.readiness self.now.server.tries_again)
-            (next_deadline self.now.idle.reading self.now.server.stalls_at self.now.server.silent_from) }
-    {
-        let now = self.idle.reading;
-        let due = earlier(self.bot.deadline(now), self.im_due);
-        table.leave(self.bot.key, self.bot.has_work(), due);
-        let due = self.server.deadline(now);
-        table.leave(self.server.key, self.server.has_work(), due);
-    }
 }
 
 impl<S: Duplex + Drop> Ports for SocketPorts<'_, S> {
     ghost transition = { λ old answer new. Transfers S.to_give S.taken (old.bot.stream, old.server.stream) answer
-        (new.bot.stream, new.server.stream) };
+        (new.bot.stream, new.server.stream) × Settles answer (old.bot, old.server) (new.bot, new.server) };
 
     fn pull(&mut self, side: Side, buffer: &mut [u8]) -> Pull
         ensures within { IsPullWithin result (length buffer.old) }
         ensures transition { Transfers S.to_give S.taken (self.old.bot.stream, self.old.server.stream)
             (Pulled side (length buffer.old) result (take (pulled_len result) buffer.new))
-            (self.new.bot.stream, self.new.server.stream) }
+            (self.new.bot.stream, self.new.server.stream)
+            × Settles (Pulled side (length buffer.old) result (take (pulled_len result) buffer.new))
+            (self.old.bot, self.old.server) (self.new.bot, self.new.server) }
         ensures asked { (stream_of (self.new.bot, self.new.server) side).timed.is_silent ≡ false →
             (stream_of (self.new.bot, self.new.server) side).timed.ends_stalled ≡ false →
             IsBufferedPull S.calls (length buffer.old) (read_if (has_stalled self.old.idle.time self.old.idle.reading
             (stream_of (self.old.bot, self.old.server) side).silent_from) (stream_of (self.old.bot, self.old.server) side).readiness)
             (stream_of (self.old.bot, self.old.server) side).stream result
             (stream_of (self.new.bot, self.new.server) side).readiness (stream_of (self.new.bot, self.new.server) side).stream }
-        ensures none_left { result ≡ Pull.Idle → 0 < length buffer.old →
-            (stream_of (self.new.bot, self.new.server) side).tries_again ≡ false →
-            ((stream_of (self.new.bot, self.new.server) side).readiness.may_read ≡ false)
-            × ((stream_of (self.new.bot, self.new.server) side).stream.read_buffer ≡ []) }
         ensures written { result ≡ Pull.Idle → ((stream_of (self.old.server, self.old.bot) side).is_gathering
             && (stream_of (self.old.server, self.old.bot) side).gave) ≡ false →
             IsWriting (stream_of (self.old.server, self.old.bot) side).stream →
@@ -466,10 +499,8 @@ impl<S: Duplex + Drop> Ports for SocketPorts<'_, S> {
     fn put(&mut self, side: Side, bytes: &[u8]) -> Put
         ensures within { IsPutWithin result (length bytes.now) }
         ensures transition { Transfers S.to_give S.taken (self.old.bot.stream, self.old.server.stream)
-            (Offered side bytes.now result) (self.new.bot.stream, self.new.server.stream) }
-        ensures full { result ≡ Put.Took 0 → 0 < length bytes.now →
-            (stream_of (self.new.bot, self.new.server) side).tries_again ≡ false →
-            (stream_of (self.new.bot, self.new.server) side).readiness.may_write ≡ false }
+            (Offered side bytes.now result) (self.new.bot.stream, self.new.server.stream)
+            × Settles (Offered side bytes.now result) (self.old.bot, self.old.server) (self.new.bot, self.new.server) }
         ensures written { result ≡ Put.Took 0 → ((stream_of (self.old.server, self.old.bot) side).is_gathering
             && (stream_of (self.old.server, self.old.bot) side).gave) ≡ false →
             IsWriting (stream_of (self.old.server, self.old.bot) side).stream →
@@ -491,7 +522,8 @@ impl<S: Duplex + Drop> Ports for SocketPorts<'_, S> {
 
     fn clock_popped(&mut self) -> bool
         ensures transition { Transfers S.to_give S.taken (self.old.bot.stream, self.old.server.stream) (Popped result)
-            (self.new.bot.stream, self.new.server.stream) }
+            (self.new.bot.stream, self.new.server.stream)
+            × Settles (Popped result) (self.old.bot, self.old.server) (self.new.bot, self.new.server) }
         ensures answer { result ≡ self.old.im_timer_expired }
         ensures same { self.new ≡ self.old }
     {

@@ -13,6 +13,7 @@ ghost use Rattle.daide_sockets.specs.Pairing.{IsFresh};
 ghost use Rattle.daide_sockets.specs.Sockets.{has_socket_work, next_deadline};
 ghost use Rattle.daide_sockets.specs.Table.{earlier, merged, report_at, without_report};
 ghost use Rattle.daide_sockets.specs.Times.{StallsNext, has_stalled, is_past};
+ghost use Rattle.daide_sockets.specs.Wakeups.{StaysUnread, IsNothing, IsPulled, IsOffered, may_go_on};
 
 use crate::poller::Poller;
 use crate::table::{SocketTable, earlier, is_past, merged, stalls_next};
@@ -170,6 +171,14 @@ impl<'w, S: Drop> Socket<'w, S> {
         self.tries_again || self.stream.is_behind() && self.readiness.may_write
     }
 
+    /// Returns whether something may be done at once: a poll reported something that was not taken yet, or there is
+    /// work.
+    pub(crate) fn may_go_on(&self, table: &SocketTable) -> bool
+        ensures { result ≡ may_go_on table.now self.now }
+    {
+        table.is_reported_at(self.key) || self.has_work()
+    }
+
     /// Returns the stream itself.
     pub fn connection(&self) -> &S
         ensures { result.now ≡ self.now.stream.stream }
@@ -250,8 +259,7 @@ impl<S: Duplex + Drop> Socket<'_, S> {
         ensures times { (self.new.silent_from ≡ self.old.silent_from) × (self.new.stalls_at ≡ self.old.stalls_at) }
         ensures gathering { self.new.is_gathering ≡ self.old.is_gathering }
         ensures idle { result ≡ Pull.Idle → self.new.gave ≡ false }
-        ensures none_left { result ≡ Pull.Idle → 0 < length buffer.old → self.new.tries_again ≡ false →
-            (self.new.readiness.may_read ≡ false) × (self.new.stream.read_buffer ≡ []) }
+        ensures pulled { IsPulled (length buffer.old) result self.old self.new }
     {
         self.gave = false;
         // Most turns of an idle session end here.
@@ -261,7 +269,7 @@ impl<S: Duplex + Drop> Socket<'_, S> {
         let pull = self.stream.pull(self.pool, &mut self.readiness, buffer);
         self.gave = matches!(pull, Pull::Got(_));
         let is_left = self.readiness.may_read || self.stream.is_ahead();
-        if is_left && pull == Pull::Idle && !buffer.is_empty() {
+        if is_left && is_nothing(pull) && !buffer.is_empty() {
             self.tries_again = true;
         }
         pull
@@ -278,8 +286,7 @@ impl<S: Duplex + Drop> Socket<'_, S> {
         ensures timed { self.new.timed ≡ self.old.timed }
         ensures gathers { 0 < taken_len result → self.new.is_gathering ≡ true }
         ensures gathering { taken_len result ≡ 0 → self.new.is_gathering ≡ self.old.is_gathering }
-        ensures full { result ≡ Put.Took 0 → 0 < length bytes.now → self.new.tries_again ≡ false →
-            self.new.readiness.may_write ≡ false }
+        ensures offered { IsOffered bytes.now result self.old self.new }
     {
         let held = self.stream.behind_len();
         let put = self.stream.put(self.pool, &mut self.readiness, bytes);
@@ -316,6 +323,7 @@ impl<S: Duplex + Drop> Socket<'_, S> {
         ensures stall_time { self.new.stall_time ≡ self.old.stall_time }
         ensures timed { self.new.timed ≡ self.old.timed }
         ensures gathering { self.new.is_gathering ≡ self.old.is_gathering }
+        ensures stays { StaysUnread self.old self.new }
     {
         if !self.stream.is_behind() {
             return;
@@ -335,6 +343,7 @@ impl<S: Duplex + Drop> Socket<'_, S> {
         ensures unread { ReadsNothing S.to_give self.old.stream self.new.stream }
         ensures timed { self.new.timed ≡ self.old.timed }
         ensures gathering { self.old.is_gathering ≡ true → self.old.gave ≡ true → self.new ≡ self.old }
+        ensures stays { StaysUnread self.old self.new }
         ensures written { (self.old.is_gathering && self.old.gave) ≡ false → IsWriting self.old.stream →
             IsFlushed S.calls self.old.readiness self.old.stream self.new.readiness self.new.stream }
     {
@@ -343,6 +352,13 @@ impl<S: Duplex + Drop> Socket<'_, S> {
         }
         self.flush_at(now);
     }
+}
+
+/// Returns whether a pull returned neither a byte nor the end.
+fn is_nothing(pull: Pull) -> bool
+    ensures some { result ≡ false → IsNothing pull → ⊥ }
+{
+    matches!(pull, Pull::Idle | Pull::Got(0))
 }
 
 /// The number of turns since the last write to a socket with buffered bytes.

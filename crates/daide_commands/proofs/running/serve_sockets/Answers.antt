@@ -8,7 +8,7 @@ returns-in-None-clause-plain g c none =
       came = system.acceptor.came;
       arrivals = system.arrivals.items;
       closing = system.closings;
-    })
+    }) _ (λ old answer new moved. moved.0)
     c.args.settings.now _ _ _ _ c.run_on.result c.run_on.ensures
     (still_none (λ system. record {
       came = system.acceptor.came;
@@ -26,7 +26,7 @@ returns-clause-recorded g c =
       came = system.sockets.acceptor.came;
       arrivals = system.sockets.arrivals.items;
       closing = system.sockets.closings;
-    })
+    }) _ (λ old answer new moved. moved.0)
     c.args.settings.now _ _ _ _ c.run_on-in-Some-folder.result c.run_on-in-Some-folder.ensures
     (still_none (λ system. record {
       came = system.acceptor.came;
