@@ -53,6 +53,10 @@ RUNS = [
     ),
     (["run", "settings"], SETTINGS, (b"", b"daide-gate: cannot listen\n", 1)),
     (["run", "settings"], SETTINGS + "depth = 5\n", (b"", b"daide-gate: unknown key\n", 1)),
+    (
+        ["settings", "settings"], SETTINGS + "depth = 5\n",
+        (b"line 19: unknown key: depth\n", b"", 1),
+    ),
     (["run", "settings"], SETTINGS + "depth =\n", (b"", b"daide-gate: settings are not TOML\n", 1)),
     (["run", "settings"], SETTINGS.replace("0x4A41", "0x4A40"), (b"", b"daide-gate: words out of range\n", 1)),
 ]

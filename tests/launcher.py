@@ -94,6 +94,11 @@ def logs_are_launched_as_they_are_run(program):
     check_launched(program, "checked")
 
 
+def settings_are_launched_as_they_are_run(program):
+    """`settings` with files and with standard input."""
+    check_launched(program, "settings")
+
+
 def usages_are_launched_as_they_are_run(program):
     """Arguments with a fault of usage, most of which never reach the program."""
     with Clone(program) as clone:
@@ -116,6 +121,7 @@ def launched_words_wait_for_no_input(program):
 
 TESTS = [
     frames_are_launched_as_they_are_run,
+    settings_are_launched_as_they_are_run,
     logs_are_launched_as_they_are_run,
     usages_are_launched_as_they_are_run,
     launched_words_wait_for_no_input,

@@ -128,6 +128,30 @@ def shown_with_the_words_of_settings(program):
     check_rows(program, "words")
 
 
+def settings_are_judged(program):
+    """Each fault with its line, and the values and needs of settings without a fault."""
+    check_rows(program, "settings", has_lines=True)
+
+
+def values_of_settings_are_settings(program):
+    """What `settings` prints for settings without a fault is settings with the same values."""
+    with Folder(program, FILES) as folder:
+        printed, told, status = folder.run(["settings", "settings-with-words"])
+        same((told, status), (b"", 0), "told of settings with words")
+        again, told, status = folder.run(["settings", "-"], printed)
+        same((again, told, status), (printed.replace(b" # default", b""), b"", 0), "the values as settings")
+
+
+def text_that_is_no_document_has_a_line(program):
+    """The line of a text that is no TOML document, and a reason in the words of its reader."""
+    with Folder(program, FILES) as folder:
+        for text, line in ((b"listen = ", 1), (b"listen = 'a'\nserver =\n", 2), (b"\n\nlisten = 'a' 'b'\n", 3)):
+            printed, told, status = folder.run(["settings", "-"], text)
+            front = f"line {line}: settings are not TOML: ".encode()
+            same((printed[:len(front)], told, status), (front, b"", 1), f"judged {text!r}")
+            same(printed.count(b"\n"), 1, f"lines for {text!r}")
+
+
 def run_that_cannot_begin_has_status_1(program):
     """Invalid settings, folders of records and addresses each have their text."""
     check_rows(program, "unbegun")
@@ -294,6 +318,9 @@ TESTS = [
     longest_input_is_read,
     one_bracket_too_deep_gets_huh,
     shown_with_the_words_of_settings,
+    settings_are_judged,
+    values_of_settings_are_settings,
+    text_that_is_no_document_has_a_line,
     run_that_cannot_begin_has_status_1,
     file_of_the_folders_test_is_left_as_it_is,
     address_that_is_taken_cannot_be_listened_on,

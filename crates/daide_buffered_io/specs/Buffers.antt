@@ -63,6 +63,10 @@ pub record WritesNothing {S : Type 0} (got : S → Option (List ℕ)) (old new :
 abbrev pub drop_size : ℕ
 drop_size = 4096
 
+-- the capacity of a buffer, in bytes
+abbrev pub buffer_size : ℕ
+buffer_size = 4096
+
 -- the bytes of one buffer, and the free space after them
 pub record Roomful : Type 0 where
   pub bytes : List ℕ
@@ -70,7 +74,7 @@ pub record Roomful : Type 0 where
 
 -- an empty buffer
 abbrev pub all_room : Roomful
-all_room = record { bytes = []; free_space = 4096 }
+all_room = record { bytes = []; free_space = buffer_size }
 
 -- the bytes of a buffer that may be absent
 abbrev pub buffered_bytes : Option Roomful → List ℕ

@@ -2,7 +2,7 @@
 use Rattle.std.specs.Prelude.{◌≡◌, ℕ, zero, suc, ◌<◌, ◌⊎◌, ◌==◌, ◌&&◌, not, nat_lt, if◌then◌else◌, Bool, true, false, List, [], ◌∷◌, ◌++◌, length, Option}
 use Rattle.std.specs.Prelude.{replicate}
 use Rattle.daide_io.specs.Ports.{AppendsTo}
-use Rattle.daide_io.specs.Streams.{StreamCall, Read, Written, WritingEnded}
+use Rattle.daide_io.specs.Streams.{StreamCall, Read, Written}
 use Rattle.daide_io.specs.declared.ports.Pull.{Pull}
 use Rattle.daide_io.specs.declared.ports.Pull.TheVariants as Pulls
 use Rattle.daide_io.specs.declared.ports.Put.{Put}
@@ -11,13 +11,17 @@ use Rattle.daide_io.specs.declared.outcome.IoResult.{IoResult}
 use Rattle.daide_buffered_io.specs.declared.readiness.Readiness.{Readiness}
 use Rattle.daide_io.specs.declared.outcome.IoResult.TheVariants.{Moved, Interrupted, NotNow, Failed}
 
--- A call is repeated while it is interrupted, up to eight calls in all. The first `before` calls were interrupted; the
+-- the maximum number of calls until one is not interrupted
+abbrev pub most_tries : ℕ
+most_tries = 8
+
+-- A call is repeated while it is interrupted, up to `most_tries` calls in all. The first `before` calls were interrupted; the
 -- last one has the outcome.
 pub record Tries (call : IoResult → StreamCall) (old : Option (List StreamCall)) (outcome : IoResult)
     (new : Option (List StreamCall)) : Type 0 where
   pub before : ℕ
-  pub few : before < 8
-  pub spent : outcome ≡ Interrupted → suc before ≡ 8
+  pub few : before < most_tries
+  pub spent : outcome ≡ Interrupted → suc before ≡ most_tries
   pub told : AppendsTo old (replicate before (call Interrupted) ++ call outcome ∷ []) new
 
 -- ---- readiness after a call

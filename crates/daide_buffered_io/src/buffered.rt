@@ -166,6 +166,7 @@ impl<S: Duplex + Drop> Buffered<S> {
         ensures unwritten { WritesNothing S.taken self.old self.new }
         ensures few { length self.new.read_buffer ≤ MOST_HELD }
         ensures failed { self.new.has_failed ≡ self.old.has_failed }
+        ensures writes { readiness.new.may_write ≡ readiness.old.may_write }
     {
         // A read into a long buffer needs no copy.
         let free_space = if buffer.len() < MOST_HELD {
@@ -208,6 +209,8 @@ impl<S: Duplex + Drop> Buffered<S> {
     ///
     /// `all_out`: it returns `Ended`, at the end of the stream or after a failed read, only once all bytes were
     /// returned.
+    ///
+    /// `writes`: what is known of writes is unchanged.
     pub fn pull(&mut self, pool: &Pool, readiness: &mut Readiness, buffer: &mut [u8]) -> Pull
         ensures asked { IsBufferedPull S.calls (length buffer.old) readiness.old self.old result readiness.new self.new }
         ensures within { IsPullWithin result (length buffer.old) }
@@ -220,6 +223,7 @@ impl<S: Duplex + Drop> Buffered<S> {
             result ≡ Pull.Got (min (length self.old.read_buffer) (length buffer.old)) }
         ensures known { 0 < length self.old.read_buffer → readiness.new ≡ readiness.old }
         ensures all_out { result ≡ Pull.Ended → self.old.read_buffer ≡ [] }
+        ensures writes { readiness.new.may_write ≡ readiness.old.may_write }
     {
         if let Some(held) = self.take_ahead(pool) {
             return Pull::Got(self.hand_out(held, pool, buffer));
@@ -235,6 +239,8 @@ impl<S: Duplex + Drop> Buffered<S> {
     /// `written`: it hands the stream all buffered bytes, and keeps what the stream did not accept.
     ///
     /// `failed`: if the write fails, the next put returns `Failed`.
+    ///
+    /// `reads`, `full`: what is known of reads is unchanged, and a stream that is not writable stays so.
     pub fn flush(&mut self, pool: &Pool, readiness: &mut Readiness)
         ensures passes { Passes S.to_give S.taken self.old [] [] self.new }
         ensures unread { ReadsNothing S.to_give self.old self.new }
@@ -243,6 +249,8 @@ impl<S: Duplex + Drop> Buffered<S> {
             IsFlushed S.calls readiness.old self.old readiness.new self.new }
         ensures failed { self.old.has_failed ≡ true → (self.new ≡ self.old) × (readiness.new ≡ readiness.old) }
         ensures empty { self.old.write_buffer ≡ [] → (self.new ≡ self.old) × (readiness.new ≡ readiness.old) }
+        ensures reads { readiness.new.may_read ≡ readiness.old.may_read }
+        ensures full { readiness.old.may_write ≡ false → readiness.new.may_write ≡ false }
     {
         if self.has_failed {
             return;
@@ -280,6 +288,8 @@ impl<S: Duplex + Drop> Buffered<S> {
         ensures few { length self.new.write_buffer ≤ MOST_HELD }
         ensures waits { result ≡ Put.Took 0 → 0 < length bytes.now → IsStopped S.calls readiness.new self.new.stream }
         ensures fails { result ≡ Put.Failed → self.new.has_failed ≡ true }
+        ensures reads { readiness.new.may_read ≡ readiness.old.may_read }
+        ensures full { readiness.old.may_write ≡ false → readiness.new.may_write ≡ false }
     {
         if bytes.len() < MOST_HELD {
             if let Some(held) = pool.take() {
@@ -308,6 +318,8 @@ impl<S: Duplex + Drop> Buffered<S> {
         ensures few { length self.new.write_buffer ≤ MOST_HELD }
         ensures waits { result ≡ Put.Took 0 → 0 < length bytes.now → IsStopped S.calls readiness.new self.new.stream }
         ensures fails { result ≡ Put.Failed → self.new.has_failed ≡ true }
+        ensures reads { readiness.new.may_read ≡ readiness.old.may_read }
+        ensures full { readiness.old.may_write ≡ false → readiness.new.may_write ≡ false }
     {
         let mut held = held;
         if held.drain(&mut self.stream, readiness) == Put::Failed {
@@ -337,6 +349,8 @@ impl<S: Duplex + Drop> Buffered<S> {
         ensures waits { result ≡ Put.Took 0 → 0 < length bytes.now → 0 < count →
             IsStopped S.calls readiness.new self.new.stream }
         ensures fails { result ≡ Put.Failed → self.new.has_failed ≡ true }
+        ensures reads { readiness.new.may_read ≡ readiness.old.may_read }
+        ensures full { readiness.old.may_write ≡ false → readiness.new.may_write ≡ false }
     {
         let Some(held) = self.write_buffer.take() else {
             return self.take_first(pool, readiness, bytes);
@@ -357,6 +371,8 @@ impl<S: Duplex + Drop> Buffered<S> {
         ensures few { length self.new.write_buffer ≤ MOST_HELD }
         ensures waits { result ≡ Put.Took 0 → 0 < length bytes.now → IsStopped S.calls readiness.new self.new.stream }
         ensures fails { result ≡ Put.Failed → self.new.has_failed ≡ true }
+        ensures reads { readiness.new.may_read ≡ readiness.old.may_read }
+        ensures full { readiness.old.may_write ≡ false → readiness.new.may_write ≡ false }
     {
         let put = self.take_behind(pool, readiness, bytes, 1);
         if put == Put::Took(0) {
@@ -381,6 +397,8 @@ impl<S: Duplex + Drop> Buffered<S> {
     ///
     /// `fails`: after a write that failed, each put returns `Failed`, and nothing more is written.
     ///
+    /// `reads`, `full`: what is known of reads is unchanged, and a stream that is not writable stays so.
+    ///
     /// Not said: that a write that fails is reported if no further put is made.
     pub fn put(&mut self, pool: &Pool, readiness: &mut Readiness, bytes: &[u8]) -> Put
         ensures within { IsPutWithin result (length bytes.now) }
@@ -390,6 +408,8 @@ impl<S: Duplex + Drop> Buffered<S> {
         ensures waits { result ≡ Put.Took 0 → 0 < length bytes.now → IsStopped S.calls readiness.new self.new.stream }
         ensures fails { result ≡ Put.Failed → self.new.has_failed ≡ true }
         ensures failed { self.old.has_failed ≡ true → (result ≡ Put.Failed) × (self.new ≡ self.old) }
+        ensures reads { readiness.new.may_read ≡ readiness.old.may_read }
+        ensures full { readiness.old.may_write ≡ false → readiness.new.may_write ≡ false }
     {
         if self.has_failed {
             return Put::Failed;

@@ -1,6 +1,6 @@
 //! Reads and writes of a non-blocking stream, with retries after interruptions.
 
-ghost use Rattle.std.specs.Prelude.{◌≡◌, length, take};
+ghost use Rattle.std.specs.Prelude.{◌≡◌, length, take, false};
 ghost use Rattle.std.specs.Io.KnownBytes.{Consumes};
 ghost use Rattle.daide_io.specs.Ports.{IsPullWithin, IsPutWithin, pulled_len};
 ghost use Rattle.daide_buffered_io.specs.Calls.{Tries, IsPull, IsPut, pull_of, put_of};
@@ -51,12 +51,15 @@ fn read_on<S: Duplex>(stream: &mut S, buffer: &mut [u8]) -> IoResult
 /// `given`: only `Got` takes bytes from the stream, exactly those at the front of the buffer.
 ///
 /// `apart`: the bytes that the stream took are unchanged.
+///
+/// `writes`: what is known of writes is unchanged.
 pub fn pull_from<S: Duplex>(stream: &mut S, readiness: &mut Readiness, buffer: &mut [u8]) -> Pull
     ensures asked { IsPull S.calls (length buffer.old) readiness.old stream.old result readiness.new stream.new }
     ensures within { IsPullWithin result (length buffer.old) }
     ensures len { length buffer.new ≡ length buffer.old }
     ensures given { Consumes (S.to_give stream.old) (S.to_give stream.new) (take (pulled_len result) buffer.new) }
     ensures apart { S.taken stream.new ≡ S.taken stream.old }
+    ensures writes { readiness.new.may_write ≡ readiness.old.may_write }
 {
     if buffer.is_empty() || !readiness.may_read {
         return Pull::Idle;
@@ -98,6 +101,8 @@ fn write_on<S: Duplex>(stream: &mut S, bytes: &[u8]) -> IoResult
 /// `taken`: with `Took(n)` the stream accepted exactly the first n bytes, and with `Failed` none.
 ///
 /// `apart`: the bytes that are still to be read are unchanged.
+///
+/// `reads`, `full`: what is known of reads is unchanged, and a stream that is not writable stays so.
 #[tactic(auto, using(std::proofs::lemmas::List::take_min))]
 pub fn put_to<S: Duplex>(stream: &mut S, readiness: &mut Readiness, bytes: &[u8]) -> Put
     ensures asked { IsPut S.calls (take MOST_AT_ONCE bytes.now) readiness.old stream.old result readiness.new
@@ -105,6 +110,8 @@ pub fn put_to<S: Duplex>(stream: &mut S, readiness: &mut Readiness, bytes: &[u8]
     ensures within { IsPutWithin result (length bytes.now) }
     ensures taken { IsTaken (S.taken stream.old) bytes.now result (S.taken stream.new) }
     ensures apart { S.to_give stream.new ≡ S.to_give stream.old }
+    ensures reads { readiness.new.may_read ≡ readiness.old.may_read }
+    ensures full { readiness.old.may_write ≡ false → readiness.new.may_write ≡ false }
 {
     if !readiness.may_write {
         return Put::Took(0);

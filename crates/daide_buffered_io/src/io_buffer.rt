@@ -1,6 +1,6 @@
 //! The I/O buffer: bytes between a stream and its caller.
 
-ghost use Rattle.std.specs.Prelude.{◌≡◌, ◌≤◌, ◌++◌, [], min, length, take, drop, IfOk};
+ghost use Rattle.std.specs.Prelude.{◌≡◌, ◌≤◌, ◌++◌, false, min, length, take, drop, IfOk};
 ghost use Rattle.std.specs.Io.KnownBytes.{Consumes};
 ghost use Rattle.daide_io.specs.Ports.{pulled_len};
 ghost use Rattle.daide_buffered_io.specs.Buffers.{all_room};
@@ -29,13 +29,13 @@ pub struct IoBuffer {
 
 impl Model for IoBuffer {
     ghost use Rattle.std.specs.Prelude.{◌≡◌, ◌≤◌, ◌-◌, take, drop, vec_len};
-    ghost use Rattle.daide_buffered_io.specs.Buffers.{Roomful};
+    ghost use Rattle.daide_buffered_io.specs.Buffers.{Roomful, buffer_size};
 
     ghost Value = { Roomful };
 
-    ghost view = { λ h. record { bytes = take (h.to - h.from) (drop h.from h.bytes.items); free_space = 4096 - h.to } };
+    ghost view = { λ h. record { bytes = take (h.to - h.from) (drop h.from h.bytes.items); free_space = buffer_size - h.to } };
 
-    ghost invariant = { λ h. (h.from ≤ h.to) × (h.to ≤ vec_len h.bytes) × (vec_len h.bytes ≡ 4096) };
+    ghost invariant = { λ h. (h.from ≤ h.to) × (h.to ≤ vec_len h.bytes) × (vec_len h.bytes ≡ buffer_size) };
 }
 
 impl IoBuffer {
@@ -118,6 +118,7 @@ impl IoBuffer {
         ensures asked { IsPull S.calls MOST_HELD readiness.old stream.old result readiness.new stream.new }
         ensures count { length self.new.bytes ≡ pulled_len result }
         ensures apart { S.taken stream.new ≡ S.taken stream.old }
+        ensures writes { readiness.new.may_write ≡ readiness.old.may_write }
     {
         self.from = 0;
         self.to = 0;
@@ -134,6 +135,8 @@ impl IoBuffer {
         ensures taken { IsTaken (S.taken stream.old) self.old.bytes result (S.taken stream.new) }
         ensures rest { self.new.bytes ≡ drop (taken_len result) self.old.bytes }
         ensures apart { S.to_give stream.new ≡ S.to_give stream.old }
+        ensures reads { readiness.new.may_read ≡ readiness.old.may_read }
+        ensures full { readiness.old.may_write ≡ false → readiness.new.may_write ≡ false }
         ensures few { length self.new.bytes ≤ MOST_HELD }
     {
         match put_to(stream, readiness, self.as_slice()) {

@@ -5,6 +5,6 @@
 pub mod buffered;
 pub mod calls;
 pub mod dropping;
-pub mod io_buffer;
+mod io_buffer;
 pub mod pool;
 pub mod readiness;

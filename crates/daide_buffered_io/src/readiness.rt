@@ -1,6 +1,6 @@
 //! Cached readiness of a stream: what is known without a system call.
 
-ghost use Rattle.std.specs.Prelude.{◌≡◌};
+ghost use Rattle.std.specs.Prelude.{◌≡◌, false};
 ghost use Rattle.daide_buffered_io.specs.Calls.{after_read, after_write};
 
 use daide_io::outcome::IoResult;
@@ -28,7 +28,8 @@ impl Readiness {
     /// Records the result of a read into a buffer of `free_space` bytes. Clears `may_read` if the read would have
     /// blocked, or if it returned some bytes but fewer than `free_space`, unless `reads_on` is set.
     pub fn note_read(&mut self, free_space: usize, outcome: IoResult)
-        ensures { self.new ≡ after_read self.old free_space outcome }
+        ensures value { self.new ≡ after_read self.old free_space outcome }
+        ensures writes { self.new.may_write ≡ self.old.may_write }
     {
         match outcome {
             IoResult::NotNow => self.may_read = false,
@@ -44,7 +45,9 @@ impl Readiness {
     /// Records the result of a write of `handed` bytes. Clears `may_write` if the write would have blocked or accepted
     /// fewer than `handed`.
     pub fn note_write(&mut self, handed: usize, outcome: IoResult)
-        ensures { self.new ≡ after_write self.old handed outcome }
+        ensures value { self.new ≡ after_write self.old handed outcome }
+        ensures reads { self.new.may_read ≡ self.old.may_read }
+        ensures full { self.old.may_write ≡ false → self.new.may_write ≡ false }
     {
         match outcome {
             IoResult::NotNow => self.may_write = false,

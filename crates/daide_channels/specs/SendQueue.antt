@@ -2,6 +2,10 @@
 use Rattle.std.specs.Prelude.{ℕ, List, [], ◌∷◌, ◌++◌, Option, Some, None}
 use Rattle.daide_channels.specs.declared.send_queue.QueuedFrame.{QueuedFrame}
 
+-- the maximum number of frames queued for a wire: an answer to each side, and one final frame
+abbrev pub most_queued : ℕ
+most_queued = 3
+
 -- the queued frames, and how many bytes of the first were sent
 pub record Queue : Type 0 where
   pub written : ℕ

@@ -4,12 +4,13 @@
 //! the last byte of its answer is sent, and the side is not read until then. A wire therefore queues at most three
 //! frames: one answer to each side and one final frame.
 
-ghost use Rattle.std.specs.Prelude.{◌≡◌, ℕ, ◌*◌, ◌/◌, ◌+◌, ◌<◌, ◌≤◌, ◌⊎◌, [], ◌∷◌, ◌++◌, length, take, drop, Some, None};
-ghost use Rattle.std.specs.Prelude.{false, is_some, IfOk, OnErr, if◌then◌else◌};
+ghost use Rattle.std.specs.Prelude.{◌≡◌, ◌*◌, ◌/◌, ◌+◌, ◌<◌, ◌≤◌, ◌⊎◌, [], ◌++◌, length, take, drop, Some, None};
+ghost use Rattle.std.specs.Prelude.{false, IfOk, OnErr};
 ghost use Rattle.daide_frame.specs.Frames.{fed, fed_items, items_of_step, IsFault, HoldsFrame, head_in, missing};
 ghost use Rattle.daide_frame.specs.Frames.{announced};
 ghost use Rattle.daide_frame.specs.declared.side.Side.{Side};
 ghost use Rattle.daide_grammar.specs.Depth.{open_brackets};
+ghost use Rattle.daide_grammar.specs.Bounds.{entries_bound, most_steps, message_steps};
 ghost use Rattle.daide_frame.specs.Side.{other};
 ghost use Rattle.daide_protocol.specs.HloLevel.{lvl_scan_of};
 ghost use Rattle.daide_protocol.specs.Machine.{IsCorrectVerdict, question_of, is_dm, reply_to};
@@ -22,6 +23,7 @@ ghost use Rattle.daide_words.specs.Word.{grammar_words};
 ghost use Rattle.daide_words.specs.Words.{words_of};
 ghost use Rattle.daide_frame.specs.PerSide.{at, put};
 ghost use Rattle.daide_channels.specs.Receiver.{tokens_ended};
+ghost use Rattle.daide_channels.specs.SendQueue.{most_queued};
 ghost use Rattle.daide_channels.specs.Channels.{pending, noted, side_holding, IsQuiet, Keeps, IsGrown, IsStarted};
 ghost use Rattle.daide_channels.specs.Channels.{IsAnswered, IsCleared, ReleasesFrames, posted, has_final_frame, final_frame_to};
 ghost use Rattle.daide_channels.specs.Channels.{answer_at, answered_by, drop_sent, ending_of, others, size_of_first};
@@ -110,7 +112,6 @@ impl<A: Memory + Copy> Channels<A> {
     /// Fails only if the allocator refuses one of them.
     pub fn new(alloc: A, cap: u16, max_depth: u16, words: Words) -> Result<Channels<A>, AllocError>
         requires cap { cap ≤ longest_body }
-        requires low { 4 ≤ max_depth }
         requires high { max_depth ≤ greatest_depth }
         ensures quiet { IfOk result (λ channels.
             IsQuiet cap (record { max_depth = max_depth; words = grammar_words (words_of words) }) channels) }
@@ -195,7 +196,7 @@ impl<A: Allocator> Channels<A> {
     /// Returns how many frames are queued for a wire.
     pub fn count(&self, to: Side) -> usize
         ensures value { result ≡ length (at self.now.queued to) }
-        ensures at_most_three { result ≤ 3 }
+        ensures at_most_three { result ≤ most_queued }
     {
         self.wires.at(to).len()
     }
@@ -203,8 +204,8 @@ impl<A: Allocator> Channels<A> {
     /// Returns the height of the reader's stack for a side.
     pub fn entries(&self, side: Side) -> usize
         ensures value { result ≡ (side_holding self.now side).entries }
-        ensures few { result ≤ 8 * open_brackets (tokens_held self.now.cap (side_holding self.now side).held) + 16 }
-        ensures at_most { result ≤ 8 * self.now.rules.max_depth + 16 }
+        ensures few { result ≤ entries_bound (open_brackets (tokens_held self.now.cap (side_holding self.now side).held)) }
+        ensures at_most { result ≤ entries_bound self.now.rules.max_depth }
     {
         self.receivers.at(side).entries()
     }
@@ -219,8 +220,8 @@ impl<A: Allocator> Channels<A> {
     /// Returns the number of look-ups in a side's table for the present message, modulo 2^64.
     pub fn steps(&self, side: Side) -> u64
         ensures value { result ≡ steps_of (side_holding self.now side) }
-        ensures few { result ≤ 4 * length (tokens_held self.now.cap (side_holding self.now side).held)
-            + (if is_awaited (at self.now.queued) side then 4 else 0) }
+        ensures few { result ≤ message_steps (length (tokens_held self.now.cap (side_holding self.now side).held))
+            (is_awaited (at self.now.queued) side) }
     {
         self.receivers.at(side).steps()
     }
@@ -234,7 +235,7 @@ impl<A: Allocator> Channels<A> {
         ensures fronts { self.new.parts ≡ self.old.parts }
         ensures grown { IsGrown self.old.cap (at self.old.sides side)
             (fed self.old.cap (pending self.old side) piece.now) (at self.new.sides side) }
-        ensures raised { IsRaised (4 * tokens_ended self.old.cap (pending self.old side) piece.now)
+        ensures raised { IsRaised (most_steps * tokens_ended self.old.cap (pending self.old side) piece.now)
             (side_holding self.old side).total (side_holding self.new side).total }
         ensures looked_at { IsRaised (length piece.now / 2 + 1) (side_holding self.old side).looked_at
             (side_holding self.new side).looked_at }
@@ -275,7 +276,7 @@ impl<A: Allocator> Channels<A> {
             ≡ posted self.old.queued (reply_to side head (drop 4 (pending self.old side)) result) }
         ensures fronts { KeepsFronts self.old self.new }
         ensures answered { IsAnswered (at self.old.sides side) (at self.new.sides side) }
-        ensures raised { IsRaised 4 (side_holding self.old side).total (side_holding self.new side).total }
+        ensures raised { IsRaised most_steps (side_holding self.old side).total (side_holding self.new side).total }
         ensures no_message { is_dm head.kind ≡ false → (side_holding self.new side).total ≡ (side_holding self.old side).total }
     {
         let verdict = self.receivers.at_mut(side).answer(head);

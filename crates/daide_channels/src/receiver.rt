@@ -6,11 +6,12 @@
 //! `PRN (`, `HUH (`, `ERR` and `)` are fixed words, and the body stays in its buffer. So a side holds one body, and an
 //! answer needs no more memory.
 
-ghost use Rattle.std.specs.Prelude.{◌≡◌, ℕ, ◌+◌, ◌-◌, ◌*◌, ◌/◌, ◌<◌, ◌≤◌, List, [], ◌∷◌, ◌++◌, length, take, drop, ◌⊎◌};
-ghost use Rattle.std.specs.Prelude.{true, false, is_some, Some, None, IfOk, OnErr, if◌then◌else◌};
+ghost use Rattle.std.specs.Prelude.{◌≡◌, ◌+◌, ◌-◌, ◌*◌, ◌/◌, ◌<◌, ◌≤◌, [], ◌∷◌, ◌++◌, length, take, drop, ◌⊎◌};
+ghost use Rattle.std.specs.Prelude.{false, is_some, Some, None, IfOk, OnErr};
 ghost use Rattle.daide_frame.specs.Frames.{fed, fed_items, items_of_step, IsFault, HoldsFrame, head_in, missing};
 ghost use Rattle.daide_frame.specs.Frames.{announced};
 ghost use Rattle.daide_grammar.specs.Depth.{open_brackets};
+ghost use Rattle.daide_grammar.specs.Bounds.{entries_bound, most_steps, message_steps};
 ghost use Rattle.daide_grammar.specs.declared.level.Level.{Level};
 ghost use Rattle.daide_protocol.specs.HloLevel.{lvl_scan_of};
 ghost use Rattle.daide_protocol.specs.Machine.{IsCorrectVerdict, question_of, is_dm};
@@ -139,7 +140,6 @@ impl<A: Memory> Receiver<A> {
         words: Words,
     ) -> Result<Receiver<A>, AllocError>
         requires cap { cap ≤ longest_body }
-        requires low { 4 ≤ max_depth }
         requires high { max_depth ≤ greatest_depth }
         ensures side { IfOk result (λ i. i.side ≡ side) }
         ensures limits { IfOk result (λ i. (i.cap ≡ cap) × (i.level ≡ Level.L0)) }
@@ -230,7 +230,7 @@ impl<A: Allocator> Receiver<A> {
         requires free { self.old.verdict ≡ None }
         requires room { length piece.now ≤ missing self.old.cap self.old.held }
         ensures reads { ReadsMessageBytes self.old (fed self.old.cap self.old.held piece.now) self.new }
-        ensures raised { IsRaised (4 * tokens_ended self.old.cap self.old.held piece.now) self.old.total
+        ensures raised { IsRaised (most_steps * tokens_ended self.old.cap self.old.held piece.now) self.old.total
             self.new.total }
         ensures looked_at { IsRaised (length piece.now / 2 + 1) self.old.looked_at self.new.looked_at }
         ensures items { fed_items self.old.cap self.old.held piece.now ≡ items_of_step result (drop 4 self.new.held) }
@@ -258,7 +258,7 @@ impl<A: Allocator> Receiver<A> {
         ensures right { IsCorrectVerdict self.old.rules.words self.old.rules.max_depth
             (question_of self.old.side self.old.level head (drop 4 self.old.held)) result }
         ensures answers { Answers self.old head result self.new }
-        ensures raised { IsRaised 4 self.old.total self.new.total }
+        ensures raised { IsRaised most_steps self.old.total self.new.total }
         ensures no_message { is_dm head.kind ≡ false → self.new.total ≡ self.old.total }
     {
         let verdict = if is_message(Some(head)) {
@@ -358,8 +358,8 @@ impl<A: Allocator> Receiver<A> {
     /// Returns the height of the reader's stack.
     pub fn entries(&self) -> usize
         ensures value { result ≡ self.now.entries }
-        ensures few { result ≤ 8 * open_brackets (tokens_held self.now.cap self.now.held) + 16 }
-        ensures at_most { result ≤ 8 * self.now.rules.max_depth + 16 }
+        ensures few { result ≤ entries_bound (open_brackets (tokens_held self.now.cap self.now.held)) }
+        ensures at_most { result ≤ entries_bound self.now.rules.max_depth }
     {
         self.reader.entries()
     }
@@ -375,8 +375,7 @@ impl<A: Allocator> Receiver<A> {
     /// end.
     pub fn steps(&self) -> u64
         ensures value { result ≡ steps_in self.now }
-        ensures few { result ≤ 4 * length (tokens_held self.now.cap self.now.held)
-            + (if is_some self.now.verdict then 4 else 0) }
+        ensures few { result ≤ message_steps (length (tokens_held self.now.cap self.now.held)) (is_some self.now.verdict) }
     {
         self.reader.steps()
     }

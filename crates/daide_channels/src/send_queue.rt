@@ -1,13 +1,16 @@
 //! The send queue of one wire.
 
 ghost use Rattle.std.specs.Prelude.{◌≡◌, ◌+◌, ◌<◌, ◌≤◌, [], length};
-ghost use Rattle.daide_channels.specs.SendQueue.{pushed, first_of, tail_of};
+ghost use Rattle.daide_channels.specs.SendQueue.{most_queued, pushed, first_of, tail_of};
 ghost use Rattle.daide_channels.specs.declared.send_queue.QueuedFrame.TheVariants.{Fm};
 
 use arrayvec::ArrayVec;
 use daide_frame::code::Code;
 use daide_frame::side::Side;
 use std::marker::Model;
+
+/// The maximum number of frames queued for a wire: an answer to each side, and one final frame.
+const MOST_QUEUED: usize = 3;
 
 /// A frame queued for a wire.
 #[derive(Clone, Copy, Debug, PartialEq, Eq)]
@@ -30,7 +33,7 @@ impl Default for QueuedFrame {
 /// The frames queued for one wire, in order, and how many bytes of the first one were sent.
 #[derive(Drop)]
 pub struct SendQueue {
-    queued: ArrayVec<QueuedFrame, 3>,
+    queued: ArrayVec<QueuedFrame, MOST_QUEUED>,
     written: usize,
 }
 
@@ -56,7 +59,7 @@ impl SendQueue {
     /// Returns the number of queued frames.
     pub fn len(&self) -> usize
         ensures value { result ≡ length self.now.items }
-        ensures at_most_three { result ≤ 3 }
+        ensures at_most_three { result ≤ most_queued }
     {
         self.queued.len()
     }
@@ -80,7 +83,7 @@ impl SendQueue {
 
     /// Appends a frame to the queue.
     pub fn push(&mut self, frame: QueuedFrame)
-        requires { length self.old.items < 3 }
+        requires { length self.old.items < most_queued }
         ensures { self.new ≡ pushed self.old frame }
     {
         self.queued.push(frame);

@@ -33,7 +33,6 @@ fn verdict_on_512(words: Words, level: Level, body: &[u8]) -> Verdict
 
 /// Returns the verdict with a depth limit, on the stack of a session, which is sufficient for the greatest limit.
 fn verdict_on_2048(words: Words, depth: u16, level: Level, body: &[u8]) -> Verdict
-    requires low { 4 ≤ depth }
     requires high { depth ≤ 254 }
     requires room { length body.now ≤ LONGEST }
 {

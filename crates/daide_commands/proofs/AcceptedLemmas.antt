@@ -1,6 +1,6 @@
 -- The sockets count each accept.
 use Rattle.std.proofs.Common.{◌≡◌, ℕ, ◌+◌, true, false, List, [], ◌∷◌, Option, ap, arith}
-use Rattle.daide_io.specs.System.{SystemCall, Begins, ReportsNews, BeginsTurn, EndsTurn, Accepts, Connects, Retires}
+use Rattle.daide_io.specs.System.{SystemCall, Begins, ReportsNews, BeginsTurn, Watches, Accepts, Connects, Retires}
 use Rattle.daide_io.specs.System.{Notifies, Waits, TransitsBy}
 use Rattle.daide_io.specs.declared.system.Connect.TheVariants.{Ready, Failed, Pending}
 use Rattle.daide_event_loop.specs.Served.{sum_over_calls, comes}
@@ -13,7 +13,7 @@ module _ {P S : Type 0} (to_give taken : S → Option (List ℕ)) (calls : S →
   one Begins old new h = let e = h.0 in omega (arith, e)
   one (ReportsNews ports news) old new h = let e = ap (λ (s : RunSockets S). s.came) h in omega (arith, e)
   one (BeginsTurn before after) old new h = let e = ap (λ (s : RunSockets S). s.came) h in omega (arith, e)
-  one (EndsTurn ports) old new h = let e = ap (λ (s : RunSockets S). s.came) h in omega (arith, e)
+  one (Watches ports) old new h = let e = ap (λ (s : RunSockets S). s.came) h in omega (arith, e)
   one (Accepts true) old new h = h.came
   one (Accepts false) old new h = let e = ap (λ (s : RunSockets S). s.came) h in omega (arith, e)
   one (Connects (Ready ports)) old new h = let e = h.3 in omega (arith, e)

@@ -17,11 +17,11 @@ use Rattle.daide_buffered_io.proofs.StreamLemmas.{still_moves}
 use Rattle.daide_commands.specs.Exchanged.{Exchanges}
 use Rattle.daide_commands.proofs.StreamLemmas.{exchanged}
 
-module _ {P S : Type 0} (streams : P → Buffer S × Buffer S) (to_give taken : S → Option (List ℕ)) where
-  -- the effect of one call on the streams
-  abbrev pub MovesOf : P → PortCall → P → Type 0
-  MovesOf old answer new = Transfers to_give taken (streams old) answer (streams new)
-
+-- ports whose calls move the bytes of two streams, whatever else they do
+module _ {P S : Type 0} (streams : P → Buffer S × Buffer S) (to_give taken : S → Option (List ℕ))
+    (transition : P → PortCall → P → Type 0)
+    (moves : (old : P) (answer : PortCall) (new : P) → transition old answer new →
+    Transfers to_give taken (streams old) answer (streams new)) where
   -- a call beyond the quota does not reach the ports inside, and moves no byte
   spent_moves : (answer : PortCall) (old new : Buffer S × Buffer S) → IsSpentAnswer answer → new ≡ old →
       Transfers to_give taken old answer new
@@ -35,11 +35,11 @@ module _ {P S : Type 0} (streams : P → Buffer S × Buffer S) (to_give taken : 
       (still_moves to_give taken old new _ (λ one. refl) (λ one. refl) e)
 
   one_moves : (left : Option ℕ) (old : P) (answer : PortCall) (new : P) →
-      EvolvesWhile MovesOf left old answer new → MovesOf old answer new
-  one_moves (Some turns) old answer new h = h
+      EvolvesWhile transition left old answer new → Transfers to_give taken (streams old) answer (streams new)
+  one_moves (Some turns) old answer new h = moves old answer new h
   one_moves None old answer new h = spent_moves answer (streams old) (streams new) h.0 (ap streams h.1)
 
-  all_move : (history : List PortCall) (old new : QuotaPortsView P) → EvolvesBy (Meters MovesOf) old history new →
+  all_move : (history : List PortCall) (old new : QuotaPortsView P) → EvolvesBy (Meters transition) old history new →
       EvolvesBy (Transfers to_give taken) (streams old.ports) history (streams new.ports)
   all_move [] old new h = ap (λ (meter : QuotaPortsView P). streams meter.ports) h
   all_move (answer ∷ history) old new h = (
@@ -49,7 +49,7 @@ module _ {P S : Type 0} (streams : P → Buffer S × Buffer S) (to_give taken : 
   )
 
   pub served_exchange : (settings : Settings) (answers : List (SystemCall P)) (now : SessionView × QuotaPortsView P) →
-      IsServed MovesOf settings answers now →
+      IsServed transition settings answers now →
       (ports : P) × Contains answers (Connects (Ready ports)) × ((history : List PortCall) ×
       Exchanges to_give taken (run_limits settings) history (streams ports) now.0 (streams now.1.ports))
   served_exchange settings answers now h = (

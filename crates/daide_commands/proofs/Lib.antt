@@ -5,5 +5,6 @@ mod StreamLemmas
 mod AcceptedLemmas
 mod CommandLemmas
 mod RunLemmas
+mod JudgingLemmas
 mod CommandFacts
 mod LawFacts

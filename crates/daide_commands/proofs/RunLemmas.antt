@@ -1,6 +1,8 @@
 -- How a run ends, by the calls that the loop made of a system over sockets.
-use Rattle.std.proofs.Common.{◌≡◌, ℕ, List, [], ◌∷◌, Option, Result, Ok, Err, refl, inl, inr, ap}
+use Rattle.std.proofs.Common.{◌≡◌, ℕ, List, [], ◌∷◌, Option, None, Some, Result, Ok, Err, refl, inl, inr, ap, ◌∙◌}
+use Rattle.std.specs.Prelude.{IfSome}
 use Rattle.std.specs.Result.{OnOk, IfErr}
+use Rattle.std.specs.declared.time.Duration.{Duration}
 use Rattle.daide_io.specs.Ports.{PortCall}
 use Rattle.daide_io.specs.System.{SystemCall, TransitsBy}
 use Rattle.daide_settings.specs.declared.settings.Settings.{Settings}
@@ -8,7 +10,9 @@ use Rattle.daide_event_loop.specs.declared.serving.ServeFault.{ServeFault}
 use Rattle.daide_event_loop.specs.Served.{IsWholeRun}
 use Rattle.daide_event_loop.specs.Serving.{GivesUp}
 use Rattle.daide_io.specs.Streams.{StreamCall}
-use Rattle.daide_sockets.specs.Pairing.{Paired, RunSockets, Transits}
+use Rattle.daide_sockets.specs.Lingering.{ClosingList, no_closing}
+use Rattle.daide_sockets.specs.Pairing.{Arriving, Paired, RunSockets, Transits}
+use Rattle.daide_sockets.specs.Times.{IsIdleTime}
 use Rattle.daide_commands.specs.declared.gateway.GatewayFault.{GatewayFault}
 use Rattle.daide_commands.specs.declared.gateway.GatewayFault.TheVariants as gateway_faults
 use Rattle.daide_commands.specs.declared.running.RunFault.{RunFault}
@@ -31,18 +35,32 @@ ran_on transition port_transition settings failed before after begun last (Ok do
 ran_on transition port_transition settings failed before after begun last (Err fault) said whole given_up =
     (said, last, given_up.0, given_up.1, given_up.2)
 
--- A run on a system of which sockets are a part.
-module _ {P S T : Type 0} (to_give taken : S → Option (List ℕ)) (calls : S → Option (List StreamCall))
-    (pair : P → Paired S) (transition : P → PortCall → P → Type 0) (sockets_of : T → RunSockets S) where
-  -- the effect of one call on the system
-  abbrev step : T → SystemCall P → T → Type 0
-  step old answer new = Transits to_give taken calls pair (sockets_of old) answer (sockets_of new)
+-- sockets to which no bot came, part by part
+pub none_yet : {S : Type 0} (seconds : ℕ) (time : Option Duration) (came : ℕ) (arrivals : List (Arriving S))
+    (closing : ClosingList S) → IsIdleTime seconds time → came ≡ 0 → arrivals ≡ [] → closing ≡ no_closing time →
+    HasNoSockets seconds (record { came = came; arrivals = arrivals; closing = closing })
+none_yet seconds time came arrivals closing idle e f g = (time, idle, cc)
 
+-- a system that is the same has the same sockets
+pub still_none : {S T : Type 0} (sockets_of : T → RunSockets S) (seconds : ℕ) (now before : T) → now ≡ before →
+    HasNoSockets seconds (sockets_of before) → HasNoSockets seconds (sockets_of now)
+still_none sockets_of seconds now before e h = (h.0, h.1, ap sockets_of e ∙ h.2)
+
+-- what holds of whatever value there is
+pub of_whatever : {T : Type 0} (X : Type 0) (value : Option T) → X → IfSome value (λ t. X)
+of_whatever X None h = tt
+of_whatever X (Some t) h = h
+
+-- A run on a system of which sockets are a part. Each call has its effect on them, whatever else it does.
+module _ {P S T : Type 0} (to_give taken : S → Option (List ℕ)) (calls : S → Option (List StreamCall))
+    (pair : P → Paired S) (transition : P → PortCall → P → Type 0) (sockets_of : T → RunSockets S)
+    (step : T → SystemCall P → T → Type 0) (moves : (old : T) (answer : SystemCall P) (new : T) → step old answer new →
+    Transits to_give taken calls pair (sockets_of old) answer (sockets_of new)) where
   -- the sockets of a system follow its calls
   sockets_go : (answers : List (SystemCall P)) (old new : T) → TransitsBy step old answers new →
       TransitsBy (Transits to_give taken calls pair) (sockets_of old) answers (sockets_of new)
   sockets_go [] old new e = ap sockets_of e
-  sockets_go (answer ∷ answers) old new h = (sockets_of h.0, h.1, sockets_go answers h.0 new h.2)
+  sockets_go (answer ∷ answers) old new h = (sockets_of h.0, moves old answer h.0 h.1, sockets_go answers h.0 new h.2)
 
   runs : (seconds : ℕ) (Kind : List (SystemCall P) → Type 0) (old last : T) → HasNoSockets seconds (sockets_of old) →
       ((answers : List (SystemCall P)) × TransitsBy step old answers last × Kind answers) →

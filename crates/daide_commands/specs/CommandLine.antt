@@ -20,10 +20,11 @@ use Rattle.daide_frame.specs.declared.side.Side.TheVariants.{Bot, Server}
 use Rattle.daide_grammar.specs.declared.level.Level.{Level}
 use Rattle.daide_grammar.specs.declared.level.Level.TheVariants.{L0, L10, L20, L30, L40, L50, L60}
 use Rattle.daide_commands.specs.declared.arguments.Order.{Order}
-use Rattle.daide_commands.specs.declared.arguments.Order.TheVariants.{Show, Check, Frame, Run, BadSide, BadLevel}
+use Rattle.daide_commands.specs.declared.arguments.Order.TheVariants.{Show, Check, Frame, Settings, Run, BadSide, BadLevel}
 use Rattle.daide_commands.specs.declared.arguments.ShowOrder.{ShowOrder}
 use Rattle.daide_commands.specs.declared.arguments.CheckOrder.{CheckOrder}
 use Rattle.daide_commands.specs.declared.arguments.FrameOrder.{FrameOrder}
+use Rattle.daide_commands.specs.declared.arguments.SettingsOrder.{SettingsOrder}
 use Rattle.daide_commands.specs.declared.arguments.RunOrder.{RunOrder}
 
 -- ---- the command line
@@ -60,6 +61,9 @@ check_app = with_rules (codes "check") (flag_rule (codes "explain") ∷ word_rul
 abbrev pub frame_app : App
 frame_app = with_rules (codes "frame") (option_rule (codes "words") ∷ words_rule (codes "TEXT") ∷ [])
 
+abbrev pub settings_app : App
+settings_app = with_rules (codes "settings") (word_rule (codes "FILE") true ∷ [])
+
 abbrev pub run_app : App
 run_app = with_rules (codes "run")
     (flag_rule (codes "verbose") ∷ option_rule (codes "record") ∷ word_rule (codes "SETTINGS") true ∷ [])
@@ -68,7 +72,7 @@ run_app = with_rules (codes "run")
 abbrev pub gate_app : App
 gate_app = record {
   top = record (new_shape (codes "daide-gate")) { is_leaf = false; has_version = true };
-  subs = show_app.top ∷ check_app.top ∷ frame_app.top ∷ run_app.top ∷ [];
+  subs = show_app.top ∷ check_app.top ∷ frame_app.top ∷ settings_app.top ∷ run_app.top ∷ [];
 }
 
 -- the subcommands, in the order of the help; `frame` may take negative numbers
@@ -124,6 +128,10 @@ IsFrameOrder rows order =
     (option_map (λ text. text.now) order.words ≡ first_of (codes "words") rows)
     × (option_map (λ typed. map (λ word. word.now) typed.now) order.typed ≡ all_of (codes "TEXT") rows)
 
+-- the order of `settings`
+abbrev pub IsSettingsOrder : List Row → SettingsOrder → Type 0
+IsSettingsOrder rows order = order.path.now ≡ unwrap_or (first_of (codes "FILE") rows) (codes "-")
+
 -- the order of `show`, by the named side and level; a bad side is refused before a bad level
 abbrev pub IsShowOrder : Option Side → Option Level → List Row → Order → Type 0
 IsShowOrder None level rows order = order ≡ BadSide
@@ -139,6 +147,7 @@ pub data Subcommand : Type 0 where
   ForRun : Subcommand
   ForCheck : Subcommand
   ForFrame : Subcommand
+  ForSettings : Subcommand
   ForShow : Subcommand
 
 abbrev pub subcommand_named : Text → Subcommand
@@ -146,6 +155,7 @@ subcommand_named name =
     if bytes_eq name (codes "run") then ForRun
     else if bytes_eq name (codes "check") then ForCheck
     else if bytes_eq name (codes "frame") then ForFrame
+    else if bytes_eq name (codes "settings") then ForSettings
     else ForShow
 
 -- the order of a command with these values
@@ -153,6 +163,7 @@ abbrev pub IsOrderFor : Subcommand → List Row → Order → Type 0
 IsOrderFor ForRun rows order = (run : RunOrder) × (order ≡ Run run) × IsRunOrder rows run
 IsOrderFor ForCheck rows order = (check : CheckOrder) × (order ≡ Check check) × IsCheckOrder rows check
 IsOrderFor ForFrame rows order = (frame : FrameOrder) × (order ≡ Frame frame) × IsFrameOrder rows frame
+IsOrderFor ForSettings rows order = (settings : SettingsOrder) × (order ≡ Settings settings) × IsSettingsOrder rows settings
 IsOrderFor ForShow rows order =
     IsShowOrder (side_named (unwrap_or (first_of (codes "side") rows) (codes "bot")))
     (level_named (unwrap_or (first_of (codes "level") rows) (codes "0"))) rows order

@@ -1,6 +1,8 @@
--- The end of `show`, `check` and `frame`: the exit status by the result of their libraries, and the output. (own)
+-- The end of `show`, `check`, `frame` and `settings`: the exit status by the result of their libraries, and the output.
+-- (own)
 use Rattle.std.specs.Prelude.{◌≡◌, ◌≢◌, ◌⊎◌, ℕ, ◌≤◌, ◌==◌, ◌&&◌, Bool, true, false, if◌then◌else◌, codes}
 use Rattle.std.specs.Prelude.{List, [], ◌∷◌, ◌++◌, map, Option, Some, None, IfSome, option_map, Result, Ok, Err}
+use Rattle.std.specs.Prelude.{IfOk, is_ok}
 use Rattle.std.specs.List.{join_with_byte}
 use Rattle.std.specs.Io.KnownBytes.{Keeps}
 use Rattle.clap.specs.declared.error.kind.ErrorKind.{ErrorKind}
@@ -24,10 +26,14 @@ use Rattle.daide_text.specs.Frames.{Writes, WritesUpTo}
 use Rattle.daide_text.specs.declared.frames.TextFault.{TextFault}
 use Rattle.daide_commands.specs.Gateway.{Announces}
 use Rattle.daide_commands.specs.declared.arguments.Order.{Order}
-use Rattle.daide_commands.specs.declared.arguments.Order.TheVariants.{Show, Check, Frame, Run, BadSide, BadLevel}
+use Rattle.daide_commands.specs.declared.arguments.Order.TheVariants.{Show, Check, Frame, Settings, Run, BadSide, BadLevel}
 use Rattle.daide_commands.specs.declared.arguments.ShowOrder.{ShowOrder}
 use Rattle.daide_commands.specs.declared.arguments.CheckOrder.{CheckOrder}
 use Rattle.daide_commands.specs.declared.arguments.FrameOrder.{FrameOrder}
+use Rattle.daide_commands.specs.declared.arguments.SettingsOrder.{SettingsOrder}
+use Rattle.toml.specs.Parse.{parse_document}
+use Rattle.daide_settings.specs.Settings.{judged_settings}
+use Rattle.daide_commands.specs.declared.judging.SettingsFault.{SettingsFault}
 
 -- the arguments as one text, if there are any, with a space between each two; otherwise the bytes of standard input
 abbrev pub given_by : Option (List (List ℕ)) → Option (List ℕ) → Option (List ℕ)
@@ -101,6 +107,23 @@ abbrev pub FrameEnds : List Named → Option (List ℕ) → Option (List ℕ) �
 FrameEnds added input old new status =
     (answer : Result (Unit {0}) TextFault) × IsFrameAnswer added input old new answer × (status ≡ frame_status answer)
 
+-- ---- `settings`
+
+-- the status by the judgement: whether the text has settings, or a fault
+abbrev pub settings_status : Result Bool SettingsFault → ℕ
+settings_status (Ok true) = 0
+settings_status (Ok false) = 1
+settings_status (Err fault) = 1
+
+-- the judgement of a text: whether it has settings
+abbrev pub IsJudgement : List ℕ → Bool → Type 0
+IsJudgement text good = good ≡ is_ok (judged_settings (parse_document text))
+
+-- the status is that of a judgement, which is the one of a known text
+abbrev pub SettingsEnds : Option (List ℕ) → ℕ → Type 0
+SettingsEnds known status = (answer : Result Bool SettingsFault)
+    × IfOk answer (λ good. IfSome known (λ text. IsJudgement text good)) × (status ≡ settings_status answer)
+
 -- ---- an order
 
 -- The same for an order, by the bytes of standard input and by the rest of them that is unread. No clause knows the
@@ -124,12 +147,16 @@ FrameRuns order known old new status =
     × FrameEnds (names_of words)
     (lines_by (option_map (λ typed. map (λ word. word.now) typed.now) order.typed) known) old new status
 
+abbrev pub SettingsRuns : SettingsOrder → Option (List ℕ) → ℕ → Type 0
+SettingsRuns order known status = order.path.now ≡ codes "-" → SettingsEnds known status
+
 -- `failed` says that a write of the output failed
 abbrev pub OrderEnds : Type 0 → Order → Option (List ℕ) → Option (List ℕ) → Option (List ℕ) → Option (List ℕ) → ℕ →
     Type 0
 OrderEnds failed (Show order) known rest old new status = ShowRuns order known old new status
 OrderEnds failed (Check order) known rest old new status = CheckRuns order known rest old new status
 OrderEnds failed (Frame order) known rest old new status = FrameRuns order known old new status
+OrderEnds failed (Settings order) known rest old new status = SettingsRuns order known status
 OrderEnds failed (Run order) known rest old new status = (status ≤ 1) × (status ≡ 0 → Announces failed old new)
 OrderEnds failed BadSide known rest old new status = (status ≡ 2) × (new ≡ old)
 OrderEnds failed BadLevel known rest old new status = (status ≡ 2) × (new ≡ old)

@@ -4,9 +4,9 @@ ghost use Rattle.std.specs.Prelude.{◌≡◌, IfOk, map, option_map, unwrap_or,
 ghost use Rattle.std.specs.List.{list_any};
 ghost use Rattle.clap.specs.Words.{app_of, rule_of, rows_of, found_of, subcommand_rows_of, first_of, all_of};
 ghost use Rattle.clap.specs.declared.builder.command.Command.TheViews.{out-Command};
-ghost use Rattle.daide_commands.specs.CommandLine.{AreCommands, option_rule, flag_rule, words_rule, gate_app, frame_app, show_app, check_app, run_app};
+ghost use Rattle.daide_commands.specs.CommandLine.{AreCommands, option_rule, flag_rule, words_rule, gate_app, frame_app, show_app, check_app, settings_app, run_app};
 ghost use Rattle.daide_commands.specs.CommandLine.{begins_negative, side_named, level_named, is_set};
-ghost use Rattle.daide_commands.specs.CommandLine.{IsRunOrder, IsCheckOrder, IsFrameOrder, IsShowOrder, IsOrderFor, IsOrderOf, subcommand_named, ParsesTo, parsed_by};
+ghost use Rattle.daide_commands.specs.CommandLine.{IsRunOrder, IsCheckOrder, IsFrameOrder, IsSettingsOrder, IsShowOrder, IsOrderFor, IsOrderOf, subcommand_named, ParsesTo, parsed_by};
 
 use clap::error::Error;
 use clap::{Arg, ArgAction, ArgMatches, Command};
@@ -24,6 +24,8 @@ pub(crate) enum Order<'m, 'a> {
     Check(CheckOrder<'a>),
     /// Write the frames of messages.
     Frame(FrameOrder<'m, 'a>),
+    /// Judge a file of settings.
+    Settings(SettingsOrder<'a>),
     /// Serve.
     Run(RunOrder<'a>),
     /// The value of `--side` is not a side.
@@ -65,6 +67,13 @@ pub(crate) struct FrameOrder<'m, 'a> {
     pub typed: Option<&'m [&'a str]>,
 }
 
+/// The order to judge a file of settings.
+#[derive(Clone, Copy)]
+pub(crate) struct SettingsOrder<'a> {
+    /// The path of the settings, or `-` for standard input.
+    pub path: &'a str,
+}
+
 /// The order to serve.
 #[derive(Clone, Copy)]
 pub(crate) struct RunOrder<'a> {
@@ -85,8 +94,8 @@ Without a command it does what 'show' does with its defaults. The options of 'sh
       --explain           say why the frame would not be relayed
 
 Exit status:
-  0  the frame would be relayed; the log has no PRN, HUH or fault; all messages have frames; all bots were served;
-     help and version
+  0  the frame would be relayed; the log has no PRN, HUH or fault; all messages have frames; the settings have no
+     fault; all bots were served; help and version
   1  a fault of the input, the output, the settings, the folder of records, the address to listen on, or memory, told in
      one line on standard error
   2  words that are not understood
@@ -122,6 +131,17 @@ The exit status is 0 if each message has a frame, and 1 at the first that has no
 Examples:
   daide-gate frame \"NME ('a') ('1')\"
   echo 'GOF' | daide-gate frame | daide-gate show";
+
+/// The help on the output of `settings`, with examples and exit statuses.
+const SETTINGS_NOTES: &str = "\
+It prints each fault: its line, the key, the value and what the value must be, and for an unknown key the known one
+that is nearest. For a file without a fault it prints the value of each key, which is a file of settings again, and
+then the memory and the descriptors that its run needs. For '-' it reads standard input.
+The exit status is 0 if 'run' accepts the settings, and else 1.
+
+Examples:
+  daide-gate settings examples/settings.toml
+  daide-gate settings examples/tournament.toml";
 
 /// The help on the output of `run`, with examples and exit statuses.
 const RUN_NOTES: &str = "\
@@ -225,6 +245,23 @@ fn frame_command<'a>(alloc: Global, takes_negative: bool) -> Result<Command<'a>,
         .args(words_taken)
 }
 
+/// Returns the command `settings`.
+fn settings_command<'a>(alloc: Global) -> Result<Command<'a>, AllocError>
+    ensures app { IfOk result (λ command. app_of command ≡ settings_app) }
+    ensures local { IfOk result (λ command. (out-Command command).has_globals ≡ false) }
+{
+    let file = Arg::new(alloc, "FILE")
+        .required(true)
+        .action(ArgAction::Set)
+        .help("The file of settings; for '-', standard input is read");
+    let mut words_taken = Vec::new(alloc);
+    words_taken.push(file)?;
+    Command::new(alloc, "settings")
+        .about("Judges a file of settings, without a run")
+        .after_help(SETTINGS_NOTES)
+        .args(words_taken)
+}
+
 /// Returns the command `run`.
 fn run_command<'a>(alloc: Global) -> Result<Command<'a>, AllocError>
     ensures app { IfOk result (λ command. app_of command ≡ run_app) }
@@ -256,6 +293,7 @@ fn subcommands<'a>(alloc: Global, takes_negative: bool) -> Result<Vec<Command<'a
     commands.push(show_command(alloc)?)?;
     commands.push(check_command(alloc)?)?;
     commands.push(frame_command(alloc, takes_negative)?)?;
+    commands.push(settings_command(alloc)?)?;
     commands.push(run_command(alloc)?)?;
     Ok(commands)
 }
@@ -388,6 +426,15 @@ fn frame_order<'m, 'a>(frame: &'m ArgMatches<'a>) -> FrameOrder<'m, 'a>
     }
 }
 
+/// Returns the order of `settings`.
+fn settings_order<'a>(settings: &ArgMatches<'a>) -> SettingsOrder<'a>
+    ensures { IsSettingsOrder (rows_of (found_of settings.now)) result }
+{
+    SettingsOrder {
+        path: value_of(settings, "FILE").unwrap_or("-"),
+    }
+}
+
 /// Returns the order of `show`. A bad side is refused before a bad level.
 fn show_order<'m, 'a>(show: &'m ArgMatches<'a>) -> Order<'m, 'a>
     ensures { IsShowOrder (side_named (unwrap_or (first_of (codes "side") (rows_of (found_of show.now))) (codes "bot")))
@@ -417,6 +464,7 @@ fn order_for<'m, 'a>(name: &str, given: &'m ArgMatches<'a>) -> Order<'m, 'a>
         "run" => Order::Run(run_order(given)),
         "check" => Order::Check(check_order(given)),
         "frame" => Order::Frame(frame_order(given)),
+        "settings" => Order::Settings(settings_order(given)),
         _ => show_order(given),
     }
 }

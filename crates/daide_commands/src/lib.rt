@@ -2,10 +2,10 @@
 //!
 //! `arguments` parses the command line into an order, `hints` suggests another command for arguments that do not parse,
 //! and `program` carries out the order. `showing`, `checking` and `framing` take their input from the arguments
-//! (`typed`), a file or a reader. `running` reads the settings and runs the gateway; `gateway` is the gateway over
-//! sockets, with its laws. `text` reads a text of bounded length. `folder` has the records of sessions, and `recorded`
-//! is a run that keeps them. `faults` has the line that reports a fault and the exit statuses, and `terminal` is a
-//! standard input with a prompt.
+//! (`typed`), a file or a reader. `judging` judges a file of settings. `running` reads the settings and runs the
+//! gateway; `gateway` is the gateway over sockets, with its laws. `text` reads a text of bounded length. `folder` has
+//! the records of sessions, and `recorded` is a run that keeps them. `faults` has the line that reports a fault and the
+//! exit statuses, and `terminal` is a standard input with a prompt.
 #![tactic(auto)]
 
 mod arguments;
@@ -15,6 +15,7 @@ mod folder;
 mod framing;
 pub mod gateway;
 mod hints;
+mod judging;
 pub mod laws;
 mod program;
 mod recorded;

@@ -11,6 +11,7 @@ use crate::checking::run_check;
 use crate::faults::{CLEAN, FAULT, NOT_RELAYED, USAGE, tell};
 use crate::framing::run_frame;
 use crate::hints::{suggest, usage_hint};
+use crate::judging::run_settings;
 use crate::running::run;
 use crate::showing::run_show;
 use clap::error::{Error, ErrorKind};
@@ -61,6 +62,7 @@ fn carry_out<R: AllocGlobal + Files + Clock + Net, I: Read, O: Sink, E: Write>(
         Order::Show(order) => run_show(rt, order, input, output, errors),
         Order::Check(order) => run_check(rt, order, input, output, errors),
         Order::Frame(order) => run_frame(rt, order, input, output, errors),
+        Order::Settings(order) => run_settings(rt, order, input, output, errors),
         Order::Run(order) => run(rt, order, output, errors),
         Order::BadSide => tell(errors, "bad side", USAGE),
         Order::BadLevel => tell(errors, "bad level", USAGE),
@@ -73,9 +75,10 @@ fn carry_out<R: AllocGlobal + Files + Clock + Net, I: Read, O: Sink, E: Write>(
 /// `bounded`: the status is one of the four of `faults`.
 ///
 /// `answered`: what the program does, its status and its output are those of the order that the words give
-/// (`OrderEnds`). For `show`, `check` and `frame` the order says what they write of standard input. `run` returns 0
-/// only if it wrote that it listens. Words that are not understood return 2 and write nothing to the output. Help and
-/// version return 0 or 1, and refused memory returns 1 (`UsageEnds`).
+/// (`OrderEnds`). For `show`, `check` and `frame` the order says what they write of standard input. `settings` returns 0
+/// only for a standard input that `read_settings` accepts, and `run` only if it wrote that it listens. Words that are
+/// not understood return 2 and write nothing to the output. Help and version return 0 or 1, and refused memory returns 1
+/// (`UsageEnds`).
 ///
 /// Premise: no word begins with a hyphen and a digit. With such a word `frame` takes negative numbers, and `clap`'s
 /// contracts say nothing of that; then the program ends as some order does.

@@ -4,6 +4,7 @@
 ghost use Rattle.std.specs.Prelude.{◌≡◌, ◌⊎◌, ℕ, []};
 ghost use Rattle.daide_sockets.specs.Lingering.{GoOnFor};
 ghost use Rattle.daide_sockets.specs.Pairing.{Transits};
+ghost use Rattle.daide_sockets.specs.Wakeups.{Wakes};
 
 use crate::folder::{Folder, SessionFile, end, tell_if_ended};
 use crate::running::Finish;
@@ -51,32 +52,39 @@ impl<'w, N: Network, R: AllocGlobal + Files, E: Write + Drop> System<
           came = new.sockets.acceptor.came;
           arrivals = new.sockets.arrivals.items;
           closing = new.sockets.closings;
-        }) };
+        })
+        × Wakes N.transition (λ ports. record {
+          bot = ports.ports.bot;
+          server = ports.ports.server;
+          reading = ports.ports.idle.reading;
+          im_due = ports.ports.im_due;
+        }) (old.sockets.poller.network, old.sockets.poller.table) answer
+        (new.sockets.poller.network, new.sockets.poller.table) };
 
     fn begin_round(&mut self) {
         self.sockets.begin_round();
     }
 
+    /// A record that has just ended is news too, so that the next turn begins at once and logs it.
     fn has_news(
         &mut self,
         ports: &Recording<SocketPorts<'w, N::Connection>, SessionFile<R::File>>,
     ) -> bool {
-        self.sockets.has_news(ports.ports())
+        let news = self.sockets.has_news(ports.ports());
+        news || ports.has_just_ended()
     }
 
     fn begin_turn(
         &mut self,
         ports: &mut Recording<SocketPorts<'w, N::Connection>, SessionFile<R::File>>,
     ) {
+        tell_if_ended(ports, &mut self.sockets.errors);
         ports.begin_turn(&mut self.sockets);
     }
 
-    fn end_turn(
-        &mut self,
-        ports: &Recording<SocketPorts<'w, N::Connection>, SessionFile<R::File>>,
-    ) {
-        tell_if_ended(ports, &mut self.sockets.errors);
-        self.sockets.end_turn(ports.ports());
+    fn watch(&mut self, ports: &Recording<SocketPorts<'w, N::Connection>, SessionFile<R::File>>) {
+        self.sockets
+            .watch_also(ports.ports(), ports.has_just_ended());
     }
 
     fn accept(&mut self) -> bool {
@@ -101,6 +109,7 @@ impl<'w, N: Network, R: AllocGlobal + Files, E: Write + Drop> System<
         ports: Recording<SocketPorts<'w, N::Connection>, SessionFile<R::File>>,
         end_of: SessionEnd,
     ) {
+        tell_if_ended(&ports, &mut self.sockets.errors);
         let ports = end(ports, &mut self.sockets.errors);
         self.sockets.retire(ports, end_of);
     }

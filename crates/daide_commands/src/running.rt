@@ -25,7 +25,7 @@ use daide_words::Words;
 use std::alloc::{Allocator, Global};
 use std::io::{Read, Write};
 use std::net::Net;
-use std::rt::{Clock, Files};
+use std::rt::{Clock, Files, LibcRuntime};
 use std::{fs, io};
 use thiserror::Error;
 
@@ -124,18 +124,38 @@ fn run_on<P: Ports, S: System<P> + Finish, O: Sink>(
     ending_of(served)
 }
 
-/// Serves over sockets at the addresses of the settings. Logs its sessions if it `is_verbose`.
-fn serve_sockets<R: AllocGlobal + Clock + Net, O: Sink, E: Write>(
-    rt: &R,
-    settings: &Settings,
+/// What a run reports of its sessions beside their counts.
+#[derive(Clone, Copy)]
+struct SessionReports<'f, F: Files> {
+    /// Whether the beginning and the end of each session are logged.
     is_verbose: bool,
+    /// The folder of the records, if sessions are recorded.
+    folder: Option<&'f Folder<'f, F>>,
+}
+
+/// Serves over sockets at the addresses of the settings: binds, opens the sockets, serves on them, and finishes closing.
+/// If there is a folder, the system is one around the sockets, which keeps a record of each session there.
+fn serve_sockets<'r, R: AllocGlobal + Clock + Net, F: AllocGlobal + Files, O: Sink, E: Write>(
+    rt: &'r R,
+    settings: &Settings,
+    reports: SessionReports<'r, F>,
     output: &mut O,
     errors: &mut E,
 ) -> Result<(), RunFault>
-    ensures { RunEnds ⟦<Connection as Duplex>⟧.to_give ⟦<Connection as Duplex>⟧.taken ⟦<Connection as Duplex>⟧.calls
+    ensures plain { reports.entry.folder ≡ None →
+        RunEnds ⟦<Connection as Duplex>⟧.to_give ⟦<Connection as Duplex>⟧.taken ⟦<Connection as Duplex>⟧.calls
         (λ ports. record { number = ports.number; bot = ports.bot.stream; server = ports.server.stream })
         ⟦<SocketPorts<'static, Connection> as Ports>⟧.transition settings.now (HasFailed O.Fails)
         (O.contents output.old) (O.contents output.new) result }
+    ensures recorded { IfSome reports.entry.folder (λ folder.
+        RunEnds ⟦<Connection as Duplex>⟧.to_give ⟦<Connection as Duplex>⟧.taken ⟦<Connection as Duplex>⟧.calls
+        (λ ports. record {
+          number = ports.ports.number;
+          bot = ports.ports.bot.stream;
+          server = ports.ports.server.stream;
+        })
+        ⟦<Recording<SocketPorts<'static, Connection>, SessionFile<F::File>> as Ports>⟧.transition settings.now
+        (HasFailed O.Fails) (O.contents output.old) (O.contents output.new) result) }
 {
     let BoundSockets {
         network,
@@ -147,8 +167,14 @@ fn serve_sockets<R: AllocGlobal + Clock + Net, O: Sink, E: Write>(
     let Some(mut sockets) = sockets_on(rt.alloc(), settings, ground, errors) else {
         return Err(RunFault::Memory);
     };
-    sockets.set_verbose(is_verbose);
-    run_on(rt.alloc(), settings, &mut sockets, output)
+    sockets.set_verbose(reports.is_verbose);
+    match reports.folder {
+        None => run_on(rt.alloc(), settings, &mut sockets, output),
+        Some(folder) => {
+            let mut system = RecordedSockets { sockets, folder };
+            run_on(rt.alloc(), settings, &mut system, output)
+        }
+    }
 }
 
 /// Serves with the settings of a text: binds, opens the sockets, serves on them (`serve_on`), and finishes closing. If
@@ -179,49 +205,22 @@ pub fn run_text<R: AllocGlobal + Clock + Net, O: Sink, E: Write>(
         (output.new ≡ output.old) × (errors.new ≡ errors.old)) }
 {
     match read_settings(rt.alloc(), text) {
-        Ok(settings) => serve_sockets(rt, &settings, is_verbose, output, errors),
+        Ok(settings) => {
+            let reports = SessionReports::<LibcRuntime> {
+                is_verbose,
+                folder: None,
+            };
+            serve_sockets(rt, &settings, reports, output, errors)
+        }
         Err(fault) => Err(RunFault::Settings(fault)),
     }
-}
-
-/// Serves over sockets at the addresses of the settings, and keeps a record of each session in a folder.
-fn serve_recorded<'r, R: AllocGlobal + Files + Clock + Net, O: Sink, E: Write>(
-    rt: &'r R,
-    settings: &Settings,
-    kept: (bool, &'r Folder<'r, R>),
-    output: &mut O,
-    errors: &mut E,
-) -> Result<(), RunFault>
-    ensures { RunEnds ⟦<Connection as Duplex>⟧.to_give ⟦<Connection as Duplex>⟧.taken ⟦<Connection as Duplex>⟧.calls
-        (λ ports. record {
-          number = ports.ports.number;
-          bot = ports.ports.bot.stream;
-          server = ports.ports.server.stream;
-        })
-        ⟦<Recording<SocketPorts<'static, Connection>, SessionFile<R::File>> as Ports>⟧.transition settings.now
-        (HasFailed O.Fails) (O.contents output.old) (O.contents output.new) result }
-{
-    let (is_verbose, folder) = kept;
-    let BoundSockets {
-        network,
-        servers,
-        table,
-        pool,
-    } = bind(rt, settings).map_err(RunFault::Gateway)?;
-    let ground = (network, servers.as_slice(), table, &pool);
-    let Some(mut sockets) = sockets_on(rt.alloc(), settings, ground, errors) else {
-        return Err(RunFault::Memory);
-    };
-    sockets.set_verbose(is_verbose);
-    let mut system = RecordedSockets { sockets, folder };
-    run_on(rt.alloc(), settings, &mut system, output)
 }
 
 /// Serves with the settings of a file, and keeps a record of each session in a folder.
 fn run_recorded<'r, R: AllocGlobal + Files + Clock + Net, O: Sink, E: Write>(
     rt: &'r R,
-    path: &str,
-    kept: (bool, &'r str),
+    order: RunOrder<'r>,
+    folder: &'r str,
     output: &mut O,
     errors: &mut E,
 ) -> Result<(), RunFault>
@@ -234,12 +233,15 @@ fn run_recorded<'r, R: AllocGlobal + Files + Clock + Net, O: Sink, E: Write>(
         ⟦<Recording<SocketPorts<'static, Connection>, SessionFile<R::File>> as Ports>⟧.transition
         (HasFailed O.Fails) (O.contents output.old) (O.contents output.new) result }
 {
-    let (is_verbose, folder) = kept;
-    let settings = settings_at(rt, path)?;
+    let settings = settings_at(rt, order.settings)?;
     let Some(folder) = Folder::at(rt, folder, &settings) else {
         return Err(RunFault::Record);
     };
-    serve_recorded(rt, &settings, (is_verbose, &folder), output, errors)
+    let reports = SessionReports {
+        is_verbose: order.is_verbose,
+        folder: Some(&folder),
+    };
+    serve_sockets(rt, &settings, reports, output, errors)
 }
 
 /// Carries out the order to serve.
@@ -252,8 +254,7 @@ fn run_ordered<R: AllocGlobal + Files + Clock + Net, O: Sink, E: Write>(
     ensures { OnOk result (Announces (HasFailed O.Fails) (O.contents output.old) (O.contents output.new)) }
 {
     if let Some(folder) = order.record {
-        let kept = (order.is_verbose, folder);
-        return run_recorded(rt, order.settings, kept, output, errors);
+        return run_recorded(rt, order, folder, output, errors);
     }
     let text = text_at(rt, order.settings)?;
     run_text(rt, text.as_str(), order.is_verbose, output, errors)

@@ -1,7 +1,7 @@
 -- A turn sends at least one byte if one is queued, and loses none.
 use Rattle.std.proofs.Common.{◌≡◌, ℕ, ◌+◌, ◌<◌, ◌≤◌, min, Bool, true, false, List, [], ◌∷◌, ◌++◌, length, take}
-use Rattle.std.proofs.Common.{inl, inr, refl, sym, ◌∙◌, ap, subst, arith, length-append, length-take, length-drop}
-use Rattle.std.proofs.Common.{append_assoc, append-nil}
+use Rattle.std.proofs.Common.{inl, inr, sym, ◌∙◌, ap, subst, arith, length-append, length-take, length-drop}
+use Rattle.std.proofs.Common.{append-nil}
 use Rattle.std.proofs.lemmas.Bool.{cases_lt}
 use Rattle.daide_frame.specs.declared.side.Side.{Side}
 use Rattle.daide_frame.specs.declared.side.Side.TheVariants.{Bot, Server}
@@ -14,7 +14,7 @@ use Rattle.daide_io.specs.declared.ports.Pull.{Pull}
 use Rattle.daide_io.specs.declared.ports.Pull.TheVariants.{Got, Idle, Ended}
 use Rattle.daide_io.specs.declared.ports.Put.{Put}
 use Rattle.daide_io.specs.declared.ports.Put.TheVariants.{Took, Failed}
-use Rattle.daide_io.specs.Ports.{PortCall, Clock, Offered, took, taken, IsPutWithin}
+use Rattle.daide_io.specs.Ports.{PortCall, Clock, Offered, taken, IsPutWithin}
 use Rattle.daide_io.proofs.TraceLemmas.{taken-append}
 use Rattle.daide_driver.specs.Turn.{Then, AdvancesByEvents, Hears, AsksClock, Hands, Puts, Gets}
 use Rattle.daide_driver.specs.Turn.{Pulls, Turn}

@@ -1,12 +1,12 @@
 -- Each law of `laws`, used once at small values: few calls, two places, six turns. Each fact takes only the law, so
 -- that a weaker law does not check.
-use Rattle.std.proofs.Common.{◌≡◌, ℕ, ◌+◌, ◌<◌, ◌≤◌, min, false, List, [], ◌∷◌, ◌++◌, length, Some, refl, sym, ◌∙◌, ap, subst, arith}
+use Rattle.std.proofs.Common.{◌≡◌, ℕ, ◌+◌, ◌<◌, ◌≤◌, min, false, List, [], ◌∷◌, length, Some, refl, ◌∙◌, subst, arith}
 use Rattle.std.specs.Prelude.{slice_get}
 use Rattle.daide_frame.specs.declared.side.Side.TheVariants.{Bot, Server}
 use Rattle.daide_protocol.specs.Machine.{Limits}
 use Rattle.daide_protocol.specs.Wires.{SessionView, queued, first_len, sent_bytes, parts_of, holding}
 use Rattle.daide_io.specs.declared.ports.Pull.TheVariants.{Got}
-use Rattle.daide_io.specs.Ports.{PortCall, TurnBegins, Clock, Pulled, EvolvesBy}
+use Rattle.daide_io.specs.Ports.{PortCall, Clock, Pulled, EvolvesBy}
 use Rattle.daide_channels.specs.Fronts.{AreFresh}
 use Rattle.daide_driver.specs.Due.{AreTurns, DueBytesGo, EachTurnTakesAll, EachTurnTakesSome, FramesGo, taken_in}
 use Rattle.daide_driver.specs.Headline.{untouched}

@@ -1,8 +1,7 @@
 -- Traces of port calls, one after another.
-use Rattle.std.proofs.Common.{◌≡◌, ℕ, Bool, true, false, List, [], ◌∷◌, ◌++◌, Option, Some, None, refl, sym, ap}
+use Rattle.std.proofs.Common.{◌≡◌, ℕ, Bool, true, false, List, [], ◌∷◌, ◌++◌, refl, sym, ap}
 use Rattle.std.proofs.Common.{◌∙◌, subst, append_assoc, append-nil}
-use Rattle.std.specs.Prelude.{◌||◌, unwrap_or}
-use Rattle.daide_frame.specs.declared.side.Side.{Side}
+use Rattle.std.specs.Prelude.{◌||◌}
 use Rattle.daide_protocol.specs.Events.{Event}
 use Rattle.daide_protocol.specs.Machine.{SessionState, Effect, Runs, is_over}
 use Rattle.daide_protocol.specs.Wires.{SessionView, queued, sent_to, sent_bytes}
@@ -10,11 +9,10 @@ use Rattle.daide_protocol.proofs.OneRun.{one_run, runs_join}
 use Rattle.daide_protocol.proofs.PieceRuns.{over_stays}
 use Rattle.daide_protocol.proofs.SummaryLemmas.{tallied_then}
 use Rattle.daide_protocol.proofs.WireLemmas.{sent_to-append, sent_bytes-append}
-use Rattle.daide_io.specs.Ports.{PortCall, event_of, events_of, took, taken, put_fails, has_failed}
+use Rattle.daide_io.specs.Ports.{PortCall, events_of, has_failed}
 use Rattle.daide_io.proofs.TraceLemmas.{events_of-append, taken-append, has_failed-append, transition_then}
 use Rattle.daide_driver.specs.Record.{Moved, DeliversOutput}
 use Rattle.daide_driver.specs.Totals.{RefinesRun}
-use Rattle.daide_io.specs.Ports.{EvolvesBy}
 use Rattle.daide_driver.specs.Record.{EvolveTogether}
 use Rattle.daide_driver.specs.Turn.{Then}
 use Rattle.daide_session.proofs.WorkLemmas.{paid_same}

@@ -4,7 +4,8 @@ use Rattle.std.specs.Prelude.{Option, Some, None, Ok, Err, slice_get, slice_set,
 use Rattle.daide_words.specs.declared.word.Word.{Word}
 use Rattle.daide_protocol.specs.Machine.{Limits, ending_in}
 use Rattle.daide_protocol.specs.Wires.{SessionView, IsNew, is_closed}
-use Rattle.daide_protocol.specs.Weight.{weight_of, weight_bound}
+use Rattle.daide_grammar.specs.Bounds.{entries_bound}
+use Rattle.daide_protocol.specs.Weight.{queue_bound, weight_of, weight_bound}
 use Rattle.daide_protocol.specs.declared.config.Config.{Config}
 use Rattle.daide_protocol.specs.declared.ending.Ending.{Ending}
 use Rattle.daide_protocol.specs.declared.summary.Summary.{Summary}
@@ -101,6 +102,7 @@ pub record IsTurned {P : Type 0} (transition : P → PortCall → P → Type 0) 
 abbrev pub weight_at : {P : Type 0} → SessionView × P → ℕ
 weight_at place = weight_of place.0
 
--- the greatest weight of one session with these limits
+-- the bound of the weight of one session with these limits: a whole body and a full stack for each side, and the queued
+-- frames
 abbrev pub session_bound : Limits → ℕ
-session_bound limits = 2 * limits.cap + 16 * limits.max_depth + 96
+session_bound limits = 2 * (limits.cap + entries_bound limits.max_depth) + queue_bound

@@ -1,8 +1,9 @@
 -- The port calls of a turn and their effect on the session: the clock, one put to each wire with a queued frame, one
 -- pull from each side with room. They are in this order, each by the state at its own step.
-use Rattle.std.specs.Prelude.{◌≡◌, ℕ, ◌+◌, ◌*◌, ◌<◌, ◌≤◌, ◌⊎◌, min, Bool, true, false, List, [], ◌∷◌, ◌++◌, length}
+use Rattle.std.specs.Prelude.{◌≡◌, ℕ, ◌+◌, ◌/◌, ◌<◌, ◌≤◌, ◌⊎◌, min, Bool, true, false, List, [], ◌∷◌, ◌++◌, length}
 use Rattle.daide_frame.specs.declared.side.Side.{Side}
 use Rattle.daide_frame.specs.declared.side.Side.TheVariants.{Bot, Server}
+use Rattle.daide_grammar.specs.Bounds.{message_steps}
 use Rattle.daide_reader.specs.Reading.{IsRaised}
 use Rattle.daide_protocol.specs.declared.note.Note.{Note}
 use Rattle.daide_frame.specs.Side.{other}
@@ -107,10 +108,10 @@ Turn = Then AsksClock (Then (Puts Bot) (Then (Puts Server) (Then (Pulls Bot) (Pu
 
 -- ---- its work
 
--- The most look-ups of a turn in one side's table: four for each token of its one pull, four for a token that the
--- pull's first byte completes, and four at a message's end.
+-- The maximum number of look-ups of a turn in one side's table: those for the tokens of its one pull, for a token that the
+-- pull's first byte completes, and for a message's end.
 abbrev pub turn_steps : ℕ
-turn_steps = 4 * 257 + 4
+turn_steps = message_steps (most_pulled / 2 + 1) true
 
 -- each side's table made at most this many look-ups
 abbrev pub AsksAtMost : ℕ → SessionView → SessionView → Type 0

@@ -3,7 +3,7 @@
 //! A hub reserves the places of all its sessions at once. So `add` allocates only the two bodies of a new session, and
 //! no other call allocates.
 
-ghost use Rattle.std.specs.Prelude.{◌≡◌, ℕ, ◌+◌, ◌*◌, ◌<◌, ◌≤◌, [], length, Ok, Some, None, false};
+ghost use Rattle.std.specs.Prelude.{◌≡◌, ◌+◌, ◌*◌, ◌<◌, ◌≤◌, [], length, Ok, Some, None, false};
 ghost use Rattle.std.specs.Prelude.{IfOk, IfErr, IfSome, IfNone, OnOk, OnErr, slice_get, sum_by};
 ghost use Rattle.daide_protocol.specs.Bounds.{IsSessionCount};
 ghost use Rattle.daide_protocol.specs.Wires.{is_closed};
@@ -221,7 +221,8 @@ impl<P: Ports, A: Allocator + Copy> Hub<P, A> {
     ///
     /// `sum`: it is the sum of the sessions' weights.
     ///
-    /// `bound`: it is at most `2 * max_body + 16 * max_depth + 96` for each session.
+    /// `bound`: for each session it is at most a whole body and a full stack for each side, and 64 frames
+    /// (`session_bound`).
     pub fn weight(&self) -> usize
         ensures sum { result ≡ sum_by weight_at self.now.places }
         ensures bound { result ≤ length self.now.places * session_bound self.now.limits }

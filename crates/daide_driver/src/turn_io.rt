@@ -4,7 +4,7 @@
 //! frames are written, so that a side whose answer is sent can be read in the same turn. A turn makes at most one call
 //! for each wire and one for each side, so neither peer can delay the other.
 
-ghost use Rattle.std.specs.Prelude.{◌≡◌, ℕ, ◌+◌, ◌*◌, ◌<◌, ◌≤◌, min, length};
+ghost use Rattle.std.specs.Prelude.{◌≡◌, ◌<◌, ◌≤◌, min, length};
 ghost use Rattle.daide_frame.specs.declared.side.Side.{Side};
 ghost use Rattle.daide_reader.specs.Reading.{IsRaised};
 ghost use Rattle.daide_frame.specs.Side.{other};
@@ -113,8 +113,8 @@ fn pull<A: Allocator, P: Ports>(
 /// failed took a prefix of that, nothing waits for it, and the session is over.
 ///
 /// `exchange` (`totals`): over all that the ports returned since the session was made, the session counted the moves
-/// of the machine, and a side's table gives at most two answers for each byte received, modulo 2^64 (`HasTotals`). A
-/// token of two bytes takes at most four answers, and the four bytes of a message's header pay for the four at its end.
+/// of the machine, and a side's table makes at most two look-ups for each byte received, modulo 2^64 (`HasTotals`). A
+/// token of two bytes takes at most four look-ups, and the four bytes of a message's header pay for the four at its end.
 /// Neither pieces nor the number of messages matter. Between any two calls the same holds, with what is left over for
 /// the bytes held at the beginning (`Works`). So it holds of a relay, and of each session of a hub and of a run
 /// (`sessions_are_apart`, `sessions_are_served`).
@@ -129,8 +129,8 @@ fn pull<A: Allocator, P: Ports>(
 /// `exchange` (`bounds`): the bounds on what is held and on steps hold after each turn of any session, wherever it
 /// began.
 ///
-/// `asked`: the call asks each side's table at most 1,032 times, whatever the ports return. That is `4 * 257 + 4`,
-/// since a turn pulls at most 512 bytes of a side.
+/// `asked`: the call makes at most 1,032 look-ups in each side's table, whatever the ports return (`turn_steps`). A turn
+/// pulls at most 512 bytes from a side, which complete at most 257 tokens.
 ///
 /// Not said: which of two adjacent words `ERR` was inserted, if the body has one at that place.
 pub fn turn<A: Allocator, P: Ports>(session: &mut Session<A>, ports: &mut P)

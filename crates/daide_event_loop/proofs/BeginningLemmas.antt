@@ -1,4 +1,5 @@
--- The turns of a round: the system calls that begin and end them, and the hub that lends their ports.
+-- The turns of a round: the system calls that begin them, and the hub that lends their ports; and the ports that a wait
+-- watches.
 use Rattle.std.proofs.Common.{◌≡◌, ℕ, zero, suc, ◌+◌, ◌<◌, Bool, true, false, List, [], ◌∷◌, ◌++◌, length}
 use Rattle.std.proofs.Common.{Option, Some, None}
 use Rattle.std.proofs.Common.{refl, sym, ap, ◌∙◌, subst, arith, add-one}
@@ -7,23 +8,23 @@ use Rattle.std.proofs.lemmas.List.{length-set}
 use Rattle.std.proofs.lemmas.List.Elements.{All-nil, All-cons}
 use Rattle.daide_protocol.specs.Wires.{SessionView}
 use Rattle.daide_io.specs.Ports.{PortCall, TurnBegins}
-use Rattle.daide_io.specs.System.{SystemCall, Begins, ReportsNews, BeginsTurn, EndsTurn, Accepts, Connects, Retires}
+use Rattle.daide_io.specs.System.{SystemCall, Begins, ReportsNews, BeginsTurn, Watches, Accepts, Connects, Retires}
 use Rattle.daide_io.specs.System.{Notifies, Waits, TransitsBy}
 use Rattle.daide_driver.specs.Hub.{HubView, with_ports, with_ports_at, Changes, IsTurned}
-use Rattle.daide_event_loop.specs.QuotaPorts.{QuotaPortsView, Meters, beginning, beginning_where, turn_end, turn_end_where}
-use Rattle.daide_event_loop.specs.Serving.{IsDueBy, OpensTurn, RunsTurn, TurnsIf, VisitsPlace, TurnsBelow}
+use Rattle.daide_event_loop.specs.QuotaPorts.{QuotaPortsView, Meters, beginning, beginning_where}
+use Rattle.daide_event_loop.specs.Serving.{IsDueBy, OpensTurn, TurnsIf, VisitsPlace, TurnsBelow, watches}
 use Rattle.daide_event_loop.specs.Served.{sum_over_calls}
 use Rattle.daide_event_loop.proofs.TransitLemmas.{transits_then}
 
 -- ---- the system calls
 
 module _ {P : Type 0} where
-  -- each of these calls reports news, or begins or ends a turn
+  -- each of these calls reports news, begins a turn, or has ports watched
   abbrev pub OnlyTurns : List (SystemCall P) → Type 0
   OnlyTurns [] = Unit {0}
   OnlyTurns (ReportsNews ports news ∷ answers) = OnlyTurns answers
   OnlyTurns (BeginsTurn before after ∷ answers) = OnlyTurns answers
-  OnlyTurns (EndsTurn ports ∷ answers) = OnlyTurns answers
+  OnlyTurns (Watches ports ∷ answers) = OnlyTurns answers
   OnlyTurns (Begins ∷ answers) = ⊥
   OnlyTurns (Accepts came ∷ answers) = ⊥
   OnlyTurns (Connects connect ∷ answers) = ⊥
@@ -35,7 +36,7 @@ module _ {P : Type 0} where
   only_append [] ys h k = k
   only_append (ReportsNews ports news ∷ xs) ys h k = only_append xs ys h k
   only_append (BeginsTurn before after ∷ xs) ys h k = only_append xs ys h k
-  only_append (EndsTurn ports ∷ xs) ys h k = only_append xs ys h k
+  only_append (Watches ports ∷ xs) ys h k = only_append xs ys h k
   only_append (Begins ∷ xs) ys h k = absurd h
   only_append (Accepts came ∷ xs) ys h k = absurd h
   only_append (Connects connect ∷ xs) ys h k = absurd h
@@ -46,7 +47,7 @@ module _ {P : Type 0} where
   -- so they add nothing to any other count
   pub none_counted : (count : SystemCall P → ℕ) (xs : List (SystemCall P)) →
       ((ports : P) (news : Bool) → count (ReportsNews ports news) ≡ 0) →
-      ((before after : P) → count (BeginsTurn before after) ≡ 0) → ((ports : P) → count (EndsTurn ports) ≡ 0) →
+      ((before after : P) → count (BeginsTurn before after) ≡ 0) → ((ports : P) → count (Watches ports) ≡ 0) →
       OnlyTurns xs → sum_over_calls count xs ≡ 0
   none_counted count [] silent none over h = refl
   none_counted count (ReportsNews ports news ∷ xs) silent none over h =
@@ -57,7 +58,7 @@ module _ {P : Type 0} where
       let one = none before after in
       let rest = none_counted count xs silent none over h in
       omega (arith, one, rest)
-  none_counted count (EndsTurn ports ∷ xs) silent none over h =
+  none_counted count (Watches ports ∷ xs) silent none over h =
       let one = over ports in
       let rest = none_counted count xs silent none over h in
       omega (arith, one, rest)
@@ -70,14 +71,14 @@ module _ {P : Type 0} where
 
   pub all_turns : (Q : SystemCall P → Type 0) (xs : List (SystemCall P)) →
       ((ports : P) (news : Bool) → Q (ReportsNews ports news)) → ((before after : P) → Q (BeginsTurn before after)) →
-      ((ports : P) → Q (EndsTurn ports)) → OnlyTurns xs → All Q xs
+      ((ports : P) → Q (Watches ports)) → OnlyTurns xs → All Q xs
   all_turns Q [] silent each over h = All-nil Q
   all_turns Q (ReportsNews ports news ∷ xs) silent each over h =
       All-cons Q (ReportsNews ports news) xs (silent ports news) (all_turns Q xs silent each over h)
   all_turns Q (BeginsTurn before after ∷ xs) silent each over h =
       All-cons Q (BeginsTurn before after) xs (each before after) (all_turns Q xs silent each over h)
-  all_turns Q (EndsTurn ports ∷ xs) silent each over h =
-      All-cons Q (EndsTurn ports) xs (over ports) (all_turns Q xs silent each over h)
+  all_turns Q (Watches ports ∷ xs) silent each over h =
+      All-cons Q (Watches ports) xs (over ports) (all_turns Q xs silent each over h)
   all_turns Q (Begins ∷ xs) silent each over h = absurd h
   all_turns Q (Accepts came ∷ xs) silent each over h = absurd h
   all_turns Q (Connects connect ∷ xs) silent each over h = absurd h
@@ -89,9 +90,9 @@ module _ {P : Type 0} where
   one_begins None before after = tt
   one_begins (Some turns) before after = tt
 
-  one_ends : (left : Option ℕ) (ports : P) → OnlyTurns (turn_end_where left ports)
-  one_ends None ports = tt
-  one_ends (Some turns) ports = tt
+  pub watches_only : (places : List (SessionView × QuotaPortsView P)) → OnlyTurns (watches places)
+  watches_only [] = tt
+  watches_only (place ∷ places) = watches_only places
 
   one_reports : (moved : Bool) (ports : P) (report : List (SystemCall P)) (due : Bool) → IsDueBy moved ports report due →
       OnlyTurns report
@@ -104,10 +105,7 @@ module _ {P : Type 0} where
   turn_only port_transition true old i turn new h =
       let before = h.begins.0.1 in
       let begun = h.begins.1.1 in
-      let after = h.runs.1.1 in
-      subst OnlyTurns (sym h.asked) (only_append h.first h.last
-      (subst OnlyTurns (sym h.begins.4.1) (one_begins begun.turns_left before.ports begun.ports))
-      (subst OnlyTurns (sym h.runs.4.1) (one_ends after.turns_left after.ports)))
+      subst OnlyTurns (sym h.begins.4.1) (one_begins begun.turns_left before.ports begun.ports)
   turn_only port_transition false old i turn new h = subst OnlyTurns (sym h.0) tt
 
   visit_only : (port_transition : P → PortCall → P → Type 0) (old : HubView (QuotaPortsView P)) (i : ℕ)
@@ -170,8 +168,8 @@ module _ {P : Type 0} (port_transition : P → PortCall → P → Type 0) where
       (new : HubView (QuotaPortsView P)) → TurnsIf port_transition due old i turn new →
       (new.max ≡ old.max) × (length new.places ≡ length old.places)
   turned_count true old i turn new takes =
-      let opened = same_count (OpensTurn port_transition takes.first) old i takes.begun takes.begins in
-      let made = same_count (RunsTurn port_transition takes.last) takes.begun i new takes.runs in
+      let opened = same_count (OpensTurn port_transition turn) old i takes.begun takes.begins in
+      let made = same_count (IsTurned (Meters port_transition)) takes.begun i new takes.runs in
       (made.0 ∙ opened.0, made.1 ∙ opened.1)
   turned_count false old i turn new stays = (
     ap (λ (k : HubView (QuotaPortsView P)). k.max) stays.1,
@@ -191,25 +189,6 @@ module _ {P : Type 0} (port_transition : P → PortCall → P → Type 0) where
       let same = (same_count (OpensTurn port_transition (beginning old new)) hub i (with_ports hub i new)
       (lent hub i old new inside value begins)).1 in
       omega (arith, inside, same)
-
-  -- after its turn the number of places is the same
-  pub run_inside : (hub : HubView (QuotaPortsView P)) (i : ℕ) (new : HubView (QuotaPortsView P)) → i < length hub.places →
-      Changes (IsTurned (Meters port_transition)) hub i new → i < length new.places
-  run_inside hub i new inside h =
-      let same = (same_count (IsTurned (Meters port_transition)) hub i new h).1 in
-      omega (arith, inside, same)
-
-  -- the turn ends with the ports that it left at its place
-  pub run_ended : (hub : HubView (QuotaPortsView P)) (i : ℕ) (new : HubView (QuotaPortsView P)) (ports : QuotaPortsView P) →
-      i < length hub.places → Changes (IsTurned (Meters port_transition)) hub i new →
-      IfSome (slice_get new.places i) (λ place. ports ≡ place.1) →
-      Changes (RunsTurn port_transition (turn_end ports)) hub i new
-  run_ended hub i new ports inside h value =
-      let there : slice_get new.places i ≡ Some h.1 =
-      ap (λ (k : HubView (QuotaPortsView P)). slice_get k.places i) h.3 ∙ get_set hub.places i h.1 inside in
-      let same : ports ≡ h.1.1 =
-      subst (λ (o : Option (SessionView × QuotaPortsView P)). IfSome o (λ p. ports ≡ p.1)) there value in
-      (h.0, h.1, h.2, h.3, (h.4, ap turn_end same))
 
   module _ {S : Type 0} (transition : S → SystemCall P → S → Type 0) where
     -- the turns of the first places so far

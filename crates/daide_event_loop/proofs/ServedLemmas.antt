@@ -29,16 +29,16 @@ use Rattle.daide_io.specs.declared.system.Connect.TheVariants.{Ready, Failed, Pe
 use Rattle.daide_io.specs.declared.system.Notice.TheVariants.{CannotReach, TurnsSpent}
 use Rattle.daide_event_loop.specs.declared.admission_counters.AdmissionCounters.{AdmissionCounters}
 use Rattle.daide_event_loop.specs.QuotaPorts.{QuotaPortsView, Meters, progress_by}
-use Rattle.daide_io.specs.System.{SystemCall, Begins, ReportsNews, BeginsTurn, EndsTurn, Accepts, Connects, Retires}
+use Rattle.daide_io.specs.System.{SystemCall, Begins, ReportsNews, BeginsTurn, Watches, Accepts, Connects, Retires}
 use Rattle.daide_io.specs.System.{Notifies, Waits}
-use Rattle.daide_event_loop.specs.Serving.{ServiceView, fresh, initial_service, may_accept, come, AdmitsWhere, MeetsWhere, OpensTurn, RunsTurn}
+use Rattle.daide_event_loop.specs.Serving.{ServiceView, fresh, initial_service, may_accept, come, AdmitsWhere, MeetsWhere, OpensTurn}
 use Rattle.daide_event_loop.specs.Serving.{IsDueBy, TurnsIf, VisitsPlace, TurnsBelow, TurnsAll, last_words, retirement, retirement_where}
 use Rattle.daide_event_loop.specs.Serving.{retirements, remaining, parting}
 use Rattle.daide_event_loop.specs.Serving.{cause_by, end_of}
-use Rattle.daide_event_loop.specs.Serving.{MeetsBy, wait_where, any_progress, any_moved, Round, Rounds, is_done}
+use Rattle.daide_event_loop.specs.Serving.{MeetsBy, watches, wait_where, any_progress, any_moved, Round, Rounds, is_done}
 use Rattle.daide_event_loop.specs.Served.{IsServedSession, run_limits, IsSessionOfRun, IsServed, IsEndOf, RetiresClosed, connects, retires, sum_over_calls}
 use Rattle.daide_event_loop.specs.Served.{IsWholeRun}
-use Rattle.daide_event_loop.proofs.BeginningLemmas.{OnlyTurns, none_counted, all_turns, turns_only}
+use Rattle.daide_event_loop.proofs.BeginningLemmas.{OnlyTurns, none_counted, all_turns, turns_only, watches_only}
 use Rattle.daide_event_loop.proofs.CauseLemmas.{IsCut, cut_begins, cut_begun, cut_turn, cut_cause}
 use Rattle.daide_event_loop.proofs.CountLemmas.{counted_append, Counts, counts_then, admission_counts, meeting_counts}
 use Rattle.daide_event_loop.proofs.CountLemmas.{beginning_counts, turns_count, removal_counts, wait_counts}
@@ -165,9 +165,12 @@ module _ {P : Type 0} where
             omega (arith, rest, same)),
       )
 
-  wait_passes : (made_progress : Bool) → Passes (wait_where made_progress) 0 0
-  wait_passes true = record { came = refl; went = refl }
-  wait_passes false = record { came = refl; went = refl }
+  wait_passes : (made_progress : Bool) (places : List (SessionView × QuotaPortsView P)) →
+      Passes (wait_where made_progress places) 0 0
+  wait_passes true places = record { came = refl; went = refl }
+  wait_passes false places =
+      passes_then (watches places) (Waits ∷ []) 0 0 0 0
+      (turns_pass (watches places) (watches_only places)) (record { came = refl; went = refl })
 
 -- a session that its port calls since the opening of a run lead to, with its counts and its look-ups
 abbrev IsReached : Limits → List PortCall → SessionView → Type 0
@@ -192,7 +195,7 @@ module _ {P : Type 0} (port_transition : P → PortCall → P → Type 0) (setti
   gone_later xs ys Begins h = tt
   gone_later xs ys (ReportsNews ports news) h = tt
   gone_later xs ys (BeginsTurn before after) h = tt
-  gone_later xs ys (EndsTurn ports) h = tt
+  gone_later xs ys (Watches ports) h = tt
   gone_later xs ys (Accepts came) h = tt
   gone_later xs ys (Connects connect) h = tt
   gone_later xs ys (Notifies notice) h = tt
@@ -334,15 +337,15 @@ module _ {P : Type 0} (port_transition : P → PortCall → P → Type 0) (setti
           limits = ap (λ (k : HubView (QuotaPortsView P)). k.limits) c.3 ∙ h.limits;
         }
 
-    -- the turn runs, and ends
-    one_below : (n : ℕ) (old mid new : HubView (QuotaPortsView P)) (answers : List (SystemCall P)) → Below n (suc n) old mid →
-        Changes (RunsTurn port_transition answers) mid n new → Below (suc n) (suc n) old new
-    one_below n old mid new answers h c =
+    -- the turn runs
+    one_below : (n : ℕ) (old mid new : HubView (QuotaPortsView P)) → Below n (suc n) old mid →
+        Changes (IsTurned (Meters port_transition)) mid n new → Below (suc n) (suc n) old new
+    one_below n old mid new h c =
         let places : new.places ≡ set mid.places n c.1 = ap (λ (k : HubView (QuotaPortsView P)). k.places) c.3 in
         let inside : n < length mid.places = slice_get_within mid.places n c.0 c.2 in
         let was : Held c.0 =
         subst Held (get_or_from_slice_get mid.places n c.0 c.0 c.2) (h.held n c.0 inside) in
-        let now : Served c.1 = turned c.0 c.1 c.4.0 was in
+        let now : Served c.1 = turned c.0 c.1 c.4 was in
         record {
           held = All-same Held new.places (set mid.places n c.1) places
               (All-set Held mid.places n c.1 (still c.1 now) h.held);
@@ -385,7 +388,7 @@ module _ {P : Type 0} (port_transition : P → PortCall → P → Type 0) (setti
             IsDueBy moved v.place.1.ports report due → (turn : List (SystemCall P)) →
             TurnsIf port_transition due mid n turn new → Below (suc n) (suc n) old new
         by moved true e report looks turn takes =
-            one_below n old takes.begun new takes.last (begun_below n old mid takes.begun takes.first h takes.begins) takes.runs
+            one_below n old takes.begun new (begun_below n old mid takes.begun turn h takes.begins) takes.runs
         by false false e report looks turn stays =
             subst (λ (k : HubView (QuotaPortsView P)). Below (suc n) (suc n) old k) (sym stays.1)
             (same_below n old mid v.place v.there (own.1 e) h)
@@ -533,9 +536,12 @@ module _ {P : Type 0} (port_transition : P → PortCall → P → Type 0) (setti
         All-append Gone (retirements places) (retirement place) (all_parted places (All-tail Served place places h))
         (parted (is_closed place.0) place refl (All-head Served place places h))
 
-    waited : (made_progress : Bool) → All Gone (wait_where made_progress)
-    waited true = All-nil Gone
-    waited false = All-cons Gone Waits [] tt (All-nil Gone)
+    waited : (made_progress : Bool) (places : List (SessionView × QuotaPortsView P)) →
+        All Gone (wait_where made_progress places)
+    waited true places = All-nil Gone
+    waited false places =
+        All-push Gone (watches places) Waits
+        (all_turns Gone (watches places) (λ ports news. tt) (λ before after. tt) (λ ports. tt) (watches_only places)) tt
 
   -- ---- rounds
 
@@ -552,7 +558,7 @@ module _ {P : Type 0} (port_transition : P → PortCall → P → Type 0) (setti
       Counts ys old.counters new.counters
   round_counts ys old new r =
       let made_progress = any_progress r.admission || any_progress r.meeting || any_moved r.turned.places || any_progress r.removal in
-      let last = wait_where {P = P} made_progress in
+      let last = wait_where made_progress new.hub.places in
       let removes : Counts r.removal new.counters new.counters =
       subst (λ (l : List (SystemCall P)). Counts l new.counters new.counters) (sym r.removes.0)
       (removal_counts r.turned.places new.counters) in
@@ -566,14 +572,14 @@ module _ {P : Type 0} (port_transition : P → PortCall → P → Type 0) (setti
       (meeting_counts (r.came.connecting == 0) old.hub r.came r.meeting r.connected new.counters refl r.finishes))
       (turns_count r.beginnings new.counters (turns_only port_transition (length r.connected.places) r.connected r.beginnings r.turned r.turns)))
       removes)
-      (wait_counts made_progress new.counters))
+      (wait_counts made_progress new.hub.places new.counters))
 
   round_serves : (xs ys : List (SystemCall P)) (old new : ServiceView P) → Keeps xs old → Round port_transition old ys new →
       Keeps (xs ++ ys) new
   round_serves xs ys old new h r =
       let all = xs ++ ys in
       let made_progress = any_progress r.admission || any_progress r.meeting || any_moved r.turned.places || any_progress r.removal in
-      let last = wait_where {P = P} made_progress in
+      let last = wait_where made_progress new.hub.places in
       let come = admitted all (may_accept old.counters (length old.hub.places)) old.counters r.admission r.came r.admits in
       let still_held : All (IsRested all) old.hub.places =
       All-weaker (Served xs) (IsRested all) (λ now s. rested all now (later IsServedSession xs ys now s.0, s.1))
@@ -607,7 +613,7 @@ module _ {P : Type 0} (port_transition : P → PortCall → P → Type 0) (setti
             connected.gone) (all_turns (Gone all) r.beginnings (λ ports news. tt) (λ before after. tt) (λ ports. tt) only))
             (All-same (Gone all) r.removal (retirements r.turned.places) r.removes.0
             (all_parted all r.turned.places turned.0)))
-            (waited all made_progress)));
+            (waited all made_progress new.hub.places)));
         balance =
             let finishes = meeting_passes (r.came.connecting == 0) old.hub r.came r.meeting r.connected new.counters r.finishes in
             let leaves = removal_passes r.turned.places in
@@ -623,7 +629,7 @@ module _ {P : Type 0} (port_transition : P → PortCall → P → Type 0) (setti
             (admission_passes (may_accept old.counters (length old.hub.places)) old.counters r.admission r.came r.admits)) finishes.1)
             (turns_pass r.beginnings only))
             (passes_as r.removal (retirements r.turned.places) 0 leaves.0 r.removes.0 leaves.1))
-            (wait_passes made_progress)) in
+            (wait_passes made_progress new.hub.places)) in
             let came = passes.came in
             let went = passes.went in
             let held = finishes.2 in

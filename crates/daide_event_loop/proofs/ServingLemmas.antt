@@ -8,11 +8,11 @@ use Rattle.daide_protocol.specs.Wires.{SessionView}
 use Rattle.daide_io.specs.Ports.{PortCall}
 use Rattle.daide_io.proofs.TraceLemmas.{or_assoc}
 use Rattle.daide_event_loop.specs.QuotaPorts.{QuotaPortsView}
-use Rattle.daide_io.specs.System.{SystemCall, TransitsBy}
+use Rattle.daide_io.specs.System.{SystemCall, Watches, Waits, TransitsBy}
 use Rattle.daide_settings.specs.declared.settings.Settings.{Settings}
 use Rattle.daide_event_loop.specs.declared.serving.ServeFault.{ServeFault}
 use Rattle.daide_event_loop.specs.declared.serving.ServeFault.TheVariants as Faults
-use Rattle.daide_event_loop.specs.Serving.{ServiceView, any_moved, wait_where, Round, Rounds, is_done, initial_service}
+use Rattle.daide_event_loop.specs.Serving.{ServiceView, any_moved, watches, wait_where, Round, Rounds, is_done, initial_service}
 use Rattle.daide_event_loop.specs.Serving.{BreaksOff, GivesUp}
 use Rattle.daide_event_loop.proofs.TransitLemmas.{transits_then}
 
@@ -37,9 +37,25 @@ any_more (x ∷ xs) (suc i) m lt h =
 
 -- ---- rounds
 
-pub waits_alike : {P : Type 0} (a b c d p q r s : Bool) → a ≡ p → b ≡ q → c ≡ r → d ≡ s →
-    wait_where {P = P} (a || b || c || d) ≡ wait_where (p || q || r || s)
-waits_alike a b c d p q r s h i j k = rw (h, i, j, k) refl
+pub waits_alike : {P : Type 0} (places : List (SessionView × QuotaPortsView P)) (a b c d p q r s : Bool) →
+    a ≡ p → b ≡ q → c ≡ r → d ≡ s → wait_where (a || b || c || d) places ≡ wait_where (p || q || r || s) places
+waits_alike places a b c d p q r s h i j k = rw (h, i, j, k) refl
+
+-- one more session is watched
+pub watch_more : {P : Type 0} (xs : List (SessionView × QuotaPortsView P)) (i : ℕ) (m : QuotaPortsView P) → i < length xs →
+    IfSome (slice_get xs i) (λ place. m ≡ place.1) → watches (take (suc i) xs) ≡ watches (take i xs) ++ Watches m.ports ∷ []
+watch_more {P = P} [] i m lt h = absurd (omega (arith, lt))
+watch_more {P = P} (x ∷ xs) zero m lt h = ap (λ (own : QuotaPortsView P). Watches own.ports ∷ []) (sym h)
+watch_more {P = P} (x ∷ xs) (suc i) m lt h =
+    ap (λ (calls : List (SystemCall P)). Watches x.1.ports ∷ calls) (watch_more xs i m (omega (arith, lt)) h)
+
+-- without progress the ports of each session are watched, and then the system waits
+pub rested : {P S : Type 0} (transition : S → SystemCall P → S → Type 0) (places : List (SessionView × QuotaPortsView P))
+    (made_progress : Bool) (s t u : S) → made_progress ≡ false → TransitsBy transition s (watches places) t →
+    transition t Waits u → TransitsBy transition s (wait_where made_progress places) u
+rested transition places false s t u e watched waited =
+    transits_then transition (watches places) (Waits ∷ []) s t u watched (u, waited, refl)
+rested transition places true s t u e watched waited = absurd (cc)
 
 module _ {P S : Type 0} (port_transition : P → PortCall → P → Type 0) (transition : S → SystemCall P → S → Type 0) where
   -- the first n rounds, with their trace of system calls

@@ -2,11 +2,11 @@
 use Rattle.std.proofs.Common.{◌≡◌, ℕ, zero, suc, ◌<◌, ◌≤◌, ◌+◌, Bool, true, false, List, [], ◌∷◌, ◌++◌, length, set}
 use Rattle.std.proofs.Common.{refl, sym, ap, ◌∙◌, subst, arith, ◌⊎◌, inl, inr, ⊎_elim, Option, Some, None}
 use Rattle.std.specs.Prelude.{◌||◌, ◌==◌, Contains, All, slice_get, is_none, not}
-use Rattle.std.proofs.lemmas.List.{length-set}
+use Rattle.std.proofs.lemmas.List.{length-set, append_assoc, append_cancel_right}
 use Rattle.std.proofs.lemmas.Bool.{eqb-true, eqb-false}
 use Rattle.std.proofs.lemmas.List.Elements.{All-nil, All-cons, All-push, All-weaker, All-contains, All-contains_itself, All-same}
 use Rattle.std.proofs.lemmas.List.Elements.{All-filter, All-get_or, filter_passes}
-use Rattle.std.proofs.lemmas.List.Elements.{Contains-append_left, Contains-append_right, Contains-push_cases, Contains-append_cases}
+use Rattle.std.proofs.lemmas.List.Elements.{Contains-append_left, Contains-append_right}
 use Rattle.std.proofs.lemmas.Option.{slice_get_within, get_or_from_slice_get}
 use Rattle.daide_protocol.specs.Machine.{Limits, Effect, Runs, initial_state}
 use Rattle.daide_protocol.specs.Events.{Event}
@@ -14,23 +14,24 @@ use Rattle.daide_protocol.specs.Wires.{SessionView, is_closed}
 use Rattle.daide_io.specs.Ports.{PortCall, TurnBegins, events_of}
 use Rattle.daide_io.specs.declared.system.Connect.{Connect}
 use Rattle.daide_io.specs.declared.system.Connect.TheVariants.{Ready, Failed, Pending}
-use Rattle.daide_io.specs.System.{SystemCall, Begins, ReportsNews, BeginsTurn, EndsTurn, Accepts, Connects, Retires}
+use Rattle.daide_io.specs.System.{SystemCall, Begins, ReportsNews, BeginsTurn, Watches, Accepts, Connects, Retires}
 use Rattle.daide_io.specs.System.{Notifies, Waits}
 use Rattle.daide_driver.specs.Hub.{HubView, Changes, IsBegun, IsTurned}
 use Rattle.daide_settings.specs.declared.settings.Settings.{Settings}
 use Rattle.daide_event_loop.specs.declared.admission_counters.AdmissionCounters.{AdmissionCounters}
-use Rattle.daide_event_loop.specs.QuotaPorts.{QuotaPortsView, Meters, turn_end, turn_end_where}
+use Rattle.daide_event_loop.specs.QuotaPorts.{QuotaPortsView, Meters, beginning, beginning_where}
 use Rattle.daide_event_loop.specs.Serving.{ServiceView, fresh, initial_service, may_accept, AdmitsWhere, MeetsWhere, MeetsBy}
-use Rattle.daide_event_loop.specs.Serving.{OpensTurn, RunsTurn, IsDueBy, TurnsIf, VisitsPlace, TurnsBelow, any_moved}
+use Rattle.daide_event_loop.specs.Serving.{OpensTurn, IsDueBy, TurnsIf, VisitsPlace, TurnsBelow, any_moved}
 use Rattle.daide_event_loop.specs.Serving.{last_words, retirement_where, retirements, remaining, end_of}
-use Rattle.daide_event_loop.specs.Serving.{retirement, come, is_progress, any_progress, wait_where, Round, Rounds, is_done}
+use Rattle.daide_event_loop.specs.Serving.{retirement, come, is_progress, any_progress, watches, wait_where, Round, Rounds, is_done}
 use Rattle.daide_event_loop.specs.Served.{run_limits, sum_over_calls}
 use Rattle.daide_event_loop.specs.Waiting.{IsIdleSession, IsIdleAtWait, IsIdleRun}
-use Rattle.daide_event_loop.proofs.BeginningLemmas.{none_counted, turns_only, slice_some, get_set}
+use Rattle.daide_event_loop.proofs.BeginningLemmas.{none_counted, turns_only, watches_only, slice_some, get_set}
 use Rattle.daide_event_loop.proofs.CountLemmas.{counted_append}
 use Rattle.daide_event_loop.proofs.TurnCounts.{turn_begins_none}
 use Rattle.daide_event_loop.proofs.ServedLemmas.{Served, rounds_serve, turn_moved}
 use Rattle.daide_event_loop.proofs.StillTurns.{still_calls, turn_still, spent_calls, inner_calls, called_by, spent_closed}
+use Rattle.daide_event_loop.proofs.TurnCalls.{turn_made}
 
 -- ---- lists of places
 
@@ -66,7 +67,7 @@ module _ {P : Type 0} (port_transition : P → PortCall → P → Type 0) where
     begun : SessionView × QuotaPortsView P
     begins : IsBegun (Meters port_transition) old begun
     turned : IsTurned (Meters port_transition) begun new
-    ended : (x : SystemCall P) → Contains (turn_end new.1) x → Contains answers x
+    began : (x : SystemCall P) → Contains (beginning old.1 begun.1) x → Contains answers x
 
   -- a place that was passed over
   record Stayed (answers : List (SystemCall P)) (old new : SessionView × QuotaPortsView P) : Type 0 where
@@ -104,8 +105,8 @@ module _ {P : Type 0} (port_transition : P → PortCall → P → Type 0) where
       by : (due moved : Bool) → IsDueBy moved v.place.1.ports v.report due → TurnsIf port_transition due mid i v.turn new →
           Visit mid i answers new v.place
       by true moved looks takes =
-          let first = changed (OpensTurn port_transition takes.first) mid i takes.begun takes.begins in
-          let second = changed (RunsTurn port_transition takes.last) takes.begun i new takes.runs in
+          let first = changed (OpensTurn port_transition v.turn) mid i takes.begun takes.begins in
+          let second = changed (IsTurned (Meters port_transition)) takes.begun i new takes.runs in
           let own : takes.begins.0 ≡ v.place = same_value (slice_get mid.places i) takes.begins.0 v.place takes.begins.2 v.there in
           let next : takes.runs.0 ≡ takes.begins.1 =
           same_value (slice_get takes.begun.places i) takes.runs.0 takes.begins.1 takes.runs.2 first.0 in
@@ -117,12 +118,11 @@ module _ {P : Type 0} (port_transition : P → PortCall → P → Type 0) where
               begins = subst (λ (p : SessionView × QuotaPortsView P). IsBegun (Meters port_transition) p takes.begins.1) own
                   takes.begins.4.0;
               turned = subst (λ (p : SessionView × QuotaPortsView P). IsTurned (Meters port_transition) p takes.runs.1) next
-                  takes.runs.4.0;
-              ended = λ x c. subst (λ (l : List (SystemCall P)). Contains l x) (sym v.asked)
+                  takes.runs.4;
+              began = λ x c. subst (λ (l : List (SystemCall P)). Contains l x) (sym v.asked)
                   (Contains-append_right v.report v.turn x
-                  (subst (λ (l : List (SystemCall P)). Contains l x) (sym takes.asked)
-                  (Contains-append_right takes.first takes.last x
-                  (subst (λ (l : List (SystemCall P)). Contains l x) (sym takes.runs.4.1) c))));
+                  (subst (λ (l : List (SystemCall P)). Contains l x) (sym takes.begins.4.1)
+                  (subst (λ (p : SessionView × QuotaPortsView P). Contains (beginning p.1 takes.begins.1.1) x) (sym own) c)));
             });
             others = λ k far. second.1 k far ∙ first.1 k far;
             count = second.2 ∙ first.2;
@@ -209,30 +209,25 @@ module _ {P : Type 0} (port_transition : P → PortCall → P → Type 0) where
   -- ---- one session
 
   -- what is known of a session whose last turn made no progress, between the rounds of a run
-  abbrev Rests : List (SystemCall P) → SessionView × QuotaPortsView P → Type 0
-  Rests answers place = place.1.made_progress ≡ false →
-      IsIdleSession port_transition place × Contains answers (EndsTurn place.1.ports)
-
-  abbrev Asked : List (SystemCall P) → SessionView × QuotaPortsView P → Type 0
-  Asked round place = Contains round (EndsTurn place.1.ports) ⊎ Contains round (ReportsNews place.1.ports false)
+  abbrev Rests : SessionView × QuotaPortsView P → Type 0
+  Rests place = place.1.made_progress ≡ false → IsIdleSession port_transition place
 
   -- the same after the visits of a round, unless its turns are spent and it is closed
-  abbrev RestsOrCloses : Limits → List (SystemCall P) → List (SystemCall P) → SessionView × QuotaPortsView P → Type 0
-  RestsOrCloses limits before round place = place.1.made_progress ≡ false →
+  abbrev RestsOrCloses : Limits → List (SystemCall P) → SessionView × QuotaPortsView P → Type 0
+  RestsOrCloses limits round place = place.1.made_progress ≡ false →
       ((events : List Event) × (effects : List Effect) × Runs (initial_state limits) events effects place.0.state) →
-      (is_closed place.0 ≡ true)
-      ⊎ (IsIdleSession port_transition place × Contains (before ++ round) (EndsTurn place.1.ports) × Asked round place)
+      (is_closed place.0 ≡ true) ⊎ IsIdleAtWait port_transition round place
 
-  by_quota : (limits : Limits) (before round : List (SystemCall P)) (old new : SessionView × QuotaPortsView P)
-      (t : Turned round old new) (left : Option ℕ) → t.begun.1.turns_left ≡ left → RestsOrCloses limits before round new
-  by_quota limits before round old new t None none = λ still run.
+  by_quota : (limits : Limits) (round : List (SystemCall P)) (old new : SessionView × QuotaPortsView P)
+      (t : Turned round old new) (left : Option ℕ) → t.begun.1.turns_left ≡ left → RestsOrCloses limits round new
+  by_quota limits round old new t None none = λ still run.
       let quiet = turn_begins_none t.begun.0 t.turned.exchange.call new.0 t.turned.exchange.session.in_order in
       let moved = turn_moved port_transition old t.begun new t.begins t.turned in
       let calls = still_calls t.turned.exchange.call false quiet (sym moved ∙ still) in
       inl (spent_closed limits run.0 run.1 t.turned.exchange.call new.0 run.2
       (spent_calls port_transition t.turned.exchange.call t.begun.1 new.1 none quiet t.turned.exchange.ports)
       (turn_still t.begun.0 t.turned.exchange.call new.0 t.turned.exchange.session.in_order calls.1) calls.1)
-  by_quota limits before round old new t (Some n) some = λ still run.
+  by_quota limits round old new t (Some n) some = λ still run.
       let call = t.turned.exchange.call in
       let quiet = turn_begins_none t.begun.0 call new.0 t.turned.exchange.session.in_order in
       let moved = turn_moved port_transition old t.begun new t.begins t.turned in
@@ -242,28 +237,28 @@ module _ {P : Type 0} (port_transition : P → PortCall → P → Type 0) where
       let idle : IsIdleSession port_transition new = record {
         session = t.begun.0;
         ports = old.1.ports;
+        begun = t.begun.1.ports;
         turn = call;
         runs = t.turned.exchange.session.in_order;
-        evolves = (
-          t.begun.1.ports,
-          called_by port_transition TurnBegins old.1.ports t.begun.1.ports t.begun.1.turns_left n some t.begins.1.ports,
-          inner.0,
-        );
+        begins = called_by port_transition TurnBegins old.1.ports t.begun.1.ports t.begun.1.turns_left n some t.begins.1.ports;
+        evolves = inner.0;
+        made = turn_made t.begun.0 call new.0 t.turned.exchange.session.in_order;
         still = calls.1;
         clock = turn.clock;
         pulled = turn.pulled;
         offered = turn.offered;
       } in
-      let ends : Contains round (EndsTurn new.1.ports) =
-      t.ended (EndsTurn new.1.ports) (subst (λ (o : Option ℕ). Contains (turn_end_where o new.1.ports) (EndsTurn new.1.ports))
-      (sym inner.1) (0, omega arith, refl)) in
-      inr (idle, Contains-append_right before round (EndsTurn new.1.ports) ends, inl ends)
+      let begins : Contains round (BeginsTurn old.1.ports t.begun.1.ports) =
+      t.began (BeginsTurn old.1.ports t.begun.1.ports)
+      (subst (λ (o : Option ℕ). Contains (beginning_where o old.1.ports t.begun.1.ports) (BeginsTurn old.1.ports t.begun.1.ports))
+      (sym some) (0, omega arith, refl)) in
+      inr (record { idle = idle; asked = inl begins })
 
-  after_visit : (limits : Limits) (before calls round : List (SystemCall P)) (old new : SessionView × QuotaPortsView P) →
-      ((x : SystemCall P) → Contains calls x → Contains round x) → Visited calls old new → Rests before old →
-      RestsOrCloses limits before round new
-  after_visit limits before calls round old new within v rests = ⊎_elim
-      (λ (t : Turned calls old new). by_quota limits before round old new (wider t) t.begun.1.turns_left refl)
+  after_visit : (limits : Limits) (calls round : List (SystemCall P)) (old new : SessionView × QuotaPortsView P) →
+      ((x : SystemCall P) → Contains calls x → Contains round x) → Visited calls old new → Rests old →
+      RestsOrCloses limits round new
+  after_visit limits calls round old new within v rests = ⊎_elim
+      (λ (t : Turned calls old new). by_quota limits round old new (wider t) t.begun.1.turns_left refl)
       (λ (s : Stayed calls old new). stays s)
       v
     where
@@ -272,19 +267,17 @@ module _ {P : Type 0} (port_transition : P → PortCall → P → Type 0) where
         begun = t.begun;
         begins = t.begins;
         turned = t.turned;
-        ended = λ x c. within x (t.ended x c);
+        began = λ x c. within x (t.began x c);
       }
 
-      stays : Stayed calls old new → RestsOrCloses limits before round new
+      stays : Stayed calls old new → RestsOrCloses limits round new
       stays s = λ still run.
-          let own : Rests before new = subst (λ (p : SessionView × QuotaPortsView P). Rests before p) (sym s.same) rests in
-          let idle = own still in
-          inr (
-            idle.0,
-            Contains-append_left before round (EndsTurn new.1.ports) idle.1,
-            inr (subst (λ (p : SessionView × QuotaPortsView P). Contains round (ReportsNews p.1.ports false)) (sym s.same)
-                (within (ReportsNews old.1.ports false) s.reported)),
-          )
+          let own : Rests new = subst (λ (p : SessionView × QuotaPortsView P). Rests p) (sym s.same) rests in
+          inr (record {
+            idle = own still;
+            asked = inr (subst (λ (p : SessionView × QuotaPortsView P). Contains round (ReportsNews p.1.ports false)) (sym s.same)
+                (within (ReportsNews old.1.ports false) s.reported));
+          })
 
   by_places : (places : List (SessionView × QuotaPortsView P)) (Q : SessionView × QuotaPortsView P → Type 0) →
       ((k : ℕ) (place : SessionView × QuotaPortsView P) → slice_get places k ≡ Some place → Q place) → All Q places
@@ -292,14 +285,14 @@ module _ {P : Type 0} (port_transition : P → PortCall → P → Type 0) where
   by_places (place ∷ places) Q each =
       All-cons Q place places (each zero place refl) (by_places places Q (λ k p e. each (suc k) p e))
 
-  all_visited : (limits : Limits) (before round : List (SystemCall P)) (old new : HubView (QuotaPortsView P)) →
-      TurnsBelow port_transition (length old.places) old round new → All (Rests before) old.places →
-      All (RestsOrCloses limits before round) new.places
-  all_visited limits before round old new h rests =
-      by_places new.places (RestsOrCloses limits before round) each
+  all_visited : (limits : Limits) (round : List (SystemCall P)) (old new : HubView (QuotaPortsView P)) →
+      TurnsBelow port_transition (length old.places) old round new → All Rests old.places →
+      All (RestsOrCloses limits round) new.places
+  all_visited limits round old new h rests =
+      by_places new.places (RestsOrCloses limits round) each
     where
       each : (k : ℕ) (place : SessionView × QuotaPortsView P) → slice_get new.places k ≡ Some place →
-          RestsOrCloses limits before round place
+          RestsOrCloses limits round place
       each k place there =
           let count = below_count (length old.places) old round new h in
           let few = slice_get_within new.places k place there in
@@ -307,92 +300,69 @@ module _ {P : Type 0} (port_transition : P → PortCall → P → Type 0) where
           let own = slice_some old.places k inside in
           let b = below (length old.places) old round new h k inside own.0 own.1 in
           let same : b.place ≡ place = same_value (slice_get new.places k) b.place place b.there there in
-          let rested : Rests before own.0 =
-          subst (Rests before) (get_or_from_slice_get old.places k own.0 own.0 own.1)
-          (All-get_or (Rests before) old.places k own.0 inside rests) in
-          subst (λ (p : SessionView × QuotaPortsView P). RestsOrCloses limits before round p) same
-          (after_visit limits before b.calls round own.0 b.place b.within b.visited rested)
+          let rested : Rests own.0 =
+          subst Rests (get_or_from_slice_get old.places k own.0 own.0 own.1) (All-get_or Rests old.places k own.0 inside rests) in
+          subst (λ (p : SessionView × QuotaPortsView P). RestsOrCloses limits round p) same
+          (after_visit limits b.calls round own.0 b.place b.within b.visited rested)
 
   -- ---- a round
 
-  met : (before : List (SystemCall P)) (none : Bool) (old : HubView (QuotaPortsView P)) (counters : AdmissionCounters)
-      (answers : List (SystemCall P)) (new : HubView (QuotaPortsView P)) (new_counters : AdmissionCounters) →
-      MeetsWhere none old counters answers new new_counters → All (Rests before) old.places → All (Rests before) new.places
-  met before true old counters answers new new_counters m h =
-      subst (λ (k : HubView (QuotaPortsView P)). All (Rests before) k.places) (sym m.1) h
-  met before false old counters answers new new_counters m h = by m.0 m.1 m.3
+  met : (none : Bool) (old : HubView (QuotaPortsView P)) (counters : AdmissionCounters) (answers : List (SystemCall P))
+      (new : HubView (QuotaPortsView P)) (new_counters : AdmissionCounters) →
+      MeetsWhere none old counters answers new new_counters → All Rests old.places → All Rests new.places
+  met true old counters answers new new_counters m h =
+      subst (λ (k : HubView (QuotaPortsView P)). All Rests k.places) (sym m.1) h
+  met false old counters answers new new_counters m h = by m.0 m.1 m.3
     where
       by : (connect : Connect P) (told : List (SystemCall P)) → MeetsBy connect old counters told new new_counters →
-          All (Rests before) new.places
+          All Rests new.places
       by (Ready ports) told m =
-          subst (λ (k : HubView (QuotaPortsView P)). All (Rests before) k.places) (sym m.1.2)
-          (All-push (Rests before) old.places (m.1.0, fresh ports counters.turns) h (λ still. absurd (cc)))
-      by Failed told m = subst (λ (k : HubView (QuotaPortsView P)). All (Rests before) k.places) (sym m.1) h
-      by Pending told m = subst (λ (k : HubView (QuotaPortsView P)). All (Rests before) k.places) (sym m.1) h
+          subst (λ (k : HubView (QuotaPortsView P)). All Rests k.places) (sym m.1.2)
+          (All-push Rests old.places (m.1.0, fresh ports counters.turns) h (λ still. absurd (cc)))
+      by Failed told m = subst (λ (k : HubView (QuotaPortsView P)). All Rests k.places) (sym m.1) h
+      by Pending told m = subst (λ (k : HubView (QuotaPortsView P)). All Rests k.places) (sym m.1) h
 
   module _ (settings : Settings) where
-    abbrev AtRest : List (SystemCall P) → List (SystemCall P) → SessionView × QuotaPortsView P → Type 0
-    AtRest before round place = place.1.made_progress ≡ false →
-        IsIdleSession port_transition place × Contains (before ++ round) (EndsTurn place.1.ports) × Asked round place
+    abbrev AtRest : List (SystemCall P) → SessionView × QuotaPortsView P → Type 0
+    AtRest round place = place.1.made_progress ≡ false → IsIdleAtWait port_transition round place
 
-    round_rests : (before round all : List (SystemCall P)) (old new : ServiceView P) → All (Rests before) old.hub.places →
-        Round port_transition old round new → All (Served port_transition settings all) new.hub.places →
-        All (AtRest before round) new.hub.places
-    round_rests before round all old new rests r served =
-        let connected = met before (r.came.connecting == 0) old.hub r.came r.meeting r.connected new.counters r.finishes rests in
-        let turned = all_visited (run_limits settings) before r.beginnings r.connected r.turned r.turns connected in
+    round_rests : (round all : List (SystemCall P)) (old new : ServiceView P) → All Rests old.hub.places →
+        (r : Round port_transition old round new) → All (Served port_transition settings all) new.hub.places →
+        All (AtRest r.beginnings) new.hub.places
+    round_rests round all old new rests r served =
+        let connected = met (r.came.connecting == 0) old.hub r.came r.meeting r.connected new.counters r.finishes rests in
+        let turned = all_visited (run_limits settings) r.beginnings r.connected r.turned r.turns connected in
         let places : new.hub.places ≡ remaining r.turned.places =
         ap (λ (k : HubView (QuotaPortsView P)). k.places) r.removes.1 in
-        let kept : All (RestsOrCloses (run_limits settings) before r.beginnings) new.hub.places =
-        All-same (RestsOrCloses (run_limits settings) before r.beginnings) new.hub.places (remaining r.turned.places) places
-        (All-filter (λ place. not (is_closed place.0)) (RestsOrCloses (run_limits settings) before r.beginnings) r.turned.places turned) in
+        let kept : All (RestsOrCloses (run_limits settings) r.beginnings) new.hub.places =
+        All-same (RestsOrCloses (run_limits settings) r.beginnings) new.hub.places (remaining r.turned.places) places
+        (All-filter (λ place. not (is_closed place.0)) (RestsOrCloses (run_limits settings) r.beginnings) r.turned.places turned) in
         let live : All (λ (p : SessionView × QuotaPortsView P). not (is_closed p.0) ≡ true) new.hub.places =
         All-same (λ (p : SessionView × QuotaPortsView P). not (is_closed p.0) ≡ true) new.hub.places (remaining r.turned.places) places
         (filter_passes (λ place. not (is_closed place.0)) r.turned.places) in
-        All-weaker (Contains new.hub.places) (AtRest before round) (λ place c.
-        one place (All-contains (RestsOrCloses (run_limits settings) before r.beginnings) new.hub.places place kept c)
+        All-weaker (Contains new.hub.places) (AtRest r.beginnings) (λ place c.
+        one place (All-contains (RestsOrCloses (run_limits settings) r.beginnings) new.hub.places place kept c)
         (All-contains (λ (p : SessionView × QuotaPortsView P). not (is_closed p.0) ≡ true) new.hub.places place live c)
         (All-contains (Served port_transition settings all) new.hub.places place served c)) new.hub.places
         (All-contains_itself new.hub.places)
       where
-        within : (x : SystemCall P) → Contains r.beginnings x → Contains round x
-        within x c =
-            subst (λ (l : List (SystemCall P)). Contains l x) (sym r.asked)
-            (Contains-append_left (Begins ∷ r.admission ++ r.meeting ++ r.beginnings ++ r.removal) _ x
-            (Contains-append_left (Begins ∷ r.admission ++ r.meeting ++ r.beginnings) r.removal x
-            (Contains-append_right (Begins ∷ r.admission ++ r.meeting) r.beginnings x c)))
-
-        widen : (x : SystemCall P) → Contains (before ++ r.beginnings) x → Contains (before ++ round) x
-        widen x c = ⊎_elim (λ (b : Contains before x). Contains-append_left before round x b)
-            (λ (b : Contains r.beginnings x). Contains-append_right before round x (within x b))
-            (Contains-append_cases before r.beginnings x c)
-
-        one : (place : SessionView × QuotaPortsView P) → RestsOrCloses (run_limits settings) before r.beginnings place →
-            not (is_closed place.0) ≡ true → Served port_transition settings all place → AtRest before round place
+        one : (place : SessionView × QuotaPortsView P) → RestsOrCloses (run_limits settings) r.beginnings place →
+            not (is_closed place.0) ≡ true → Served port_transition settings all place → AtRest r.beginnings place
         one place h live served = λ still.
             let sends = served.0.stands.1.whole.sends in
             ⊎_elim (λ (c : is_closed place.0 ≡ true). let shut = ap not c in absurd (cc))
-            (λ (i : IsIdleSession port_transition place × Contains (before ++ r.beginnings) (EndsTurn place.1.ports)
-            × Asked r.beginnings place). (
-              i.0,
-              widen (EndsTurn place.1.ports) i.1,
-              ⊎_elim (λ (c : Contains r.beginnings (EndsTurn place.1.ports)). inl (within (EndsTurn place.1.ports) c))
-                  (λ (c : Contains r.beginnings (ReportsNews place.1.ports false)).
-                  inr (within (ReportsNews place.1.ports false) c))
-                  i.2,
-            ))
+            (λ (i : IsIdleAtWait port_transition r.beginnings place). i)
             (h still (events_of served.0.history, sends.effects, sends.run))
 
     pub rounds_rest : (n : ℕ) (answers : List (SystemCall P)) (run : ServiceView P) →
-        Rounds port_transition n (initial_service settings) answers run → All (Rests answers) run.hub.places
+        Rounds port_transition n (initial_service settings) answers run → All Rests run.hub.places
     rounds_rest zero answers run h =
-        subst (λ (r : ServiceView P). All (Rests answers) r.hub.places) (sym h.1) (All-nil (Rests answers))
+        subst (λ (r : ServiceView P). All Rests r.hub.places) (sym h.1) (All-nil Rests)
     rounds_rest (suc n) answers run h =
         let served = (rounds_serve port_transition settings (suc n) answers run h).held in
         let before = rounds_rest n h.1 h.0 h.4 in
-        let rested = round_rests h.1 h.2 answers h.0 run before h.6 served in
-        subst (λ (l : List (SystemCall P)). All (Rests l) run.hub.places) (sym h.3)
-        (All-weaker (AtRest h.1 h.2) (Rests (h.1 ++ h.2)) (λ place r still. let i = r still in (i.0, i.1)) run.hub.places rested)
+        let rested = round_rests h.2 answers h.0 run before h.6 served in
+        All-weaker (AtRest h.6.beginnings) Rests (λ place r still. let i = r still in i.idle) run.hub.places rested
 
 -- ---- a round that waits
 
@@ -401,7 +371,7 @@ module _ {P : Type 0} where
   waits Begins = 0
   waits (ReportsNews ports news) = 0
   waits (BeginsTurn before after) = 0
-  waits (EndsTurn ports) = 0
+  waits (Watches ports) = 0
   waits (Accepts came) = 0
   waits (Connects connect) = 0
   waits (Retires ports end) = 0
@@ -453,13 +423,28 @@ module _ {P : Type 0} where
   some_wait : (round : List (SystemCall P)) → sum_over_calls waits (round ++ Waits ∷ []) ≡ sum_over_calls waits round + 1
   some_wait round = let all = counted_append waits round (Waits ∷ []) in omega (arith, all)
 
-no_wait : (P : Type 0) (progressed : Bool) → sum_over_calls {P = P} waits (wait_where progressed) ≡ 1 → progressed ≡ false
-no_wait P false e = refl
-no_wait P true e = absurd (omega (arith, e))
+no_wait : {P : Type 0} (progressed : Bool) (places : List (SessionView × QuotaPortsView P)) →
+    sum_over_calls waits (wait_where progressed places) ≡ 1 → progressed ≡ false
+no_wait false places e = refl
+no_wait true places e = absurd (omega (arith, e))
 
-one_at_most : (P : Type 0) (progressed : Bool) → sum_over_calls {P = P} waits (wait_where progressed) ≤ 1
-one_at_most P true = omega arith
-one_at_most P false = omega arith
+one_at_most : {P : Type 0} (progressed : Bool) (places : List (SessionView × QuotaPortsView P)) →
+    sum_over_calls waits (wait_where progressed places) ≤ 1
+one_at_most true places = omega arith
+one_at_most false places =
+    let none = none_counted waits (watches places) (λ ports news. refl) (λ before after. refl) (λ ports. refl)
+    (watches_only places) in
+    let all = some_wait (watches places) in
+    omega (arith, none, all)
+
+-- what comes before the one wait of a round that made no progress
+watched_before : {P : Type 0} (progressed : Bool) (places : List (SessionView × QuotaPortsView P))
+    (round early : List (SystemCall P)) → progressed ≡ false → round ++ Waits ∷ [] ≡ early ++ wait_where progressed places →
+    round ≡ early ++ watches places
+watched_before true places round early e same = absurd (cc)
+watched_before false places round early e same =
+    append_cancel_right round (early ++ watches places) (Waits ∷ [])
+    (same ∙ sym (append_assoc early (watches places) (Waits ∷ [])))
 
 -- none of the four parts of a round made progress
 record NoProgress (a b c d : Bool) : Type 0 where
@@ -564,7 +549,7 @@ module _ {P : Type 0} where
         NoProgress (any_progress r.admission) (any_progress r.meeting) (any_moved r.turned.places) (any_progress r.removal)
     no_progress round old new r =
         let progressed = any_progress r.admission || any_progress r.meeting || any_moved r.turned.places || any_progress r.removal in
-        let last = wait_where {P = P} progressed in
+        let last = wait_where progressed new.hub.places in
         let all = ap (sum_over_calls waits) r.asked in
         let ends = some_wait round in
         let a = admission_waits (may_accept old.counters (length old.hub.places)) old.counters r.admission r.came r.admits in
@@ -576,8 +561,8 @@ module _ {P : Type 0} where
         let two = counted_append waits (Begins ∷ r.admission ++ r.meeting ++ r.beginnings) r.removal in
         let three = counted_append waits (Begins ∷ r.admission ++ r.meeting) r.beginnings in
         let four = counted_append waits (Begins ∷ r.admission) r.meeting in
-        let most = one_at_most P progressed in
-        let still = no_wait P progressed (omega (arith, all, ends, a, b, c, d, one, two, three, four, most)) in
+        let most = one_at_most progressed new.hub.places in
+        let still = no_wait progressed new.hub.places (omega (arith, all, ends, a, b, c, d, one, two, three, four, most)) in
         all_false (any_progress r.admission) (any_progress r.meeting) (any_moved r.turned.places) (any_progress r.removal) still
 
     -- so it left no place that did
@@ -590,57 +575,65 @@ module _ {P : Type 0} where
         (All-filter (λ place. not (is_closed place.0)) (λ (p : SessionView × QuotaPortsView P). p.1.made_progress ≡ false)
         r.turned.places (none_moved r.turned.places (no_progress round old new r).moved))
 
-    -- another call than the wait is before it
-    before_wait : (round : List (SystemCall P)) (x : SystemCall P) → waits x ≡ 0 → Contains (round ++ Waits ∷ []) x →
-        Contains round x
-    before_wait round x other c = ⊎_elim (λ (b : Contains round x). b)
-        (λ (e : Waits ≡ x). let same = ap waits e in absurd (omega (arith, same, other)))
-        (Contains-push_cases round Waits x c)
+    -- the calls of a round before those that have ports watched
+    abbrev early : (round : List (SystemCall P)) (old new : ServiceView P) → Round port_transition old round new →
+        List (SystemCall P)
+    early round old new r = Begins ∷ r.admission ++ r.meeting ++ r.beginnings ++ r.removal
+
+    -- a round that ends with a wait watches the ports of each session that is left
+    all_watched : (round : List (SystemCall P)) (old new : ServiceView P)
+        (r : Round port_transition old (round ++ Waits ∷ []) new) →
+        round ≡ early (round ++ Waits ∷ []) old new r ++ watches new.hub.places
+    all_watched round old new r =
+        let still = no_progress round old new r in
+        let progressed = any_progress r.admission || any_progress r.meeting || any_moved r.turned.places || any_progress r.removal in
+        let none : progressed ≡ false = rw (still.came, still.met, still.moved, still.removed) refl in
+        watched_before progressed new.hub.places round (early (round ++ Waits ∷ []) old new r) none r.asked
 
     sessions_idle : (settings : Settings) (n : ℕ) (before round : List (SystemCall P)) (mid run : ServiceView P) →
         Rounds port_transition n (initial_service settings) before mid → is_done mid ≡ false →
-        Round port_transition mid (round ++ Waits ∷ []) run →
-        All (IsIdleAtWait port_transition before round) run.hub.places
+        (r : Round port_transition mid (round ++ Waits ∷ []) run) →
+        All (IsIdleAtWait port_transition (early (round ++ Waits ∷ []) mid run r)) run.hub.places
     sessions_idle settings n before round mid run rounds ongoing r =
         let whole = round ++ Waits ∷ [] in
         let all : Rounds port_transition (suc n) (initial_service settings) (before ++ whole) run =
         (mid, before, whole, refl, rounds, ongoing, r) in
         let served = (rounds_serve port_transition settings (suc n) (before ++ whole) run all).held in
-        let rested = round_rests port_transition settings before whole (before ++ whole) mid run
+        let rested = round_rests port_transition settings whole (before ++ whole) mid run
         (rounds_rest port_transition settings n before mid rounds) r served in
         let still = still_places round mid run r in
-        All-weaker (Contains run.hub.places) (IsIdleAtWait port_transition before round) (λ place c.
-        let idle = All-contains (AtRest port_transition settings before whole) run.hub.places place rested c
+        All-weaker (Contains run.hub.places) (IsIdleAtWait port_transition (early whole mid run r)) (λ place c.
+        let idle = All-contains (AtRest port_transition settings r.beginnings) run.hub.places place rested c
         (All-contains (λ (p : SessionView × QuotaPortsView P). p.1.made_progress ≡ false) run.hub.places place still c) in
         record {
-          idle = idle.0;
-          ended = ⊎_elim
-              (λ (b : Contains before (EndsTurn place.1.ports)). Contains-append_left before round (EndsTurn place.1.ports) b)
-              (λ (b : Contains whole (EndsTurn place.1.ports)). Contains-append_right before round (EndsTurn place.1.ports)
-              (before_wait round (EndsTurn place.1.ports) refl b))
-              (Contains-append_cases before whole (EndsTurn place.1.ports) idle.1);
+          idle = idle.idle;
           asked = ⊎_elim
-              (λ (b : Contains whole (EndsTurn place.1.ports)). inl (before_wait round (EndsTurn place.1.ports) refl b))
-              (λ (b : Contains whole (ReportsNews place.1.ports false)).
-              inr (before_wait round (ReportsNews place.1.ports false) refl b))
-              idle.2;
+              (λ (b : Contains r.beginnings (BeginsTurn idle.idle.ports idle.idle.begun)).
+              inl (within (BeginsTurn idle.idle.ports idle.idle.begun) b))
+              (λ (b : Contains r.beginnings (ReportsNews place.1.ports false)). inr (within (ReportsNews place.1.ports false) b))
+              idle.asked;
         }) run.hub.places (All-contains_itself run.hub.places)
+      where
+        within : (x : SystemCall P) → Contains r.beginnings x → Contains (early (round ++ Waits ∷ []) mid run r) x
+        within x c =
+            Contains-append_left (Begins ∷ r.admission ++ r.meeting ++ r.beginnings) r.removal x
+            (Contains-append_right (Begins ∷ r.admission ++ r.meeting) r.beginnings x c)
 
     -- the calls of the parts of a round
     in_round : (round : List (SystemCall P)) (old new : ServiceView P)
-        (r : Round port_transition old (round ++ Waits ∷ []) new) (x : SystemCall P) → waits x ≡ 0 →
+        (r : Round port_transition old (round ++ Waits ∷ []) new) (x : SystemCall P) →
         Contains (r.admission ++ r.meeting) x → Contains round x
-    in_round round old new r x other c =
-        before_wait round x other (subst (λ (l : List (SystemCall P)). Contains l x) (sym r.asked)
-        (Contains-append_left (Begins ∷ r.admission ++ r.meeting ++ r.beginnings ++ r.removal) _ x
+    in_round round old new r x c =
+        subst (λ (l : List (SystemCall P)). Contains l x) (sym (all_watched round old new r))
+        (Contains-append_left (Begins ∷ r.admission ++ r.meeting ++ r.beginnings ++ r.removal) (watches new.hub.places) x
         (Contains-append_left (Begins ∷ r.admission ++ r.meeting ++ r.beginnings) r.removal x
         (Contains-append_left (Begins ∷ r.admission ++ r.meeting) r.beginnings x
-        (Contains-append_right (Begins ∷ []) (r.admission ++ r.meeting) x c)))))
+        (Contains-append_right (Begins ∷ []) (r.admission ++ r.meeting) x c))))
 
     -- nothing changed in the round but the ports that had a turn
     pub idle_run : (settings : Settings) (n : ℕ) (before round : List (SystemCall P)) (mid run : ServiceView P) →
         Rounds port_transition n (initial_service settings) before mid → is_done mid ≡ false →
-        Round port_transition mid (round ++ Waits ∷ []) run → IsIdleRun port_transition before round run
+        Round port_transition mid (round ++ Waits ∷ []) run → IsIdleRun port_transition round run
     idle_run settings n before round mid run rounds ongoing r =
         let still = no_progress round mid run r in
         let came = none_came (may_accept mid.counters (length mid.hub.places)) mid.counters r.admission r.came r.admits
@@ -658,10 +651,12 @@ module _ {P : Type 0} where
         ap (λ (c : AdmissionCounters). may_accept c (length mid.hub.places)) (sym counters)
         ∙ ap (λ (m : ℕ). may_accept run.counters m) (sym count) in
         record {
+          early = early (round ++ Waits ∷ []) mid run r;
+          watched = all_watched round mid run r;
           sessions = sessions_idle settings n before round mid run rounds ongoing r;
-          bots = λ may. in_round round mid run r (Accepts false) refl
+          bots = λ may. in_round round mid run r (Accepts false)
               (Contains-append_left r.admission r.meeting (Accepts false) (came.1 (same ∙ may)));
-          connects = λ some. in_round round mid run r (Connects Pending) refl
+          connects = λ some. in_round round mid run r (Connects Pending)
               (Contains-append_right r.admission r.meeting (Connects Pending)
               (met.2 (ap (λ (c : AdmissionCounters). c.connecting == 0) (sym met.1) ∙ some)));
         }

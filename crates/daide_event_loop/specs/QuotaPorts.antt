@@ -4,7 +4,7 @@ use Rattle.std.specs.Option.{option_or}
 use Rattle.daide_protocol.specs.declared.ending.Ending.{Ending}
 use Rattle.daide_protocol.specs.declared.ending.Ending.TheVariants as Endings
 use Rattle.daide_io.specs.Ports.{PortCall, TurnBegins, Clock, Pulled, Offered}
-use Rattle.daide_io.specs.System.{SystemCall, BeginsTurn, EndsTurn}
+use Rattle.daide_io.specs.System.{SystemCall, BeginsTurn}
 use Rattle.daide_io.specs.declared.ports.Pull.{Pull}
 use Rattle.daide_io.specs.declared.ports.Pull.TheVariants.{Got, Idle, Ended}
 use Rattle.daide_io.specs.declared.ports.Put.{Put}
@@ -84,7 +84,7 @@ pub record Meters {P : Type 0} (transition : P → PortCall → P → Type 0) (o
   pub first_synthetic_end : new.first_synthetic_end ≡ reported_after answer new.turns_left old.first_synthetic_end
   pub ports : EvolvesWhile transition new.turns_left old.ports answer new.ports
 
--- ---- the system at the beginning and at the end of a turn
+-- ---- the system at the beginning of a turn
 
 -- within the quota the system begins the turn, and is lent the ports; beyond it there is no such call
 abbrev pub beginning_where : {P : Type 0} → Option ℕ → P → P → List (SystemCall P)
@@ -93,11 +93,3 @@ beginning_where None before after = []
 
 abbrev pub beginning : {P : Type 0} → QuotaPortsView P → QuotaPortsView P → List (SystemCall P)
 beginning old new = beginning_where new.turns_left old.ports new.ports
-
--- the system ends each turn that it began, with the ports as the turn left them; beyond the quota it is not called
-abbrev pub turn_end_where : {P : Type 0} → Option ℕ → P → List (SystemCall P)
-turn_end_where (Some turns) ports = EndsTurn ports ∷ []
-turn_end_where None ports = []
-
-abbrev pub turn_end : {P : Type 0} → QuotaPortsView P → List (SystemCall P)
-turn_end new = turn_end_where new.turns_left new.ports

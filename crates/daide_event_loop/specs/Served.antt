@@ -16,7 +16,7 @@ use Rattle.daide_io.specs.declared.system.Cause.{Cause}
 use Rattle.daide_io.specs.declared.system.Cause.TheVariants as Causes
 use Rattle.daide_io.specs.declared.system.SessionEnd.{SessionEnd}
 use Rattle.daide_event_loop.specs.QuotaPorts.{QuotaPortsView, Meters, progress_by}
-use Rattle.daide_io.specs.System.{SystemCall, Begins, ReportsNews, BeginsTurn, EndsTurn, Accepts, Connects, Retires}
+use Rattle.daide_io.specs.System.{SystemCall, Begins, ReportsNews, BeginsTurn, Watches, Accepts, Connects, Retires}
 use Rattle.daide_io.specs.System.{Notifies, Waits}
 use Rattle.daide_event_loop.specs.Serving.{ServiceView, fresh, initial_service, bots_in_all, Rounds, Serves}
 
@@ -76,7 +76,7 @@ RetiresClosed {P} transition settings answers (Retires ports end) =
 RetiresClosed transition settings answers Begins = Unit {0}
 RetiresClosed transition settings answers (ReportsNews ports news) = Unit {0}
 RetiresClosed transition settings answers (BeginsTurn before after) = Unit {0}
-RetiresClosed transition settings answers (EndsTurn ports) = Unit {0}
+RetiresClosed transition settings answers (Watches ports) = Unit {0}
 RetiresClosed transition settings answers (Accepts came) = Unit {0}
 RetiresClosed transition settings answers (Connects connect) = Unit {0}
 RetiresClosed transition settings answers (Notifies notice) = Unit {0}
@@ -90,7 +90,7 @@ connects (Connects Pending) = 0
 connects Begins = 0
 connects (ReportsNews ports news) = 0
 connects (BeginsTurn before after) = 0
-connects (EndsTurn ports) = 0
+connects (Watches ports) = 0
 connects (Accepts came) = 0
 connects (Retires ports end) = 0
 connects (Notifies notice) = 0
@@ -101,7 +101,7 @@ retires (Retires ports end) = 1
 retires Begins = 0
 retires (ReportsNews ports news) = 0
 retires (BeginsTurn before after) = 0
-retires (EndsTurn ports) = 0
+retires (Watches ports) = 0
 retires (Accepts came) = 0
 retires (Connects connect) = 0
 retires (Notifies notice) = 0
@@ -114,7 +114,7 @@ comes (Accepts false) = 0
 comes Begins = 0
 comes (ReportsNews ports news) = 0
 comes (BeginsTurn before after) = 0
-comes (EndsTurn ports) = 0
+comes (Watches ports) = 0
 comes (Connects connect) = 0
 comes (Retires ports end) = 0
 comes (Notifies notice) = 0
@@ -127,7 +127,7 @@ unreached (Connects Pending) = 0
 unreached Begins = 0
 unreached (ReportsNews ports news) = 0
 unreached (BeginsTurn before after) = 0
-unreached (EndsTurn ports) = 0
+unreached (Watches ports) = 0
 unreached (Accepts came) = 0
 unreached (Retires ports end) = 0
 unreached (Notifies notice) = 0

@@ -23,8 +23,8 @@ use Rattle.daide_io.specs.declared.system.Notice.TheVariants.{CannotReach, Turns
 use Rattle.daide_io.specs.declared.system.Cause.{Cause}
 use Rattle.daide_io.specs.declared.system.Cause.TheVariants as Causes
 use Rattle.daide_io.specs.declared.system.SessionEnd.{SessionEnd}
-use Rattle.daide_event_loop.specs.QuotaPorts.{QuotaPortsView, Meters, beginning, turn_end}
-use Rattle.daide_io.specs.System.{SystemCall, Begins, ReportsNews, BeginsTurn, EndsTurn, Accepts, Connects, Retires}
+use Rattle.daide_event_loop.specs.QuotaPorts.{QuotaPortsView, Meters, beginning}
+use Rattle.daide_io.specs.System.{SystemCall, Begins, ReportsNews, BeginsTurn, Watches, Accepts, Connects, Retires}
 use Rattle.daide_io.specs.System.{Notifies, Waits}
 use Rattle.daide_protocol.specs.Machine.{ending_in}
 
@@ -117,20 +117,12 @@ abbrev pub OpensTurn : {P : Type 0} → (P → PortCall → P → Type 0) → Li
     SessionView × QuotaPortsView P → SessionView × QuotaPortsView P → Type 0
 OpensTurn transition answers old new = IsBegun (Meters transition) old new × (answers ≡ beginning old.1 new.1)
 
--- a turn of a session runs, and the system ends it with the ports that it left, if the system began it
-abbrev pub RunsTurn : {P : Type 0} → (P → PortCall → P → Type 0) → List (SystemCall P) →
-    SessionView × QuotaPortsView P → SessionView × QuotaPortsView P → Type 0
-RunsTurn transition answers old new = IsTurned (Meters transition) old new × (answers ≡ turn_end new.1)
-
--- the session at this place has one turn: it begins, runs, and ends
+-- the session at this place has one turn: it begins and runs
 pub record TakesTurn {P : Type 0} (transition : P → PortCall → P → Type 0) (old : HubView (QuotaPortsView P)) (i : ℕ)
     (answers : List (SystemCall P)) (new : HubView (QuotaPortsView P)) : Type 0 where
   pub begun : HubView (QuotaPortsView P)
-  pub first : List (SystemCall P)
-  pub last : List (SystemCall P)
-  pub begins : Changes (OpensTurn transition first) old i begun
-  pub runs : Changes (RunsTurn transition last) begun i new
-  pub asked : answers ≡ first ++ last
+  pub begins : Changes (OpensTurn transition answers) old i begun
+  pub runs : Changes (IsTurned (Meters transition)) begun i new
 
 -- whether a session is due a turn: if its last turn made progress, without a call; else if the system has news for its
 -- ports
@@ -229,7 +221,7 @@ abbrev pub is_progress : {P : Type 0} → SystemCall P → Bool
 is_progress Begins = false
 is_progress (ReportsNews ports news) = false
 is_progress (BeginsTurn before after) = false
-is_progress (EndsTurn ports) = false
+is_progress (Watches ports) = false
 is_progress (Accepts came) = came
 is_progress (Connects (Ready ports)) = true
 is_progress (Connects Failed) = true
@@ -241,14 +233,19 @@ is_progress Waits = false
 abbrev pub any_progress : {P : Type 0} → List (SystemCall P) → Bool
 any_progress answers = list_any is_progress answers
 
--- one wait if no progress was made
-abbrev pub wait_where : {P : Type 0} → Bool → List (SystemCall P)
-wait_where true = []
-wait_where false = Waits ∷ []
+-- the system is to watch the ports of each session, in order of place
+abbrev pub watches : {P : Type 0} → List (SessionView × QuotaPortsView P) → List (SystemCall P)
+watches [] = []
+watches (place ∷ places) = Watches place.1.ports ∷ watches places
+
+-- one wait if no progress was made, which watches the ports of each session
+abbrev pub wait_where : {P : Type 0} → Bool → List (SessionView × QuotaPortsView P) → List (SystemCall P)
+wait_where true places = []
+wait_where false places = watches places ++ Waits ∷ []
 
 -- The system begins a round. At most one bot is accepted, and at most one connect completes or fails. Each session that
--- is due a turn has one, which the system begins and ends. Closed sessions are removed. There is one wait, exactly if no
--- progress was made.
+-- is due a turn has one, which the system begins. Closed sessions are removed. There is one wait, exactly if no progress
+-- was made. It watches the ports of each session that is left.
 pub record Round {P : Type 0} (transition : P → PortCall → P → Type 0) (old : ServiceView P)
     (answers : List (SystemCall P)) (new : ServiceView P) : Type 0 where
   pub admission : List (SystemCall P)
@@ -265,7 +262,7 @@ pub record Round {P : Type 0} (transition : P → PortCall → P → Type 0) (ol
   -- in any case no more sessions and connects than the limit at once, and no more bots than the limit in all
   pub within : IsWithinQuotas new.hub new.counters
   pub asked : answers ≡ Begins ∷ admission ++ meeting ++ beginnings ++ removal ++ wait_where
-      (any_progress admission || any_progress meeting || any_moved turned.places || any_progress removal)
+      (any_progress admission || any_progress meeting || any_moved turned.places || any_progress removal) new.hub.places
 
 -- ---- a run
 

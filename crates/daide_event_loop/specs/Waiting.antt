@@ -1,5 +1,6 @@
--- What a run knows when it waits. The last turn of each session made no progress and was ended, no call was made on its
--- ports since, and there is no news for them. No bot came, and no connect has a result. (own)
+-- What a run knows when it waits. The last turn of each session made no progress, no call was made on its ports since,
+-- and there is no news for them. No bot came, and no connect has a result. The wait watches the ports of each session.
+-- (own)
 use Rattle.std.specs.Prelude.{◌≡◌, ℕ, ◌<◌, ◌⊎◌, ◌++◌, ◌==◌, min, true, false, List, [], ◌∷◌, length, Contains, All}
 use Rattle.daide_frame.specs.declared.side.Side.{Side}
 use Rattle.daide_protocol.specs.Wires.{SessionView, queued, front_of, room_of, no_frame}
@@ -8,11 +9,11 @@ use Rattle.daide_io.specs.declared.ports.Pull.TheVariants.{Got, Idle}
 use Rattle.daide_io.specs.declared.ports.Put.TheVariants.{Took}
 use Rattle.daide_io.specs.Ports.{PortCall, TurnBegins, Clock, Pulled, Offered, EvolvesBy}
 use Rattle.daide_io.specs.declared.system.Connect.TheVariants.{Pending}
-use Rattle.daide_io.specs.System.{SystemCall, ReportsNews, EndsTurn, Accepts, Connects, Waits}
+use Rattle.daide_io.specs.System.{SystemCall, ReportsNews, BeginsTurn, Watches, Accepts, Connects, Waits}
 use Rattle.daide_driver.specs.Turn.{Turn, most_pulled}
 use Rattle.daide_settings.specs.declared.settings.Settings.{Settings}
 use Rattle.daide_event_loop.specs.QuotaPorts.{QuotaPortsView}
-use Rattle.daide_event_loop.specs.Serving.{ServiceView, may_accept, Round, Rounds, initial_service, is_done}
+use Rattle.daide_event_loop.specs.Serving.{ServiceView, may_accept, watches, Round, Rounds, initial_service, is_done}
 
 -- ---- a turn without progress
 
@@ -24,6 +25,13 @@ MakesNoProgress (Clock im_timer_expired) = im_timer_expired ≡ false
 MakesNoProgress (Pulled side buffer pull bytes) = (pull ≡ Idle) ⊎ (pull ≡ Got 0)
 MakesNoProgress (Offered side bytes put) = put ≡ Took 0
 
+-- a call that a turn makes after it began: a pull has room, and a put has some bytes
+abbrev pub IsOfTurn : PortCall → Type 0
+IsOfTurn TurnBegins = ⊥
+IsOfTurn (Clock im_timer_expired) = Unit {0}
+IsOfTurn (Pulled side room pull bytes) = 0 < room
+IsOfTurn (Offered side bytes put) = 0 < length bytes
+
 -- if the session has room for bytes from a side, one of these calls pulled from the side
 abbrev pub PullsIfRoom : Side → SessionView → List PortCall → Type 0
 PullsIfRoom side session calls = 0 < room_of session side →
@@ -34,16 +42,19 @@ abbrev pub OffersIfQueued : Side → SessionView → List PortCall → Type 0
 OffersIfQueued side session calls = no_frame (queued session side) ≡ false →
     Contains calls (Offered side (front_of session side) (Took 0))
 
--- The last turn of a session made no progress. By this turn its ports came to their present value. The IM timer had not
--- expired. Each side for whose bytes the session has room was pulled, and returned none. To each side for which bytes
--- are queued the front was offered, and none were taken.
+-- The last turn of a session made no progress. It began with these ports, and by its calls they came to their present
+-- value. The IM timer had not expired. Each side for whose bytes the session has room was pulled, and returned none. To
+-- each side for which bytes are queued the front was offered, and none were taken.
 pub record IsIdleSession {P : Type 0} (transition : P → PortCall → P → Type 0)
     (place : SessionView × QuotaPortsView P) : Type 0 where
   pub session : SessionView
   pub ports : P
+  pub begun : P
   pub turn : List PortCall
   pub runs : Turn session turn place.0
-  pub evolves : EvolvesBy transition ports (TurnBegins ∷ turn) place.1.ports
+  pub begins : transition ports TurnBegins begun
+  pub evolves : EvolvesBy transition begun turn place.1.ports
+  pub made : All IsOfTurn turn
   pub still : All MakesNoProgress turn
   pub clock : Contains turn (Clock false)
   pub pulled : (side : Side) → PullsIfRoom side place.0 turn
@@ -51,19 +62,21 @@ pub record IsIdleSession {P : Type 0} (transition : P → PortCall → P → Typ
 
 -- ---- a wait
 
--- A session at a wait: it is idle. The system ended its last turn with the ports as they are now, so they were not
--- called since. In the round that waits the system did that, or it reported no news for these ports.
-pub record IsIdleAtWait {P : Type 0} (transition : P → PortCall → P → Type 0) (before round : List (SystemCall P))
+-- A session at a wait: it is idle. In the round that waits the system began its last turn, or it reported no news for
+-- its ports.
+pub record IsIdleAtWait {P : Type 0} (transition : P → PortCall → P → Type 0) (round : List (SystemCall P))
     (place : SessionView × QuotaPortsView P) : Type 0 where
   pub idle : IsIdleSession transition place
-  pub ended : Contains (before ++ round) (EndsTurn place.1.ports)
-  pub asked : Contains round (EndsTurn place.1.ports) ⊎ Contains round (ReportsNews place.1.ports false)
+  pub asked : Contains round (BeginsTurn idle.ports idle.begun) ⊎ Contains round (ReportsNews place.1.ports false)
 
 -- A run at a wait, after this round: each session is idle. If one more bot may be accepted, the system was asked for one
--- in the round, and none came. If connects are under way, it was asked for a result, and none had one.
-pub record IsIdleRun {P : Type 0} (transition : P → PortCall → P → Type 0) (before round : List (SystemCall P))
+-- in the round, and none came. If connects are under way, it was asked for a result, and none had one. The last calls
+-- of the round had the system watch the ports of each session.
+pub record IsIdleRun {P : Type 0} (transition : P → PortCall → P → Type 0) (round : List (SystemCall P))
     (run : ServiceView P) : Type 0 where
-  pub sessions : All (IsIdleAtWait transition before round) run.hub.places
+  pub early : List (SystemCall P)
+  pub watched : round ≡ early ++ watches run.hub.places
+  pub sessions : All (IsIdleAtWait transition early) run.hub.places
   pub bots : may_accept run.counters (length run.hub.places) ≡ true → Contains round (Accepts false)
   pub connects : (run.counters.connecting == 0) ≡ false → Contains round (Connects Pending)
 
@@ -71,4 +84,4 @@ pub record IsIdleRun {P : Type 0} (transition : P → PortCall → P → Type 0)
 abbrev pub RunsAreIdleAtWaits : {P : Type 0} → (P → PortCall → P → Type 0) → Type 0
 RunsAreIdleAtWaits {P} transition = (settings : Settings) (n : ℕ) (before round : List (SystemCall P))
     (mid run : ServiceView P) → Rounds transition n (initial_service settings) before mid → is_done mid ≡ false →
-    Round transition mid (round ++ Waits ∷ []) run → IsIdleRun transition before round run
+    Round transition mid (round ++ Waits ∷ []) run → IsIdleRun transition round run

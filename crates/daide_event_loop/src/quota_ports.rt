@@ -32,7 +32,7 @@ impl<P: Ports> Model for QuotaPorts<P> {
 }
 
 impl<P: Ports> QuotaPorts<P> {
-    ghost use Rattle.daide_event_loop.specs.QuotaPorts.{Meters, beginning, turn_end};
+    ghost use Rattle.daide_event_loop.specs.QuotaPorts.{Meters, beginning};
 
     /// Wraps ports with a quota of `turns` turns.
     pub fn new(ports: P, turns: u64) -> QuotaPorts<P>
@@ -56,15 +56,6 @@ impl<P: Ports> QuotaPorts<P> {
         self.made_progress = false;
         if self.turns_left.is_some() {
             system.begin_turn(&mut self.ports);
-        }
-    }
-
-    /// Ends a turn. The system ends it with the inner ports if it began it, so unless the quota is exceeded.
-    pub fn end_turn<S: System<P>>(&self, system: &mut S)
-        ensures { TransitsBy S.transition system.old (turn_end self.now) system.new }
-    {
-        if !self.is_spent() {
-            system.end_turn(&self.ports);
         }
     }
 

@@ -10,7 +10,7 @@ ghost use Rattle.daide_event_loop.specs.Serving.{IsWithinQuotas, Admits, Finishe
 ghost use Rattle.daide_event_loop.specs.Serving.{TurnsAll, any_moved};
 ghost use Rattle.daide_event_loop.specs.Serving.{RemovesClosed, parting};
 ghost use Rattle.daide_event_loop.specs.Serving.{is_reported, cause_by, end_by};
-ghost use Rattle.daide_event_loop.specs.Serving.{wait_where, any_progress, Round, is_done, initial_service, bots_in_all};
+ghost use Rattle.daide_event_loop.specs.Serving.{watches, wait_where, any_progress, Round, is_done, initial_service, bots_in_all};
 ghost use Rattle.daide_event_loop.specs.Served.{IsWholeRun};
 ghost use Rattle.daide_event_loop.specs.Serving.{IsServeCause, BreaksOff, GivesUp, arrived};
 
@@ -120,7 +120,7 @@ fn finish_connect<P: Ports, A: Memory + Copy, S: System<P>>(
     }
 }
 
-/// Makes one turn of the session at a place: the system begins it with the ports of that session, and ends it.
+/// Makes one turn of the session at a place: the system begins it with the ports of that session.
 fn take_turn<P: Ports, A: Allocator + Copy, S: System<P>>(
     hub: &mut Hub<QuotaPorts<P>, A>,
     i: usize,
@@ -132,7 +132,6 @@ fn take_turn<P: Ports, A: Allocator + Copy, S: System<P>>(
 {
     hub.ports_mut(i).begin_turn(system);
     hub.turn(i);
-    hub.ports(i).end_turn(system);
 }
 
 /// Returns whether the session at a place is due a turn: whether its last turn made progress, or else whether the system
@@ -254,11 +253,29 @@ fn remove_closed<P: Ports, A: Allocator + Copy, S: System<P>>(
     removed
 }
 
-/// Waits if no progress was made.
-fn rest<P: Ports, S: System<P>>(made_progress: bool, system: &mut S)
-    ensures { TransitsBy S.transition system.old (wait_where made_progress) system.new }
+/// Has the system watch the ports of each session, in order of place.
+fn watch_all<P: Ports, A: Allocator + Copy, S: System<P>>(
+    hub: &Hub<QuotaPorts<P>, A>,
+    system: &mut S,
+)
+    ensures { TransitsBy S.transition system.old (watches hub.now.places) system.new }
+{
+    for i in 0..hub.count() {
+        let ports = hub.ports(i);
+        system.watch(ports.ports());
+    }
+}
+
+/// Waits if no progress was made. The wait watches the ports of each session.
+fn rest<P: Ports, A: Allocator + Copy, S: System<P>>(
+    made_progress: bool,
+    hub: &Hub<QuotaPorts<P>, A>,
+    system: &mut S,
+)
+    ensures { TransitsBy S.transition system.old (wait_where made_progress hub.now.places) system.new }
 {
     if !made_progress {
+        watch_all(hub, system);
         system.wait();
     }
 }
@@ -307,9 +324,9 @@ impl<P: Ports, A: Memory + Copy> Service<P, A> {
     ///
     /// `round`: a bot is accepted only below two limits: of sessions and pending connects at once, and of bots in all.
     /// A session is due a turn if its last turn made progress, if it is new, or else if the system has news for its
-    /// ports (`VisitsPlace`). The system begins each turn with the session's ports (`begin_turn`) and ends it with them
-    /// (`end_turn`); in between the turn is made by the clauses of `turn` (`TakesTurn`). Exactly the sessions that are
-    /// over and for which nothing waits are taken out. It waits if and only if nothing moved.
+    /// ports (`VisitsPlace`). The system begins each turn with the session's ports (`begin_turn`), and the turn is made by
+    /// the clauses of `turn` (`TakesTurn`). Exactly the sessions that are over and for which nothing waits are taken out.
+    /// It waits if and only if nothing moved, and then watches the ports of each session (`watch`).
     ///
     /// `refused`: its only fault is no memory for a session.
     ///
@@ -330,7 +347,11 @@ impl<P: Ports, A: Memory + Copy> Service<P, A> {
         turn_all(&mut self.hub, system);
         let made_progress = has_moved(&self.hub);
         let removed = remove_closed(&mut self.hub, system);
-        rest::<P, S>(came | connected | made_progress | removed, system);
+        rest(
+            came | connected | made_progress | removed,
+            &self.hub,
+            system,
+        );
         Ok(())
     }
 }

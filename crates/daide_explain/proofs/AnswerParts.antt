@@ -1,5 +1,5 @@
 -- The body of an answer as the concatenation of its parts.
-use Rattle.std.proofs.Common.{◌≡◌, ◌≤◌, ◌%◌, ◌*◌, ℕ, false, take, drop, List, [], ◌++◌, length, arith, refl, ap, ◌∙◌}
+use Rattle.std.proofs.Common.{◌≡◌, ◌≤◌, ◌%◌, ◌*◌, ℕ, take, drop, List, [], ◌++◌, length, arith, ap, ◌∙◌}
 use Rattle.std.proofs.Common.{length-append, append_assoc, append-nil, Result, Ok, Err, IfOk}
 use Rattle.std.specs.List.{AllZip}
 use Rattle.std.proofs.lemmas.List.{length-take-le, length-drop}

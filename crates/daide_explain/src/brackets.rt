@@ -1,6 +1,6 @@
 //! The first unpaired bracket of a message.
 
-ghost use Rattle.std.specs.Prelude.{◌≡◌, ◌≤◌, length};
+ghost use Rattle.std.specs.Prelude.{◌≤◌, length};
 ghost use Rattle.daide_token.specs.Token.{tokens_of};
 ghost use Rattle.daide_protocol.specs.Bounds.{longest_body};
 ghost use Rattle.daide_explain.specs.Unpaired.{IsUnpairedIn};

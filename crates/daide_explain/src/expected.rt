@@ -7,7 +7,7 @@ ghost use Rattle.daide_grammar.specs.SideMessages.{IsMessageOver};
 ghost use Rattle.daide_words.specs.Word.{grammar_words};
 ghost use Rattle.daide_words.specs.Words.{words_of};
 ghost use Rattle.daide_reader.specs.Verdict.{HasVerdict, IsPlaceIn, IsRelayed};
-ghost use Rattle.daide_protocol.specs.Bounds.{longest_body, least_depth, greatest_depth};
+ghost use Rattle.daide_protocol.specs.Bounds.{longest_body, greatest_depth};
 ghost use Rattle.daide_explain.specs.Expected.{IsExpected, IsEndExpected};
 
 use crate::rules::Rules;
@@ -19,7 +19,6 @@ use daide_words::laws::laws_hold_over;
 
 /// Returns whether a token is expected after the tokens of a body. These must not begin with PRN.
 pub fn is_expected(rules: &Rules<'_>, before: &[u8], token: Token) -> bool
-    requires low { least_depth ≤ rules.now.max_depth }
     requires high { rules.now.max_depth ≤ greatest_depth }
     requires capped { length before.now ≤ longest_body }
     requires plain { begins_with_prn (tokens_of before.now) ≡ false }
@@ -45,7 +44,6 @@ pub fn is_expected(rules: &Rules<'_>, before: &[u8], token: Token) -> bool
 
 /// Returns the verdict on the message of a body.
 pub fn verdict_of(rules: &Rules<'_>, body: &[u8]) -> Verdict
-    requires low { least_depth ≤ rules.now.max_depth }
     requires high { rules.now.max_depth ≤ greatest_depth }
     requires capped { length body.now ≤ longest_body }
     ensures verdict { HasVerdict (IsMessageOver (grammar_words (words_of rules.now.words.now)) rules.now.end
@@ -63,7 +61,6 @@ pub fn verdict_of(rules: &Rules<'_>, body: &[u8]) -> Verdict
 
 /// Returns whether the message of a body is relayed.
 pub fn is_relayed(rules: &Rules<'_>, body: &[u8]) -> bool
-    requires low { least_depth ≤ rules.now.max_depth }
     requires high { rules.now.max_depth ≤ greatest_depth }
     requires capped { length body.now ≤ longest_body }
     ensures { IsTrue result
@@ -77,7 +74,6 @@ pub fn is_relayed(rules: &Rules<'_>, body: &[u8]) -> bool
 /// Returns whether the end is expected after the tokens of a body: whether they are a message that is relayed
 /// (`IsEndExpected`).
 pub fn is_end_expected(rules: &Rules<'_>, before: &[u8]) -> bool
-    requires low { least_depth ≤ rules.now.max_depth }
     requires high { rules.now.max_depth ≤ greatest_depth }
     requires capped { length before.now ≤ longest_body }
     ensures { IsTrue result

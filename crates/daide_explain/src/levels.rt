@@ -4,7 +4,7 @@ ghost use Rattle.std.specs.Prelude.{◌≤◌, length};
 ghost use Rattle.daide_token.specs.Token.{tokens_of};
 ghost use Rattle.daide_words.specs.Word.{grammar_words};
 ghost use Rattle.daide_words.specs.Words.{words_of};
-ghost use Rattle.daide_protocol.specs.Bounds.{longest_body, least_depth, greatest_depth};
+ghost use Rattle.daide_protocol.specs.Bounds.{longest_body, greatest_depth};
 ghost use Rattle.daide_explain.specs.LowestLevel.{IsLowestAbove};
 
 use crate::expected::is_relayed;
@@ -23,7 +23,6 @@ const LEVELS: [Level; 6] = [
 
 /// Returns the least level above the given one at which the message of a body is relayed.
 pub fn lowest_level(rules: &Rules<'_>, body: &[u8]) -> Option<Level>
-    requires low { least_depth ≤ rules.now.max_depth }
     requires high { rules.now.max_depth ≤ greatest_depth }
     requires capped { length body.now ≤ longest_body }
     ensures { IsLowestAbove (grammar_words (words_of rules.now.words.now)) rules.now.end rules.now.level

@@ -6,7 +6,7 @@ ghost use Rattle.daide_grammar.specs.Paired.{begins_with_prn};
 ghost use Rattle.daide_grammar.specs.SideMessages.{IsMessageOver};
 ghost use Rattle.daide_words.specs.Word.{grammar_words, names_of};
 ghost use Rattle.daide_words.specs.Words.{words_of};
-ghost use Rattle.daide_protocol.specs.Bounds.{longest_body, least_depth, greatest_depth};
+ghost use Rattle.daide_protocol.specs.Bounds.{longest_body, greatest_depth};
 ghost use Rattle.daide_explain.specs.Expected.{IsExpected};
 ghost use Rattle.daide_explain.specs.Listed.{IsFilteredBy, IsAppendedIf, codes_of, representatives};
 
@@ -46,7 +46,6 @@ fn append_if_expected<A: Allocator>(
     token: Token,
     tokens: &mut Vec<Token, A>,
 ) -> Result<(), AllocError>
-    requires low { least_depth ≤ rules.now.max_depth }
     requires high { rules.now.max_depth ≤ greatest_depth }
     requires capped { length before.now ≤ longest_body }
     requires plain { begins_with_prn (tokens_of before.now) ≡ false }
@@ -67,7 +66,6 @@ fn append_codes<A: Allocator>(
     codes: &[u16],
     tokens: &mut Vec<Token, A>,
 ) -> Result<(), AllocError>
-    requires low { least_depth ≤ rules.now.max_depth }
     requires high { rules.now.max_depth ≤ greatest_depth }
     requires capped { length before.now ≤ longest_body }
     requires plain { begins_with_prn (tokens_of before.now) ≡ false }
@@ -89,7 +87,6 @@ fn append_words<A: Allocator>(
     before: &[u8],
     tokens: &mut Vec<Token, A>,
 ) -> Result<(), AllocError>
-    requires low { least_depth ≤ rules.now.max_depth }
     requires high { rules.now.max_depth ≤ greatest_depth }
     requires capped { length before.now ≤ longest_body }
     requires plain { begins_with_prn (tokens_of before.now) ≡ false }
@@ -113,7 +110,6 @@ pub fn list_expected<A: Allocator>(
     rules: &Rules<'_>,
     before: &[u8],
 ) -> Result<Vec<Token, A>, AllocError>
-    requires low { least_depth ≤ rules.now.max_depth }
     requires high { rules.now.max_depth ≤ greatest_depth }
     requires capped { length before.now ≤ longest_body }
     requires plain { begins_with_prn (tokens_of before.now) ≡ false }

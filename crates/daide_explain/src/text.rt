@@ -1,6 +1,6 @@
 //! The explanation as text.
 
-ghost use Rattle.std.specs.Prelude.{◌≡◌, ◌≤◌, ◌*◌, ◌++◌, ◌∷◌, [], List, ℕ, codes, if◌then◌else◌, option_map};
+ghost use Rattle.std.specs.Prelude.{◌≡◌, ◌≤◌, ◌*◌, ◌++◌, List, ℕ, option_map};
 ghost use Rattle.std.specs.Prelude.{IsTrue, ◌↔◌, false, take, length, OnOk};
 ghost use Rattle.daide_token.specs.Token.{tokens_of};
 ghost use Rattle.daide_grammar.specs.Depth.{open_brackets};
@@ -9,7 +9,7 @@ ghost use Rattle.daide_grammar.specs.SideMessages.{IsMessageOver};
 ghost use Rattle.daide_words.specs.Word.{grammar_words};
 ghost use Rattle.daide_words.specs.Words.{words_of};
 ghost use Rattle.daide_reader.specs.Verdict.{HasVerdict};
-ghost use Rattle.daide_protocol.specs.Bounds.{longest_body, least_depth, greatest_depth};
+ghost use Rattle.daide_protocol.specs.Bounds.{longest_body, greatest_depth};
 ghost use Rattle.daide_explain.specs.Explained.{IsExplained, IsUnpairedExplained, unpaired_line};
 ghost use Rattle.daide_explain.specs.Explained.{AreElsewhere, IsPlaceCause, IsExpectedLine, IsPlaceExplained, IsTooDeepAt};
 ghost use Rattle.daide_explain.specs.Explained.{brackets_in, class_items, end_item, expected_line, has_unknown, item};
@@ -168,7 +168,6 @@ fn write_expected<A: Allocator + Copy>(
     before: &[u8],
     text: &mut Vec<u8, A>,
 ) -> io::Result<()>
-    requires low { least_depth ≤ rules.now.max_depth }
     requires high { rules.now.max_depth ≤ greatest_depth }
     requires capped { length before.now ≤ longest_body }
     requires plain { begins_with_prn (tokens_of before.now) ≡ false }
@@ -268,7 +267,6 @@ fn write_elsewhere<A: Allocator>(
     body: &[u8],
     text: &mut Vec<u8, A>,
 ) -> io::Result<()>
-    requires low { least_depth ≤ rules.now.max_depth }
     requires high { rules.now.max_depth ≤ greatest_depth }
     requires capped { length body.now ≤ longest_body }
     ensures { OnOk result ((lines : List ℕ) × AreElsewhere (words_of rules.now.words.now) rules.now.end
@@ -295,7 +293,6 @@ fn write_cause<A: Allocator + Copy>(
     body: &[u8],
     text: &mut Vec<u8, A>,
 ) -> io::Result<()>
-    requires low { least_depth ≤ rules.now.max_depth }
     requires high { rules.now.max_depth ≤ greatest_depth }
     requires capped { length body.now ≤ longest_body }
     requires within { 2 * place ≤ length body.now }
@@ -318,7 +315,6 @@ fn write_place<A: Allocator + Copy>(
     body: &[u8],
     text: &mut Vec<u8, A>,
 ) -> io::Result<()>
-    requires low { least_depth ≤ rules.now.max_depth }
     requires high { rules.now.max_depth ≤ greatest_depth }
     requires capped { length body.now ≤ longest_body }
     requires within { 2 * place ≤ length body.now }
@@ -349,7 +345,6 @@ pub fn write_explained<A: Allocator + Copy>(
     body: &[u8],
     text: &mut Vec<u8, A>,
 ) -> io::Result<()>
-    requires low { least_depth ≤ rules.now.max_depth }
     requires high { rules.now.max_depth ≤ greatest_depth }
     requires capped { length body.now ≤ longest_body }
     requires verdict { HasVerdict (IsMessageOver (grammar_words (words_of rules.now.words.now)) rules.now.end

@@ -12,7 +12,7 @@ use Rattle.daide_frame.specs.Head.{parse_head}
 use Rattle.daide_frame.specs.Frames.{alien_in, FrameEvent, Begun, Whole, Wrong, EventAtOffset, items_of_body, first_items, is_whole_frame}
 use Rattle.daide_frame.specs.Frames.{is_wrong, frame_end, any_item, event_at_offset, last_items, head_part, missing_of_body}
 use Rattle.daide_frame.specs.Frames.{missing}
-use Rattle.daide_frame.proofs.AlienLemmas.{ends_alien, first_alien-grown}
+use Rattle.daide_frame.proofs.AlienLemmas.{ends_alien}
 use Rattle.daide_frame.proofs.FramesLemmas.{at_head, at_body, alien_in-nothing, parse_head-append4, first_items-short}
 use Rattle.daide_frame.proofs.FramesLemmas.{last_items-short, last_items-head4, last_items-body4, missing-short}
 use Rattle.daide_frame.proofs.FramesLemmas.{missing-of4, wanted}

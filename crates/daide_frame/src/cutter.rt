@@ -3,8 +3,8 @@
 //! A cutter holds one frame at a time, and never more of it than its cap allows: `room` returns how many bytes it takes
 //! now. It allocates its memory in `new`; no later call allocates.
 
-ghost use Rattle.std.specs.Prelude.{◌≡◌, ◌+◌, ◌*◌, ◌<◌, ◌≤◌, [], ◌∷◌, ◌++◌, length, take, drop, slice_index, ◌⊎◌, IfOk, OnErr, None, true};
-ghost use Rattle.daide_frame.specs.Frames.{alien_in, first_alien, shifted_place, last_items, fed, fed_items, step_of_events, items_of_step, IsFault, IsEnd, HoldsFrame, head_in, missing, announced};
+ghost use Rattle.std.specs.Prelude.{◌≡◌, ◌+◌, ◌*◌, ◌<◌, ◌≤◌, [], ◌++◌, length, take, drop, ◌⊎◌, IfOk, OnErr, None, true};
+ghost use Rattle.daide_frame.specs.Frames.{alien_in, first_alien, shifted_place, fed, fed_items, step_of_events, items_of_step, IsFault, IsEnd, HoldsFrame, head_in, missing, announced};
 ghost use Rattle.daide_frame.specs.Cutter.{AreKnown, IsFed};
 ghost use Rattle.daide_frame.specs.declared.cutter.Step.TheVariants.{More};
 

@@ -2,6 +2,7 @@ pub mod Level
 pub mod Balanced
 pub mod Paired
 pub mod Depth
+pub mod Bounds
 pub mod Classes
 pub mod Forms
 pub mod Message

@@ -3,7 +3,7 @@
 //! The module `table` has the table in a readable layout. A proof shows of each cell that it agrees with the entries of
 //! its symbol. So the laws of prediction hold for this table as for `Plain`.
 
-ghost use Rattle.std.specs.Prelude.{◌≡◌, ◌<◌, ◌+◌, ◌%◌, ◌/◌, ◌^◌, [], slice_index_or};
+ghost use Rattle.std.specs.Prelude.{◌≡◌, ◌<◌, ◌+◌, ◌%◌, ◌/◌, [], slice_index_or};
 ghost use Rattle.daide_token.specs.Class.{class_of};
 ghost use Rattle.daide_grammar.specs.Table.Symbols.{may_end_of, start_symbol_of, table_answer};
 ghost use Rattle.daide_grammar.specs.Table.AnswersGiven.{look_ups};
@@ -20,7 +20,7 @@ use crate::symbol::{Sym, Symbol};
 use crate::table::whole;
 use daide_token::token::Token;
 
-/// Predicts by a constant table, and counts its answers. It has the protocol's own grammar at every level, and meets
+/// Predicts by a constant table, and counts its look-ups. It has the protocol's own grammar at every level, and meets
 /// the laws of `Predict`.
 #[derive(Debug, Drop)]
 pub struct Dense {

@@ -1,6 +1,6 @@
 //! What holds of the grammar as a whole. Each law is a function whose contract says it; none has anything to do.
 
-ghost use Rattle.std.specs.Prelude.{◌≡◌, ◌≢◌, ◌↔◌, ℕ, ◌+◌, ◌*◌, ◌≤◌, List, [], ◌∷◌, ◌++◌, length, take, drop, true, false};
+ghost use Rattle.std.specs.Prelude.{◌≡◌, ◌≢◌, ◌↔◌, ℕ, ◌+◌, ◌≤◌, List, [], ◌∷◌, ◌++◌, length, take, drop, true, false};
 ghost use Rattle.std.specs.List.{count_by};
 ghost use Rattle.daide_token.specs.declared.class.Class.{Class};
 ghost use Rattle.daide_token.specs.declared.class.Class.TheVariants.{Bra, Ket};
@@ -15,6 +15,7 @@ ghost use Rattle.daide_grammar.specs.Matches.{Matches};
 ghost use Rattle.daide_grammar.specs.Balanced.{IsBalanced};
 ghost use Rattle.daide_grammar.specs.Paired.{IsPaired, begins_with_prn};
 ghost use Rattle.daide_grammar.specs.Depth.{depth_of};
+ghost use Rattle.daide_grammar.specs.Bounds.{entries_bound, most_steps};
 ghost use Rattle.daide_grammar.specs.Table.Answers.{Take, Skip, Stop};
 ghost use Rattle.daide_grammar.specs.Table.Symbols.{entries, may_end_of, start_symbol_of, table_answer};
 ghost use Rattle.daide_grammar.specs.Table.Symbols.{is_of_kind};
@@ -24,20 +25,20 @@ ghost use Rattle.daide_grammar.specs.SideMessages.{IsMessage, IsMessageOver, sta
 ghost use Rattle.daide_grammar.specs.Table.Languages.{SymbolMatches};
 ghost use Rattle.daide_grammar.specs.Words.{Words, has_no_word};
 
-/// The start symbol stands for exactly the messages of its side and level that do not begin with PRN. The reader
+/// The start symbol derives exactly the messages of its side and level that do not begin with PRN. The reader
 /// handles the report PRN itself.
 pub fn start_symbol_stands_for_messages()
     ensures { (side : Side2) (level : Level) (m : List ℕ) →
         SymbolMatches (start_symbol_of side level) m ↔ (IsMessage side level m × (begins_with_prn m ≡ false)) }
 {}
 
-/// The form `any` stands for exactly the lists whose brackets balance.
+/// The form `any` matches exactly the lists whose brackets balance.
 pub fn any_is_balanced()
     ensures { (m : List ℕ) → Matches standard any m ↔ IsBalanced m }
 {}
 
-/// Every message is paired: it is a report PRN, or it does not begin with PRN and its brackets balance. So a message is
-/// never answered with PRN.
+/// Every message is paired: it is a report PRN, or it does not begin with PRN and its brackets balance. So the
+/// verdict on a message is never PRN.
 pub fn messages_are_paired()
     ensures { (side : Side2) (level : Level) (m : List ℕ) → IsMessage side level m → IsPaired m }
 {}
@@ -73,7 +74,7 @@ pub fn levels_only_add()
         IsMessage side low m → IsMessage side high m }
 {}
 
-/// Each move of the table agrees with what its symbol stands for, at every level. At a `Take` a list continues as a
+/// Each move of the table agrees with the language of its symbol, at every level. At a `Take` a list continues as a
 /// list of the rest. At a `Skip` the symbol is nullable, and none of its lists begins with the token. At a `Stop`
 /// neither holds. The symbols that may end are the nullable ones.
 pub fn moves_agree()
@@ -86,7 +87,7 @@ pub fn moves_agree()
     ensures ends { (sym : Sym) → (may_end_of sym ≡ true) ↔ SymbolMatches sym [] }
 {}
 
-/// Each symbol stands for some list, so every stack of symbols can be completed.
+/// Each symbol derives some list, so every stack of symbols can be completed.
 pub fn no_language_is_empty()
     ensures { (sym : Sym) → (m : List ℕ) × SymbolMatches sym m }
 {}
@@ -103,7 +104,7 @@ pub fn neighbours_differ()
         SymbolMatches sym (t ∷ m) → ¬ StackMatches SymbolMatches below (t ∷ n) }
 {}
 
-/// A start symbol alone is a lawful stack with no open bracket. Each answer of the table turns a lawful stack into a
+/// A start symbol alone is a lawful stack with no open bracket. Each entry of the table turns a lawful stack into a
 /// lawful stack. BRA opens a bracket, KET closes an open one, and every other class leaves the count.
 pub fn stacks_stay_lawful()
     ensures begins { (side : Side2) (level : Level) → IsLawful table_answer (start_symbol_of side level ∷ []) 0 }
@@ -125,17 +126,17 @@ pub fn stacks_stay_lawful()
 /// A lawful stack has at most eight entries for each open bracket, plus sixteen. A rest has at most twelve symbols.
 pub fn stack_is_bounded()
     ensures entries { (stack : List Sym) (open_brackets : ℕ) → IsLawful table_answer stack open_brackets →
-        length stack ≤ 8 * open_brackets + 16 }
+        length stack ≤ entries_bound open_brackets }
     ensures rests { (sym : Sym) (class : Class) (rest : List Sym) →
         table_answer sym class ≡ Take rest → length rest ≤ 12 }
 {}
 
 /// On a lawful stack a token skips at most two nullable symbols before one takes or stops it. With no open bracket, at
-/// most four answers decide whether all that is left is nullable.
+/// most four look-ups decide whether all that is left is nullable.
 pub fn lookups_are_bounded()
     ensures skips { (stack : List Sym) (open_brackets : ℕ) (class : Class) → IsLawful table_answer stack open_brackets →
         skips_before table_answer class stack ≤ 2 }
-    ensures ends { (stack : List Sym) → IsLawful table_answer stack 0 → ends_asked may_end_of stack ≤ 4 }
+    ensures ends { (stack : List Sym) → IsLawful table_answer stack 0 → ends_asked may_end_of stack ≤ most_steps }
 {}
 
 /// A list with no code of an operator's words is a message with the words if and only if it is one without them.

@@ -4,7 +4,7 @@
 //! of the others has a function in the module of its part of the grammar. These matches compile to jumps and read no
 //! table. Only `rules` turns an entry into the number of a `Move`.
 
-ghost use Rattle.std.specs.Prelude.{◌≡◌, ◌≤◌, ◌+◌, ◌%◌, ◌^◌, [], ◌∷◌, if◌then◌else◌};
+ghost use Rattle.std.specs.Prelude.{◌≡◌, ◌≤◌, [], ◌∷◌, if◌then◌else◌};
 ghost use Rattle.daide_token.specs.declared.class.Class.TheVariants.{Bra};
 ghost use Rattle.daide_grammar.specs.declared.symbol.Sym.TheVariants.{Closing};
 ghost use Rattle.daide_grammar.specs.Table.Answers.{Take, Skip, Stop, entry_of_meaning};
@@ -34,7 +34,7 @@ use crate::symbol::{Sym, Symbol};
 use daide_token::class::Class;
 use daide_token::token::Token;
 
-/// Predicts by pattern matching, and counts its answers. It has the protocol's own grammar at every level, and meets
+/// Predicts by pattern matching, and counts its look-ups. It has the protocol's own grammar at every level, and meets
 /// the laws of `Predict`.
 #[derive(Debug, Drop)]
 pub struct Plain {

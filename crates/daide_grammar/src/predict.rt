@@ -146,10 +146,10 @@ fn growth_at(rule: usize) -> usize
     whole().growths[rule]
 }
 
-/// A table that answers one query at a time, and counts its answers. Each answer raises `asked` by one, and depends on
-/// the symbol and the class alone. If `predict_token` stops a token, `predict_word` may be asked about it too; that is
-/// a second answer, and counted. `laws` (`IsCorrectPrediction`) says that the answers agree with the languages of the
-/// symbols, and that stacks stay small.
+/// A table of predictions that counts its look-ups. Each look-up raises `asked` by one. Its result depends on the symbol
+/// and the class alone. If `predict_token` stops a token, `predict_word` may look it up again; that is a second look-up.
+/// `laws` (`IsCorrectPrediction`) says that the entries agree with the languages of the symbols, and that stacks stay
+/// small.
 pub trait Predict {
     /// The words that an operator added.
     ghost words: { Self → Words };

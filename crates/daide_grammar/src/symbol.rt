@@ -5,7 +5,7 @@
 //! own, a `..Group`, so that no rest of a prediction has an opening bracket. A nullable symbol is the last one in its
 //! brackets, or the last of all.
 
-ghost use Rattle.std.specs.Prelude.{◌≡◌, ◌+◌, ◌<◌, ◌≤◌};
+ghost use Rattle.std.specs.Prelude.{◌≡◌, ◌<◌};
 ghost use Rattle.daide_grammar.specs.Table.Numbers.{all_symbols, level_place, symbol_number, symbol_at};
 
 use crate::level::Level;

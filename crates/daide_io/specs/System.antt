@@ -5,14 +5,14 @@ use Rattle.daide_io.specs.declared.system.Notice.{Notice}
 use Rattle.daide_io.specs.declared.system.SessionEnd.{SessionEnd}
 
 -- One call with its result: the beginning of a round; whether there is news for the ports of a session; the beginning
--- of a turn, with the ports of its session before and after; the end of a turn, with the ports as it left them; whether
--- a bot arrived; the result of a connect; ports that were retired, with how their session ended; a line that was logged;
--- and a wait that ended.
+-- of a turn, with the ports of its session before and after; the ports of a session that the next wait is to watch;
+-- whether a bot arrived; the result of a connect; ports that were retired, with how their session ended; a line that was
+-- logged; and a wait that ended.
 pub data SystemCall (P : Type 0) : Type 0 where
   Begins : SystemCall P
   ReportsNews : (ports : P) → (news : Bool) → SystemCall P
   BeginsTurn : (before after : P) → SystemCall P
-  EndsTurn : (ports : P) → SystemCall P
+  Watches : (ports : P) → SystemCall P
   Accepts : (came : Bool) → SystemCall P
   Connects : (connect : Connect P) → SystemCall P
   Retires : (ports : P) → (end : SessionEnd) → SystemCall P

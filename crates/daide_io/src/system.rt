@@ -1,6 +1,6 @@
 //! The interface of the loop over sessions to the system. Its calls begin a round, report whether there is news for a
-//! session, begin and end a turn of it, accept a bot, and return the result of a connect to the server. They also retire
-//! the ports of a closed session, with how it ended, log a line for the operator, and wait.
+//! session, begin a turn of it, accept a bot, and return the result of a connect to the server. They also retire the
+//! ports of a closed session, with how it ended, log a line for the operator, watch the ports of a session, and wait.
 //!
 //! ```text
 //! accept --true--> pending connect --Ready--> a session's ports --over--> retire
@@ -8,7 +8,7 @@
 //! ```
 
 ghost use Rattle.daide_io.specs.Ports.{TurnBegins};
-ghost use Rattle.daide_io.specs.System.{SystemCall, Begins, ReportsNews, BeginsTurn, EndsTurn, Accepts, Connects};
+ghost use Rattle.daide_io.specs.System.{SystemCall, Begins, ReportsNews, BeginsTurn, Watches, Accepts, Connects};
 ghost use Rattle.daide_io.specs.System.{Retires, Notifies, Waits};
 
 use crate::ports::Ports;
@@ -83,10 +83,11 @@ pub trait System<P: Ports> {
         ensures ports { P.transition ports.old TurnBegins ports.new }
         ensures system { transition self.old (BeginsTurn ports.old ports.new) self.new };
 
-    /// Ends a turn of the session with these ports. The system notes what the ports need from it until their next turn,
-    /// such as their nearest deadline. It changes no port, and calls none.
-    fn end_turn(&mut self, ports: &P)
-        ensures { transition self.old (EndsTurn ports.now) self.new };
+    /// Has the next wait watch the ports of a session: the system notes what they need from it until their next turn,
+    /// such as their nearest deadline. It is called for each session right before a wait. It changes no port, and calls
+    /// none.
+    fn watch(&mut self, ports: &P)
+        ensures { transition self.old (Watches ports.now) self.new };
 
     /// Returns whether a bot arrived. From then on its connect to the server is pending, and its IM timer runs. If an
     /// accept fails, also for lack of descriptors, it returns false.
@@ -107,8 +108,8 @@ pub trait System<P: Ports> {
     fn tell(&mut self, notice: Notice)
         ensures { transition self.old (Notifies notice) self.new };
 
-    /// Waits until something may have changed: a wire that was idle or full, a pending connect, a new bot, or the IM
-    /// timer of a session. It may return earlier.
+    /// Waits until something may have changed: a wire of the ports that it was to watch, a deadline of theirs, a pending
+    /// connect, or a new bot. It may return earlier.
     fn wait(&mut self)
         ensures { transition self.old Waits self.new };
 }

@@ -405,7 +405,9 @@ is_whole_report _ _ _ summary (IsReportBy.whole log number reported version sess
     }
 is_whole_report _ _ _ summary (IsReportBy.cut_short log number reported stage reports is_opening) e = absurd (cc)
 is_whole_report _ _ _ summary (IsReportBy.bad bytes number reported stage reports line after few unbroken short wrong) e = absurd (cc)
-is_whole_report _ _ _ summary (IsReportBy.bad_last bytes number reported stage reports line few some unbroken short wrong) e = absurd (cc)
+is_whole_report _ _ _ summary (IsReportBy.bad_last bytes number reported stage reports line few some unbroken short wrong uncut) e = absurd (cc)
+is_whole_report _ _ _ summary (IsReportBy.cut bytes number reported version sessions reports line few some unbroken short wrong cuts) e =
+    absurd (cc)
 is_whole_report _ _ _ summary (IsReportBy.too_long bytes number reported stage reports line after few unbroken long) e = absurd (cc)
 is_whole_report _ _ _ summary (IsReportBy.too_many bytes reported stage reports after some) e = absurd (cc)
 

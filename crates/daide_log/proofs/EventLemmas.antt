@@ -39,7 +39,7 @@ use Rattle.daide_log.specs.Reporting.{IsReady, IsQuietWith, IsCauseIn, IsLateFau
 use Rattle.daide_log.specs.Progress.{StartsReport, IsFaultOf, IsFaultAfter, IsFinished, Reported, IsPlaying, Judges, states_of}
 use Rattle.daide_log_lines.proofs.PageLemmas.{appends_and_keeps, keeps_appends}
 use Rattle.daide_log.proofs.PlayLemmas.{appends_more, texts_of-append, counted_over-append}
-use Rattle.daide_log.proofs.LogLemmas.{line_read, last_read, end_read, bad_line, bad_last, fault_found, fault_after, finished}
+use Rattle.daide_log.proofs.LogLemmas.{line_read, last_read, end_read, bad_line, bad_last, fault_found, fault_after, finished, finished_cut}
 use Rattle.daide_log.proofs.LogLemmas.{found_given, write_failed, late_fault}
 
 pub on_ok : {A E : Type 0} (r : Result A E) (P Q : Type 0) → OnOk r P → (P → Q) → OnOk r Q
@@ -235,7 +235,7 @@ module _ {Answer : Type 0} (form : ReportForm Answer) where
       (version : Version) (sessions : List SessionView) (count : ℕ) (s : Summary) (all b c : Option (List ℕ))
       (result : Result Answer LogFault) → Plays P start now held n version sessions count s all →
       IsFound all now held n (Ok End) line new rest → Keeps all b →
-      IfOk result (λ answer. IsFinished form version (states_of sessions) s b c answer) →
+      IfOk result (λ answer. IsFinished form None version (states_of sessions) s b c answer) →
       (origin : Reader) (before : Option (List ℕ)) → start origin before →
       IfOk result (λ answer. Reported form origin new before c answer)
   finished_at_end P start now new held rest line n version sessions count s all b c result p f k r origin before h =
@@ -249,7 +249,7 @@ module _ {Answer : Type 0} (form : ReportForm Answer) where
       (result : Result Answer LogFault) → Plays P start now held n version sessions count s all →
       IsFound all now held n (Ok Last) line new rest → Keeps all b →
       Judges form version (n + 1) (states_of sessions) line (states_of next) s t b c →
-      IfOk result (λ answer. IsFinished form version (states_of next) t c d answer) →
+      IfOk result (λ answer. IsFinished form None version (states_of next) t c d answer) →
       (origin : Reader) (before : Option (List ℕ)) → start origin before →
       IfOk result (λ answer. Reported form origin new before d answer)
   finished_at_last P start now new held rest line n version sessions next count s t all b c d result p f k j r origin before h =
@@ -259,6 +259,19 @@ module _ {Answer : Type 0} (form : ReportForm Answer) where
       (Playing version (states_of next)) q.has_read q.written f j.1)
       (more_counts q.reported j.0 s t q.counts j.2)
       (more_text q.reported j.0 before b c (appends_and_keeps before all b (texts_of form.text q.reported) q.written k) j.3) r
+
+  pub finished_at_cut : (P : SessionView → Type 0) (start : Reader → Option (List ℕ) → Type 0) (now new : Reader) (held rest line : List ℕ) (n : ℕ)
+      (version : Version) (sessions : List SessionView) (count : ℕ) (s : Summary) (all b c : Option (List ℕ))
+      (result : Result Answer LogFault) → Plays P start now held n version sessions count s all →
+      IsFound all now held n (Ok Last) line new rest → Keeps all b → event_in version (length sessions) line ≡ None →
+      form.cuts ≡ true → IfOk result (λ answer. IsFinished form (Some (n + 1)) version (states_of sessions) s b c answer) →
+      (origin : Reader) (before : Option (List ℕ)) → start origin before →
+      IfOk result (λ answer. Reported form origin new before c answer)
+  finished_at_cut P start now new held rest line n version sessions count s all b c result p f k wrong cuts r origin before h =
+      let q = p.playing origin before h in
+      finished_cut form before all origin now new held rest line n q.reported version (states_of sessions) s b c result q.has_read
+      q.written f (ap (λ (k : ℕ). event_in version k line) (length-map sessions (λ (g : SessionView). g.state)) ∙ wrong) cuts
+      q.counts (appends_and_keeps before all b (texts_of form.text q.reported) q.written k) r
 
   -- the counts could not be written
   pub unfinished : (P : SessionView → Type 0) (start : Reader → Option (List ℕ) → Type 0) (now new : Reader) (held rest line : List ℕ) (n : ℕ)
@@ -309,19 +322,20 @@ module _ {Answer : Type 0} (form : ReportForm Answer) where
       (version : Version) (sessions : List SessionView) (count : ℕ) (s : Summary) (all b c : Option (List ℕ)) (found : LineEnd)
       (fault : LogFault) → Plays P start now held n version sessions count s all →
       IsFound all now held n (Ok found) line new rest → is_end_of_log found ≡ false → Keeps all b →
+      (is_last_line found ≡ true → event_in version (length sessions) line ≡ None → form.cuts ≡ false) →
       IsLateFault form fault ⊎ ((fault ≡ Faults.BadLine (n + 1)) × (event_in version (length sessions) line ≡ None)
       × (c ≡ b)) → (origin : Reader) (before : Option (List ℕ)) → start origin before →
       IsFaultAfter form origin new before c fault
-  bad_in_play P start now new held rest line n version sessions count s all b c found fault p f other k (inl e) origin before h =
+  bad_in_play P start now new held rest line n version sessions count s all b c found fault p f other k uncut (inl e) origin before h =
       let q = p.playing origin before h in
       late_fault form origin new before c fault
       (found_given form before all origin now new held rest line n q.reported (Playing version (states_of sessions)) found q.has_read
       q.written f)
       e
-  bad_in_play P start now new held rest line n version sessions count s all b c found fault p f other k (inr r) origin before h =
+  bad_in_play P start now new held rest line n version sessions count s all b c found fault p f other k uncut (inr r) origin before h =
       subst (IsFaultAfter form origin new before c) (sym r.0) (
         q.reported,
-        is_fault found f other,
+        is_fault found f other (λ last. uncut last r.1),
         subst (λ (w : Option (List ℕ)). Appends before w (texts_of form.text q.reported)) (sym r.2)
             (appends_and_keeps before all b (texts_of form.text q.reported) q.written k),
       )
@@ -333,14 +347,14 @@ module _ {Answer : Type 0} (form : ReportForm Answer) where
       is_bad = ap (λ (k : ℕ). event_in version k line) (length-map sessions (λ (g : SessionView). g.state)) ∙ r.1
 
       is_fault : (found : LineEnd) → IsFound all now held n (Ok found) line new rest → is_end_of_log found ≡ false →
-          IsFaultOf form before origin new q.reported (Faults.BadLine (n + 1))
-      is_fault (Held k) f other =
+          (is_last_line found ≡ true → form.cuts ≡ false) → IsFaultOf form before origin new q.reported (Faults.BadLine (n + 1))
+      is_fault (Held k) f other whole =
           bad_line form before all origin now new held rest line n q.reported (Playing version (states_of sessions)) q.has_read q.written
           f is_bad
-      is_fault Line f other =
+      is_fault Line f other whole =
           bad_line form before all origin now new held rest line n q.reported (Playing version (states_of sessions)) q.has_read q.written
           f is_bad
-      is_fault Last f other =
+      is_fault Last f other whole =
           bad_last form before all origin now new held rest line n q.reported (Playing version (states_of sessions)) q.has_read q.written
-          f is_bad
-      is_fault End f other = absurd (cc)
+          f is_bad (whole refl)
+      is_fault End f other whole = absurd (cc)

@@ -18,6 +18,8 @@ use Rattle.daide_log.specs.Log.{IsReportBy, IsReport, Opening, ReportsBy}
 use Rattle.daide_log.specs.Progress.{HasFault}
 use Rattle.daide_log.specs.RecordLaw.{HasFront, IsReported, PortsAreRecorded, RecordsAreReported, begun_record}
 use Rattle.daide_log.specs.Recording.{Recorded, Records}
+use Rattle.daide_log.specs.TimedLaw.{HasBegun, HasItems, IsTimedReported, TimedPortsAreRecorded, TimedRecordsAreReported}
+use Rattle.daide_log.specs.TimedRecording.{TimedRecorded, TimedRecords}
 use Rattle.daide_log.specs.Report.{ReportEntry, counted_all, lines_of, summary_line}
 use Rattle.daide_log.proofs.Played.{has_no_feed, unbroken}
 
@@ -60,3 +62,15 @@ one_line : {P : Type 0} (transition : P → PortCall → P → Type 0) (failed :
 one_line transition failed law old new begun calls whole =
     (law limits [] (Clock true ∷ []) old new (omega arith) begun calls).1
     (whole_or_failed new.record_of.ending whole)
+
+-- the record with times of a session whose ports made no call
+nothing_timed : TimedRecordsAreReported → IsTimedReported limits [] [] [] (initial_state (limits_with limits []))
+nothing_timed law = law limits [] [] [] (initial_state (limits_with limits [])) refl refl tt tt (omega arith) (refl, refl)
+
+-- ports with times whose timer expired, and that had no other call
+one_timed_line : {P : Type 0} (transition : P → PortCall → P → Type 0) (failed : Type 0) →
+    TimedPortsAreRecorded transition failed → (old new : TimedRecorded P) → HasBegun limits [] [] old.record_of →
+    EvolvesBy (TimedRecords transition failed) old (Clock true ∷ []) new → new.record_of.ending ≡ Whole →
+    HasItems limits [] (Clock true ∷ []) new.record_of
+one_timed_line transition failed law old new begun calls whole =
+    (law limits [] [] (Clock true ∷ []) old new begun calls).1 (whole_or_failed new.record_of.ending whole)

@@ -21,6 +21,7 @@ pub mod SomeReport
 pub mod ReadLemmas
 pub mod MatchLogFacts
 pub mod SevenLinesFacts
+pub mod CutFacts
 pub mod EventLines
 pub mod RecordLines
 pub mod RecordHead
@@ -28,4 +29,9 @@ pub mod RecordCounts
 pub mod RecordReported
 pub mod PauseLemmas
 pub mod RecordedPorts
+pub mod TimeFacts
+pub mod TimedReported
+pub mod TimedPorts
+pub mod TimedTaken
+pub mod CommentLemmas
 pub mod LawFacts

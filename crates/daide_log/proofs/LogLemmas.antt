@@ -17,7 +17,7 @@ use Rattle.daide_log.specs.Reporting.{IsLateFault}
 use Rattle.daide_log.specs.declared.opening.Opened.{Opened}
 use Rattle.daide_log.specs.Report.{texts_of, counted_over, summary_line}
 use Rattle.daide_log_lines.specs.LogLine.{longest_line}
-use Rattle.daide_log.specs.Log.{plain, LogState, Opening, Playing, GoesOnBy, IsBad, IsOpening, ReportsBy, ReportsAllBy, IsReportBy}
+use Rattle.daide_log.specs.Log.{plain, LogState, Opening, Playing, GoesOnBy, IsBad, IsOpening, reads_cut, ReportsBy, ReportsAllBy, IsReportBy}
 use Rattle.daide_log_lines.specs.Reader.{Reader}
 use Rattle.daide_log_lines.specs.Lines.{LooksAt, IsFound, IsInLine, block_size}
 use Rattle.daide_log.specs.Progress.{HasRead, HasReadAll, StopsBehind, IsFaultOf, IsFaultAfter, Reported}
@@ -61,6 +61,16 @@ module _ {Answer : Type 0} (form : ReportForm Answer) where
   all_given before all old now new held line rest n reported stage h w k =
       gives_on (IsInTime form before) (IsInLine all held n) old now new h.given k.0 h.gives k.1
       (λ came written q. in_time before all old now held n reported stage h w came written q)
+
+  -- all bytes read, up to the end of a last line without a line feed
+  last_given : (before all : Option (List ℕ)) (old now new : Reader) (held rest line : List ℕ) (n : ℕ) (reported : List form.Entry)
+      (stage : LogState) (h : HasRead form before old now held n reported stage) → Appends before all (texts_of form.text reported) →
+      IsFound all now held n (Ok Last) line new rest → GivesInTime form before old new (h.bytes ++ line)
+  last_given before all old now new held rest line n reported stage h w f =
+      subst (GivesInTime form before old new)
+      (looked before all old now new held line rest n reported stage h f.0 ∙ ap (λ (l : List ℕ). (h.bytes ++ line) ++ l) f.1
+      ∙ append-nil (h.bytes ++ line))
+      (all_given before all old now new held line rest n reported stage h w f.0)
 
   given_bytes : (before : Option (List ℕ)) (old new : Reader) (given : List ℕ) → GivesInTime form before old new given →
       Consumes old.remaining new.remaining given
@@ -124,10 +134,7 @@ module _ {Answer : Type 0} (form : ReportForm Answer) where
       HasReadAll form before old new (n + 1) (reported ++ more) after
   last_read before all old now new held rest line n reported more stage after h w f on = record {
     given = h.bytes ++ line;
-    gives = subst (GivesInTime form before old new)
-        (looked before all old now new held line rest n reported stage h f.0 ∙ ap (λ (l : List ℕ). (h.bytes ++ line) ++ l) f.1
-        ∙ append-nil (h.bytes ++ line))
-        (all_given before all old now new held line rest n reported stage h w f.0);
+    gives = last_given before all old now new held rest line n reported stage h w f;
     ended = f.2;
     reports = ReportsAllBy.unended h.bytes n reported stage h.reports line more after f.6 f.5 f.3 f.4 on;
   }
@@ -202,11 +209,12 @@ module _ {Answer : Type 0} (form : ReportForm Answer) where
 
   pub bad_last : (before all : Option (List ℕ)) (old now new : Reader) (held rest line : List ℕ) (n : ℕ) (reported : List form.Entry)
       (stage : LogState) → HasRead form before old now held n reported stage → Appends before all (texts_of form.text reported) →
-      IsFound all now held n (Ok Last) line new rest → IsBad stage line → IsFaultOf form before old new reported (Faults.BadLine (n + 1))
-  bad_last before all old now new held rest line n reported stage h w f wrong = (
+      IsFound all now held n (Ok Last) line new rest → IsBad stage line → reads_cut form stage ≡ false →
+      IsFaultOf form before old new reported (Faults.BadLine (n + 1))
+  bad_last before all old now new held rest line n reported stage h w f wrong uncut = (
     of_ended_log (λ log. IsReportBy form log (texts_of form.text reported) (Err (Faults.BadLine (n + 1)))) old.remaining new.remaining (h.bytes ++ line)
         (given_bytes before old new _ got) f.2
-        (IsReportBy.bad_last h.bytes n reported stage h.reports line f.6 f.5 f.3 f.4 wrong),
+        (IsReportBy.bad_last h.bytes n reported stage h.reports line f.6 f.5 f.3 f.4 wrong uncut),
     inr (inl (record {
       given = h.bytes ++ line;
       gives = got;
@@ -223,10 +231,7 @@ module _ {Answer : Type 0} (form : ReportForm Answer) where
   )
     where
       got : GivesInTime form before old new (h.bytes ++ line)
-      got = subst (GivesInTime form before old new)
-          (looked before all old now new held line rest n reported stage h f.0 ∙ ap (λ (l : List ℕ). (h.bytes ++ line) ++ l) f.1
-          ∙ append-nil (h.bytes ++ line))
-          (all_given before all old now new held line rest n reported stage h w f.0)
+      got = last_given before all old now new held rest line n reported stage h w f
 
   pub ends_early : (before : Option (List ℕ)) (old new : Reader) (n : ℕ) (reported : List form.Entry) (stage : LogState) →
       HasReadAll form before old new n reported stage → IsOpening stage → IsFaultOf form before old new reported (Faults.BadLine (n + 1))
@@ -293,20 +298,20 @@ module _ {Answer : Type 0} (form : ReportForm Answer) where
   pub log_reported : (old new : Reader) (n : ℕ) (reported : List form.Entry) (version : Version) (sessions : List SessionState)
       (summary : Summary) (a b c : Option (List ℕ)) → HasReadAll form a old new n reported (Playing version sessions) →
       summary ≡ counted_over form.counted reported nothing_counted → Appends a b (texts_of form.text reported) →
-      Appends b c (form.closing version sessions ++ summary_line summary) →
-      Reported form old new a c (form.answer summary version sessions)
+      Appends b c (form.closing None version sessions ++ summary_line summary) →
+      Reported form old new a c (form.answer summary None version sessions)
   log_reported old new n reported version sessions summary a b c h e w l = (
     h.given,
     h.gives,
-    of_ended_log (λ log. (t : List ℕ) × IsReportBy form log t (Ok (form.answer summary version sessions)) × Appends a c t)
+    of_ended_log (λ log. (t : List ℕ) × IsReportBy form log t (Ok (form.answer summary None version sessions)) × Appends a c t)
         old.remaining new.remaining h.given
         (given_bytes a old new h.given h.gives) h.ended (
-          texts_of form.text reported ++ (form.closing version sessions ++ summary_line summary),
+          texts_of form.text reported ++ (form.closing None version sessions ++ summary_line summary),
           subst (λ (s : Summary). IsReportBy form h.given
-              (texts_of form.text reported ++ (form.closing version sessions ++ summary_line s))
-              (Ok (form.answer s version sessions))) (sym e)
+              (texts_of form.text reported ++ (form.closing None version sessions ++ summary_line s))
+              (Ok (form.answer s None version sessions))) (sym e)
               (IsReportBy.whole h.given n reported version sessions h.reports),
-          appends_more a b c (texts_of form.text reported) (form.closing version sessions ++ summary_line summary) w l,
+          appends_more a b c (texts_of form.text reported) (form.closing None version sessions ++ summary_line summary) w l,
         ),
   )
 
@@ -314,11 +319,40 @@ module _ {Answer : Type 0} (form : ReportForm Answer) where
   pub finished : (old new : Reader) (n : ℕ) (reported : List form.Entry) (version : Version) (sessions : List SessionState)
       (summary : Summary) (a b c : Option (List ℕ)) (result : Result Answer LogFault) →
       HasReadAll form a old new n reported (Playing version sessions) → summary ≡ counted_over form.counted reported nothing_counted →
-      Appends a b (texts_of form.text reported) → IfOk result (λ answer. IsFinished form version sessions summary b c answer) →
+      Appends a b (texts_of form.text reported) → IfOk result (λ answer. IsFinished form None version sessions summary b c answer) →
       IfOk result (λ answer. Reported form old new a c answer)
   finished old new n reported version sessions summary a b c (Ok answer) h e w r =
       subst (Reported form old new a c) (sym r.0) (log_reported old new n reported version sessions summary a b c h e w r.1)
   finished old new n reported version sessions summary a b c (Err fault) h e w r = tt
+
+  -- the counts were written after a cut last line
+  pub finished_cut : (before all : Option (List ℕ)) (old now new : Reader) (held rest line : List ℕ) (n : ℕ)
+      (reported : List form.Entry) (version : Version) (sessions : List SessionState) (summary : Summary) (b c : Option (List ℕ))
+      (result : Result Answer LogFault) → HasRead form before old now held n reported (Playing version sessions) →
+      Appends before all (texts_of form.text reported) → IsFound all now held n (Ok Last) line new rest →
+      IsBad (Playing version sessions) line → form.cuts ≡ true → summary ≡ counted_over form.counted reported nothing_counted →
+      Appends before b (texts_of form.text reported) →
+      IfOk result (λ answer. IsFinished form (Some (n + 1)) version sessions summary b c answer) →
+      IfOk result (λ answer. Reported form old new before c answer)
+  finished_cut before all old now new held rest line n reported version sessions summary b c (Err fault) h w f wrong cuts e v r = tt
+  finished_cut before all old now new held rest line n reported version sessions summary b c (Ok answer) h w f wrong cuts e v r =
+      subst (Reported form old new before c) (sym r.0) (
+        h.bytes ++ line,
+        got,
+        of_ended_log (λ log. (t : List ℕ) × IsReportBy form log t (Ok (form.answer summary (Some (n + 1)) version sessions))
+            × Appends before c t) old.remaining new.remaining (h.bytes ++ line) (given_bytes before old new (h.bytes ++ line) got) f.2 (
+              texts_of form.text reported ++ (form.closing (Some (n + 1)) version sessions ++ summary_line summary),
+              subst (λ (s : Summary). IsReportBy form (h.bytes ++ line)
+                  (texts_of form.text reported ++ (form.closing (Some (n + 1)) version sessions ++ summary_line s))
+                  (Ok (form.answer s (Some (n + 1)) version sessions))) (sym e)
+                  (IsReportBy.cut h.bytes n reported version sessions h.reports line f.6 f.5 f.3 f.4 wrong cuts),
+              appends_more before b c (texts_of form.text reported)
+                  (form.closing (Some (n + 1)) version sessions ++ summary_line summary) v r.1,
+            ),
+      )
+    where
+      got : GivesInTime form before old new (h.bytes ++ line)
+      got = last_given before all old now new held rest line n reported (Playing version sessions) h w f
 
   -- ---- faults, and the text written before them
 

@@ -359,7 +359,8 @@ walk _ _ _ (IsReportBy.bad bytes number reported stage reports line after few un
     (sym (append_assoc bytes line (10 ∷ after)))
     (stopped bytes number reported stage (line ++ 10 ∷ after) (Some (BadLine (number + 1))) reports
     (at_bad line after refl few unbroken short bad refl refl))
-walk _ _ _ (IsReportBy.bad_last bytes number reported stage reports line few some unbroken short bad) =
+walk _ _ _ (IsReportBy.cut bytes number reported version sessions reports line few some unbroken short bad cuts) = absurd (cc)
+walk _ _ _ (IsReportBy.bad_last bytes number reported stage reports line few some unbroken short bad uncut) =
     stopped bytes number reported stage line (Some (BadLine (number + 1))) reports
     (at_last few some unbroken short (inr (bad, refl, refl)))
 walk _ _ _ (IsReportBy.too_long bytes number reported stage reports line after few unbroken longer) =

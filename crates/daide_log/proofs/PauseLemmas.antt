@@ -1,9 +1,10 @@
 -- A record that is written when no bytes move.
-use Rattle.std.proofs.Common.{◌≡◌, [], Option, Some, None, refl, inl, inr}
-use Rattle.std.specs.Io.KnownBytes.{Keeps}
-use Rattle.daide_log_lines.specs.LogLine.{LogEvent}
+use Rattle.std.proofs.Common.{◌≡◌, ◌+◌, ◌<◌, ℕ, List, [], Option, Some, None, refl, sym, ap, ◌∙◌, ◌++◌, append_assoc, subst, inl, inr}
+use Rattle.std.specs.Io.KnownBytes.{Keeps, Appends, append_known}
+use Rattle.daide_log_lines.specs.LogLine.{LogEvent, most_lines}
+use Rattle.daide_log.specs.declared.record.RecordEnd.{RecordEnd}
 use Rattle.daide_log.specs.declared.record.RecordEnd.TheVariants.{Whole, Failed}
-use Rattle.daide_log.specs.Recording.{Written, RecordsEvent, WritesPage, KeepsText, TakesCall}
+use Rattle.daide_log.specs.Recording.{Written, RecordsEvent, WritesPage, KeepsText, TakesCall, GetsLine, GetsText}
 
 pub unwritten_kept : (failed : Type 0) (old : Written) → KeepsText failed old old
 unwritten_kept failed old = inl refl
@@ -23,3 +24,21 @@ pub event_taken : (failed : Type 0) (old new : Written) (event : Option LogEvent
     TakesCall failed old event new
 event_taken failed old new None same = inl same
 event_taken failed old new (Some event) taken = taken
+
+-- a whole record got a line, and is whole
+pub line_got : (failed : Type 0) (old new : Written) (line : List ℕ) → old.ending ≡ Whole → new.ending ≡ Whole →
+    old.lines < most_lines → new.lines ≡ old.lines + 1 → Appends old.text new.text line →
+    GetsText failed old.ending old line new
+line_got failed old new line whole still few lines text =
+    subst (λ (e : RecordEnd). GetsText failed e old line new) (sym whole)
+    (subst (λ (e : RecordEnd). GetsLine failed e old line new) (sym still) (few, lines, text))
+
+-- a page was written or kept, and then got a line
+pub page_got : (a b old : Option (List ℕ)) (front held items line : List ℕ) → old ≡ append_known a front →
+    Keeps (append_known a front) (append_known b held) → items ≡ held ++ line → Appends old (append_known b items) line
+page_got None b old front held items line e k f =
+    subst (λ (o : Option (List ℕ)). Appends o (append_known b items) line) (sym e) tt
+page_got (Some xs) None old front held items line e k f = absurd k
+page_got (Some xs) (Some ys) old front held items line e k f =
+    subst (λ (o : Option (List ℕ)). Appends o (Some (ys ++ items)) line) (sym e)
+    (ap (λ (l : List ℕ). ys ++ l) f ∙ sym (append_assoc ys held line) ∙ ap (λ (l : List ℕ). l ++ line) k)

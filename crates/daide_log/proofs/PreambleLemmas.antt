@@ -220,7 +220,7 @@ module _ {Answer : Type 0} (form : List Word → ReportForm Answer) where
       line_judged lawful before all old now new held line rest n heading next h k f e
   head_judged lawful before all old now new held line rest n (Ok Last) heading None h k f e = λ words.
       bad_last (form words) before all old now new held rest line n [] (Opening (heading_of heading)) (h words)
-      (keeps_appends before all k) f (sym e)
+      (keeps_appends before all k) f (sym e) refl
   head_judged lawful before all old now new held line rest n (Ok Last) heading (Some next) h k f e = go (whole_preamble next) refl
     where
       read : (words : List Word) → HasWords words (heading_of next) →

@@ -48,7 +48,8 @@ not_too_long : (log text : List ℕ) (answer : Result Summary LogFault) (bytes l
 not_too_long _ _ _ bytes line n reported stage (IsReportBy.whole _ _ _ _ _ _) e p is short = absurd (cc)
 not_too_long _ _ _ bytes line n reported stage (IsReportBy.cut_short _ _ _ _ _ _) e p is short = absurd (cc)
 not_too_long _ _ _ bytes line n reported stage (IsReportBy.bad _ _ _ _ _ _ _ _ _ _ _) e p is short = absurd (cc)
-not_too_long _ _ _ bytes line n reported stage (IsReportBy.bad_last _ _ _ _ _ _ _ _ _ _ _) e p is short = absurd (cc)
+not_too_long _ _ _ bytes line n reported stage (IsReportBy.bad_last _ _ _ _ _ _ _ _ _ _ _ _) e p is short = absurd (cc)
+not_too_long _ _ _ bytes line n reported stage (IsReportBy.cut _ _ _ _ _ _ _ _ _ _ _ _ cuts) e p is short = absurd (cc)
 not_too_long _ _ _ bytes line n reported stage (IsReportBy.too_long front k before old q long after fewer unbroken longer) e p is
     short =
     let next : k + 1 ≡ n + 1 = cc in
@@ -63,7 +64,8 @@ not_too_many : (log text : List ℕ) (answer : Result Summary LogFault) (reporte
 not_too_many _ _ _ reported stage (IsReportBy.whole _ _ _ _ _ _) e p = absurd (cc)
 not_too_many _ _ _ reported stage (IsReportBy.cut_short _ _ _ _ _ _) e p = absurd (cc)
 not_too_many _ _ _ reported stage (IsReportBy.bad _ _ _ _ _ _ _ _ _ _ _) e p = absurd (cc)
-not_too_many _ _ _ reported stage (IsReportBy.bad_last _ _ _ _ _ _ _ _ _ _ _) e p = absurd (cc)
+not_too_many _ _ _ reported stage (IsReportBy.bad_last _ _ _ _ _ _ _ _ _ _ _ _) e p = absurd (cc)
+not_too_many _ _ _ reported stage (IsReportBy.cut _ _ _ _ _ _ _ _ _ _ _ _ cuts) e p = absurd (cc)
 not_too_many _ _ _ reported stage (IsReportBy.too_long _ _ _ _ _ _ _ _ _ _) e p = absurd (cc)
 not_too_many _ _ _ reported stage (IsReportBy.too_many front before old q after some) e p =
     let left : [] ≡ after = one_left (front ++ after) front most_lines reported before stage old [] after p q

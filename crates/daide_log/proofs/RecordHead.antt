@@ -104,7 +104,7 @@ number_back n fits =
 digit_visible : (d : ℕ) → list_all is_visible ((48 + d) ∷ []) ≡ true
 digit_visible d = let h : nat_lt 32 (48 + d) ≡ true = grind (arith, nat_tests) in ap (λ (b : Bool). b && true) h
 
-visible_by : (fuel n : ℕ) → n < fuel → n ≤ 65535 → list_all is_visible (decimal n) ≡ true
+visible_by : (fuel n : ℕ) → n < fuel → n < 2 ^ 64 → list_all is_visible (decimal n) ≡ true
 visible_by zero n less fits = absurd (omega arith)
 visible_by (suc fuel) n less fits = go (leb 10 n) refl (λ two. visible_by fuel (n / 10) (omega arith) (omega arith))
   where
@@ -119,7 +119,10 @@ visible_by (suc fuel) n less fits = go (leb 10 n) refl (λ two. visible_by fuel 
         ap (list_all is_visible) (decimal_digit n one) ∙ digit_visible n
 
 pub decimal_visible : (n : ℕ) → n ≤ 65535 → list_all is_visible (decimal n) ≡ true
-decimal_visible n fits = visible_by (suc n) n (omega arith) fits
+decimal_visible n fits = visible_by (suc n) n (omega arith) (omega (arith, fits))
+
+pub long_visible : (n : ℕ) → n < 2 ^ 64 → list_all is_visible (decimal n) ≡ true
+long_visible n fits = visible_by (suc n) n (omega arith) fits
 
 -- ---- the limits
 

@@ -46,7 +46,7 @@ use Rattle.daide_log.proofs.RecordHead.{IsWord, config_back, config_plain, confi
 
 -- ---- runs
 
-run_split : (a b : List Event) (old new : SessionState) (moves : List Effect) → Runs old (a ++ b) moves new →
+pub run_split : (a b : List Event) (old new : SessionState) (moves : List Effect) → Runs old (a ++ b) moves new →
     (mid : SessionState) × (first : List Effect) × (rest : List Effect)
     × Runs old a first mid × Runs mid b rest new × (moves ≡ first ++ rest)
 run_split [] b old new moves r = (old, [], moves, (refl, refl), r, refl)
@@ -64,7 +64,7 @@ run_split (event ∷ a) b old new moves r =
 
 -- A failed write is an end in the log, so the session may have another ending there. The two are equal, or both are
 -- over.
-abbrev IsAsLogged : SessionState → SessionState → Type 0
+abbrev pub IsAsLogged : SessionState → SessionState → Type 0
 IsAsLogged logged state = (logged ≡ state) ⊎ ((is_over logged.phase ≡ true) × (is_over state.phase ≡ true))
 
 same_moves : (old : SessionState) (side : Side) (verdict : Verdict) →
@@ -117,15 +117,15 @@ lost_is_ended side old new moves r =
     )
 
 -- the events of a call, as its line has them
-abbrev events_logged : Option LogEvent → List Event
+abbrev pub events_logged : Option LogEvent → List Event
 events_logged None = []
 events_logged (Some event) = events_in event
 
 -- the effect of a call on the session that the log describes
-record GoesAsLogged (old : SessionState) (answer : PortCall) (moves : List Effect) (new : SessionState) : Type 0 where
-  logged : SessionState
-  runs : Runs old (events_logged (reported_by answer)) moves logged
-  alike : IsAsLogged logged new
+pub record GoesAsLogged (old : SessionState) (answer : PortCall) (moves : List Effect) (new : SessionState) : Type 0 where
+  pub logged : SessionState
+  pub runs : Runs old (events_logged (reported_by answer)) moves logged
+  pub alike : IsAsLogged logged new
 
 same_goes : (answer : PortCall) (old new : SessionState) (moves : List Effect) → Runs old (event_of answer) moves new →
     GoesAsLogged old answer moves new
@@ -141,7 +141,7 @@ same_goes (Offered side handed (Took n)) old new moves r = record { logged = new
 same_goes (Offered side handed Failed) old new moves r =
     let other = lost_is_ended side old new moves r in record { logged = other.0; runs = other.1; alike = other.2 }
 
-goes_as_logged : (answer : PortCall) (logged old new : SessionState) (moves : List Effect) → IsAsLogged logged old →
+pub goes_as_logged : (answer : PortCall) (logged old new : SessionState) (moves : List Effect) → IsAsLogged logged old →
     Runs old (event_of answer) moves new → GoesAsLogged logged answer moves new
 goes_as_logged answer logged old new moves (inl same) r =
     same_goes answer logged new moves (subst (λ (s : SessionState). Runs s (event_of answer) moves new) (sym same) r)
@@ -156,15 +156,15 @@ goes_as_logged answer logged old new moves (inr over) r =
 
 -- ---- notes
 
-notes_of-append : (a b : List Effect) → notes_of (a ++ b) ≡ notes_of a ++ notes_of b
+pub notes_of-append : (a b : List Effect) → notes_of (a ++ b) ≡ notes_of a ++ notes_of b
 notes_of-append [] b = refl
 notes_of-append (move ∷ a) b = ap (λ (l : List Note). move.reported ∷ l) (notes_of-append a b)
 
-notes_reported-append : (a b : List ReportEntry) → notes_reported (a ++ b) ≡ notes_reported a ++ notes_reported b
+pub notes_reported-append : (a b : List ReportEntry) → notes_reported (a ++ b) ≡ notes_reported a ++ notes_reported b
 notes_reported-append [] b = refl
 notes_reported-append (entry ∷ a) b = ap (λ (l : List Note). entry.reported ∷ l) (notes_reported-append a b)
 
-entries_reported : (number : ℕ) (side : Side) (moves : List Effect) →
+pub entries_reported : (number : ℕ) (side : Side) (moves : List Effect) →
     notes_reported (entries_of (source_in Match number 1) side moves) ≡ notes_of moves
 entries_reported number side [] = refl
 entries_reported number side (move ∷ moves) = ap (λ (l : List Note). move.reported ∷ l) (entries_reported number side moves)
@@ -187,7 +187,7 @@ reported_by_lines (answer ∷ answers) lines old new moves r =
 -- ---- one call
 
 -- the same report, with equal arguments
-same_report : (bytes other : List ℕ) (number another : ℕ) (reported more : List ReportEntry) (stage after : LogState) → bytes ≡ other →
+pub same_report : (bytes other : List ℕ) (number another : ℕ) (reported more : List ReportEntry) (stage after : LogState) → bytes ≡ other →
     number ≡ another → reported ≡ more → stage ≡ after → Reports bytes number reported stage → Reports other another more after
 same_report bytes other number another reported more stage after b n t s h =
     subst (λ (x : LogState). Reports other another more x) s
@@ -224,7 +224,7 @@ event_reported event bytes number reported old new moves good fits h r =
     (subst (λ (x : List ℕ). AdvancesByLine (number + 1) (Playing Match (old ∷ [])) x more (Playing Match (new ∷ [])))
     (sym (plain_without_cr line plain)) goes))
 
-answer_reported : (answer : PortCall) (bytes : List ℕ) (number : ℕ) (reported : List ReportEntry) (old new : SessionState)
+pub answer_reported : (answer : PortCall) (bytes : List ℕ) (number : ℕ) (reported : List ReportEntry) (old new : SessionState)
     (moves : List Effect) → IsPiece answer → number + count_of_answer answer ≤ most_lines →
     Reports bytes number reported (Playing Match (old ∷ [])) → Runs old (events_logged (reported_by answer)) moves new →
     Reports (bytes ++ line_of_answer answer) (number + count_of_answer answer)
@@ -396,7 +396,7 @@ name_reported =
     ReportsBy.line [] 0 [] (Opening Unnamed) ReportsBy.none (codes "daide-log 2") [] (Opening (Named Match)) (omega arith)
     (plain_unbroken (codes "daide-log 2") refl) (omega arith) (Named Match, refl, refl, refl)
 
-head_reported : (config : Config) (words : List Word) → config_fault config ≡ Ok tt → are_accepted words ≡ true →
+pub head_reported : (config : Config) (words : List Word) → config_fault config ≡ Ok tt → are_accepted words ≡ true →
     AllByRecursion HasName words → head_count words ≤ most_lines →
     Reports (head_text config words) (head_count words) [] (Playing Match (initial_state (limits_with config words) ∷ []))
 unfolding head_text

@@ -61,13 +61,13 @@ data Outcome (config : Config) (words : List Word) (answers : List PortCall) (an
     full : IsOver config words answers new → Outcome config words answers answer new
     failed : new.ending ≡ Failed → Outcome config words answers answer new
 
-appended : (old new : Option (List ℕ)) (text line : List ℕ) → old ≡ Some text → Appends old new line → new ≡ Some (text ++ line)
+pub appended : (old new : Option (List ℕ)) (text line : List ℕ) → old ≡ Some text → Appends old new line → new ≡ Some (text ++ line)
 appended None new text line e h = absurd (cc)
 appended (Some xs) None text line e h = absurd h
 appended (Some xs) (Some ys) text line e h =
     let same : xs ≡ text = cc in ap Some (h ∙ ap (λ (l : List ℕ). l ++ line) same)
 
-kept : (old new : Option (List ℕ)) (text : List ℕ) → old ≡ Some text → Keeps old new → new ≡ Some text
+pub kept : (old new : Option (List ℕ)) (text : List ℕ) → old ≡ Some text → Keeps old new → new ≡ Some text
 kept None new text e h = absurd (cc)
 kept (Some xs) None text e h = absurd h
 kept (Some xs) (Some ys) text e h = ap Some h ∙ e

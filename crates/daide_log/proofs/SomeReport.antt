@@ -32,7 +32,7 @@ use Rattle.daide_log.specs.ConfigLine.{match_config_of_counts, match_config_of_n
 use Rattle.daide_log.specs.Heading.{Preamble, Heading, Unnamed, Named, Headed, single_session, version_of, limits_in, append_word}
 use Rattle.daide_log.specs.Heading.{heading_after, has_all_words}
 use Rattle.daide_log.specs.Report.{ReportEntry, events_of_line, side_of, entries_of}
-use Rattle.daide_log.specs.Log.{ReportsBy, ReportsAllBy, IsReportBy, LogState, Opening, Playing, state_after_preamble, stage_at, event_in, source_in, AdvancesByLine, IsBad}
+use Rattle.daide_log.specs.Log.{ReportsBy, ReportsAllBy, IsReportBy, LogState, Opening, Playing, state_after_preamble, stage_at, event_in, source_in, AdvancesByLine, IsBad, plain, reads_cut}
 use Rattle.daide_log.specs.Log.{Reports, ReportsAll, IsReport}
 
 -- ---- numbers of sessions
@@ -317,6 +317,11 @@ ended_at log number reported (Playing version sessions) all = (_, (_, IsReportBy
 regroup : (a b c : List ℕ) → (a ++ b ++ 10 ∷ []) ++ c ≡ a ++ (b ++ 10 ∷ c)
 regroup a b c = simp append_assoc
 
+-- in the plain report no line is cut
+pub plain_uncut : (stage : LogState) → reads_cut plain stage ≡ false
+plain_uncut (Opening heading) = refl
+plain_uncut (Playing version sessions) = refl
+
 -- the rest, with at most this number of bytes, has a report after what was read
 abbrev ReadsOn : ℕ → Type 0
 ReadsOn fuel = (bytes rest : List ℕ) (number : ℕ) (reported : List ReportEntry) (stage : LogState) → length rest < fuel →
@@ -337,7 +342,7 @@ read_some fuel again bytes x rest number reported stage less reports few good = 
             (ReportsAllBy.unended bytes number reported stage reports (x ∷ rest) next.reported next.new more (omega arith) whole
             short next.on)
         by_line short (inr bad) =
-            (_, (_, IsReportBy.bad_last bytes number reported stage reports (x ∷ rest) more (omega arith) whole short bad))
+            (_, (_, IsReportBy.bad_last bytes number reported stage reports (x ∷ rest) more (omega arith) whole short bad (plain_uncut stage)))
 
         by_length : (longest_line < length (x ∷ rest)) ⊎ (length (x ∷ rest) ≤ longest_line) →
             HasReport (bytes ++ x ∷ rest)

@@ -37,7 +37,7 @@ use Rattle.daide_log.specs.declared.heading.Version.{Version}
 use Rattle.daide_log.specs.declared.heading.Version.TheVariants.{Single, Match}
 use Rattle.daide_log.specs.declared.report.ReportKey.{ReportKey}
 use Rattle.daide_log.specs.ReportForm.{ReportForm, HasWords}
-use Rattle.daide_log.specs.Report.{ReportEntry, events_of_line, side_of, move_line, part_line, texts_of}
+use Rattle.daide_log.specs.Report.{ReportEntry, events_of_line, side_of, move_line, part_line, cut_line, texts_of}
 
 -- ---- lines
 
@@ -215,6 +215,15 @@ parts_from version session (state ∷ states) =
 abbrev pub part_text : Part → List ℕ
 part_text part = part_line part.session part.side part.came part.size
 
+-- the line for a cut last line of the log, and how many there are
+abbrev pub cut_text : Option ℕ → List ℕ
+cut_text None = []
+cut_text (Some number) = cut_line number
+
+abbrev pub cut_count : Option ℕ → ℕ
+cut_count None = 0
+cut_count (Some number) = 1
+
 -- ---- the report
 
 abbrev pub explained : List Word → ReportForm Explained
@@ -228,7 +237,9 @@ explained words = record {
       × (shown ≡ remarks line ++ later);
   quiet = λ line shown. shown ≡ remarks line;
   opens = λ heading shown. (shown ≡ []) × HasWords words heading;
-  closing = λ version sessions. texts_of part_text (parts_from version 1 sessions);
-  answer = λ counts version sessions. record { counts = counts; unfinished = length (parts_from version 1 sessions) };
+  cuts = true;
+  closing = λ cut version sessions. cut_text cut ++ texts_of part_text (parts_from version 1 sessions);
+  answer = λ counts cut version sessions.
+      record { counts = counts; unfinished = cut_count cut + length (parts_from version 1 sessions); cut = cut };
   late = true;
 }

@@ -13,3 +13,7 @@ pub mod Laws
 pub mod RecordText
 pub mod Recording
 pub mod RecordLaw
+pub mod UtcText
+pub mod RecordItem
+pub mod TimedRecording
+pub mod TimedLaw

@@ -1,6 +1,6 @@
 -- The report of a log: the entries of its lines, each judged by its session in the state that earlier lines left, with
 -- the session's queues emptied at once. docs/FORMATS.md, "The log" and "The log, version 2". (own)
-use Rattle.std.specs.Prelude.{◌≡◌, ⊤, ℕ, false, ◌+◌, ◌-◌, ◌<◌, ◌≤◌, if◌then◌else◌, List, [], ◌∷◌, ◌++◌, length}
+use Rattle.std.specs.Prelude.{◌≡◌, ⊤, ℕ, Bool, true, false, ◌+◌, ◌-◌, ◌<◌, ◌≤◌, if◌then◌else◌, List, [], ◌∷◌, ◌++◌, length}
 use Rattle.std.specs.Prelude.{replicate, slice_get, slice_set, Option, Some, None, option_map, Result, Ok, Err}
 use Rattle.daide_protocol.specs.Machine.{SessionState, Effect, Runs, initial_state}
 use Rattle.daide_protocol.specs.Config.{limits_with}
@@ -57,8 +57,9 @@ plain = record {
   line = λ line source event before moves after reported. reported ≡ entries_of source (side_of event) moves;
   quiet = λ line reported. reported ≡ [];
   opens = λ heading reported. reported ≡ [];
-  closing = λ version sessions. [];
-  answer = λ summary version sessions. summary;
+  cuts = false;
+  closing = λ cut version sessions. [];
+  answer = λ summary cut version sessions. summary;
   late = false;
 }
 
@@ -98,6 +99,12 @@ abbrev pub IsBad : LogState → List ℕ → Type 0
 IsBad (Opening heading) line = heading_after heading line ≡ None
 IsBad (Playing version sessions) line = event_in version (length sessions) line ≡ None
 
+-- After the head, a last line without a line feed and without an allowed form is cut. Whether that is no fault depends
+-- on the form of the report.
+abbrev pub reads_cut : {Answer : Type 0} → ReportForm Answer → LogState → Bool
+reads_cut form (Opening heading) = false
+reads_cut form (Playing version sessions) = form.cuts
+
 -- the head is not complete
 abbrev pub IsOpening : LogState → Type 0
 IsOpening (Opening heading) = ⊤
@@ -132,8 +139,17 @@ module _ {Answer : Type 0} (form : ReportForm Answer) where
     whole : (log : List ℕ) (number : ℕ) (reported : List form.Entry) (version : Version) (sessions : List SessionState) →
         ReportsAllBy log number reported (Playing version sessions) →
         IsReportBy log (texts_of form.text reported
-        ++ (form.closing version sessions ++ summary_line (counted_over form.counted reported nothing_counted)))
-        (Ok (form.answer (counted_over form.counted reported nothing_counted) version sessions))
+        ++ (form.closing None version sessions ++ summary_line (counted_over form.counted reported nothing_counted)))
+        (Ok (form.answer (counted_over form.counted reported nothing_counted) None version sessions))
+    -- the last line is cut, and the report is that of the lines before it
+    cut : (bytes : List ℕ) (number : ℕ) (reported : List form.Entry) (version : Version) (sessions : List SessionState) →
+        ReportsBy bytes number reported (Playing version sessions) →
+        (line : List ℕ) → number < most_lines → 0 < length line → IsUnbroken line → length line ≤ longest_line →
+        IsBad (Playing version sessions) line → form.cuts ≡ true →
+        IsReportBy (bytes ++ line) (texts_of form.text reported
+        ++ (form.closing (Some (number + 1)) version sessions
+        ++ summary_line (counted_over form.counted reported nothing_counted)))
+        (Ok (form.answer (counted_over form.counted reported nothing_counted) (Some (number + 1)) version sessions))
     -- the log ends before its head is complete
     cut_short : (log : List ℕ) (number : ℕ) (reported : List form.Entry) (stage : LogState) → ReportsAllBy log number reported stage →
         IsOpening stage → IsReportBy log (texts_of form.text reported) (Err (BadLine (number + 1)))
@@ -142,10 +158,11 @@ module _ {Answer : Type 0} (form : ReportForm Answer) where
         (line after : List ℕ) → number < most_lines → IsUnbroken line → length line ≤ longest_line →
         IsBad stage (without_cr line) →
         IsReportBy (bytes ++ line ++ 10 ∷ after) (texts_of form.text reported) (Err (BadLine (number + 1)))
-    -- or without a line feed
+    -- or without a line feed, unless it is cut
     bad_last : (bytes : List ℕ) (number : ℕ) (reported : List form.Entry) (stage : LogState) → ReportsBy bytes number reported stage →
         (line : List ℕ) → number < most_lines → 0 < length line → IsUnbroken line → length line ≤ longest_line →
-        IsBad stage line → IsReportBy (bytes ++ line) (texts_of form.text reported) (Err (BadLine (number + 1)))
+        IsBad stage line → reads_cut form stage ≡ false →
+        IsReportBy (bytes ++ line) (texts_of form.text reported) (Err (BadLine (number + 1)))
     too_long : (bytes : List ℕ) (number : ℕ) (reported : List form.Entry) (stage : LogState) → ReportsBy bytes number reported stage →
         (line after : List ℕ) → number < most_lines → IsUnbroken line → longest_line < length line →
         IsReportBy (bytes ++ line ++ after) (texts_of form.text reported) (Err (LineTooLong (number + 1)))

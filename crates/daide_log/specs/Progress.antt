@@ -207,11 +207,12 @@ module _ {Answer : Type 0} (form : ReportForm Answer) where
     pub counts : summary ≡ counted_over form.counted reported nothing_counted
     pub written : Appends before after (texts_of form.text reported)
 
-  -- the end of the report was written, and this is the result
-  abbrev pub IsFinished : Version → List SessionState → Summary → Option (List ℕ) → Option (List ℕ) → Answer → Type 0
-  IsFinished version sessions summary before after answer =
-      (answer ≡ form.answer summary version sessions)
-      × Appends before after (form.closing version sessions ++ summary_line summary)
+  -- the end of the report was written, and this is the result, by the number of the last line if it is cut
+  abbrev pub IsFinished : Option ℕ → Version → List SessionState → Summary → Option (List ℕ) → Option (List ℕ) → Answer →
+      Type 0
+  IsFinished cut version sessions summary before after answer =
+      (answer ≡ form.answer summary cut version sessions)
+      × Appends before after (form.closing cut version sessions ++ summary_line summary)
 
   -- the report of the log was written, or the log has this fault
   abbrev pub IsAnswered : Reader → Reader → Option (List ℕ) → Option (List ℕ) → Result Answer LogFault → Type 0

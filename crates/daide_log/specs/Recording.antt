@@ -33,19 +33,26 @@ pub record Written : Type 0 where
 abbrev pub HasFailed : {W : Type 0} → (W → W → Type 0) → Type 0
 HasFailed {W} fails = (old new : W) × fails old new
 
--- A whole record gets the line of an event. If it has the greatest number of lines, it keeps its text instead. After a
--- failed write nothing is stated about its text.
-abbrev pub TakesLine : Type 0 → RecordEnd → Written → LogEvent → Written → Type 0
-TakesLine failed Whole old event new =
-    (old.lines < most_lines) × (new.lines ≡ old.lines + 1) × Appends old.text new.text (event_line event)
-TakesLine failed Full old event new = (most_lines ≤ old.lines) × (new.lines ≡ old.lines) × Keeps old.text new.text
-TakesLine failed Failed old event new = (new.lines ≡ old.lines) × failed
+-- A whole record gets a line. If it has the greatest number of lines, it keeps its text instead. After a failed write
+-- nothing is stated about its text.
+abbrev pub GetsLine : Type 0 → RecordEnd → Written → List ℕ → Written → Type 0
+GetsLine failed Whole old line new =
+    (old.lines < most_lines) × (new.lines ≡ old.lines + 1) × Appends old.text new.text line
+GetsLine failed Full old line new = (most_lines ≤ old.lines) × (new.lines ≡ old.lines) × Keeps old.text new.text
+GetsLine failed Failed old line new = (new.lines ≡ old.lines) × failed
 
 -- a record that ended is unchanged
+abbrev pub GetsText : Type 0 → RecordEnd → Written → List ℕ → Written → Type 0
+GetsText failed Whole old line new = GetsLine failed new.ending old line new
+GetsText failed Failed old line new = new ≡ old
+GetsText failed Full old line new = new ≡ old
+
+-- the same for the line of an event
+abbrev pub TakesLine : Type 0 → RecordEnd → Written → LogEvent → Written → Type 0
+TakesLine failed ending old event new = GetsLine failed ending old (event_line event) new
+
 abbrev pub TakesEvent : Type 0 → RecordEnd → Written → LogEvent → Written → Type 0
-TakesEvent failed Whole old event new = TakesLine failed new.ending old event new
-TakesEvent failed Failed old event new = new ≡ old
-TakesEvent failed Full old event new = new ≡ old
+TakesEvent failed ending old event new = GetsText failed ending old (event_line event) new
 
 -- the effect of an event, if there is one; `failed` states that a write failed
 abbrev pub RecordsEvent : Type 0 → Written → Option LogEvent → Written → Type 0

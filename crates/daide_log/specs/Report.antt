@@ -107,6 +107,12 @@ unfoldable pub part_line : Option ℕ → Side → ℕ → Option ℕ → List �
 part_line session side came size =
     codes "    " ++ session_text session ++ name_of_side side ++ codes ": " ++ size_text came size ++ 10 ∷ []
 
+-- ---- a cut line
+
+-- the line for the log's last line if it is cut, which begins with four spaces
+unfoldable pub cut_line : ℕ → List ℕ
+cut_line number = codes "    line " ++ decimal number ++ codes " is cut" ++ 10 ∷ []
+
 -- ---- the last line
 
 -- the counts, with all of these entries

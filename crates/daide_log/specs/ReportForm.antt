@@ -1,6 +1,6 @@
 -- The form of a report: the entries for the events of a line, their text, and the end of the report. There are two: the
 -- plain report, and the report with explanations (`Explained`). (own)
-use Rattle.std.specs.Prelude.{◌≡◌, ⊤, ℕ, Bool, List, [], ◌∷◌, ◌++◌}
+use Rattle.std.specs.Prelude.{◌≡◌, ⊤, ℕ, Bool, List, [], ◌∷◌, ◌++◌, Option}
 use Rattle.std.specs.Bool.{MatchBool}
 use Rattle.daide_frame.specs.declared.side.Side.{Side}
 use Rattle.daide_words.specs.declared.word.Word.{Word}
@@ -27,9 +27,12 @@ pub record ReportForm (Answer : Type 0) : Type 1 where
   pub quiet : List ℕ → List Entry → Type 0
   -- the entries of a line of the head
   pub opens : Heading → List Entry → Type 0
-  -- the text between the entries and the counts, and the result, by the final states of the sessions
-  pub closing : Version → List SessionState → List ℕ
-  pub answer : Summary → Version → List SessionState → Answer
+  -- whether a last line that is cut is no fault
+  pub cuts : Bool
+  -- the text between the entries and the counts, and the result, by the number of the last line if it is cut, and by the
+  -- final states of the sessions
+  pub closing : Option ℕ → Version → List SessionState → List ℕ
+  pub answer : Summary → Option ℕ → Version → List SessionState → Answer
   -- whether memory may be refused while the lines are judged
   pub late : Bool
 

@@ -4,7 +4,7 @@
 //! end. So the writer gets blocks, and has the report of all complete lines whenever a read may block. A plain report
 //! allocates memory only for the sessions, once the head was read.
 
-ghost use Rattle.std.specs.Prelude.{◌≡◌, ◌≢◌, ◌≤◌, [], All, length, List, ℕ, Option, Err, IfOk, IfErr};
+ghost use Rattle.std.specs.Prelude.{◌≡◌, ◌≢◌, ◌≤◌, true, false, [], All, length, List, ℕ, Option, None, Err, IfOk, IfErr};
 ghost use Rattle.std.specs.Io.KnownBytes.{Keeps};
 ghost use Rattle.daide_log_lines.specs.Input.{IsSameReader};
 ghost use Rattle.daide_log_lines.specs.LogLine.{most_lines};
@@ -15,12 +15,12 @@ ghost use Rattle.daide_protocol.specs.Summary.{nothing_counted};
 ghost use Rattle.daide_words.specs.declared.word.Word.{Word};
 ghost use Rattle.daide_words.specs.Words.{words_of};
 ghost use Rattle.daide_log.specs.Reporting.{IsReady, IsLateFault};
-ghost use Rattle.daide_log.specs.Log.{plain};
+ghost use Rattle.daide_log.specs.Log.{plain, event_in};
 ghost use Rattle.daide_log.specs.Progress.{StartsReport, IsAnswered, IsFaultAfter, IsFinished, Reported, states_of};
 ghost use Rattle.daide_log_lines.specs.Reader.{Reader, silent};
 
-use crate::heading::Preamble;
-use crate::judge::{LineContext, judge_line};
+use crate::heading::{Preamble, Version};
+use crate::judge::{LineContext, judge_line, read_reported};
 use crate::opening::{open_sessions, read_preamble};
 use crate::page::{Unreported, put_summary};
 use crate::report_builder::ReportBuilder;
@@ -39,15 +39,17 @@ use daide_session::Session;
 use std::alloc::Allocator;
 use std::io::{Read, Write};
 
-/// Writes the end of a report: what its style adds after all moves, and the line of the counts.
+/// Writes the end of a report: what its style adds after all moves, and the line of the counts. `cut` is the number of
+/// the last line if it is cut.
 fn finish<A: Allocator, W: Write, S: Style>(
     sessions: &[Session<A>],
+    cut: Option<u32>,
     account: &mut ReportBuilder<'_, '_, W, S>,
 ) -> Result<S::Answer, LogFault>
     requires few { length sessions.now ≤ most_sessions }
     requires ready { All (IsReady account.old.head.limits.config (words_of account.old.head.words)) sessions.now }
     ensures written { IfOk result (λ answer.
-        IsFinished (S.form (words_of account.old.head.words)) account.old.head.version (states_of sessions.now)
+        IsFinished (S.form (words_of account.old.head.words)) cut account.old.head.version (states_of sessions.now)
         account.old.summary (all_of W.contents account.old.output) (all_of W.contents account.new.output) answer) }
     ensures refused { IfErr result (IsLateFault (S.form (words_of account.old.head.words))) }
     ensures same_writer { IsSameWriter account.old.output account.new.output }
@@ -56,6 +58,7 @@ fn finish<A: Allocator, W: Write, S: Style>(
         &account.head,
         sessions,
         account.summary,
+        cut,
         &mut account.output,
     ) {
         Ok(answer) => answer,
@@ -88,6 +91,31 @@ fn is_last(found: LineEnd) -> bool
     }
 }
 
+/// Returns whether this line is cut: the last of the log, without a line feed and without an allowed form, in a style
+/// that reads it.
+fn is_cut<A: Allocator, S: Style>(
+    found: LineEnd,
+    line: &[u8],
+    version: Version,
+    sessions: &Vec<Session<A>, A>,
+    bytes: &mut [u8; MOST],
+    style: &S,
+) -> bool
+    requires some { 1 ≤ length sessions.now.items }
+    requires few { length sessions.now.items ≤ most_sessions }
+    ensures cut { result ≡ true → (is_last_line found ≡ true)
+        × (event_in version (length sessions.now.items) line.now ≡ None)
+        × ((words : List Word) → (S.form words).cuts ≡ true) }
+    ensures whole { result ≡ false → is_last_line found ≡ true →
+        event_in version (length sessions.now.items) line.now ≡ None → (words : List Word) → (S.form words).cuts ≡ false }
+{
+    if !is_last(found) || !style.reads_cut() {
+        return false;
+    }
+    let count = sessions.len() as u16;
+    read_reported(version, line, count, bytes).is_none()
+}
+
 /// Judges the lines after the `lines` lines of the head, up to the end of the log or its first fault.
 fn play<A: Allocator, R: LogReader, W: Write, S: Style>(
     sessions: &mut Vec<Session<A>, A>,
@@ -113,16 +141,27 @@ fn play<A: Allocator, R: LogReader, W: Write, S: Style>(
     'lines: loop {
         let found = find_line(input, count, &mut account.output)?;
         if is_end(found) {
-            return finish(sessions, account);
+            return finish(sessions, None, account);
         }
         count += 1;
         let origin = LineContext {
             version: account.head.version,
             line: count,
         };
-        judge_line(sessions, input.line(found), origin, &mut bytes, account)?;
+        let line = input.line(found);
+        if is_cut(
+            found,
+            line,
+            origin.version,
+            sessions,
+            &mut bytes,
+            account.style,
+        ) {
+            return finish(sessions, Some(count), account);
+        }
+        judge_line(sessions, line, origin, &mut bytes, account)?;
         if is_last(found) {
-            return finish(sessions, account);
+            return finish(sessions, None, account);
         }
         pass_line(&mut input.block, found);
     }
@@ -152,7 +191,7 @@ fn report<A: Allocator + Copy, R: LogReader, W: Write, S: Style>(
         Err(fault) => return Err(fault),
     };
     if !opened.is_ended {
-        return finish(&sessions, account);
+        return finish(&sessions, None, account);
     }
     play(&mut sessions, opened.lines, input, account)
 }

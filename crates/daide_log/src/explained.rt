@@ -1,6 +1,6 @@
 //! The report of a log with explanations.
 
-ghost use Rattle.std.specs.Prelude.{◌≡◌, ◌*◌, ◌≤◌, ℕ, ◌++◌, ◌%◌, false, All, List, Option, drop, length, IfOk, IfSome, OnOk};
+ghost use Rattle.std.specs.Prelude.{◌≡◌, ◌+◌, ◌*◌, ◌≤◌, ℕ, ◌++◌, ◌%◌, false, All, List, Option, drop, length, IfOk, IfSome, OnOk};
 ghost use Rattle.std.specs.Io.KnownBytes.{Appends};
 ghost use Rattle.daide_token.specs.Token.{tokens_of};
 ghost use Rattle.daide_token.specs.HexDigits.{digits_of_byte as digits_in};
@@ -12,6 +12,8 @@ ghost use Rattle.daide_reader.specs.Verdict.{HasVerdict, IsPlaceIn};
 ghost use Rattle.daide_log_lines.specs.Output.{IsSameWriter, all_of};
 ghost use Rattle.daide_log_lines.specs.Reader.{silent};
 ghost use Rattle.daide_log.specs.Explained.{explained, is_remark, with_line_feed, message_text, pairs, token_line, bytes_line, fault_lines};
+ghost use Rattle.daide_log.specs.Explained.{cut_count, cut_text, part_text};
+ghost use Rattle.daide_log.specs.Report.{texts_of};
 ghost use Rattle.daide_log.specs.Explained.{AreRefusedLines, AreMessageLines, is_at_fault, verdict_by as verdict_of_deed};
 ghost use Rattle.daide_log.specs.Explained.{part_of as spec_part_of, unfinished_parts, parts_from, session_number as number_of};
 ghost use Rattle.daide_log.specs.Explaining.{part_by, part_with, HasPut};
@@ -27,7 +29,9 @@ ghost use Rattle.daide_log.specs.Lawful.{explained_lawful};
 
 use crate::check::report_whole;
 use crate::heading::{Preamble, Version};
-use crate::page::{Unreported, put_byte, put_indented, put_message, put_part, put_text};
+use crate::page::{
+    Unreported, put_byte, put_cut_line, put_indented, put_message, put_part, put_text,
+};
 use crate::report::Part;
 use crate::report_builder::ReportBuilder;
 use crate::style::Style;
@@ -55,8 +59,10 @@ use std::io::{Read, Write};
 pub struct Explained {
     /// The counts of the moves, as in the last line of the report.
     pub counts: Summary,
-    /// The number of incomplete frames that the report lists.
+    /// The number of incomplete frames that the report lists, and one more if the last line is cut.
     pub unfinished: u32,
+    /// The number of the last line, if it is cut: it has no line feed, and is no line of a log.
+    pub cut: Option<u32>,
 }
 
 /// The style of a report with explanations. One text is allocated for all of them, and cleared before each.
@@ -400,6 +406,7 @@ fn put_parts<A: Allocator, W: Write>(
     requires idle { All IsIdle sessions.now }
     ensures text { IfOk result (λ count. HasPut (parts_from version 1 (states_of sessions.now)) count
         (all_of W.contents output.old) (all_of W.contents output.new)) }
+    ensures few { IfOk result (λ count. count ≤ 2 * most_sessions + 2) }
     ensures same_writer { IsSameWriter output.old output.new }
 {
     let mut count = 0;
@@ -411,6 +418,40 @@ fn put_parts<A: Allocator, W: Write>(
         rest = more;
     }
     Ok(count)
+}
+
+/// Writes the line for a cut last line of the log, if it is cut. Returns how many lines were written.
+fn put_cut<W: Write>(cut: Option<u32>, output: &mut Output<'_, W>) -> Result<u32, Unreported>
+    ensures text { IfOk result (λ count. (count ≡ cut_count cut)
+        × Appends (all_of W.contents output.old) (all_of W.contents output.new) (cut_text cut)) }
+    ensures few { IfOk result (λ count. count ≤ 1) }
+    ensures same_writer { IsSameWriter output.old output.new }
+{
+    let Some(number) = cut else {
+        return Ok(0);
+    };
+    put_cut_line(number, output)?;
+    Ok(1)
+}
+
+/// Writes the line for a cut last line of the log, and the lines for all incomplete frames. Returns their number.
+fn put_rest<A: Allocator, W: Write>(
+    cut: Option<u32>,
+    version: Version,
+    sessions: &[Session<A>],
+    output: &mut Output<'_, W>,
+) -> Result<u32, Unreported>
+    requires few { length sessions.now ≤ most_sessions }
+    requires idle { All IsIdle sessions.now }
+    ensures text { IfOk result (λ count.
+        (count ≡ cut_count cut + length (parts_from version 1 (states_of sessions.now)))
+        × Appends (all_of W.contents output.old) (all_of W.contents output.new)
+        (cut_text cut ++ texts_of part_text (parts_from version 1 (states_of sessions.now)))) }
+    ensures same_writer { IsSameWriter output.old output.new }
+{
+    let cut_lines = put_cut(cut, output)?;
+    let parts = put_parts(version, sessions, output)?;
+    Ok(cut_lines + parts)
 }
 
 /// Returns whether a line of the log is a comment.
@@ -465,17 +506,23 @@ impl<B: Allocator + Copy> Style for Explaining<B> {
         Ok(())
     }
 
+    fn reads_cut(&self) -> bool {
+        true
+    }
+
     fn close<A: Allocator, W: Write>(
         &mut self,
         head: &Preamble,
         sessions: &[Session<A>],
         summary: Summary,
+        cut: Option<u32>,
         output: &mut Output<'_, W>,
     ) -> Result<Explained, Unreported> {
-        let unfinished = put_parts(head.version, sessions, output)?;
+        let unfinished = put_rest(cut, head.version, sessions, output)?;
         Ok(Explained {
             counts: summary,
             unfinished,
+            cut,
         })
     }
 
@@ -528,8 +575,10 @@ pub fn explain_stream<A: Allocator + Copy, R: LogReader, W: Write>(
 
 /// Reads a log and writes its report with explanations.
 ///
-/// The faults are those of `check_log`, in their order. But `Memory` may also come while the lines are judged, when a
-/// growth of a text is refused. It judges at the log's own depth limit.
+/// The faults are those of `check_log`, in their order, but for two. `Memory` may also come while the lines are judged,
+/// when a growth of a text is refused. And a last line after the head, without a line feed and without an allowed form,
+/// is no fault: it is cut, as the record of a process that was killed may be. The report is that of the lines before
+/// it, with a line for it (`IsReportBy`: `cut`). It judges at the log's own depth limit.
 ///
 /// Not said: how much of the report was written after `Memory` and `Write`.
 pub fn explain_log<A: Allocator + Copy, R: Read, W: Write>(

@@ -71,7 +71,7 @@ pub fn judge<A: Allocator, W: Write, S: Style>(
 }
 
 /// Parses an event line. In version 1 its session is the only one.
-fn read_reported(
+pub(crate) fn read_reported(
     version: Version,
     line: &[u8],
     sessions: u16,

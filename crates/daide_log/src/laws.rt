@@ -8,6 +8,7 @@ ghost use Rattle.daide_log.specs.Log.{IsReport, plain};
 ghost use Rattle.daide_log.specs.Progress.{HasFault, IsInTime};
 ghost use Rattle.daide_log.specs.RecordLaw.{RecordsAreReported, PortsAreRecorded};
 ghost use Rattle.daide_log.specs.Recording.{HasFailed};
+ghost use Rattle.daide_log.specs.TimedLaw.{TimedRecordsAreReported, TimedPortsAreRecorded};
 
 use crate::sink::Sink;
 use daide_io::ports::Ports;
@@ -59,4 +60,25 @@ pub fn records_are_reported()
 /// Not said: what a writer that failed has, nor that a block that was handed over reached a disk.
 pub fn ports_are_recorded<P: Ports, W: Sink>()
     ensures { PortsAreRecorded P.transition (HasFailed W.Fails) }
+{}
+
+/// The report of the log that a record with times wrote is the report of its session, as without times. A comment is a
+/// line of the log that moves nothing, so the moves have the numbers of their lines (`TellsByItems`), and the counts are
+/// those of `Session::summary`, modulo 2^64 (`counts`). It holds for every list of calls and comments of at most
+/// 1,000,000 lines with the head, and so for each prefix.
+///
+/// Premise: limits that a session accepts, and accepted words with names of three letters.
+///
+/// Not said: that a time in a comment is right. It is the one that the caller gave.
+pub fn timed_records_are_reported()
+    ensures { TimedRecordsAreReported }
+{}
+
+/// Ports with a new record and times, however they were called: its text is the head and the lines of calls and
+/// comments, and the calls are a prefix of what the ports returned. They are all of it while the record is whole; or a
+/// write of its writer failed.
+///
+/// Not said: what a writer that failed has, nor that a block that was handed over reached a disk.
+pub fn timed_ports_are_recorded<P: Ports, W: Sink>()
+    ensures { TimedPortsAreRecorded P.transition (HasFailed W.Fails) }
 {}

@@ -6,12 +6,14 @@
 #![tactic(auto)]
 
 pub mod check;
+pub mod comment;
 pub mod config_line;
 mod explained;
 mod heading;
 mod judge;
 mod law_facts;
 pub mod laws;
+pub mod moment;
 mod opening;
 mod page;
 mod play;
@@ -22,11 +24,16 @@ mod report;
 mod report_builder;
 mod sink;
 mod style;
+mod timed_recording;
+mod utc;
 
 pub use check::{check_log, check_stream};
+pub use comment::Comment;
 pub use daide_log_lines::LogFault;
 pub use daide_log_lines::reader::LogReader;
 pub use explained::{Explained, explain_log, explain_stream};
+pub use moment::Moment;
 pub use record::{Record, RecordEnd, RecordedEvent};
 pub use recording::{Activity, Recording};
 pub use sink::Sink;
+pub use timed_recording::TimedRecording;

@@ -9,9 +9,9 @@ ghost use Rattle.daide_token.specs.declared.text.PrinterState.TheVariants.{Start
 ghost use Rattle.daide_words.specs.Word.{names_of};
 ghost use Rattle.daide_words.specs.Words.{words_of};
 ghost use Rattle.daide_log.specs.Explained.{indented, indented_byte, with_line_feed, message_text};
-ghost use Rattle.daide_log.specs.Report.{line_room, move_line, part_line, summary_line};
+ghost use Rattle.daide_log.specs.Report.{line_room, move_line, part_line, cut_line, summary_line};
 
-use crate::report::{LINE, Part, ReportKey, last_line, put, write_move, write_part};
+use crate::report::{LINE, Part, ReportKey, last_line, put, write_cut, write_move, write_part};
 use daide_frame::Side;
 use daide_log_lines::output::Output;
 use daide_protocol::{Note, Summary};
@@ -242,6 +242,21 @@ pub(crate) fn put_part<W: Write>(
 {
     make_room(output)?;
     write_part(number, side, part, &mut output.page);
+    Ok(())
+}
+
+/// Appends the line for a cut last line of the log to the page.
+pub(crate) fn put_cut_line<W: Write>(
+    number: u32,
+    output: &mut Output<'_, W>,
+) -> Result<(), Unreported>
+    ensures text { OnOk result (Appends (all_of W.contents output.old) (all_of W.contents output.new)
+        (cut_line number)) }
+    ensures refused { IfErr result (λ fault. fault ≡ Unreported.Write) }
+    ensures same_writer { IsSameWriter output.old output.new }
+{
+    make_room(output)?;
+    write_cut(number, &mut output.page);
     Ok(())
 }
 

@@ -8,8 +8,10 @@ ghost use Rattle.std.specs.Io.KnownBytes.{Keeps, append_known};
 ghost use Rattle.daide_words.specs.Words.{words_of};
 ghost use Rattle.daide_log_lines.specs.LogLine.{LogEvent, most_lines};
 ghost use Rattle.daide_log.specs.RecordText.{head_text, head_count};
-ghost use Rattle.daide_log.specs.Recording.{RecordsEvent, KeepsText, HasFailed, FitsLine, line_event, most_held};
+ghost use Rattle.daide_log.specs.RecordItem.{comment_line};
+ghost use Rattle.daide_log.specs.Recording.{RecordsEvent, GetsText, KeepsText, HasFailed, FitsLine, line_event, most_held};
 
+use crate::comment::{Comment, put_comment};
 use crate::record_text::{put_event, put_head};
 use crate::sink::Sink;
 use daide_frame::Side;
@@ -37,7 +39,7 @@ pub enum RecordedEvent<'a> {
 
 impl RecordedEvent<'_> {
     /// Returns whether the event has no line.
-    fn is_silent(self) -> bool
+    pub(crate) fn is_silent(self) -> bool
         ensures silent { result ≡ true → line_event self.entry ≡ None }
         ensures lined { result ≡ false → (event : LogEvent) × (line_event self.entry ≡ Some event) }
     {
@@ -183,6 +185,20 @@ impl<W: Sink + Drop> Record<W> {
         self.ending = make_room(&mut self.held, self.lines, &mut self.writer);
         if self.ending == RecordEnd::Whole {
             put_event(event, &mut self.held);
+            self.lines += 1;
+        }
+    }
+
+    /// Records a comment, as a line of its own.
+    pub fn comment(&mut self, comment: Comment<'_>)
+        ensures { GetsText (HasFailed W.Fails) self.old.ending self.old (comment_line comment.entry) self.new }
+    {
+        if self.ending != RecordEnd::Whole {
+            return;
+        }
+        self.ending = make_room(&mut self.held, self.lines, &mut self.writer);
+        if self.ending == RecordEnd::Whole {
+            put_comment(comment, &mut self.held);
             self.lines += 1;
         }
     }

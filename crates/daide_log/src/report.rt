@@ -4,7 +4,7 @@ ghost use Rattle.std.specs.Prelude.{◌≡◌, ◌<◌, ◌≤◌, ◌+◌, ◌%
 ghost use Rattle.std.specs.Fmt.{decimal};
 ghost use Rattle.daide_log_lines.specs.Output.{page_size};
 ghost use Rattle.daide_log.specs.Report.{line_room, name_of_side, move_text, source_text, reported_text, move_line};
-ghost use Rattle.daide_log.specs.Report.{summary_line as last_line, session_text, size_text, part_line};
+ghost use Rattle.daide_log.specs.Report.{summary_line as last_line, session_text, size_text, part_line, cut_line};
 
 use arrayvec::ArrayString;
 use daide_frame::{Code, Head, Side};
@@ -280,6 +280,17 @@ pub(crate) fn write_part(number: Option<u16>, side: Side, part: Part, line: &mut
     put_owner(side, line);
     put_size(part.came, part.size, line);
     line.push(b'\n');
+}
+
+/// Appends the line for a cut last line of the log, with four spaces before it.
+#[tactic(auto, unfolding(crate::specs::Report::cut_line))]
+pub(crate) fn write_cut(number: u32, line: &mut Page)
+    requires { length line.old.items + line_room ≤ page_size }
+    ensures { line.new.items ≡ line.old.items ++ cut_line number }
+{
+    put(b"    line ", line);
+    put_number(number as u64, line);
+    put(b" is cut\n", line);
 }
 
 /// The greatest length of the last line of a report.

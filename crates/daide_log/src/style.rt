@@ -61,20 +61,25 @@ pub trait Style {
         ensures refused { IfErr result (IsCauseIn (form (words_of head.now.words))) }
         ensures same_writer { IsSameWriter output.old output.new };
 
-    /// Writes what precedes the counts, and returns the result.
+    /// Returns whether a last line that is cut is no fault.
+    fn reads_cut(&self) -> bool
+        ensures { (words : List Word) → (form words).cuts ≡ result };
+
+    /// Writes what precedes the counts, and returns the result. `cut` is the number of the last line if it is cut.
     fn close<A: Allocator, W: Write>(
         &mut self,
         head: &Preamble,
         sessions: &[Session<A>],
         summary: Summary,
+        cut: Option<u32>,
         output: &mut Output<'_, W>,
     ) -> Result<Self::Answer, Unreported>
         requires few { length sessions.now ≤ most_sessions }
         requires ready { All (IsReady head.now.limits.config (words_of head.now.words)) sessions.now }
         ensures text { IfOk result (λ answer.
-            (answer ≡ (form (words_of head.now.words)).answer summary head.now.version (states_of sessions.now))
+            (answer ≡ (form (words_of head.now.words)).answer summary cut head.now.version (states_of sessions.now))
             × Appends (all_of W.contents output.old) (all_of W.contents output.new)
-            ((form (words_of head.now.words)).closing head.now.version (states_of sessions.now))) }
+            ((form (words_of head.now.words)).closing cut head.now.version (states_of sessions.now))) }
         ensures refused { IfErr result (IsCauseIn (form (words_of head.now.words))) }
         ensures same_writer { IsSameWriter output.old output.new };
 
@@ -113,11 +118,17 @@ impl Style for PlainStyle {
     }
 
     #[inline(always)]
+    fn reads_cut(&self) -> bool {
+        false
+    }
+
+    #[inline(always)]
     fn close<A: Allocator, W: Write>(
         &mut self,
         _head: &Preamble,
         _sessions: &[Session<A>],
         summary: Summary,
+        _cut: Option<u32>,
         _output: &mut Output<'_, W>,
     ) -> Result<Summary, Unreported> {
         Ok(summary)

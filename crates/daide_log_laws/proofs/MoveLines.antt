@@ -20,7 +20,7 @@ use Rattle.daide_protocol.specs.declared.note.Note.TheVariants.{Nothing, Frame, 
 use Rattle.daide_protocol.specs.declared.summary.Summary.{Summary}
 use Rattle.daide_log.specs.declared.report.ReportKey.{ReportKey}
 use Rattle.daide_log.specs.Report.{name_of_side, deed_text, move_text, session_text, source_text, reported_text, move_line}
-use Rattle.daide_log.specs.Report.{size_text, part_line, summary_line}
+use Rattle.daide_log.specs.Report.{size_text, part_line, cut_line, summary_line}
 use Rattle.daide_log.proofs.RecordLines.{is_plain, both_all, plain_unbroken}
 use Rattle.daide_log_laws.specs.Added.{without_added, is_added_line}
 use Rattle.daide_log_laws.proofs.TextLines.{kept_line, added_line, digit_stays}
@@ -182,6 +182,16 @@ part_goes session side came size tail =
     let plain : IsPlain front =
     both c (size_text came size)
     (both b (codes ": ") (both a (name_of_side side) (session_plain session) (side_plain side)) refl) (size_plain came size) in
+    ap without_added (append_assoc front (10 ∷ []) tail) ∙ added_line front tail (plain_unbroken front plain) refl
+
+-- ---- a cut line
+
+pub cut_goes : (number : ℕ) (tail : List ℕ) → without_added (cut_line number ++ tail) ≡ without_added tail
+unfolding cut_line
+cut_goes number tail =
+    let a = codes "    line " ++ decimal number in
+    let front = a ++ codes " is cut" in
+    let plain : IsPlain front = both a (codes " is cut") (both (codes "    line ") (decimal number) refl (decimal_plain number)) refl in
     ap without_added (append_assoc front (10 ∷ []) tail) ∙ added_line front tail (plain_unbroken front plain) refl
 
 -- ---- the last line

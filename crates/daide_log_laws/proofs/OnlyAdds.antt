@@ -1,6 +1,6 @@
 -- The plain report of a log is its report with explanations, without the lines that this adds.
 use Rattle.std.proofs.Common.{◌≡◌, ℕ, zero, suc, ◌+◌, ◌-◌, ◌⊎◌, inl, inr, cond, eqb, Bool, true, false}
-use Rattle.std.proofs.Common.{List, [], ◌∷◌, ◌++◌, length, take, drop, Result, Ok, Err, refl, sym, ap, ◌∙◌}
+use Rattle.std.proofs.Common.{List, [], ◌∷◌, ◌++◌, length, take, drop, Option, Some, None, Result, Ok, Err, refl, sym, ap, ◌∙◌}
 use Rattle.std.proofs.Common.{subst, append_assoc, append-nil}
 use Rattle.std.specs.List.{AllByRecursion}
 use Rattle.std.specs.Str.{bytes_eq}
@@ -24,13 +24,14 @@ use Rattle.daide_log.specs.Log.{LogState, Opening, Playing, AdvancesByLine, Goes
 use Rattle.daide_log.specs.Log.{ReportsAll, ReportsAllBy}
 use Rattle.daide_log.specs.Log.{IsReport, IsReportBy, plain, source_in}
 use Rattle.daide_log.specs.Explained.{ExplainedEntry, Moved, Remark, shown_text, shown_counted, AreShown, AreShownBy, explained}
-use Rattle.daide_log.specs.Explained.{indented, is_remark, remarks, Part, part_text, parts_from}
+use Rattle.daide_log.specs.Explained.{indented, is_remark, remarks, Part, part_text, parts_from, cut_text}
 use Rattle.daide_log.specs.Lawful.{entries_of-append}
-use Rattle.daide_log_laws.specs.Added.{without_added, is_added_line, counts_of, ExplanationOnlyAdds, PlainAddsNothing}
+use Rattle.daide_log.proofs.SomeReport.{plain_uncut}
+use Rattle.daide_log_laws.specs.Added.{without_added, is_added_line, counts_of, cut_in, IsUpToCut, ExplanationOnlyAdds, PlainAddsNothing}
 use Rattle.daide_log_laws.proofs.TextLines.{added_line}
 use Rattle.daide_log_laws.proofs.AddedLines.{IsWhole, indented_goes}
 use Rattle.daide_log_laws.proofs.ShownParts.{lines_whole}
-use Rattle.daide_log_laws.proofs.MoveLines.{move_stays, part_goes, summary_stays}
+use Rattle.daide_log_laws.proofs.MoveLines.{move_stays, part_goes, cut_goes, summary_stays}
 
 -- ---- entries
 
@@ -240,47 +241,101 @@ module _ (words : List Word) where
   refused log shown answer h report =
       subst (λ (text : List ℕ). IsReport log text answer) (sym (shown_alone shown h)) report
 
-  whole_text : (shown : List ExplainedEntry) (closing : List Part) → AreAdding shown →
+  cut_text_goes : (cut : Option ℕ) (tail : List ℕ) → without_added (cut_text cut ++ tail) ≡ without_added tail
+  cut_text_goes None tail = refl
+  cut_text_goes (Some number) tail = cut_goes number tail
+
+  whole_text : (cut : Option ℕ) (shown : List ExplainedEntry) (closing : List Part) → AreAdding shown →
       without_added (texts_of shown_text shown
-      ++ (texts_of part_text closing ++ summary_line (counted_over shown_counted shown nothing_counted)))
+      ++ ((cut_text cut ++ texts_of part_text closing) ++ summary_line (counted_over shown_counted shown nothing_counted)))
       ≡ lines_of (moves_in shown) ++ ([] ++ summary_line (counted_all (moves_in shown) nothing_counted))
-  whole_text shown closing h =
+  whole_text cut shown closing h =
       let last = summary_line (counted_over shown_counted shown nothing_counted) in
-      shown_goes shown (texts_of part_text closing ++ last) h
+      shown_goes shown ((cut_text cut ++ texts_of part_text closing) ++ last) h
       ∙ ap (λ (l : List ℕ). lines_of (moves_in shown) ++ l)
-      (parts_go closing last ∙ summary_stays (counted_over shown_counted shown nothing_counted)
+      (ap without_added (append_assoc (cut_text cut) (texts_of part_text closing) last)
+      ∙ cut_text_goes cut (texts_of part_text closing ++ last)
+      ∙ parts_go closing last ∙ summary_stays (counted_over shown_counted shown nothing_counted)
       ∙ ap summary_line (same_counts shown nothing_counted))
 
-  only_adds : (log text : List ℕ) (answer : Result Explained LogFault) → IsReportBy (explained words) log text answer →
-      IsReport log (without_added text) (counts_of answer)
-  only_adds log text answer (IsReportBy.whole bytes number shown version sessions all) =
-      let ahead = all_reported bytes number shown (Playing version sessions) all in
+  -- the plain report of whole lines has the counts of the entries
+  lines_adds : (cut : Option ℕ) (log : List ℕ) (number : ℕ) (shown : List ExplainedEntry) (version : Version)
+      (sessions : List SessionState) (closing : List Part) →
+      ReportsAll log number (moves_in shown) (Playing version sessions) × AreAdding shown →
+      IsReport log (without_added (texts_of shown_text shown
+      ++ ((cut_text cut ++ texts_of part_text closing) ++ summary_line (counted_over shown_counted shown nothing_counted))))
+      (Ok (counted_over shown_counted shown nothing_counted))
+  lines_adds cut log number shown version sessions closing ahead =
       let counts = counted_all (moves_in shown) nothing_counted in
-      subst (λ (t : List ℕ). IsReport bytes t (Ok (counted_over shown_counted shown nothing_counted)))
-      (sym (whole_text shown (parts_from version 1 sessions) ahead.1))
-      (subst (λ (s : Summary). IsReport bytes (lines_of (moves_in shown) ++ ([] ++ summary_line counts)) (Ok s))
+      subst (λ (t : List ℕ). IsReport log t (Ok (counted_over shown_counted shown nothing_counted)))
+      (sym (whole_text cut shown closing ahead.1))
+      (subst (λ (s : Summary). IsReport log (lines_of (moves_in shown) ++ ([] ++ summary_line counts)) (Ok s))
       (sym (same_counts shown nothing_counted))
-      (IsReportBy.whole bytes number (moves_in shown) version sessions ahead.0))
+      (IsReportBy.whole log number (moves_in shown) version sessions ahead.0))
+
+  -- lines after a head end with a line feed
+  fed : (bytes : List ℕ) (number : ℕ) (shown : List ExplainedEntry) (stage : LogState) (version : Version)
+      (sessions : List SessionState) → ReportsBy (explained words) bytes number shown stage → stage ≡ Playing version sessions →
+      (lines : List ℕ) × (bytes ≡ lines ++ 10 ∷ [])
+  fed _ _ _ _ version sessions ReportsBy.none e = absurd (cc)
+  fed _ _ _ _ version sessions (ReportsBy.line before count first old reports line more new few whole short on) e =
+      (before ++ line, refl)
+
+  abbrev OnlyAddsTo : List ℕ → List ℕ → Result Explained LogFault → Type 0
+  OnlyAddsTo log text answer =
+      (judged : List ℕ) × IsUpToCut (cut_in answer) log judged × IsReport judged (without_added text) (counts_of answer)
+
+  only_adds : (log text : List ℕ) (answer : Result Explained LogFault) → IsReportBy (explained words) log text answer →
+      OnlyAddsTo log text answer
+  only_adds log text answer (IsReportBy.whole bytes number shown version sessions all) = (
+    bytes,
+    refl,
+    lines_adds None bytes number shown version sessions (parts_from version 1 sessions)
+        (all_reported bytes number shown (Playing version sessions) all),
+  )
+  only_adds log text answer (IsReportBy.cut bytes number shown version sessions reports line few some whole short bad cuts) =
+      let ahead = lines_reported bytes number shown (Playing version sessions) reports in
+      let front = fed bytes number shown (Playing version sessions) version sessions reports refl in (
+        bytes,
+        (front.0, line, front.1, refl, whole, some),
+        lines_adds (Some (number + 1)) bytes number shown version sessions (parts_from version 1 sessions)
+            (ReportsAllBy.ended bytes number (moves_in shown) (Playing version sessions) ahead.0, ahead.1),
+      )
   only_adds log text answer (IsReportBy.cut_short bytes number shown stage all opening) =
-      let ahead = all_reported bytes number shown stage all in
-      refused bytes shown (Err (BadLine (number + 1))) ahead.1
-      (IsReportBy.cut_short bytes number (moves_in shown) stage ahead.0 opening)
+      let ahead = all_reported bytes number shown stage all in (
+        bytes,
+        refl,
+        refused bytes shown (Err (BadLine (number + 1))) ahead.1
+            (IsReportBy.cut_short bytes number (moves_in shown) stage ahead.0 opening),
+      )
   only_adds log text answer (IsReportBy.bad bytes number shown stage reports line after few whole short bad) =
-      let ahead = lines_reported bytes number shown stage reports in
-      refused (bytes ++ line ++ 10 ∷ after) shown (Err (BadLine (number + 1))) ahead.1
-      (IsReportBy.bad bytes number (moves_in shown) stage ahead.0 line after few whole short bad)
-  only_adds log text answer (IsReportBy.bad_last bytes number shown stage reports line few some whole short bad) =
-      let ahead = lines_reported bytes number shown stage reports in
-      refused (bytes ++ line) shown (Err (BadLine (number + 1))) ahead.1
-      (IsReportBy.bad_last bytes number (moves_in shown) stage ahead.0 line few some whole short bad)
+      let ahead = lines_reported bytes number shown stage reports in (
+        bytes ++ line ++ 10 ∷ after,
+        refl,
+        refused (bytes ++ line ++ 10 ∷ after) shown (Err (BadLine (number + 1))) ahead.1
+            (IsReportBy.bad bytes number (moves_in shown) stage ahead.0 line after few whole short bad),
+      )
+  only_adds log text answer (IsReportBy.bad_last bytes number shown stage reports line few some whole short bad uncut) =
+      let ahead = lines_reported bytes number shown stage reports in (
+        bytes ++ line,
+        refl,
+        refused (bytes ++ line) shown (Err (BadLine (number + 1))) ahead.1
+            (IsReportBy.bad_last bytes number (moves_in shown) stage ahead.0 line few some whole short bad (plain_uncut stage)),
+      )
   only_adds log text answer (IsReportBy.too_long bytes number shown stage reports line after few whole long) =
-      let ahead = lines_reported bytes number shown stage reports in
-      refused (bytes ++ line ++ after) shown (Err (LineTooLong (number + 1))) ahead.1
-      (IsReportBy.too_long bytes number (moves_in shown) stage ahead.0 line after few whole long)
+      let ahead = lines_reported bytes number shown stage reports in (
+        bytes ++ line ++ after,
+        refl,
+        refused (bytes ++ line ++ after) shown (Err (LineTooLong (number + 1))) ahead.1
+            (IsReportBy.too_long bytes number (moves_in shown) stage ahead.0 line after few whole long),
+      )
   only_adds log text answer (IsReportBy.too_many bytes shown stage reports after some) =
-      let ahead = lines_reported bytes 1000000 shown stage reports in
-      refused (bytes ++ after) shown (Err TooManyLines) ahead.1
-      (IsReportBy.too_many bytes (moves_in shown) stage ahead.0 after some)
+      let ahead = lines_reported bytes 1000000 shown stage reports in (
+        bytes ++ after,
+        refl,
+        refused (bytes ++ after) shown (Err TooManyLines) ahead.1
+            (IsReportBy.too_many bytes (moves_in shown) stage ahead.0 after some),
+      )
 
 pub explanation_adds : ExplanationOnlyAdds
 explanation_adds words log text answer report = only_adds words log text answer report
@@ -308,8 +363,10 @@ plain_adds_nothing log text answer (IsReportBy.whole bytes number reported versi
 plain_adds_nothing log text answer (IsReportBy.cut_short bytes number reported stage all opening) = plain_alone reported
 plain_adds_nothing log text answer (IsReportBy.bad bytes number reported stage reports line after few whole short bad) =
     plain_alone reported
-plain_adds_nothing log text answer (IsReportBy.bad_last bytes number reported stage reports line few some whole short bad) =
+plain_adds_nothing log text answer (IsReportBy.bad_last bytes number reported stage reports line few some whole short bad uncut) =
     plain_alone reported
+plain_adds_nothing log text answer (IsReportBy.cut bytes number reported version sessions reports line few some whole short bad cuts) =
+    absurd (cc)
 plain_adds_nothing log text answer (IsReportBy.too_long bytes number reported stage reports line after few whole long) =
     plain_alone reported
 plain_adds_nothing log text answer (IsReportBy.too_many bytes reported stage reports after some) = plain_alone reported

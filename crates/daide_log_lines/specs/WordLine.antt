@@ -6,8 +6,6 @@ use Rattle.hex.specs.declared.error.FromHexError.{FromHexError}
 use Rattle.daide_token.specs.Token.{token_of_bytes}
 use Rattle.daide_grammar.specs.declared.level.Level.{Level}
 use Rattle.daide_grammar.specs.Level.{level_of_number}
-use Rattle.daide_words.specs.declared.slot.Slot.{Slot}
-use Rattle.daide_words.specs.declared.operand.Operand.{Operand}
 use Rattle.daide_words.specs.declared.word.Word.{Word}
 use Rattle.daide_words.specs.WordNames.{slot_named, operand_named, word_of_parts}
 use Rattle.daide_log_lines.specs.LogLine.{Parted, strip_prefix, plain_number, parted_at_space}

@@ -15,7 +15,7 @@ use Rattle.daide_protocol.specs.declared.phase.SessionPhase.{SessionPhase}
 use Rattle.daide_protocol.specs.declared.phase.SessionPhase.TheVariants.{WaitIm, WaitRm, Open, Over}
 use Rattle.daide_protocol.specs.Events.{Event, Comes, Ends, Loses, ImTimerExpired}
 use Rattle.daide_protocol.specs.Machine.{SessionState, Effect, Successor, Transition, Runs, coming, with_pending, with_noted}
-use Rattle.daide_protocol.specs.Machine.{is_over, level_in, ending_in, phase_after, header_outcome, untimely, frame_outcome, answered, im_answered, items_outcome, im_timer_expired}
+use Rattle.daide_protocol.specs.Machine.{is_over, level_in, ending_in, header_outcome, untimely, frame_outcome, answered, im_answered, items_outcome, im_timer_expired}
 use Rattle.daide_protocol.specs.Machine.{event_outcome}
 use Rattle.daide_protocol.specs.Fates.{EventCause, checked_frame, frame_cause, fault_or, items_cause, timeout_in}
 use Rattle.daide_protocol.specs.Ended.{cause_ending, ending_at, IsEndedBy}

@@ -1,9 +1,10 @@
 -- The space that a session holds, and its bound.
-use Rattle.std.specs.Prelude.{◌≡◌, ℕ, ◌+◌, ◌*◌, ◌≤◌, false, min, List, [], length, drop, if◌then◌else◌}
+use Rattle.std.specs.Prelude.{◌≡◌, ℕ, ◌+◌, ◌≤◌, false, min, List, [], length, drop, if◌then◌else◌}
 use Rattle.daide_token.specs.Token.{tokens_of}
 use Rattle.daide_frame.specs.declared.side.Side.{Side}
 use Rattle.daide_frame.specs.Frames.{announced, head_in}
 use Rattle.daide_grammar.specs.Depth.{open_brackets}
+use Rattle.daide_grammar.specs.Bounds.{entries_bound, message_steps}
 use Rattle.daide_protocol.specs.Machine.{coming}
 use Rattle.daide_protocol.specs.Wires.{SessionView, Holding, holding, queued, is_awaited, is_dm_head}
 
@@ -17,24 +18,29 @@ weight_of g =
 abbrev pub tokens_held : ℕ → List ℕ → List ℕ
 tokens_held cap held = if is_dm_head (head_in cap held) then tokens_of (drop 4 held) else []
 
--- one direction: the announced length of the held frame, capped; eight entries for each open bracket; and sixteen
-abbrev pub direction_bound : ℕ → List ℕ → ℕ
-direction_bound cap held = min (announced cap held) cap + 8 * open_brackets (tokens_held cap held) + 16
+-- the bound of the frames queued for both wires
+abbrev pub queue_bound : ℕ
+queue_bound = 64
 
--- both directions, and 64
+-- one direction: the announced length of the held frame, capped, and the stack entries for the open brackets
+abbrev pub direction_bound : ℕ → List ℕ → ℕ
+direction_bound cap held = min (announced cap held) cap + entries_bound (open_brackets (tokens_held cap held))
+
+-- both directions, and the queued frames
 unfoldable pub weight_bound : SessionView → ℕ
 weight_bound g =
-    direction_bound g.state.limits.cap g.sides.bot.held + direction_bound g.state.limits.cap g.sides.server.held + 64
+    direction_bound g.state.limits.cap g.sides.bot.held + direction_bound g.state.limits.cap g.sides.server.held
+    + queue_bound
 
 -- one direction is within these bounds: the announced length, capped, and the entries
 pub record IsKeptSmall (cap : ℕ) (h : Holding) : Type 0 where
   pub bytes : length (drop 4 h.held) ≤ min (announced cap h.held) cap
-  pub entries : h.entries ≤ 8 * open_brackets (tokens_held cap h.held) + 16
+  pub entries : h.entries ≤ entries_bound (open_brackets (tokens_held cap h.held))
 
--- the bound of the look-ups for a side's message: four for each token, and four at its end
+-- the bound of the look-ups for a side's message
 abbrev pub steps_bound : SessionView → Side → ℕ
 steps_bound g side =
-    4 * length (tokens_held g.state.limits.cap (holding g side).held) + (if is_awaited (queued g) side then 4 else 0)
+    message_steps (length (tokens_held g.state.limits.cap (holding g side).held)) (is_awaited (queued g) side)
 
 -- if no answer to a side's last frame is queued, the held bytes are those since its last whole frame
 abbrev pub IsTied : SessionView → Type 0

@@ -1,12 +1,13 @@
 -- A session as its callers see it: its state, the send queue of each wire, and what it holds from each side; and the
 -- effect of each call on these.
-use Rattle.std.specs.Prelude.{◌≡◌, ℕ, ◌+◌, ◌-◌, ◌*◌, ◌/◌, ◌%◌, ◌^◌, ◌<◌, Bool, true, false, ◌||◌, ◌&&◌, nat_lt}
+use Rattle.std.specs.Prelude.{◌≡◌, ℕ, ◌+◌, ◌-◌, ◌/◌, ◌%◌, ◌^◌, ◌<◌, Bool, true, false, ◌||◌, ◌&&◌, nat_lt}
 use Rattle.std.specs.Prelude.{List, [], ◌∷◌, ◌++◌, length, drop, Option, Some, None, if◌then◌else◌}
 use Rattle.daide_frame.specs.declared.side.Side.{Side}
 use Rattle.daide_frame.specs.declared.side.Side.TheVariants.{Bot, Server}
 use Rattle.daide_frame.specs.declared.head.Head.{Head}
 use Rattle.daide_frame.specs.PerSide.{PerSide, at}
 use Rattle.daide_frame.specs.Frames.{fed, head_in, missing}
+use Rattle.daide_grammar.specs.Bounds.{message_steps}
 use Rattle.daide_reader.specs.Reading.{IsRaised}
 use Rattle.daide_protocol.specs.declared.note.Deed.TheVariants as Deeds
 use Rattle.daide_protocol.specs.declared.note.Note.{Note}
@@ -220,7 +221,7 @@ head_by g bytes = head_in g.state.limits.cap bytes
 -- the maximum number of look-ups for a piece: four for each token that it completes or begins, and four at a message's
 -- end
 abbrev pub asked_at_most : List ℕ → ℕ
-asked_at_most piece = 4 * (length piece / 2 + 1) + 4
+asked_at_most piece = message_steps (length piece / 2 + 1) true
 
 -- the maximum number of tokens that are examined for the level of an HLO: those that a piece may complete
 abbrev pub looked_at_most : List ℕ → ℕ

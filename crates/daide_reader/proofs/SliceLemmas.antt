@@ -1,8 +1,8 @@
 -- A reader in locals, after one more token of a body.
 use Rattle.std.proofs.Common.{◌≡◌, ◌≢◌, ℕ, zero, suc, ◌+◌, ◌-◌, ◌*◌, ◌%◌, ◌^◌, ◌≤◌, ◌<◌, Bool, true, false, List, []}
-use Rattle.std.proofs.Common.{◌∷◌, ◌++◌, length, get_or, take, Option, None, Some, IfSome, IfNone, IsSome, drop}
+use Rattle.std.proofs.Common.{◌∷◌, ◌++◌, length, take, Option, None, Some, IfSome, IfNone, IsSome, drop}
 use Rattle.std.proofs.Common.{reverse, refl, sym, ◌∙◌}
-use Rattle.std.proofs.Common.{ap, subst, arith, ◌⊎◌, inr, append_assoc, append-nil, add-zero}
+use Rattle.std.proofs.Common.{ap, subst, arith, ◌⊎◌, inl, inr, not, append_assoc, append-nil, add-zero}
 use Rattle.std.proofs.lemmas.List.{length-append, length-drop, take_all}
 use Rattle.std.proofs.Math.Seq.{drop-length, take-length}
 use Rattle.daide_token.specs.Token.{token_bytes, tokens_of}
@@ -328,3 +328,21 @@ pub refused_by : (why : Type 0) (moves : Sym → Class → TableEntry) (told cla
     → IfNone left (why ⊎ (stack_after moves class stack ≡ None))
 refused_by why moves told class stack None same h = inr (ap (λ (k : Class). stack_after moves k stack) (sym same) ∙ h)
 refused_by why moves told class stack (Some n) same h = tt
+
+-- ---- a token at the depth limit, where no bracket may be opened
+
+pub bra_of : (fits bra : Bool) → fits ≡ not bra → fits ≡ false → bra ≡ true
+bra_of fits true same refused = refl
+bra_of fits false same refused = let both : true ≡ false = sym same ∙ refused in absurd cc
+
+pub no_bra_of : (fits bra : Bool) → fits ≡ not bra → fits ≡ true → bra ≡ false
+no_bra_of fits false same taken = refl
+no_bra_of fits true same taken = let both : false ≡ true = sym same ∙ taken in absurd cc
+
+pub never_opens : (bra : Bool) (opened limit : ℕ) → bra ≡ false → bra ≡ true → opened ≢ limit
+never_opens bra opened limit other opens = let both : false ≡ true = sym other ∙ opens in absurd cc
+
+pub opens_too_many : (bra : Bool) (opened limit : ℕ) (stopped : Type 0) → opened ≡ limit → (bra ≡ true) ⊎ stopped →
+    ((bra ≡ true) × (opened ≡ limit)) ⊎ stopped
+opens_too_many bra opened limit stopped same (inl opens) = inl (opens, same)
+opens_too_many bra opened limit stopped same (inr stops) = inr stops

@@ -1,5 +1,5 @@
 -- The abstract value of a reader, and its relation to the tokens since `start`. (own)
-use Rattle.std.specs.Prelude.{◌≡◌, ℕ, ◌+◌, ◌-◌, ◌*◌, ◌%◌, ◌^◌, ◌≤◌, ◌<◌, List, [], ◌++◌, take, length, Bool, false}
+use Rattle.std.specs.Prelude.{◌≡◌, ℕ, ◌+◌, ◌-◌, ◌%◌, ◌^◌, ◌≤◌, ◌<◌, List, [], ◌++◌, take, length, Bool, false}
 use Rattle.std.specs.Prelude.{true, Option, None, Some, MatchOption, IsSome, IfSome, ◌↔◌, ◌⊎◌, if◌then◌else◌}
 use Rattle.std.specs.Option.{unwrap_or}
 use Rattle.daide_grammar.specs.declared.symbol.Sym.{Sym}
@@ -8,6 +8,7 @@ use Rattle.daide_grammar.specs.Words.{Words}
 use Rattle.daide_grammar.specs.Table.Stacks.{StackMatches}
 use Rattle.daide_grammar.specs.Paired.{begins_with_prn}
 use Rattle.daide_grammar.specs.Depth.{depth_of}
+use Rattle.daide_grammar.specs.Bounds.{entries_bound, message_steps}
 use Rattle.daide_reader.specs.Bounds.{most_symbols, most_tokens}
 use Rattle.daide_reader.specs.declared.outline.Outline.{Outline}
 use Rattle.daide_reader.specs.ViablePrefix.{IsMessageOf}
@@ -77,13 +78,13 @@ pub record HasReadPrefix {T : Type 0} (table : Ghosts T) (words : Words) (first 
   pub outline : IsOutlineOf v.outline p
   pub unclosed : v.unclosed ≡ (if begins_with_prn p then Some 0 else excess_or_none p)
   pub place : begins_with_prn p ≡ false → StackOrPlace (table.language words) first max_depth v.stack v.place p
-  pub steps : steps_since table.asked v ≤ 4 * length p + (if v.finished then 4 else 0)
+  pub steps : steps_since table.asked v ≤ message_steps (length p) v.finished
 
 -- the invariant of a reader with room for `size` symbols; `lawful` is its table's
 pub record IsSteady (lawful : List Sym → ℕ → Type 0) (size max_depth : ℕ) (stack : List Sym)
     (outline : Outline) (unclosed place : Option ℕ) : Type 0 where
   pub small : size ≤ most_symbols
-  pub at_depth_limit : 8 * max_depth + 16 ≤ size
+  pub at_depth_limit : entries_bound max_depth ≤ size
   pub counts : IfSome unclosed (λ n. n ≤ outline.tokens)
   pub tokens : outline.tokens ≤ most_tokens
   pub fresh : outline.tokens ≡ 0 → outline.is_prn ≡ false

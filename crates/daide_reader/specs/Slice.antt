@@ -6,6 +6,7 @@ use Rattle.daide_grammar.specs.declared.symbol.Sym.{Sym}
 use Rattle.daide_grammar.specs.declared.predict.Predict.{Ghosts}
 use Rattle.daide_grammar.specs.Paired.{begins_with_prn}
 use Rattle.daide_grammar.specs.Words.{Words}
+use Rattle.daide_grammar.specs.Bounds.{most_steps}
 use Rattle.daide_reader.specs.Outline.{outline_of}
 use Rattle.daide_reader.specs.Reading.{IsRaised, HasReadPrefix, reading}
 
@@ -30,7 +31,7 @@ pub record ReadsTo {T : Type 0} (table : Ghosts T) (max_depth : ℕ) (body : Lis
   pub lawful : place ≡ None
       → (n : ℕ) × (opened ≡ Some n) × (n ≤ max_depth) × table.lawful (table.words new.table) new.stack n
   pub none_left : IsSome place → new.stack ≡ []
-  pub raised : IsRaised (4 * (tokens - read)) (table.asked old.table) (table.asked new.table)
+  pub raised : IsRaised (most_steps * (tokens - read)) (table.asked old.table) (table.asked new.table)
   pub stands_after : (words : Words) (first : Sym) (depth base : ℕ) (before : List ℕ)
       → begins_with_prn (before ++ tokens_of body) ≡ false →
       HasReadPrefix table words first depth

@@ -3,7 +3,7 @@
 //! Whether a message is paired does not depend on the grammar, so brackets are counted apart from the table, in every
 //! token, also after one that no message continues.
 
-ghost use Rattle.std.specs.Prelude.{◌≡◌, ◌≢◌, ◌+◌, ◌<◌, ◌==◌, ◌↔◌, ◌||◌, IsTrue, true, false, Some, IsSome, IfSome, IfNone};
+ghost use Rattle.std.specs.Prelude.{◌≡◌, ◌+◌, ◌<◌, ◌↔◌, ◌||◌, IsTrue, not, Some};
 ghost use Rattle.daide_grammar.specs.Table.Brackets.{is_bra, is_ket, count_one};
 ghost use Rattle.daide_grammar.specs.Table.Numbers.{is_bracket};
 ghost use Rattle.daide_reader.specs.Bounds.{below_zero};
@@ -23,21 +23,19 @@ pub fn are_open(unclosed: Option<u16>, count: u16) -> bool
     unclosed == Some(count)
 }
 
-/// Counts one more token. Returns false if it opens one bracket more than the limit. The class shows that most tokens
-/// are no brackets. The count wraps at a KET with nothing open.
+/// Counts one more token, if no bracket may be opened. Returns false if the token opens one. The class shows that most
+/// tokens are no brackets. The count wraps at a KET with nothing open.
 #[inline(always)]
-pub fn recount(opened: &mut u16, token: Token, class: Column, limit: u16) -> bool
+pub fn recount(opened: &mut u16, token: Token, class: Column) -> bool
     requires low { opened.old + 1 < below_zero }
     requires told { is_bracket class ≡ (is_bra token || is_ket token) }
-    ensures fits { result ≡ true → is_bra token ≡ true → opened.old ≢ limit }
+    ensures fits { result ≡ not (is_bra token) }
     ensures counted { count_one (is_bra token) (is_ket token) (Some opened.old) ≡ open_count opened.new }
-    ensures reject_at { result ≡ false → (is_bra token ≡ true) × (opened.old ≡ limit) }
 {
     if class.is_bracket() {
         if token.is_bra() {
-            let fits = *opened != limit;
             *opened += 1;
-            return fits;
+            return false;
         }
         *opened = opened.wrapping_sub(1);
     }

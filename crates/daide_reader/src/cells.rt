@@ -1,6 +1,6 @@
 //! The stack as an array and a count. A rest is pushed by one copy of a fixed length.
 
-ghost use Rattle.std.specs.Prelude.{◌≡◌, ◌≤◌, ◌<◌, ◌+◌, ◌%◌, ◌^◌, ◌++◌, List, None, Some, IfSome, IfNone, take, length, reverse};
+ghost use Rattle.std.specs.Prelude.{◌≡◌, ◌≤◌, ◌<◌, ◌+◌, ◌%◌, ◌^◌, ◌++◌, None, Some, IfSome, IfNone, take, length, reverse};
 ghost use Rattle.daide_token.specs.Class.{class_of as known_class};
 ghost use Rattle.daide_grammar.specs.Table.ParseActions.{rest_of};
 ghost use Rattle.daide_grammar.specs.Table.Stacks.{stack_after};

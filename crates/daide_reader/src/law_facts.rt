@@ -1,6 +1,6 @@
 //! Uses each law of `laws` once, at concrete values, so that a weaker law does not check. Nothing here is called.
 
-ghost use Rattle.std.specs.Prelude.{◌≡◌, ◌↔◌, List, [], ◌∷◌, ℕ};
+ghost use Rattle.std.specs.Prelude.{List, [], ◌∷◌, ℕ};
 ghost use Rattle.daide_grammar.specs.declared.level.Level.TheVariants.{L0, L60};
 ghost use Rattle.daide_grammar.specs.declared.side.Side2.TheVariants.{Client, ServerEnd};
 ghost use Rattle.daide_grammar.specs.SideMessages.{IsMessage, IsMessageOver};

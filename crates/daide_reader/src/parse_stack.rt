@@ -3,11 +3,12 @@
 //! The loop over a slice accesses the cells directly: it writes eight of them at once and has their count in a local.
 //! docs/DECISIONS.md says what that saves.
 
-ghost use Rattle.std.specs.Prelude.{◌≡◌, ◌≤◌, ◌<◌, ◌+◌, ◌*◌, ◌/◌, ◌++◌, ◌∷◌, [], None, take, length, reverse};
+ghost use Rattle.std.specs.Prelude.{◌≡◌, ◌≤◌, ◌<◌, ◌+◌, ◌/◌, ◌++◌, ◌∷◌, [], None, take, length, reverse};
+ghost use Rattle.daide_grammar.specs.Bounds.{entries_bound};
 ghost use Rattle.daide_reader.specs.Bounds.{longest_message, most_symbols};
 ghost use Rattle.daide_reader.specs.Slice.{ReadsTo};
 
-use crate::slice::{RunEnd, read_tokens};
+use crate::slice::{RunEnd, RunStart, read_tokens};
 use daide_grammar::predict::Predict;
 use daide_grammar::symbol::Symbol;
 use std::marker::Model;
@@ -89,7 +90,7 @@ impl<const N: usize> ParseStack<Symbol, N> {
         max_depth: u16,
     ) -> RunEnd
         requires size { N ≤ most_symbols }
-        requires at_depth_limit { 8 * max_depth + 16 ≤ N }
+        requires at_depth_limit { entries_bound max_depth ≤ N }
         requires room { length body.now ≤ longest_message }
         requires deep { unclosed ≤ max_depth }
         requires lawful { T.lawful (T.words table.old) (reverse self.old) unclosed }
@@ -100,14 +101,12 @@ impl<const N: usize> ParseStack<Symbol, N> {
             result.tokens result.unclosed result.place
             (record { table = table.new; stack = reverse self.new }) }
     {
-        let reached = read_tokens(
-            table,
-            &mut self.cells,
-            self.count,
-            body,
+        let start = RunStart {
+            read: 0,
             unclosed,
-            max_depth,
-        );
+            count: self.count,
+        };
+        let reached = read_tokens(table, &mut self.cells, body, start, max_depth);
         self.count = reached.count;
         reached
     }

@@ -3,10 +3,11 @@
 //! At a token that no message continues, it records the index and drops the stack. It counts brackets to the end, since
 //! the verdict on an unpaired message is PRN, whatever its error place.
 
-ghost use Rattle.std.specs.Prelude.{◌≡◌, ◌≤◌, ◌<◌, ◌+◌, ◌-◌, ◌*◌, ◌/◌, ◌%◌, ◌^◌, ◌++◌, [], ◌∷◌, List, ℕ, Option, None, Some, MatchOption, IsSome, IsTrue, ◌↔◌, ◌⊎◌, if◌then◌else◌, false, true, length, take};
+ghost use Rattle.std.specs.Prelude.{◌≡◌, ◌≤◌, ◌<◌, ◌+◌, ◌-◌, ◌*◌, ◌/◌, ◌++◌, [], ◌∷◌, List, ℕ, Option, None, Some, MatchOption, IsSome, IsTrue, ◌↔◌, ◌⊎◌, false, true, length, take};
 ghost use Rattle.daide_token.specs.Token.{tokens_of};
 ghost use Rattle.daide_grammar.specs.declared.symbol.Sym.{Sym};
 ghost use Rattle.daide_grammar.specs.Depth.{open_brackets};
+ghost use Rattle.daide_grammar.specs.Bounds.{entries_bound, most_steps, message_steps};
 ghost use Rattle.daide_grammar.specs.Paired.{begins_with_prn};
 ghost use Rattle.daide_grammar.specs.Words.{Words};
 ghost use Rattle.daide_reader.specs.Bounds.{longest_message, most_symbols, most_tokens};
@@ -72,8 +73,7 @@ impl<T: Predict, const N: usize> Reader<T, N> {
     /// Creates a reader that has read nothing, as after `start(Side2::Client, Level::L0)`. It refuses messages deeper
     /// than `max_depth` brackets.
     pub fn new(table: T, max_depth: u16) -> Reader<T, N>
-        requires low { 4 ≤ max_depth }
-        requires high { 8 * max_depth + 16 ≤ N }
+        requires high { entries_bound max_depth ≤ N }
         requires size { N ≤ most_symbols }
         ensures stands_after { HasReadPrefix T.Predict (T.words table) (T.start_symbol Side2.Client Level.L0)
             max_depth result [] }
@@ -118,7 +118,7 @@ impl<T: Predict, const N: usize> Reader<T, N> {
 
     /// Reads a token, by the same code that reads a body. A message has at most 32,767 tokens, which `is_full` tests.
     ///
-    /// `unasked`: it does not ask the table once a place was found or the message began with PRN. Neither do `read` and
+    /// `unasked`: it makes no look-up once a place was found or the message began with PRN. Neither do `read` and
     /// `finish` then, nor does `finish` if the message is not paired.
     pub fn push(&mut self, token: Token)
         requires room { tokens_read self.old < most_tokens }
@@ -130,7 +130,7 @@ impl<T: Predict, const N: usize> Reader<T, N> {
         ensures words { T.words self.new.table ≡ T.words self.old.table }
         ensures depth { self.new.max_depth ≡ self.old.max_depth }
         ensures base { self.new.asked_before ≡ self.old.asked_before }
-        ensures raised { IsRaised 4 (T.asked self.old.table) (T.asked self.new.table) }
+        ensures raised { IsRaised most_steps (T.asked self.old.table) (T.asked self.new.table) }
         ensures unasked { IsSettled self.old → self.new.table ≡ self.old.table }
         ensures unfinished { self.new.finished ≡ false }
     {
@@ -156,7 +156,7 @@ impl<T: Predict, const N: usize> Reader<T, N> {
         ensures words { T.words self.new.table ≡ T.words self.old.table }
         ensures depth { self.new.max_depth ≡ self.old.max_depth }
         ensures base { self.new.asked_before ≡ self.old.asked_before }
-        ensures raised { IsRaised (4 * (length body.now / 2 - tokens_read self.old)) (T.asked self.old.table)
+        ensures raised { IsRaised (most_steps * (length body.now / 2 - tokens_read self.old)) (T.asked self.old.table)
             (T.asked self.new.table) }
         ensures unasked { IsSettled self.old → self.new.table ≡ self.old.table }
         ensures unfinished { self.new.finished ≡ false }
@@ -185,7 +185,7 @@ impl<T: Predict, const N: usize> Reader<T, N> {
         ensures words { T.words self.new.table ≡ T.words self.old.table }
         ensures depth { self.new.max_depth ≡ self.old.max_depth }
         ensures base { self.new.asked_before ≡ self.old.asked_before }
-        ensures raised { IsRaised (4 * (length body.now / 2)) (T.asked self.old.table) (T.asked self.new.table) }
+        ensures raised { IsRaised (most_steps * (length body.now / 2)) (T.asked self.old.table) (T.asked self.new.table) }
         ensures unasked { IsSettled self.old → self.new.table ≡ self.old.table }
         ensures unfinished { self.new.finished ≡ false }
     {
@@ -223,7 +223,7 @@ impl<T: Predict, const N: usize> Reader<T, N> {
         ensures words { T.words self.new.table ≡ T.words self.old.table }
         ensures depth { self.new.max_depth ≡ self.old.max_depth }
         ensures base { self.new.asked_before ≡ self.old.asked_before }
-        ensures raised { IsRaised 4 (T.asked self.old.table) (T.asked self.new.table) }
+        ensures raised { IsRaised most_steps (T.asked self.old.table) (T.asked self.new.table) }
         ensures unasked { IsSettled self.old ⊎ (result ≡ Prn) → self.new.table ≡ self.old.table }
         ensures finished { self.new.finished ≡ true }
     {
@@ -285,15 +285,15 @@ impl<T: Predict, const N: usize> Reader<T, N> {
 
     /// Returns how many symbols the stack has.
     ///
-    /// `entries`: at most eight for each open bracket, plus sixteen. So it is at most `8 * max_depth + 16`.
+    /// `entries`: at most eight for each open bracket, plus sixteen. So it is at most `entries_bound max_depth`.
     ///
     /// `empty_once_placed`: it is 0 once a place was found.
     pub fn entries(&self) -> usize
         ensures exact { result ≡ length self.now.stack }
-        ensures few { result ≤ 8 * brackets_open self.now + 16 }
-        ensures at_most { result ≤ 8 * self.now.max_depth + 16 }
+        ensures few { result ≤ entries_bound (brackets_open self.now) }
+        ensures at_most { result ≤ entries_bound self.now.max_depth }
         ensures entries { (words : Words) (first : Sym) (max_depth : ℕ) (p : List ℕ) →
-            HasReadPrefix T.Predict words first max_depth self.now p → result ≤ 8 * open_brackets p + 16 }
+            HasReadPrefix T.Predict words first max_depth self.now p → result ≤ entries_bound (open_brackets p) }
         ensures empty_once_placed { IsSome self.now.place → result ≡ 0 }
     {
         self.stack.len()
@@ -306,7 +306,7 @@ impl<T: Predict, const N: usize> Reader<T, N> {
         &self.table
     }
 
-    /// Returns the table's own count of answers, modulo 2^64. Only `push`, `read`, `finish` and `read_body` raise it,
+    /// Returns the table's count of look-ups, modulo 2^64. Only `push`, `read`, `finish` and `read_body` raise it,
     /// by at most four for each token and four at the end, whatever was read before.
     pub fn total(&self) -> u64
         ensures { result ≡ T.asked self.now.table }
@@ -314,7 +314,7 @@ impl<T: Predict, const N: usize> Reader<T, N> {
         self.table.asked()
     }
 
-    /// Returns the table's answers since the last `start`.
+    /// Returns the number of the table's look-ups since the last `start`.
     ///
     /// `steps`: at most four for each token, and four more after `finish`. Of the four, at most two skip a symbol, and
     /// one takes or stops the token. One more, of `predict_word`, is for a token that the protocol's own table stopped.
@@ -324,7 +324,7 @@ impl<T: Predict, const N: usize> Reader<T, N> {
         ensures exact { result ≡ steps_since T.asked self.now }
         ensures steps { (words : Words) (first : Sym) (max_depth : ℕ) (p : List ℕ) →
             HasReadPrefix T.Predict words first max_depth self.now p →
-            result ≤ 4 * length p + (if self.now.finished then 4 else 0) }
+            result ≤ message_steps (length p) self.now.finished }
     {
         self.total().wrapping_sub(self.asked_before)
     }

@@ -3,8 +3,9 @@
 //! The loop does not read what is constant over the message or the slice: whether the message begins with PRN, its
 //! outline, and whether an error place was found.
 
-ghost use Rattle.std.specs.Prelude.{◌≡◌, ◌≢◌, ◌≤◌, ◌<◌, ◌+◌, ◌-◌, ◌*◌, ◌/◌, ◌%◌, ◌^◌, ◌⊎◌, List, ℕ, None, Some, IsSome, IfSome, IfNone, take, drop, length, reverse, true};
+ghost use Rattle.std.specs.Prelude.{◌≡◌, ◌≤◌, ◌<◌, ◌+◌, ◌-◌, ◌/◌, ◌%◌, ◌^◌, ◌⊎◌, ℕ, None, Some, IsSome, IfSome, IfNone, take, drop, length, reverse, true, false};
 ghost use Rattle.daide_token.specs.Token.{tokens_of};
+ghost use Rattle.daide_grammar.specs.Bounds.{entries_bound};
 ghost use Rattle.daide_grammar.specs.Table.Brackets.{is_bra, is_ket, count_one};
 ghost use Rattle.daide_grammar.specs.Table.Stacks.{stack_after};
 ghost use Rattle.daide_reader.specs.Bounds.{below_zero, longest_message, most_symbols, most_tokens};
@@ -20,18 +21,18 @@ use daide_grammar::symbol::Symbol;
 use daide_token::token::Token;
 use daide_token::token_at;
 
-/// The state before a run over tokens of a body.
+/// The state before tokens of a body are read.
 #[derive(Clone, Copy)]
-struct RunStart {
+pub struct RunStart {
     /// The index of the next token.
-    read: usize,
+    pub read: usize,
     /// The number of open brackets.
-    unclosed: u16,
+    pub unclosed: u16,
     /// The height of the stack.
-    count: usize,
+    pub count: usize,
 }
 
-/// The progress over the tokens of a body: to its end, or to the first token that no message continues.
+/// The state after tokens of a body were read: to its end, or to the first token that no message continues.
 #[derive(Clone, Copy)]
 pub struct RunEnd {
     pub tokens: usize,
@@ -41,8 +42,8 @@ pub struct RunEnd {
     pub count: usize,
 }
 
-/// Applies one token to the stack in the first `count` cells, and counts its bracket. Returns the new height if the
-/// token is taken.
+/// Applies one token to the stack in the first `count` cells, and counts its bracket. No bracket may be opened. Returns
+/// the new height if the token is taken.
 #[cold]
 fn read_token<T: Predict, const N: usize>(
     table: &mut T,
@@ -50,22 +51,21 @@ fn read_token<T: Predict, const N: usize>(
     count: usize,
     opened: &mut u16,
     token: Token,
-    limit: u16,
 ) -> Option<usize>
     requires size { N ≤ most_symbols }
     requires count { count ≤ N }
     requires low { opened.old + 1 < below_zero }
-    requires room { (is_bra token ≡ true → opened.old ≢ limit) →
+    requires room { is_bra token ≡ false →
         IfSome (stack_after (T.moves (T.words table.old)) (T.class_of (T.words table.old) token)
         (reverse (take count cells.old))) (λ after. length after ≤ N) }
-    ensures fits { IsSome result → is_bra token ≡ true → opened.old ≢ limit }
+    ensures fits { IsSome result → is_bra token ≡ false }
     ensures taken { IfSome result (λ r.
         stack_after (T.moves (T.words table.old)) (T.class_of (T.words table.old) token)
         (reverse (take count cells.old))
         ≡ Some (reverse (take r cells.new))) }
     ensures inside { IfSome result (λ r. r ≤ N) }
     ensures counted { count_one (is_bra token) (is_ket token) (Some opened.old) ≡ open_count opened.new }
-    ensures reject_at { IfNone result (((is_bra token ≡ true) × (opened.old ≡ limit))
+    ensures reject_at { IfNone result ((is_bra token ≡ true)
         ⊎ (stack_after (T.moves (T.words table.old)) (T.class_of (T.words table.old) token)
         (reverse (take count cells.old)) ≡ None)) }
     ensures words { T.words table.new ≡ T.words table.old }
@@ -75,7 +75,7 @@ fn read_token<T: Predict, const N: usize>(
         × (T.asked table.new % 2 ^ 64 ≡ (T.asked table.old + n) % 2 ^ 64) }
 {
     let class = table.class_of(token);
-    if !recount(opened, token, class, limit) {
+    if !recount(opened, token, class) {
         return None;
     }
     follow(table, cells, count, class)
@@ -114,7 +114,7 @@ fn run_below_depth_limit<T: Predict, const N: usize>(
 ) -> RunEnd
     requires size { N ≤ most_symbols }
     requires count { start.count ≤ N }
-    requires at_depth_limit { 8 * max_depth + 16 ≤ N }
+    requires at_depth_limit { entries_bound max_depth ≤ N }
     requires room { length body.now ≤ longest_message }
     requires read { start.read < length body.now / 2 }
     requires deep { start.unclosed < max_depth }
@@ -163,42 +163,41 @@ fn run_below_depth_limit<T: Predict, const N: usize>(
     }
 }
 
-/// Reads the tokens of a body, given the stack and the number of open brackets before it. The index of an error is
-/// relative to the body.
+/// Reads the tokens of a body, given the state before them. The index of an error is relative to the body.
 #[inline(always)]
 pub fn read_tokens<T: Predict, const N: usize>(
     table: &mut T,
     cells: &mut [Symbol; N],
-    count: usize,
     body: &[u8],
-    unclosed: u16,
+    start: RunStart,
     max_depth: u16,
 ) -> RunEnd
     requires size { N ≤ most_symbols }
-    requires count { count ≤ N }
-    requires at_depth_limit { 8 * max_depth + 16 ≤ N }
+    requires count { start.count ≤ N }
+    requires at_depth_limit { entries_bound max_depth ≤ N }
     requires room { length body.now ≤ longest_message }
-    requires deep { unclosed ≤ max_depth }
-    requires lawful { T.lawful (T.words table.old) (reverse (take count cells.old)) unclosed }
+    requires read { start.read ≤ length body.now / 2 }
+    requires deep { start.unclosed ≤ max_depth }
+    requires lawful { T.lawful (T.words table.old) (reverse (take start.count cells.old)) start.unclosed }
     ensures inside { result.count ≤ N }
     ensures tokens { result.tokens ≤ length body.now / 2 }
     ensures all { result.place ≡ None → result.tokens ≡ length body.now / 2 }
-    ensures reads { ReadsTo T.Predict max_depth body.now 0 unclosed
-        (record { table = table.old; stack = reverse (take count cells.old) })
+    ensures reads { ReadsTo T.Predict max_depth body.now start.read start.unclosed
+        (record { table = table.old; stack = reverse (take start.count cells.old) })
         result.tokens result.unclosed result.place
         (record { table = table.new; stack = reverse (take result.count cells.new) }) }
 {
-    let mut opened = unclosed;
-    let mut left = count;
-    let mut next = 0;
+    let mut opened = start.unclosed;
+    let mut left = start.count;
+    let mut next = start.read;
     while next < body.len() / 2 {
         if opened < max_depth {
-            let start = RunStart {
+            let from = RunStart {
                 read: next,
                 unclosed: opened,
                 count: left,
             };
-            let reached = run_below_depth_limit(table, cells, body, start, max_depth);
+            let reached = run_below_depth_limit(table, cells, body, from, max_depth);
             if reached.place.is_some() {
                 return reached;
             }
@@ -207,7 +206,7 @@ pub fn read_tokens<T: Predict, const N: usize>(
             next = reached.tokens;
         } else {
             let token = token_at(body, next);
-            let Some(now) = read_token(table, cells, left, &mut opened, token, max_depth) else {
+            let Some(now) = read_token(table, cells, left, &mut opened, token) else {
                 return reject_at(opened, next);
             };
             left = now;

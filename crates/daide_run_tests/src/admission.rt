@@ -39,6 +39,8 @@ fn check_acceptor<'w>(
 ) -> Result<(), Fail> {
     poller.wait();
     acceptor.pause(poller.table.after(Duration::ZERO), ErrorKind::Other);
+    let resumes_at = poller.table.after(Duration::from_millis(100));
+    poller.table.set_due(0, resumes_at);
     holds(acceptor.accept(poller).is_none(), "none is made")?;
     poller.wait();
     holds(acceptor.accept(poller).is_some(), "the bot that came")?;

@@ -50,6 +50,8 @@ const FAULTY: &[&[&str]] = &[
     &["daide-gate", "check"],
     &["daide-gate", "check", "no-such-file"],
     &["daide-gate", "frame", "zzz"],
+    &["daide-gate", "settings"],
+    &["daide-gate", "settings", "no-such-file"],
     &["daide-gate", "show", "zz"],
     &["daide-gate", "show", "--side", "both"],
     &["daide-gate", "tell"],

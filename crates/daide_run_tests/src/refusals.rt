@@ -190,5 +190,6 @@ fn failed_write_is_told(rt: HostRuntime) -> Result<(), Fail> {
     check_failed_write(&rt, &["daide-gate"])?;
     check_failed_write(&rt, &["daide-gate", "--help"])?;
     check_failed_write(&rt, &["daide-gate", "show", "0", "2000002480F"])?;
+    check_failed_write(&rt, &["daide-gate", "settings", "-"])?;
     check_failed_write(&rt, &["daide-gate", "frame", "OBS"])
 }

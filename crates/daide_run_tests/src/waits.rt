@@ -3,7 +3,8 @@
 use crate::wires::{Wire, WirePorts, still_poller};
 use daide_buffered_io::pool::Pool;
 use daide_io::ports::Ports;
-use daide_sockets::ports::{Socket, SocketPorts};
+use daide_sockets::ports::SocketPorts;
+use daide_sockets::socket::Socket;
 use daide_sockets::table::SocketTable;
 use daide_test_support::rows::same;
 use std::test::Fail;

@@ -4,7 +4,6 @@ use Rattle.std.proofs.Common.{◌∙◌, subst, append_assoc, append-nil, ◌<�
 use Rattle.daide_frame.specs.declared.side.Side.{Side}
 use Rattle.daide_frame.specs.declared.side.Side.TheVariants.{Bot, Server}
 use Rattle.daide_frame.specs.declared.code.Code.{Code}
-use Rattle.daide_grammar.specs.declared.level.Level.TheVariants.{L0}
 use Rattle.daide_protocol.specs.declared.ending.Ending.{Ending}
 use Rattle.daide_protocol.specs.declared.ending.Ending.TheVariants as Endings
 use Rattle.daide_protocol.specs.declared.note.Note.TheVariants as Notes

@@ -8,6 +8,7 @@ use Rattle.daide_frame.specs.declared.head.Kind.TheVariants.{Im, Rm, Dm, Fm, Em}
 use Rattle.daide_frame.specs.InitialMessage.{im_of}
 use Rattle.daide_frame.specs.Frames.{FrameEvent, head_in}
 use Rattle.daide_reader.specs.declared.verdict.Verdict.{Verdict}
+use Rattle.daide_grammar.specs.Bounds.{most_steps}
 use Rattle.daide_reader.specs.Reading.{IsRaised}
 use Rattle.daide_protocol.specs.declared.note.Note.{Note}
 use Rattle.daide_protocol.specs.declared.note.Note.TheVariants as Notes
@@ -52,7 +53,7 @@ HasNoMessageBytes cap held = (drop 4 held ≡ []) ⊎ (is_dm_head (head_in cap h
 -- read, is set to the present count. The HLO scan reads no token.
 pub record Asks (cap : ℕ) (old new : Holding) : Type 0 where
   pub base : (new.total_before ≡ old.total_before) ⊎ (HasNoMessageBytes cap old.held × (new.total_before ≡ old.total))
-  pub raised : IsRaised 4 old.total new.total
+  pub raised : IsRaised most_steps old.total new.total
   pub no_message : is_dm_head (head_in cap old.held) ≡ false → new.total ≡ old.total
   pub looked_at : new.looked_at ≡ old.looked_at
 

@@ -1,9 +1,9 @@
 -- The number of table look-ups in a session: at most two for each byte received. A token has two bytes and takes at
 -- most four look-ups; the four bytes of a message's header pay for the four at its end.
 use Rattle.std.specs.Prelude.{◌≡◌, ℕ, ◌+◌, ◌-◌, ◌*◌, ◌%◌, ◌^◌, ◌≤◌, ◌⊎◌, Bool, ◌&&◌, ◌==◌, List, [], length}
-use Rattle.std.specs.Prelude.{if◌then◌else◌}
 use Rattle.daide_frame.specs.declared.side.Side.{Side}
 use Rattle.daide_frame.specs.Frames.{head_in, missing}
+use Rattle.daide_grammar.specs.Bounds.{message_steps}
 use Rattle.daide_protocol.specs.Wires.{SessionView, holding, is_dm_head}
 use Rattle.daide_protocol.specs.Weight.{tokens_held}
 
@@ -11,9 +11,9 @@ use Rattle.daide_protocol.specs.Weight.{tokens_held}
 abbrev pub is_whole_message : ℕ → List ℕ → Bool
 is_whole_message cap held = is_dm_head (head_in cap held) && (missing cap held == 0)
 
--- the look-ups permitted for these bytes of a frame: four for each token of a message, and four at its end
+-- the look-ups permitted for these bytes of a frame
 abbrev pub answers_for : ℕ → List ℕ → ℕ
-answers_for cap held = 4 * length (tokens_held cap held) + (if is_whole_message cap held then 4 else 0)
+answers_for cap held = message_steps (length (tokens_held cap held)) (is_whole_message cap held)
 
 -- the credit left for these bytes: two look-ups for each byte, without those permitted so far
 abbrev pub left_of : ℕ → List ℕ → ℕ

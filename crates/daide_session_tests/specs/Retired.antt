@@ -1,6 +1,6 @@
 -- The ports that a scene's system got back. (own)
 use Rattle.std.specs.Prelude.{◌≡◌, ◌⊎◌, List, [], ◌∷◌, ◌++◌}
-use Rattle.daide_io.specs.System.{SystemCall, Begins, ReportsNews, BeginsTurn, EndsTurn, Accepts, Connects, Retires}
+use Rattle.daide_io.specs.System.{SystemCall, Begins, ReportsNews, BeginsTurn, Watches, Accepts, Connects, Retires}
 use Rattle.daide_io.specs.System.{Notifies, Waits}
 
 -- Retired ports are appended, or dropped if memory is refused. No other call changes the ports that are kept.
@@ -9,7 +9,7 @@ KeepsRetired old (Retires ports end) new = (new ≡ old ++ ports ∷ []) ⊎ (ne
 KeepsRetired old Begins new = new ≡ old
 KeepsRetired old (ReportsNews ports news) new = new ≡ old
 KeepsRetired old (BeginsTurn before after) new = new ≡ old
-KeepsRetired old (EndsTurn ports) new = new ≡ old
+KeepsRetired old (Watches ports) new = new ≡ old
 KeepsRetired old (Accepts came) new = new ≡ old
 KeepsRetired old (Connects connect) new = new ≡ old
 KeepsRetired old (Notifies notice) new = new ≡ old

@@ -34,4 +34,6 @@ mod serving;
 #[cfg(test)]
 mod sessions;
 #[cfg(test)]
+mod timed_records;
+#[cfg(test)]
 mod worded_sessions;

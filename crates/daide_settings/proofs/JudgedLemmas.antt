@@ -4,7 +4,6 @@ use Rattle.std.specs.Prelude.{is_none, is_ok, if◌then◌else◌}
 use Rattle.std.specs.Result.{result_err}
 use Rattle.toml.specs.Data.{Members, get_member}
 use Rattle.daide_words.specs.declared.word.Word.{Word}
-use Rattle.daide_settings.specs.declared.settings.key.Key.{Key}
 use Rattle.daide_settings.specs.declared.settings.key.Key.TheVariants.{Listen, Server, TopLevel, MaxBody, MaxDepth}
 use Rattle.daide_settings.specs.declared.settings.key.Key.TheVariants.{ImSeconds, MaxSessions, Sessions, Turns, IdleSeconds}
 use Rattle.daide_settings.specs.declared.settings.key.Key.TheVariants.{Words, StallSeconds, Endless, Allow, MaxPerAddress}

@@ -1,6 +1,6 @@
 -- Which text is a range, which hosts a range contains, and who may come, at values worked out from docs/FORMATS.md.
 use Rattle.std.proofs.Common.{◌≡◌, codes, true, false, List, ℕ, [], ◌∷◌, Some, None, Ok, Err, map, refl}
-use Rattle.std.specs.Prelude.{pos, ◌+◌, ◌-◌, Option, Result, Bool, replicate}
+use Rattle.std.specs.Prelude.{pos, ◌+◌, ◌-◌, Result, Bool, replicate}
 use Rattle.std.specs.Net.Reader.{read_number, read_octet, read_ipv4, read_segment, read_segments, read_ipv6}
 use Rattle.toml.specs.Data.{Data, string, integer, array, table, Items, no_items, item, no_members}
 use Rattle.daide_settings.specs.declared.settings.key.Key.TheVariants.{Allow}

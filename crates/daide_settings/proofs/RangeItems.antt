@@ -1,6 +1,6 @@
 -- The ranges of some values, one after the other.
-use Rattle.std.proofs.Common.{◌≡◌, ◌+◌, ◌&&◌, List, [], ◌∷◌, ◌++◌, Option, Some, None, Result, Ok, Err, length}
-use Rattle.std.proofs.Common.{option_map, arith, refl, sym, ap, ◌∙◌, append_assoc, append-nil}
+use Rattle.std.proofs.Common.{◌≡◌, ◌+◌, ◌&&◌, List, [], ◌∷◌, ◌++◌, Option, Some, None, Result, Ok, length}
+use Rattle.std.proofs.Common.{option_map, arith, refl, sym, ap, append_assoc, append-nil}
 use Rattle.std.specs.Prelude.{is_some}
 use Rattle.std.specs.List.{list_all}
 use Rattle.toml.specs.Data.{Data, Items, no_items, item, as_str}
@@ -31,10 +31,6 @@ further_next before range value others e = rw e (go (ranges_of others))
         ≡ named_or_range (option_map (λ ranges. (before ++ range ∷ []) ++ ranges) o)
     go None = refl
     go (Some ranges) = ap Ok (sym (append_assoc before (range ∷ []) ranges))
-
-pub further_none : (before : List AddressRange) (value : Data) (others : Items) → range_of value ≡ None →
-    further before (item value others) ≡ named_or_range None
-further_none before value others e = rw e refl
 
 pub further_last : (before : List AddressRange) → further before no_items ≡ Ok before
 further_last before = ap Ok (append-nil before)

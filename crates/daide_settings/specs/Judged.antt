@@ -1,5 +1,5 @@
 -- All faults of a document, where `judged_settings` has the first: the fault of each key by itself. (own)
-use Rattle.std.specs.Prelude.{◌≡◌, ◌&&◌, Bool, true, false, Option, Some, None, is_none, is_ok}
+use Rattle.std.specs.Prelude.{◌&&◌, Bool, false, Option, Some, None, is_none}
 use Rattle.std.specs.Result.{result_err}
 use Rattle.std.specs.List.{list_all}
 use Rattle.toml.specs.Data.{Data, Members, get_member}

@@ -4,6 +4,7 @@ use Rattle.std.specs.Prelude.{ℕ, ℤ, pos, negsuc, ◌&&◌, ◌||◌, nat_le,
 use Rattle.std.specs.Prelude.{List, length, codes, Option, Some, None, Result, Ok, Err}
 use Rattle.std.specs.Str.{bytes_eq}
 use Rattle.toml.specs.Data.{Data, as_str, as_integer, as_bool, Members, get_member}
+use Rattle.daide_grammar.specs.Words.{most_words}
 use Rattle.daide_protocol.specs.Bounds.{longest_body, most_sessions}
 use Rattle.daide_protocol.specs.Config.{is_level, is_body, is_depth}
 use Rattle.daide_settings.specs.declared.settings.key.Key.{Key}
@@ -16,7 +17,7 @@ use Rattle.daide_settings.specs.declared.settings.SettingsError.TheVariants.{Wro
 use Rattle.daide_words.specs.declared.word.Word.{Word}
 use Rattle.daide_settings.specs.WordSettings.{has_only, words_judged}
 use Rattle.daide_settings.specs.declared.settings.ranges.AddressRange.{AddressRange}
-use Rattle.daide_settings.specs.Ranges.{allow_judged}
+use Rattle.daide_settings.specs.Ranges.{most_ranges, allow_judged}
 
 -- ---- the table of keys
 
@@ -41,6 +42,10 @@ key_text MaxPerAddress = codes "max_per_address"
 abbrev pub is_within : ℕ → ℕ → ℕ → Bool
 is_within low high n = nat_le low n && nat_le n high
 
+-- the longest timeout that an operator may set, in seconds: a day
+abbrev pub longest_timeout : ℕ
+longest_timeout = 86400
+
 -- the range of a key's number; for an address, the number of its bytes, and for words or ranges, the number of them; a
 -- flag has no number
 abbrev pub is_in_range : Key → ℕ → Bool
@@ -53,11 +58,11 @@ is_in_range ImSeconds n = is_within 1 3600 n
 is_in_range MaxSessions n = is_within 1 most_sessions n
 is_in_range Sessions n = is_within 1 1000000 n
 is_in_range Turns n = is_within 1 1000000000000 n
-is_in_range IdleSeconds n = is_within 0 86400 n
-is_in_range Words n = is_within 0 16 n
-is_in_range StallSeconds n = is_within 0 86400 n
+is_in_range IdleSeconds n = is_within 0 longest_timeout n
+is_in_range Words n = is_within 0 most_words n
+is_in_range StallSeconds n = is_within 0 longest_timeout n
 is_in_range Endless n = false
-is_in_range Allow n = is_within 1 16 n
+is_in_range Allow n = is_within 1 most_ranges n
 is_in_range MaxPerAddress n = is_within 0 most_sessions n
 
 -- the number of a key that is missing in a document; the two addresses are required and have none, and neither have

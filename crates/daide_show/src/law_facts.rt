@@ -1,7 +1,7 @@
 //! One application of each law of `laws`, to inputs with known results, so that a weakened law fails to check. Nothing
 //! here is called.
 
-ghost use Rattle.std.specs.Prelude.{◌≡◌, ◌++◌, [], ◌∷◌, ℕ, List, Result, Ok, Err, Some, None, codes, false, true};
+ghost use Rattle.std.specs.Prelude.{◌≡◌, ◌++◌, [], ◌∷◌, Result, Ok, Err, Some, None, codes, true};
 ghost use Rattle.daide_frame.specs.declared.side.Side.TheVariants.{Bot};
 ghost use Rattle.daide_grammar.specs.declared.level.Level.TheVariants.{L0};
 ghost use Rattle.daide_reader.specs.declared.verdict.Verdict.TheVariants.{Huh};

@@ -1,12 +1,14 @@
--- The time of a wait, against each row.
+-- The time of a wait, against each row, and against each session that it watches.
 use Rattle.std.proofs.Common.{◌≡◌, ◌≤◌, ℕ, zero, suc, ◌-◌, Bool, true, false, List, [], ◌∷◌, Option, Some, None, refl, sym, ap, ◌∙◌, subst, arith}
-use Rattle.std.specs.Prelude.{◌||◌, nat_le, if◌then◌else◌, slice_get}
+use Rattle.std.specs.Prelude.{◌||◌, nat_le, if◌then◌else◌, slice_get, All}
+use Rattle.std.proofs.lemmas.List.Elements.{All-nil, All-cons}
 use Rattle.std.specs.Time.{instant_nanos}
 use Rattle.std.specs.declared.time.Duration.{Duration}
 use Rattle.std.specs.declared.time.Instant.{Instant}
 use Rattle.daide_sockets.specs.declared.table.Row.{Row}
-use Rattle.daide_sockets.specs.Table.{nearest, earlier, any_work, has_pending, IsUntil, IsNoTime, IsWaitTimeIf}
-use Rattle.daide_sockets.specs.InTime.{IsAtMost, IsInTime, WaitsAreInTime}
+use Rattle.daide_sockets.specs.Table.{Table, watching, nearest, earlier, any_work, has_pending, IsUntil, IsNoTime, IsWaitTime}
+use Rattle.daide_sockets.specs.Table.{IsWaitTimeIf}
+use Rattle.daide_sockets.specs.InTime.{IsAtMost, IsInTime, IsInTimeFor, watching_all, WaitsAreInTime}
 
 -- a moment that is no later than another
 abbrev IsBy : Option Instant → Instant → Type 0
@@ -85,8 +87,9 @@ until_by now due (Some read) (Some moment) (Some time) h e k =
     let same : instant_nanos read ≡ instant_nanos now = ap (nanos_of now) e in
     omega (arith, h, same, k)
 
-pub waits_in_time : WaitsAreInTime
-waits_in_time table time key row lasts there = by (has_pending table) refl lasts
+rows_in_time : (table : Table) (time : Option Duration) (key : ℕ) (row : Row) → IsWaitTime table time →
+    slice_get table.rows key ≡ Some row → IsInTime table time row
+rows_in_time table time key row lasts there = by (has_pending table) refl lasts
   where
     by : (pending : Bool) → has_pending table ≡ pending → IsWaitTimeIf pending table time → IsInTime table time row
     by true e h = record {
@@ -94,11 +97,82 @@ waits_in_time table time key row lasts there = by (has_pending table) refl lasts
       work = λ f. h;
     }
     by false e h = record {
-      deadline = λ now due f g. until_by now due table.reading (nearest None table.rows) time h f
-          (nearest_by None table.rows key row due there g);
-      work = λ f. absurd (not_both (sym (ap (λ (b : Bool). table.has_news || b) (work_seen false table.rows key row there f)
-          ∙ or_true table.has_news) ∙ e));
+      deadline = λ now due f g. until_by now due table.reading (nearest table.watched_due table.rows) time h f
+          (nearest_by table.watched_due table.rows key row due there g);
+      work = λ f. absurd (not_both (sym (ap (λ (b : Bool). table.has_news || b)
+          (work_seen table.watched_work table.rows key row there f) ∙ or_true table.has_news) ∙ e));
     }
       where
         not_both : true ≡ false → ⊥
         not_both h = absurd (cc)
+
+-- ---- the sessions that are watched
+
+pub same_rows : (table : Table) (watched : List (Bool × Option Instant)) → (watching_all table watched).rows ≡ table.rows
+same_rows table [] = refl
+same_rows table (session ∷ watched) = same_rows (watching table session.0 session.1) watched
+
+pub same_reading : (table : Table) (watched : List (Bool × Option Instant)) → (watching_all table watched).reading ≡ table.reading
+same_reading table [] = refl
+same_reading table (session ∷ watched) = same_reading (watching table session.0 session.1) watched
+
+-- what a wait is to watch stays watched
+due_keeps : (table : Table) (watched : List (Bool × Option Instant)) (due : Instant) → IsBy table.watched_due due →
+    IsBy (watching_all table watched).watched_due due
+due_keeps table [] due h = h
+due_keeps table (session ∷ watched) due h =
+    due_keeps (watching table session.0 session.1) watched due (earlier_left table.watched_due session.1 due h)
+
+work_stays : (table : Table) (watched : List (Bool × Option Instant)) → table.watched_work ≡ true →
+    (watching_all table watched).watched_work ≡ true
+work_stays table [] h = h
+work_stays table (session ∷ watched) h =
+    work_stays (watching table session.0 session.1) watched (ap (λ (b : Bool). b || session.0) h)
+
+at_once : (table : Table) (time : Option Duration) → IsWaitTime table time → table.watched_work ≡ true → IsNoTime time
+at_once table time lasts h = by (has_pending table) refl lasts
+  where
+    pending : has_pending table ≡ true
+    pending = ap (λ (b : Bool). table.has_news || any_work b table.rows) h
+        ∙ ap (λ (b : Bool). table.has_news || b) (work_keeps table.rows) ∙ or_true table.has_news
+
+    by : (now : Bool) → has_pending table ≡ now → IsWaitTimeIf now table time → IsNoTime time
+    by true e h = h
+    by false e h = let both : true ≡ false = sym pending ∙ e in absurd (cc)
+
+by_due : (table : Table) (time : Option Duration) (now due : Instant) → table.reading ≡ Some now → IsWaitTime table time →
+    IsBy table.watched_due due → IsAtMost time (instant_nanos due - instant_nanos now)
+by_due table time now due read lasts h = by (has_pending table) lasts
+  where
+    by : (pending : Bool) → IsWaitTimeIf pending table time → IsAtMost time (instant_nanos due - instant_nanos now)
+    by true k = no_time time (instant_nanos due - instant_nanos now) k
+    by false k =
+        until_by now due table.reading (nearest table.watched_due table.rows) time k read
+        (nearest_keeps table.watched_due table.rows due h)
+
+pub sessions_in_time : (table : Table) (watched : List (Bool × Option Instant)) (time : Option Duration) →
+    IsWaitTime (watching_all table watched) time →
+    All (λ (session : Bool × Option Instant). IsInTimeFor table.reading time session.0 session.1) watched
+sessions_in_time table [] time lasts =
+    All-nil (λ (session : Bool × Option Instant). IsInTimeFor table.reading time session.0 session.1)
+sessions_in_time table (session ∷ watched) time lasts =
+    All-cons (λ (other : Bool × Option Instant). IsInTimeFor table.reading time other.0 other.1) session watched own
+    (sessions_in_time next watched time lasts)
+  where
+    next : Table
+    next = watching table session.0 session.1
+
+    last : Table
+    last = watching_all next watched
+
+    own : IsInTimeFor table.reading time session.0 session.1
+    own = record {
+      deadline = λ now due read e. by_due last time now due (same_reading next watched ∙ read) lasts
+          (due_keeps next watched due (earlier_right table.watched_due session.1 due
+          (subst (λ (m : Option Instant). IsBy m due) (sym e) (omega arith))));
+      work = λ e. at_once last time lasts
+          (work_stays next watched (ap (λ (b : Bool). table.watched_work || b) e ∙ or_true table.watched_work));
+    }
+
+pub waits_in_time : WaitsAreInTime
+waits_in_time = record { sessions = sessions_in_time; sockets = rows_in_time }

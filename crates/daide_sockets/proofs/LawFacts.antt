@@ -1,6 +1,7 @@
 -- The laws of `laws`, each used once. A fact takes only its law, so that a weaker law does not check.
-use Rattle.std.proofs.Common.{◌≡◌, ℕ, ◌+◌, ◌≤◌, true, List, [], ◌∷◌, Option, Some, None, ap, arith}
+use Rattle.std.proofs.Common.{◌≡◌, ℕ, ◌+◌, ◌≤◌, Bool, true, false, List, [], ◌∷◌, Option, Some, None, refl, ap, arith}
 use Rattle.std.specs.Prelude.{slice_get}
+use Rattle.std.proofs.lemmas.List.Elements.{All-contains}
 use Rattle.std.specs.Duration.{as_nanos}
 use Rattle.std.specs.Time.{instant_nanos}
 use Rattle.std.specs.declared.time.Duration.{Duration}
@@ -12,7 +13,7 @@ use Rattle.daide_sockets.specs.Pairing.{Paired, RunSockets, Transits}
 use Rattle.daide_sockets.specs.PairedOnce.{SessionsComeOnce, is_same}
 use Rattle.daide_sockets.specs.declared.table.Row.{Row}
 use Rattle.daide_sockets.specs.Table.{Table, IsWaitTime}
-use Rattle.daide_sockets.specs.InTime.{WaitsAreInTime}
+use Rattle.daide_sockets.specs.InTime.{WaitsAreInTime, IsInTimeFor, watching_all}
 
 -- no two connects deliver ports of session 5
 never_twice : {P S : Type 0} (to_give taken : S → Option (List ℕ)) (calls : S → Option (List StreamCall)) →
@@ -30,18 +31,46 @@ never_twice to_give taken calls law pair old new a b none no_arrivals goes first
 -- beside a row with work a wait takes no time
 never_blocks : WaitsAreInTime → (table : Table) (time : Duration) (row : Row) → IsWaitTime table (Some time) →
     slice_get table.rows 3 ≡ Some row → row.has_work ≡ true → as_nanos time ≡ 0
-never_blocks law table time row lasts there work = (law table (Some time) 3 row lasts there).work work
+never_blocks law table time row lasts there work = (law.sockets table (Some time) 3 row lasts there).work work
 
 -- a deadline five nanoseconds after the reading ends a wait within them
 within_five : WaitsAreInTime → (table : Table) (time : Duration) (row : Row) (now due : Instant) →
     IsWaitTime table (Some time) → slice_get table.rows 3 ≡ Some row → table.reading ≡ Some now → row.due ≡ Some due →
     instant_nanos due ≡ instant_nanos now + 5 → as_nanos time ≤ 5
 within_five law table time row now due lasts there reading deadline five =
-    let most = (law table (Some time) 3 row lasts there).deadline now due reading deadline in
+    let most = (law.sockets table (Some time) 3 row lasts there).deadline now due reading deadline in
     omega (arith, most, five)
 
 -- with a deadline no wait is for ever
 never_for_ever : WaitsAreInTime → (table : Table) (row : Row) (now due : Instant) → IsWaitTime table None →
     slice_get table.rows 3 ≡ Some row → table.reading ≡ Some now → row.due ≡ Some due → ⊥
 never_for_ever law table row now due lasts there reading deadline =
-    (law table None 3 row lasts there).deadline now due reading deadline
+    (law.sockets table None 3 row lasts there).deadline now due reading deadline
+
+-- of three sessions that a wait watches, the second has work: the wait takes no time
+watched_work : WaitsAreInTime → (table : Table) (time : Duration) →
+    IsWaitTime (watching_all table ((false, None) ∷ (true, None) ∷ (false, None) ∷ [])) (Some time) → as_nanos time ≡ 0
+watched_work law table time lasts =
+    let watched = (false, None) ∷ (true, None) ∷ (false, None) ∷ [] in
+    let all = law.sessions table watched (Some time) lasts in
+    (All-contains (λ (s : Bool × Option Instant). IsInTimeFor table.reading (Some time) s.0 s.1) watched (true, None) all
+    (1, omega arith, refl)).work refl
+
+-- of two sessions the second has a deadline seven nanoseconds after the reading, which ends the wait within them
+watched_deadline : WaitsAreInTime → (table : Table) (time : Duration) (now late due : Instant) → table.reading ≡ Some now →
+    IsWaitTime (watching_all table ((false, Some late) ∷ (false, Some due) ∷ [])) (Some time) →
+    instant_nanos due ≡ instant_nanos now + 7 → as_nanos time ≤ 7
+watched_deadline law table time now late due reading lasts seven =
+    let watched = (false, Some late) ∷ (false, Some due) ∷ [] in
+    let all = law.sessions table watched (Some time) lasts in
+    let most = (All-contains (λ (s : Bool × Option Instant). IsInTimeFor table.reading (Some time) s.0 s.1) watched
+    (false, Some due) all (1, omega arith, refl)).deadline now due reading refl in
+    omega (arith, most, seven)
+
+-- with a deadline of a session that it watches no wait is for ever
+watched_not_for_ever : WaitsAreInTime → (table : Table) (now due : Instant) → table.reading ≡ Some now →
+    IsWaitTime (watching_all table ((false, Some due) ∷ [])) None → ⊥
+watched_not_for_ever law table now due reading lasts =
+    let watched = (false, Some due) ∷ [] in
+    (All-contains (λ (s : Bool × Option Instant). IsInTimeFor table.reading None s.0 s.1) watched (false, Some due)
+    (law.sessions table watched None lasts) (0, omega arith, refl)).deadline now due reading refl

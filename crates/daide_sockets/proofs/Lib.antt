@@ -2,5 +2,5 @@ mod PairingLemmas
 mod OnceLemmas
 mod LingeringLemmas
 mod TableLemmas
-mod InTimeLemmas
+pub mod InTimeLemmas
 mod LawFacts

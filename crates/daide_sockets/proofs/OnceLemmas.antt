@@ -1,7 +1,7 @@
 -- Each session number is given once.
 use Rattle.std.proofs.Common.{◌≡◌, ◌≤◌, ℕ, ◌+◌, Bool, true, false, List, [], ◌∷◌, ◌++◌, Option, ap, ◌∙◌, arith}
 use Rattle.std.specs.Prelude.{nat_lt, if◌then◌else◌}
-use Rattle.daide_io.specs.System.{SystemCall, Begins, ReportsNews, BeginsTurn, EndsTurn, Accepts, Connects, Retires}
+use Rattle.daide_io.specs.System.{SystemCall, Begins, ReportsNews, BeginsTurn, Watches, Accepts, Connects, Retires}
 use Rattle.daide_io.specs.System.{Notifies, Waits, TransitsBy}
 use Rattle.daide_io.specs.declared.system.Connect.TheVariants.{Ready, Failed, Pending}
 use Rattle.daide_io.specs.Streams.{StreamCall}
@@ -77,7 +77,7 @@ module _ {S : Type 0} (n : ℕ) where
     one Begins old new h = let e = kept old new h.0 h.1 in omega (arith, e)
     one (ReportsNews ports news) old new h = let e : left new ≡ left old = ap left h in omega (arith, e)
     one (BeginsTurn before after) old new h = let e : left new ≡ left old = ap left h in omega (arith, e)
-    one (EndsTurn ports) old new h = let e : left new ≡ left old = ap left h in omega (arith, e)
+    one (Watches ports) old new h = let e : left new ≡ left old = ap left h in omega (arith, e)
     one (Accepts true) old new h =
         let a : numbered new.arrivals ≡ numbered (old.arrivals ++ h.arrival ∷ []) = ap numbered h.arrivals in
         let b = numbered_append old.arrivals (h.arrival ∷ []) in
@@ -109,7 +109,7 @@ module _ {S : Type 0} (n : ℕ) where
     handed_first Begins answers = omega (arith)
     handed_first (ReportsNews ports news) answers = omega (arith)
     handed_first (BeginsTurn before after) answers = omega (arith)
-    handed_first (EndsTurn ports) answers = omega (arith)
+    handed_first (Watches ports) answers = omega (arith)
     handed_first (Accepts came) answers = omega (arith)
     handed_first (Connects (Ready ports)) answers = omega (arith)
     handed_first (Connects Failed) answers = omega (arith)

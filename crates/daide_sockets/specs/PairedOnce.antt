@@ -1,6 +1,6 @@
 -- Each session gets its ports once. (own)
 use Rattle.std.specs.Prelude.{◌≡◌, ◌≤◌, ℕ, ◌+◌, nat_eq, List, [], ◌∷◌, Option, if◌then◌else◌}
-use Rattle.daide_io.specs.System.{SystemCall, Begins, ReportsNews, BeginsTurn, EndsTurn, Accepts, Connects, Retires}
+use Rattle.daide_io.specs.System.{SystemCall, Begins, ReportsNews, BeginsTurn, Watches, Accepts, Connects, Retires}
 use Rattle.daide_io.specs.System.{Notifies, Waits, TransitsBy}
 use Rattle.daide_io.specs.declared.system.Connect.TheVariants.{Ready, Failed, Pending}
 use Rattle.daide_io.specs.Streams.{StreamCall}
@@ -19,7 +19,7 @@ handed pair n (Connects Pending ∷ answers) = handed pair n answers
 handed pair n (Begins ∷ answers) = handed pair n answers
 handed pair n (ReportsNews ports news ∷ answers) = handed pair n answers
 handed pair n (BeginsTurn before after ∷ answers) = handed pair n answers
-handed pair n (EndsTurn ports ∷ answers) = handed pair n answers
+handed pair n (Watches ports ∷ answers) = handed pair n answers
 handed pair n (Accepts came ∷ answers) = handed pair n answers
 handed pair n (Retires ports end ∷ answers) = handed pair n answers
 handed pair n (Notifies notice ∷ answers) = handed pair n answers

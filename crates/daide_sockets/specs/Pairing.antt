@@ -1,7 +1,7 @@
 -- The sockets of a run beside those of its sessions, and the effect of each system call on them. (own)
 use Rattle.std.specs.Prelude.{◌≡◌, ◌⊎◌, ℕ, ◌+◌, ◌-◌, nat_lt, true, false, List, [], ◌∷◌, ◌++◌, length, remove}
 use Rattle.std.specs.Prelude.{Option, Some, None, if◌then◌else◌}
-use Rattle.daide_io.specs.System.{SystemCall, Begins, ReportsNews, BeginsTurn, EndsTurn, Accepts, Connects, Retires}
+use Rattle.daide_io.specs.System.{SystemCall, Begins, ReportsNews, BeginsTurn, Watches, Accepts, Connects, Retires}
 use Rattle.daide_io.specs.System.{Notifies, Waits}
 use Rattle.daide_io.specs.declared.system.Connect.{Connect}
 use Rattle.daide_io.specs.declared.system.Connect.TheVariants.{Ready, Failed, Pending}
@@ -157,7 +157,7 @@ Transits to_give taken calls pair old Begins new = (new.came ≡ old.came) × (n
     × ClosingsGoOn to_give taken calls old.closing new.closing
 Transits to_give taken calls pair old (ReportsNews ports news) new = new ≡ old
 Transits to_give taken calls pair old (BeginsTurn before after) new = new ≡ old
-Transits to_give taken calls pair old (EndsTurn ports) new = new ≡ old
+Transits to_give taken calls pair old (Watches ports) new = new ≡ old
 Transits to_give taken calls pair old (Accepts true) new = Comes old new
 Transits to_give taken calls pair old (Accepts false) new = new ≡ old
 Transits {S = S} to_give taken calls pair old (Connects (Ready ports)) new = (arrival : Arriving S)

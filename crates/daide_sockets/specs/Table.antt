@@ -9,16 +9,26 @@ use Rattle.daide_buffered_io.specs.declared.readiness.Readiness.{Readiness}
 use Rattle.daide_io.specs.declared.network.SocketEvent.{SocketEvent}
 use Rattle.daide_io.specs.Network.{NetworkCall, Polls, ReadsClock}
 use Rattle.daide_sockets.specs.declared.table.Row.{Row}
-use Rattle.daide_sockets.specs.Times.{is_past}
 
--- the last reading of the clock; the turns since the last poll; whether a poll since the last wait reported something;
--- the most rows; and those that were ever taken, each of which is named by its position
+-- The last reading of the clock; the turns since the last poll; whether a poll since the last wait reported something. Of
+-- the sessions that the next wait is to watch, whether something may be done at once for one, and their nearest deadline.
+-- The most rows; and those that were ever taken, each of which is named by its position.
 pub record Table : Type 0 where
   pub reading : Option Instant
   pub turns : ℕ
   pub has_news : Bool
+  pub watched_work : Bool
+  pub watched_due : Option Instant
   pub max_rows : ℕ
   pub rows : List Row
+
+-- ---- moments
+
+-- the earlier of two moments
+abbrev pub earlier : Option Instant → Option Instant → Option Instant
+earlier None other = other
+earlier (Some one) None = Some one
+earlier (Some one) (Some other) = if nat_le (instant_nanos one) (instant_nanos other) then Some one else Some other
 
 -- ---- one row
 
@@ -62,10 +72,9 @@ changed rows key row = slice_set rows key row
 abbrev pub report_at : Table → ℕ → Readiness
 report_at table key = (row_at table.rows key).report
 
--- News for a socket: a report that it did not take, something that may be done at once, or a deadline that is past.
-abbrev pub has_news_at : Table → ℕ → Bool
-has_news_at table key = has_report (row_at table.rows key).report || (row_at table.rows key).has_work
-    || is_past table.reading (row_at table.rows key).due
+-- a poll reported something of a socket since it last took the report
+abbrev pub is_reported_at : Table → ℕ → Bool
+is_reported_at table key = has_report (report_at table key)
 
 -- ---- changes of a row
 
@@ -82,10 +91,19 @@ without_report table key =
 abbrev pub with_due : Table → ℕ → Option Instant → Table
 with_due table key due = record table { rows = changed table.rows key (record (row_at table.rows key) { due = due }) }
 
--- a turn leaves a socket with work or without it, and with this nearest deadline
+-- a socket is left with work or without it, and with this nearest deadline
 abbrev pub left_with : Table → ℕ → Bool → Option Instant → Table
 left_with table key has_work due =
     record table { rows = changed table.rows key (record (row_at table.rows key) { has_work = has_work; due = due }) }
+
+-- the next wait is also to watch a session with work or without it, and with this nearest deadline
+abbrev pub watching : Table → Bool → Option Instant → Table
+watching table has_work due =
+    record table { watched_work = table.watched_work || has_work; watched_due = earlier table.watched_due due }
+
+-- no session is watched
+abbrev pub unwatched : Table → Table
+unwatched table = record table { watched_work = false; watched_due = None }
 
 -- ---- a poll
 
@@ -125,12 +143,6 @@ pub record PollsOnce {N C : Type 0} (transition : N → NetworkCall C → N → 
 
 -- ---- a wait
 
--- the earlier of two moments
-abbrev pub earlier : Option Instant → Option Instant → Option Instant
-earlier None other = other
-earlier (Some one) None = Some one
-earlier (Some one) (Some other) = if nat_le (instant_nanos one) (instant_nanos other) then Some one else Some other
-
 -- the earliest of a moment and the deadlines of the rows
 abbrev pub nearest : Option Instant → List Row → Option Instant
 nearest found [] = found
@@ -141,9 +153,9 @@ abbrev pub any_work : Bool → List Row → Bool
 any_work found [] = found
 any_work found (row ∷ rows) = any_work (found || row.has_work) rows
 
--- A wait must not block after a poll that reported something, nor while a socket has work.
+-- A wait must not block after a poll that reported something, nor while a session that it watches or a socket has work.
 abbrev pub has_pending : Table → Bool
-has_pending table = table.has_news || any_work false table.rows
+has_pending table = table.has_news || any_work table.watched_work table.rows
 
 -- the time from a reading of the clock until a moment: none without either
 abbrev pub IsUntil : Option Instant → Option Instant → Option Duration → Type 0
@@ -159,9 +171,10 @@ IsNoTime (Some time) = as_nanos time ≡ 0
 
 abbrev pub IsWaitTimeIf : Bool → Table → Option Duration → Type 0
 IsWaitTimeIf true table time = IsNoTime time
-IsWaitTimeIf false table time = IsUntil table.reading (nearest None table.rows) time
+IsWaitTimeIf false table time = IsUntil table.reading (nearest table.watched_due table.rows) time
 
--- A wait lasts at most until the next deadline, and for ever if there is none. It takes no time if something is pending.
+-- A wait lasts at most until the next deadline of the sessions that it watches and of the rows, and for ever if there is
+-- none. It takes no time if something is pending.
 abbrev pub IsWaitTime : Table → Option Duration → Type 0
 IsWaitTime table time = IsWaitTimeIf (has_pending table) table time
 

@@ -13,8 +13,9 @@ ghost use Rattle.daide_settings.specs.Ranges.{host_of, may_come};
 ghost use Rattle.daide_sockets.specs.Pairing.{StaysPending, IsFreshConnect, IsFresh, IsJoined};
 
 use crate::poller::Poller;
-use crate::ports::{Socket, SocketPorts};
+use crate::ports::SocketPorts;
 use crate::present::Present;
+use crate::socket::Socket;
 use crate::table::{SocketTable, after, is_past, merged};
 use daide_buffered_io::pool::Pool;
 use daide_buffered_io::readiness::Readiness;
@@ -93,6 +94,16 @@ impl Acceptor {
         table.leave(self.key, true, self.resumes_at);
     }
 
+    /// Returns whether an accept is made now: the listener is ready by the table, and no pause is under way.
+    fn is_due(&self, table: &SocketTable) -> bool
+        ensures { result ≡ is_accept_due table.now self.now.key self.now.readiness self.now.resumes_at }
+    {
+        match self.resumes_at {
+            None => self.readiness.may_read || table.report(self.key).may_read,
+            Some(_) => is_past(table.now(), self.resumes_at),
+        }
+    }
+
     /// Accepts a connection, and returns it with its address. Returns `None` if there is none. Makes no system call
     /// during the pause after a failed accept.
     pub fn accept<N: Network>(
@@ -106,6 +117,10 @@ impl Acceptor {
         ensures not_made { is_accept_due poller.old.table self.old.key self.old.readiness self.old.resumes_at ≡ false →
             (result ≡ None) × (poller.new.network ≡ poller.old.network) }
     {
+        // Most rounds of a run end here.
+        if !self.is_due(&poller.table) {
+            return None;
+        }
         let report = poller.table.take_report(self.key);
         self.readiness = merged(self.readiness, report);
         let accepted = self.accept_at(&mut poller.network, poller.table.now());
@@ -173,7 +188,7 @@ impl Acceptor {
     }
 
     /// Starts the pause after a refusal.
-    fn stand_back(&mut self, table: &mut SocketTable)
+    fn pause_after_refusal(&mut self, table: &mut SocketTable)
         ensures came { self.new.came ≡ self.old.came }
         ensures clock { table.new.reading ≡ table.old.reading }
     {
@@ -227,13 +242,13 @@ impl Acceptor {
             return Err(Some(address));
         }
         let Some(bot) = Socket::new(poller, pool, stream) else {
-            self.stand_back(&mut poller.table);
+            self.pause_after_refusal(&mut poller.table);
             return Err(None);
         };
         // The list has room for each bot of a run.
         if !present.add(number, host) {
             poller.table.release(bot.key);
-            self.stand_back(&mut poller.table);
+            self.pause_after_refusal(&mut poller.table);
             return Err(None);
         }
         self.came = number;
@@ -429,10 +444,10 @@ impl<'w, S: Duplex + Drop> PendingConnection<'w, S> {
         let Some(server) = server else {
             return Err(Unreached { number, bot });
         };
-        let ports = SocketPorts::new(bot, server).of_session(number, table.now(), im_due, times);
-        // Its first turn begins without a wait, and has no other deadlines.
-        ports.end_turn(table);
-        Ok(ports)
+        // The deadlines of a session are its own: each wait watches them.
+        table.leave(bot.key, false, None);
+        table.leave(server.key, false, None);
+        Ok(SocketPorts::new(bot, server).of_session(number, table.now(), im_due, times))
     }
 
     /// The same of a bot whose connect is given up, wherever it stands.

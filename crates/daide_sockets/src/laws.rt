@@ -12,8 +12,9 @@ pub fn sessions_come_once<P: Ports, S: Duplex + Drop>()
     ensures { SessionsComeOnce P S.to_give S.taken S.calls }
 {}
 
-/// A wait lasts at most until the deadline of each row of its table, and takes no time while a row has work. So while a
-/// turn left bytes that may be written, or a read that was interrupted, no wait blocks.
+/// A wait lasts at most until the deadline of each session that it watches and of each row of its table, and takes no
+/// time if one of them has work. So while a turn left bytes that may be written, or a read that was interrupted, no wait
+/// blocks.
 pub fn waits_are_in_time()
     ensures { WaitsAreInTime }
 {}

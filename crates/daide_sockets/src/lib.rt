@@ -1,11 +1,11 @@
 //! The environment of the event loop, over sockets.
 //!
 //! Only the loop's own wait blocks. The sockets are over any `Network`; `os_network` is that of the operating system,
-//! with `connection` as a full-duplex stream. `ports` has a socket with its readiness and its deadlines, and the ports of
-//! a session. `table` has what polls reported of each socket and its nearest deadline, and `poller` polls the network
-//! into it. `admission` accepts bots and connects them, `present` has the hosts of those that are there, `lingering_close` closes in stages, `session_notice` has the log
-//! lines of a session, and `timed` the timeouts that it reports. `system` combines them for the loop, and `bound_sockets`
-//! creates the resources of a run.
+//! with `connection` as a full-duplex stream. `socket` is a connection with its readiness and its deadlines, and `ports`
+//! are the two of a session. `table` has what polls reported of each socket and its nearest deadline, and `poller` polls
+//! the network into it. `admission` accepts bots and connects them, `present` has the hosts of those that are there,
+//! `lingering_close` closes in stages, `session_notice` has the log lines of a session, and `timed` the timeouts that it
+//! reports. `system` combines them for the loop, and `bound_sockets` creates the resources of a run.
 //!
 //! All but the results of the system are values, which the contracts name. A call whose result depends on the operating
 //! system is described by that call of the network, by the network's own `transition`.
@@ -19,8 +19,9 @@ pub mod lingering_close;
 pub mod os_network;
 pub mod poller;
 pub mod ports;
-pub mod present;
+mod present;
 pub mod session_notice;
+pub mod socket;
 pub mod system;
 pub mod table;
 pub mod timed;

@@ -14,10 +14,12 @@ ghost use Rattle.daide_sockets.specs.Lingering.{ClosingStream, ClosingList, begi
 ghost use Rattle.daide_sockets.specs.Lingering.{Discards, is_released, Lingers, Leaves, LooksAtOne, LooksAlong, in_pass};
 ghost use Rattle.daide_sockets.specs.Lingering.{LooksAround, GoOnFor};
 ghost use Rattle.daide_sockets.specs.Table.{WaitsOnce};
+ghost use Rattle.daide_sockets.specs.Wakeups.{RestsOnce};
 ghost use Rattle.daide_sockets.specs.Pairing.{ClosesAt, ClosesBothAt, with_room};
 
 use crate::poller::Poller;
-use crate::ports::{Socket, SocketPorts};
+use crate::ports::SocketPorts;
+use crate::socket::Socket;
 use crate::table::{SocketTable, after, earlier, is_time_over, merged};
 use daide_buffered_io::dropping::Dropping;
 use daide_io::duplex::Duplex;
@@ -443,10 +445,11 @@ impl<'w, S: Duplex + Drop> Closings<'w, S> {
         }
     }
 
-    /// Waits for events, unless a socket may make progress at once.
+    /// Waits for events. If a socket may make progress at once, it only polls.
     pub fn rest<N: Network>(&self, poller: &mut Poller<N>)
-        ensures { self.now.streams ≡ [] → WaitsOnce N.transition poller.old.network poller.old.table
+        ensures waits { self.now.streams ≡ [] → WaitsOnce N.transition poller.old.network poller.old.table
             poller.new.network poller.new.table }
+        ensures polls { RestsOnce N.transition poller.old.network poller.old.table poller.new.network poller.new.table }
     {
         if !self.is_empty() && self.is_ready(&poller.table) {
             poller.look();

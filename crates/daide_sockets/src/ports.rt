@@ -1,412 +1,29 @@
 //! The ports of a session over two sockets.
 //!
-//! A socket has a read buffer, and a write buffer for small puts. So the process holds of a peer the weight of its
-//! session, and at most `MOST_HELD` bytes each way of each socket. The ports work over any two streams, and their
-//! contracts state the bytes that these returned and accepted. A connection of the operating system records nothing, so
-//! for it the contracts state only the results of its reads and writes.
+//! The ports work over any two streams, and their contracts state the bytes that these returned and accepted. A
+//! connection of the operating system records nothing, so for it the contracts state only the results of its reads and
+//! writes.
 
-ghost use Rattle.std.specs.Prelude.{◌≡◌, ◌≢◌, ◌<◌, ◌||◌, ◌&&◌, nat_lt, IsNone, IfSome, None, [], min, length, take, true, false};
+ghost use Rattle.std.specs.Prelude.{◌≡◌, ◌≢◌, ◌<◌, ◌||◌, ◌&&◌, IsNone, None, [], min, length, take, true, false};
 ghost use Rattle.daide_io.specs.Ports.{TurnBegins, Clock as Popped, Pulled, Offered, IsPullWithin, IsPutWithin, pulled_len};
 ghost use Rattle.daide_buffered_io.specs.Buffers.{Passes, ReadsNothing, IsBufferedPull, IsFlushed};
 ghost use Rattle.daide_buffered_io.specs.Streams.{Transfers, stream_of};
-ghost use Rattle.daide_buffered_io.specs.Taking.{bytes_taken, taken_len};
-ghost use Rattle.daide_sockets.specs.Lingering.{IsWriting, IsWritingOver};
-ghost use Rattle.daide_sockets.specs.Pairing.{IsFresh};
-ghost use Rattle.daide_sockets.specs.Sockets.{read_if, has_socket_work, next_deadline, due_after};
-ghost use Rattle.daide_sockets.specs.Table.{earlier, merged, report_at, without_report, has_news_at, left_with};
-ghost use Rattle.daide_sockets.specs.Times.{IsStallEnd, StallsNext, has_stalled, is_past};
+ghost use Rattle.daide_buffered_io.specs.Taking.{bytes_taken};
+ghost use Rattle.daide_sockets.specs.Lingering.{IsWriting};
+ghost use Rattle.daide_sockets.specs.Sockets.{read_if, due_after};
+ghost use Rattle.daide_sockets.specs.Table.{merged, report_at, without_report, watching};
+ghost use Rattle.daide_sockets.specs.Times.{IsStallEnd, has_stalled, is_past};
+ghost use Rattle.daide_sockets.specs.Wakeups.{StaysUnread, IsPulled, IsOffered, Settles};
+ghost use Rattle.daide_sockets.specs.Wakeups.{may_session_go_on, session_due, has_session_news};
 
-use crate::poller::Poller;
-use crate::table::{SocketTable, earlier, is_past, merged, stalls_next, timeout_end};
+use crate::socket::{Socket, TurnsHeld};
+use crate::table::{SocketTable, earlier, is_past, merged, timeout_end};
 use crate::timed::Timed;
-use daide_buffered_io::buffered::Buffered;
-use daide_buffered_io::pool::Pool;
 use daide_buffered_io::readiness::Readiness;
 use daide_frame::side::Side;
 use daide_io::duplex::Duplex;
-use daide_io::network::Network;
 use daide_io::ports::{Ports, Pull, Put};
 use std::time::{Duration, Instant};
-
-/// The most turns for which writable bytes stay buffered, even if each turn adds more.
-const MOST_TURNS_HELD: usize = 32;
-
-/// A non-blocking connection with its buffers, its readiness and its deadlines. It has a row of the table.
-#[derive(Drop)]
-pub struct Socket<'w, S: Drop> {
-    /// The connection with its buffers.
-    pub stream: Buffered<S>,
-    /// The key of its row.
-    pub key: usize,
-    /// What is known of it without a system call.
-    pub readiness: Readiness,
-    /// The pool of its buffers.
-    pub(crate) pool: &'w Pool,
-    /// The stall timeout of its peer; `None` if there is none.
-    stall_time: Option<Duration>,
-    /// The moment at which the stall timeout expires, unless its peer takes a byte before. `None` if no byte is queued
-    /// for it, or for never.
-    stalls_at: Option<Instant>,
-    /// The moment at which the idle timeout of its peer expires, unless it sends something before; `None` for never.
-    silent_from: Option<Instant>,
-    /// Its expired timeouts.
-    timed: Timed,
-    /// Whether it accepted bytes since its turn began, so that more may follow.
-    is_gathering: bool,
-    /// Whether its last pull returned bytes, so that an answer to them may be put to it in parts.
-    gave: bool,
-    /// Whether a read or a write since its turn began must be tried again, since it was interrupted each time.
-    tries_again: bool,
-    /// The number of the session whose connect created it; 0 if no connect of a run did.
-    made_for: u32,
-}
-
-impl<'w, S: Duplex + Drop> Socket<'w, S> {
-    /// Has a connection followed. Returns `None` if the table has no free row, or the system refuses.
-    pub fn new<N: Network<Connection = S>>(
-        poller: &mut Poller<N>,
-        pool: &'w Pool,
-        stream: S,
-    ) -> Option<Socket<'w, S>>
-        ensures fresh { IfSome result (λ socket. IsFresh socket.stream) }
-        ensures clock { poller.new.table.reading ≡ poller.old.table.reading }
-    {
-        let mut stream = stream;
-        let key = poller.follow(&mut stream)?;
-        Some(Socket::over(pool, stream, key))
-    }
-}
-
-impl<'w, S: Drop> Socket<'w, S> {
-    /// Creates a socket from any stream, with empty buffers, and the key of its row of the table. Nothing is known of
-    /// its readiness.
-    pub fn over(pool: &'w Pool, stream: S, key: usize) -> Socket<'w, S>
-        ensures stream { result.stream ≡ record { stream = stream; read_buffer = []; write_buffer = []; has_failed = false } }
-        ensures timed { result.timed ≡ record { is_silent = false; is_stalled = false; ends_stalled = false } }
-        ensures stall_time { IsNone result.stall_time }
-    {
-        Socket {
-            stream: Buffered::new(stream),
-            key,
-            readiness: Readiness::UNKNOWN,
-            pool,
-            stall_time: None,
-            stalls_at: None,
-            silent_from: None,
-            timed: Timed::NONE,
-            is_gathering: false,
-            gave: false,
-            tries_again: false,
-            made_for: 0,
-        }
-    }
-
-    /// Records that the connect of the session with this number created the socket.
-    pub(crate) fn of_connect(self, number: u32) -> Socket<'w, S>
-        ensures stream { result.stream ≡ self.entry.stream }
-        ensures made_for { result.made_for ≡ number }
-    {
-        let mut socket = self;
-        socket.made_for = number;
-        socket
-    }
-
-    /// Sets the stall timeout of its peer; `None` if there is none.
-    pub fn set_stall_time(&mut self, time: Option<Duration>)
-        ensures { self.new ≡ record self.old { stall_time = time } }
-    {
-        self.stall_time = time;
-    }
-
-    /// Starts the stall timeout of its peer again, with this time; `None` for never.
-    pub(crate) fn restart_stall(&mut self, time: Option<Duration>)
-        ensures { self.new ≡ record self.old { stall_time = time; stalls_at = None } }
-    {
-        self.stall_time = time;
-        self.stalls_at = None;
-    }
-
-    /// Returns the moment at which the stall timeout of its peer expires.
-    pub(crate) fn stalls_at(&self) -> Option<Instant>
-        ensures { result ≡ self.now.stalls_at }
-    {
-        self.stalls_at
-    }
-
-    /// Adds a report to its readiness.
-    pub fn note_report(&mut self, report: Readiness)
-        ensures { self.new ≡ record self.old { readiness = merged self.old.readiness report } }
-    {
-        self.readiness = merged(self.readiness, report);
-    }
-
-    /// Adds the report of its row to its readiness, and takes it out of the row.
-    pub fn take_report(&mut self, table: &mut SocketTable)
-        ensures readiness { self.new ≡ record self.old {
-          readiness = merged self.old.readiness (report_at table.old self.old.key);
-        } }
-        ensures table { table.new ≡ without_report table.old self.old.key }
-    {
-        let report = table.take_report(self.key);
-        self.note_report(report);
-    }
-
-    /// Returns the nearest deadline of its peer's timeouts after a turn at this reading of the clock. An idle timeout
-    /// that already expired is no deadline, since the next pull reports it. Without room in the session there is no
-    /// pull, and nothing to do.
-    fn deadline(&self, now: Option<Instant>) -> Option<Instant>
-        ensures { result ≡ next_deadline now self.now.stalls_at self.now.silent_from }
-    {
-        let silent_from = if is_past(now, self.silent_from) {
-            None
-        } else {
-            self.silent_from
-        };
-        earlier(self.stalls_at, silent_from)
-    }
-
-    /// Returns whether something may be done at once: a byte is buffered that may be written, or a read or a write
-    /// must be tried again.
-    fn has_work(&self) -> bool
-        ensures { result ≡ has_socket_work self.now.stream self.now.readiness self.now.tries_again }
-    {
-        self.tries_again || self.stream.is_behind() && self.readiness.may_write
-    }
-
-    /// Returns the stream itself.
-    pub fn connection(&self) -> &S
-        ensures { result.now ≡ self.now.stream.stream }
-    {
-        self.stream.stream()
-    }
-}
-
-impl<S: Duplex + Drop> Socket<'_, S> {
-    /// Records a write at this reading of the clock: whether it took a byte, and whether bytes are still queued.
-    fn note_written(&mut self, now: Option<Instant>, took: bool, is_waiting: bool)
-        ensures time { is_waiting ≡ true → StallsNext self.old.stall_time now self.old.stalls_at took self.new.stalls_at }
-        ensures none { is_waiting ≡ false → self.new.stalls_at ≡ None }
-        ensures stream { self.new.stream ≡ self.old.stream }
-        ensures readiness { self.new.readiness ≡ self.old.readiness }
-        ensures rest { self.new ≡ record self.old { stalls_at = self.new.stalls_at } }
-    {
-        self.stalls_at = if is_waiting {
-            stalls_next(self.stall_time, now, self.stalls_at, took)
-        } else {
-            None
-        };
-    }
-
-    /// Gives up writing to a peer whose stall timeout is over at this reading of the clock, and leaves the socket as it
-    /// is otherwise. It moves no byte.
-    ///
-    /// `patient`: if no time is set, it does nothing.
-    ///
-    /// `stalled`: from then on each put fails.
-    ///
-    /// `gives_up`: it gives up if and only if the moment is past: `stall_seconds` after the last byte that the peer
-    /// took, or after the first byte was queued.
-    ///
-    /// Not said: that the reading is the present time. `tests/program` shows for a bot and a server that it comes in
-    /// time, and that no such peer holds a run open.
-    #[tactic(auto, using(daide_buffered_io::proofs::BufferLemmas::same_passes))]
-    pub(crate) fn give_up_stalled(&mut self, now: Option<Instant>)
-        ensures passes { Passes S.to_give S.taken self.old.stream [] [] self.new.stream }
-        ensures unread { ReadsNothing S.to_give self.old.stream self.new.stream }
-        ensures stalled { self.new.timed.is_stalled ≡ true → self.old.timed.is_stalled ≡ false →
-            self.new.stream.has_failed ≡ true }
-        ensures gives_up { has_stalled self.old.stall_time now self.old.stalls_at ≡ true →
-            self.new.stream ≡ record self.old.stream { has_failed = true } }
-        ensures waits { has_stalled self.old.stall_time now self.old.stalls_at ≡ false →
-            (self.new.stream ≡ self.old.stream) × (self.new.stalls_at ≡ self.old.stalls_at)
-            × (self.new.timed ≡ self.old.timed) }
-        ensures stall_time { self.new.stall_time ≡ self.old.stall_time }
-        ensures patient { IsNone self.old.stall_time → self.new.timed ≡ self.old.timed }
-        ensures silent { self.new.timed.is_silent ≡ self.old.timed.is_silent }
-        ensures ends { self.new.timed.ends_stalled ≡ self.old.timed.ends_stalled }
-        ensures gathering { self.new.is_gathering ≡ self.old.is_gathering }
-    {
-        if self.stall_time.is_none() {
-            return;
-        }
-        if !is_past(now, self.stalls_at) {
-            return;
-        }
-        self.stalls_at = None;
-        self.stream.give_up();
-        self.timed.is_stalled = true;
-    }
-
-    /// Returns buffered bytes, or reads from the connection. The bytes of `Got` are, in order, those that the
-    /// connection returned.
-    #[tactic(auto, using(daide_buffered_io::proofs::BufferLemmas::same_passes))]
-    pub fn pull(&mut self, buffer: &mut [u8]) -> Pull
-        ensures within { IsPullWithin result (length buffer.old) }
-        ensures len { length buffer.new ≡ length buffer.old }
-        ensures passes { Passes S.to_give S.taken self.old.stream (take (pulled_len result) buffer.new) []
-            self.new.stream }
-        ensures asked { IsBufferedPull S.calls (length buffer.old) self.old.readiness self.old.stream result
-            self.new.readiness self.new.stream }
-        ensures handed { 0 < length self.old.stream.read_buffer →
-            result ≡ Pull.Got (min (length self.old.stream.read_buffer) (length buffer.old)) }
-        ensures timed { self.new.timed ≡ self.old.timed }
-        ensures times { (self.new.silent_from ≡ self.old.silent_from) × (self.new.stalls_at ≡ self.old.stalls_at) }
-        ensures gathering { self.new.is_gathering ≡ self.old.is_gathering }
-        ensures idle { result ≡ Pull.Idle → self.new.gave ≡ false }
-        ensures none_left { result ≡ Pull.Idle → 0 < length buffer.old → self.new.tries_again ≡ false →
-            (self.new.readiness.may_read ≡ false) × (self.new.stream.read_buffer ≡ []) }
-    {
-        self.gave = false;
-        // Most turns of an idle session end here.
-        if !self.readiness.may_read && !self.stream.is_ahead() {
-            return Pull::Idle;
-        }
-        let pull = self.stream.pull(self.pool, &mut self.readiness, buffer);
-        self.gave = matches!(pull, Pull::Got(_));
-        let is_left = self.readiness.may_read || self.stream.is_ahead();
-        if is_left && pull == Pull::Idle && !buffer.is_empty() {
-            self.tries_again = true;
-        }
-        pull
-    }
-
-    /// Buffers the bytes, or writes what the connection accepts. The bytes of `Took` are, in order, in the connection
-    /// or in the write buffer. Returns `Failed` also for a failure of an earlier flush.
-    pub fn put(&mut self, now: Option<Instant>, bytes: &[u8]) -> Put
-        ensures within { IsPutWithin result (length bytes.now) }
-        ensures passes { Passes S.to_give S.taken self.old.stream [] (bytes_taken result bytes.now) self.new.stream }
-        ensures fails { result ≡ Put.Failed → self.new.stream.has_failed ≡ true }
-        ensures failed { self.old.stream.has_failed ≡ true →
-            (result ≡ Put.Failed) × (self.new.stream ≡ self.old.stream) }
-        ensures timed { self.new.timed ≡ self.old.timed }
-        ensures gathers { 0 < taken_len result → self.new.is_gathering ≡ true }
-        ensures gathering { taken_len result ≡ 0 → self.new.is_gathering ≡ self.old.is_gathering }
-        ensures full { result ≡ Put.Took 0 → 0 < length bytes.now → self.new.tries_again ≡ false →
-            self.new.readiness.may_write ≡ false }
-    {
-        let held = self.stream.behind_len();
-        let put = self.stream.put(self.pool, &mut self.readiness, bytes);
-        match put {
-            Put::Took(count) => {
-                if count > 0 {
-                    self.is_gathering = true;
-                }
-                let took = self.stream.behind_len() < held.saturating_add(count);
-                let is_waiting = count < bytes.len() || self.stream.is_behind();
-                self.note_written(now, took, is_waiting);
-                if count == 0 && !bytes.is_empty() && self.readiness.may_write {
-                    self.tries_again = true;
-                }
-            }
-            Put::Failed => self.note_written(None, false, false),
-        }
-        put
-    }
-
-    /// Writes all buffered bytes to the connection once, unless a write failed before, and keeps those that it doesn't
-    /// take. The stall timeout starts again at this reading of the clock if the peer took a byte.
-    #[tactic(auto, using(daide_buffered_io::proofs::BufferLemmas::same_passes))]
-    pub fn flush_at(&mut self, now: Option<Instant>)
-        ensures passes { Passes S.to_give S.taken self.old.stream [] [] self.new.stream }
-        ensures unread { ReadsNothing S.to_give self.old.stream self.new.stream }
-        ensures written { IsWriting self.old.stream →
-            IsFlushed S.calls self.old.readiness self.old.stream self.new.readiness self.new.stream }
-        ensures nothing { IsWritingOver self.old.stream →
-            (self.new.stream ≡ self.old.stream) × (self.new.stalls_at ≡ self.old.stalls_at) }
-        ensures waits { IsWriting self.old.stream → IsWriting self.new.stream →
-            StallsNext self.old.stall_time now self.old.stalls_at
-            (nat_lt (length self.new.stream.write_buffer) (length self.old.stream.write_buffer)) self.new.stalls_at }
-        ensures stall_time { self.new.stall_time ≡ self.old.stall_time }
-        ensures timed { self.new.timed ≡ self.old.timed }
-        ensures gathering { self.new.is_gathering ≡ self.old.is_gathering }
-    {
-        if !self.stream.is_behind() {
-            return;
-        }
-        let held = self.stream.behind_len();
-        self.stream.flush(self.pool, &mut self.readiness);
-        let took = self.stream.behind_len() < held;
-        let is_waiting = self.stream.is_behind();
-        self.note_written(now, took, is_waiting);
-    }
-
-    /// Writes buffered bytes, unless the session may still put more: an answer to bytes that it pulled, some parts of
-    /// which were put in this turn. A turn that puts something is followed by another without a wait.
-    #[tactic(auto, using(daide_buffered_io::proofs::BufferLemmas::same_passes))]
-    fn flush_gathered(&mut self, now: Option<Instant>)
-        ensures passes { Passes S.to_give S.taken self.old.stream [] [] self.new.stream }
-        ensures unread { ReadsNothing S.to_give self.old.stream self.new.stream }
-        ensures timed { self.new.timed ≡ self.old.timed }
-        ensures gathering { self.old.is_gathering ≡ true → self.old.gave ≡ true → self.new ≡ self.old }
-        ensures written { (self.old.is_gathering && self.old.gave) ≡ false → IsWriting self.old.stream →
-            IsFlushed S.calls self.old.readiness self.old.stream self.new.readiness self.new.stream }
-    {
-        if self.is_gathering && self.gave {
-            return;
-        }
-        self.flush_at(now);
-    }
-}
-
-/// The number of turns since the last write to a socket with buffered bytes.
-#[derive(Clone, Copy)]
-struct TurnsHeld {
-    turns: usize,
-    /// How many bytes were buffered when the last of them began.
-    len: usize,
-}
-
-impl TurnsHeld {
-    /// The state with an empty write buffer.
-    const NONE: TurnsHeld = TurnsHeld { turns: 0, len: 0 };
-
-    /// Returns the state after one more turn began with `len` bytes buffered. If these are fewer than in the turn
-    /// before, some were written in it.
-    fn with_turn(self, len: usize) -> TurnsHeld {
-        let turns = if len == 0 || len < self.len {
-            0
-        } else {
-            self.turns.saturating_add(1)
-        };
-        TurnsHeld { turns, len }
-    }
-
-    /// Returns true if the buffered bytes must be written now.
-    fn is_over(self) -> bool {
-        self.turns >= MOST_TURNS_HELD
-    }
-}
-
-impl<S: Duplex + Drop> Socket<'_, S> {
-    /// Writes buffered bytes whose turns are over.
-    #[tactic(auto, using(daide_buffered_io::proofs::BufferLemmas::same_passes))]
-    fn flush_late(&mut self, now: Option<Instant>, held: TurnsHeld)
-        ensures passes { Passes S.to_give S.taken self.old.stream [] [] self.new.stream }
-        ensures unread { ReadsNothing S.to_give self.old.stream self.new.stream }
-        ensures timed { self.new.timed ≡ self.old.timed }
-        ensures gathering { self.new.is_gathering ≡ self.old.is_gathering }
-    {
-        if held.is_over() {
-            self.flush_at(now);
-        }
-    }
-
-    /// Begins a turn, in which nothing is put yet: gives up a stalled peer, and writes buffered bytes whose turns are
-    /// over.
-    #[tactic(auto, using(daide_buffered_io::proofs::BufferLemmas::flush_then, daide_buffered_io::proofs::BufferLemmas::unread_then))]
-    fn begin_turn(&mut self, now: Option<Instant>, held: TurnsHeld)
-        ensures passes { Passes S.to_give S.taken self.old.stream [] [] self.new.stream }
-        ensures unread { ReadsNothing S.to_give self.old.stream self.new.stream }
-        ensures silent { self.new.timed.is_silent ≡ self.old.timed.is_silent }
-        ensures ends { self.new.timed.ends_stalled ≡ self.old.timed.ends_stalled }
-        ensures gathering { self.new.is_gathering ≡ false }
-    {
-        self.is_gathering = false;
-        self.tries_again = false;
-        self.give_up_stalled(now);
-        self.flush_late(now, held);
-    }
-}
 
 /// The idle timeout of the peers of a session, and the reading of the clock at which its turn began.
 #[derive(Clone, Copy)]
@@ -487,8 +104,8 @@ fn pull_or_flush_peer<S: Duplex + Drop>(
         IsWriting other.old.stream →
         IsFlushed S.calls other.old.readiness other.old.stream other.new.readiness other.new.stream }
     // with room, nothing is left that may be read, but for a read that must be tried again
-    ensures none_left { result ≡ Pull.Idle → 0 < length buffer.old → own.new.tries_again ≡ false →
-        (own.new.readiness.may_read ≡ false) × (own.new.stream.read_buffer ≡ []) }
+    ensures pulled { IsPulled (length buffer.old) result own.old own.new }
+    ensures other_stays { StaysUnread other.old other.new }
 {
     let is_late = idle.is_over(own.silent_from);
     if is_late {
@@ -531,8 +148,8 @@ fn put_or_flush_peer<S: Duplex + Drop>(
     ensures written { result ≡ Put.Took 0 → (other.old.is_gathering && other.old.gave) ≡ false →
         IsWriting other.old.stream →
         IsFlushed S.calls other.old.readiness other.old.stream other.new.readiness other.new.stream }
-    ensures full { result ≡ Put.Took 0 → 0 < length bytes.now → own.new.tries_again ≡ false →
-        own.new.readiness.may_write ≡ false }
+    ensures offered { IsOffered bytes.now result own.old own.new }
+    ensures other_stays { StaysUnread other.old other.new }
 {
     let put = own.put(now, bytes);
     if put != Put::Took(0) {
@@ -550,9 +167,9 @@ fn put_or_flush_peer<S: Duplex + Drop>(
 /// (`pull_or_flush_peer`, `put_or_flush_peer`: `written`). The parts of an answer are not flushed by such a pull or put
 /// while the turn still puts some.
 ///
-/// A pull with room that finds nothing leaves the socket not readable, with nothing read ahead, or it must be tried again
-/// (`none_left`). A put that nothing is taken of leaves it not writable, or it must be tried again (`full`). What must be
-/// tried again, and what is held that may be written, is work, which a turn leaves in the row (`end_turn`).
+/// A pull with room that finds nothing leaves the socket not readable, with nothing read ahead, or it must be tried again.
+/// A put that nothing is taken of leaves it not writable, or it must be tried again (`transition`, `Settles`). What must be
+/// tried again, and what is held that may be written, is work, which each wait watches (`watch`).
 ///
 /// Not said: the bytes of the operating system's own connections (`Connection`), of which nothing is known but what its
 /// calls returned.
@@ -683,11 +300,62 @@ impl<'w, S: Drop> SocketPorts<'w, S> {
         (bot, server)
     }
 
-    /// Returns whether there is news for one of the sockets since the last turn began.
-    pub fn has_news(&self, table: &SocketTable) -> bool
-        ensures { result ≡ (has_news_at table.now self.now.bot.key || has_news_at table.now self.now.server.key) }
+    /// Returns whether something may be done at once for the session: a poll reported something that was not taken yet,
+    /// or there is work.
+    fn may_go_on(&self, table: &SocketTable) -> bool
+        ensures { result ≡ may_session_go_on table.now (record {
+          bot = self.now.bot;
+          server = self.now.server;
+          reading = self.now.idle.reading;
+          im_due = self.now.im_due;
+        }) }
     {
-        table.has_news_at(self.bot.key) || table.has_news_at(self.server.key)
+        self.bot.may_go_on(table) || self.server.may_go_on(table)
+    }
+
+    /// Returns the nearest deadline of the session after its last turn; `None` if there is none.
+    fn due(&self) -> Option<Instant>
+        ensures { result ≡ session_due (record {
+          bot = self.now.bot;
+          server = self.now.server;
+          reading = self.now.idle.reading;
+          im_due = self.now.im_due;
+        }) }
+    {
+        let now = self.idle.reading;
+        let due = earlier(self.bot.deadline(now), self.server.deadline(now));
+        earlier(due, self.im_due)
+    }
+
+    /// Returns whether there is news since the last turn: something may be done at once, or a deadline is past.
+    pub fn has_news(&self, table: &SocketTable) -> bool
+        ensures { result ≡ has_session_news table.now (record {
+          bot = self.now.bot;
+          server = self.now.server;
+          reading = self.now.idle.reading;
+          im_due = self.now.im_due;
+        }) }
+    {
+        self.may_go_on(table) || is_past(table.now(), self.due())
+    }
+
+    /// Has the next wait watch the session: whether something may be done at once for it, by its ports or for another
+    /// reason, and its nearest deadline. So no wait blocks beyond these.
+    pub fn watch(&self, table: &mut SocketTable, other: bool)
+        ensures { table.new ≡ watching table.old (may_session_go_on table.old (record {
+          bot = self.now.bot;
+          server = self.now.server;
+          reading = self.now.idle.reading;
+          im_due = self.now.im_due;
+        }) || other) (session_due (record {
+          bot = self.now.bot;
+          server = self.now.server;
+          reading = self.now.idle.reading;
+          im_due = self.now.im_due;
+        })) }
+    {
+        let has_work = self.may_go_on(table) || other;
+        table.watch(has_work, self.due());
     }
 
     /// Counts the beginning of a turn at this reading of the clock. Makes no system call.
@@ -797,45 +465,25 @@ impl<S: Duplex + Drop> SocketPorts<'_, S> {
         self.begin_both();
         self.read_deadline();
     }
-
-    /// Ends a turn of the session: leaves the nearest deadline of each socket in its row, and whether something may be
-    /// done at once. Then no wait blocks, and there is news for the session.
-    pub fn end_turn(&self, table: &mut SocketTable)
-        ensures { table.new ≡ left_with
-            (left_with table.old self.now.bot.key
-            (has_socket_work self.now.bot.stream self.now.bot.readiness self.now.bot.tries_again)
-            (earlier (next_deadline self.now.idle.reading self.now.bot.stalls_at self.now.bot.silent_from) self.now.im_due))
-            self.now.server.key
-            (has_socket_work self.now.server.stream self.now.server.readiness self.now.server.tries_again)
-            (next_deadline self.now.idle.reading self.now.server.stalls_at self.now.server.silent_from) }
-    {
-        let now = self.idle.reading;
-        let due = earlier(self.bot.deadline(now), self.im_due);
-        table.leave(self.bot.key, self.bot.has_work(), due);
-        let due = self.server.deadline(now);
-        table.leave(self.server.key, self.server.has_work(), due);
-    }
 }
 
 impl<S: Duplex + Drop> Ports for SocketPorts<'_, S> {
     ghost transition = { λ old answer new. Transfers S.to_give S.taken (old.bot.stream, old.server.stream) answer
-        (new.bot.stream, new.server.stream) };
+        (new.bot.stream, new.server.stream) × Settles answer (old.bot, old.server) (new.bot, new.server) };
 
     fn pull(&mut self, side: Side, buffer: &mut [u8]) -> Pull
         ensures within { IsPullWithin result (length buffer.old) }
         ensures transition { Transfers S.to_give S.taken (self.old.bot.stream, self.old.server.stream)
             (Pulled side (length buffer.old) result (take (pulled_len result) buffer.new))
-            (self.new.bot.stream, self.new.server.stream) }
+            (self.new.bot.stream, self.new.server.stream)
+            × Settles (Pulled side (length buffer.old) result (take (pulled_len result) buffer.new))
+            (self.old.bot, self.old.server) (self.new.bot, self.new.server) }
         ensures asked { (stream_of (self.new.bot, self.new.server) side).timed.is_silent ≡ false →
             (stream_of (self.new.bot, self.new.server) side).timed.ends_stalled ≡ false →
             IsBufferedPull S.calls (length buffer.old) (read_if (has_stalled self.old.idle.time self.old.idle.reading
             (stream_of (self.old.bot, self.old.server) side).silent_from) (stream_of (self.old.bot, self.old.server) side).readiness)
             (stream_of (self.old.bot, self.old.server) side).stream result
             (stream_of (self.new.bot, self.new.server) side).readiness (stream_of (self.new.bot, self.new.server) side).stream }
-        ensures none_left { result ≡ Pull.Idle → 0 < length buffer.old →
-            (stream_of (self.new.bot, self.new.server) side).tries_again ≡ false →
-            ((stream_of (self.new.bot, self.new.server) side).readiness.may_read ≡ false)
-            × ((stream_of (self.new.bot, self.new.server) side).stream.read_buffer ≡ []) }
         ensures written { result ≡ Pull.Idle → ((stream_of (self.old.server, self.old.bot) side).is_gathering
             && (stream_of (self.old.server, self.old.bot) side).gave) ≡ false →
             IsWriting (stream_of (self.old.server, self.old.bot) side).stream →
@@ -851,10 +499,8 @@ impl<S: Duplex + Drop> Ports for SocketPorts<'_, S> {
     fn put(&mut self, side: Side, bytes: &[u8]) -> Put
         ensures within { IsPutWithin result (length bytes.now) }
         ensures transition { Transfers S.to_give S.taken (self.old.bot.stream, self.old.server.stream)
-            (Offered side bytes.now result) (self.new.bot.stream, self.new.server.stream) }
-        ensures full { result ≡ Put.Took 0 → 0 < length bytes.now →
-            (stream_of (self.new.bot, self.new.server) side).tries_again ≡ false →
-            (stream_of (self.new.bot, self.new.server) side).readiness.may_write ≡ false }
+            (Offered side bytes.now result) (self.new.bot.stream, self.new.server.stream)
+            × Settles (Offered side bytes.now result) (self.old.bot, self.old.server) (self.new.bot, self.new.server) }
         ensures written { result ≡ Put.Took 0 → ((stream_of (self.old.server, self.old.bot) side).is_gathering
             && (stream_of (self.old.server, self.old.bot) side).gave) ≡ false →
             IsWriting (stream_of (self.old.server, self.old.bot) side).stream →
@@ -876,7 +522,8 @@ impl<S: Duplex + Drop> Ports for SocketPorts<'_, S> {
 
     fn clock_popped(&mut self) -> bool
         ensures transition { Transfers S.to_give S.taken (self.old.bot.stream, self.old.server.stream) (Popped result)
-            (self.new.bot.stream, self.new.server.stream) }
+            (self.new.bot.stream, self.new.server.stream)
+            × Settles (Popped result) (self.old.bot, self.old.server) (self.new.bot, self.new.server) }
         ensures answer { result ≡ self.old.im_timer_expired }
         ensures same { self.new ≡ self.old }
     {

@@ -3,15 +3,16 @@
 ghost use Rattle.std.specs.Duration.{as_nanos};
 ghost use Rattle.std.specs.Prelude.{◌≡◌, ◌⊎◌, ℕ, ◌+◌, ◌*◌, ◌^◌, ◌<◌, ◌||◌, IfSome, IfNone, None, true, false, [], length, vec_capacity};
 ghost use Rattle.daide_io.specs.Ports.{TurnBegins};
-ghost use Rattle.daide_io.specs.System.{ReportsNews, BeginsTurn, Retires};
+ghost use Rattle.daide_io.specs.System.{ReportsNews, BeginsTurn, Watches, Retires};
 ghost use Rattle.daide_buffered_io.specs.Streams.{Transfers};
 ghost use Rattle.daide_sockets.specs.Accepting.{is_accept_due, MakesAccept};
 ghost use Rattle.daide_sockets.specs.Lingering.{LooksAround, in_pass, GoOnFor, no_closing};
 ghost use Rattle.daide_sockets.specs.Pairing.{FirstArrivalEvolves, Transits, Closes, ClosesBothAt, Comes, ComesWith};
 ghost use Rattle.daide_sockets.specs.Present.{IsAllowed, IsPresentWith, position_of, without_at};
 ghost use Rattle.daide_sockets.specs.Sockets.{due_after};
-ghost use Rattle.daide_sockets.specs.Table.{WaitsOnce, has_news_at};
+ghost use Rattle.daide_sockets.specs.Table.{Table, WaitsOnce, watching, unwatched};
 ghost use Rattle.daide_sockets.specs.Times.{IsSeconds, IsIdleTime, is_past};
+ghost use Rattle.daide_sockets.specs.Wakeups.{Settles, Wakes, RestsOnce, may_session_go_on, session_due, has_session_news};
 
 use crate::admission::{Acceptor, PendingConnection, Unreached};
 use crate::lingering_close::{Closings, MOST_CLOSING};
@@ -57,9 +58,10 @@ fn idle_time_of(seconds: u32) -> Option<Duration>
 ///
 /// In `begin_round` the sockets that close make progress, by the table's reading of the clock (`tidy`: `closing`): all of
 /// them, or eight if there are more (`ClosingsGoOn`). They keep their order. If a turn begins, what was held for too long
-/// is written to that session's own sockets, and neither is read. There is news for a session exactly if a row of its
-/// sockets has some (`has_news`: `news`). A wait polls for the time until the nearest deadline, unless something is
-/// pending or a socket closes (`rest`: `waits`). With room for one more, a bot is accepted if the listener is ready
+/// is written to that session's own sockets, and neither is read. There is news for a session exactly if something may be
+/// done at once for it, or its nearest deadline is past (`has_news`: `news`). A wait watches the sessions that it was to
+/// watch (`Wakes`). It polls once, for the time until the nearest deadline, unless something is pending or a closing
+/// socket may go on (`rest`: `waits`, `polls`). With room for one more, a bot is accepted if the listener is ready
 /// (`accept_next`: `made`). It is accepted only if it may come by the settings, beside the hosts of those that are there
 /// (`allowed`). A bot that comes is added to those, and the end of its session removes it (`retire` and `let_go`:
 /// `hosts`).
@@ -165,6 +167,26 @@ impl<'w, N: Network, E: Write + Drop> Sockets<'w, N, E> {
         ensures { self.new ≡ record self.old { is_verbose = is_verbose } }
     {
         self.is_verbose = is_verbose;
+    }
+
+    /// Has the next wait watch a session. If `other` is true, it does not block.
+    pub fn watch_also(&mut self, ports: &SocketPorts<'w, N::Connection>, other: bool)
+        ensures watched { self.new.poller.table ≡ watching self.old.poller.table
+            (may_session_go_on self.old.poller.table (record {
+              bot = ports.now.bot;
+              server = ports.now.server;
+              reading = ports.now.idle.reading;
+              im_due = ports.now.im_due;
+            }) || other) (session_due (record {
+              bot = ports.now.bot;
+              server = ports.now.server;
+              reading = ports.now.idle.reading;
+              im_due = ports.now.im_due;
+            })) }
+        ensures network { self.new.poller.network ≡ self.old.poller.network }
+        ensures same { self.new ≡ record self.old { poller = self.new.poller } }
+    {
+        ports.watch(&mut self.poller.table, other);
     }
 
     /// Logs a line of a session, if sessions are logged.
@@ -310,13 +332,17 @@ impl<'w, N: Network, E: Write + Drop> Sockets<'w, N, E> {
         })
     }
 
-    /// Waits, unless a closing socket may have more to discard.
+    /// Waits, and watches the sessions that it was to watch. If a closing socket may have more to discard, it only polls.
     fn rest(&mut self)
         ensures rest { self.new ≡ record self.old { poller = self.new.poller } }
-        ensures waits { self.old.closings.streams ≡ [] → WaitsOnce N.transition self.old.poller.network
-            self.old.poller.table self.new.poller.network self.new.poller.table }
+        ensures waits { self.old.closings.streams ≡ [] → (after : Table) × WaitsOnce N.transition
+            self.old.poller.network self.old.poller.table self.new.poller.network after
+            × (self.new.poller.table ≡ unwatched after) }
+        ensures polls { RestsOnce N.transition self.old.poller.network self.old.poller.table self.new.poller.network
+            self.new.poller.table }
     {
         self.closings.rest(&mut self.poller);
+        self.poller.table.unwatch();
     }
 }
 
@@ -324,7 +350,13 @@ impl<'w, N: Network, E: Write + Drop> System<SocketPorts<'w, N::Connection>> for
     ghost transition = { λ old answer new. Transits N.Connection.to_give N.Connection.taken
         N.Connection.calls (λ ports. record { number = ports.number; bot = ports.bot.stream; server = ports.server.stream })
         (record { came = old.acceptor.came; arrivals = old.arrivals.items; closing = old.closings }) answer
-        (record { came = new.acceptor.came; arrivals = new.arrivals.items; closing = new.closings }) };
+        (record { came = new.acceptor.came; arrivals = new.arrivals.items; closing = new.closings })
+        × Wakes N.transition (λ ports. record {
+          bot = ports.bot;
+          server = ports.server;
+          reading = ports.idle.reading;
+          im_due = ports.im_due;
+        }) (old.poller.network, old.poller.table) answer (new.poller.network, new.poller.table) };
 
     fn begin_round(&mut self) {
         self.poller.look_by_turns();
@@ -336,9 +368,19 @@ impl<'w, N: Network, E: Write + Drop> System<SocketPorts<'w, N::Connection>> for
             (λ ports. record { number = ports.number; bot = ports.bot.stream; server = ports.server.stream })
             (record { came = self.old.acceptor.came; arrivals = self.old.arrivals.items; closing = self.old.closings })
             (ReportsNews ports.now result)
-            (record { came = self.new.acceptor.came; arrivals = self.new.arrivals.items; closing = self.new.closings }) }
-        ensures news { result ≡ (has_news_at self.old.poller.table ports.now.bot.key
-            || has_news_at self.old.poller.table ports.now.server.key) }
+            (record { came = self.new.acceptor.came; arrivals = self.new.arrivals.items; closing = self.new.closings })
+            × Wakes N.transition (λ ports. record {
+              bot = ports.bot;
+              server = ports.server;
+              reading = ports.idle.reading;
+              im_due = ports.im_due;
+            }) (self.old.poller.network, self.old.poller.table) (ReportsNews ports.now result) (self.new.poller.network, self.new.poller.table) }
+        ensures news { result ≡ has_session_news self.old.poller.table (record {
+          bot = ports.now.bot;
+          server = ports.now.server;
+          reading = ports.now.idle.reading;
+          im_due = ports.now.im_due;
+        }) }
         ensures same { self.new ≡ self.old }
     {
         ports.has_news(&self.poller.table)
@@ -346,13 +388,20 @@ impl<'w, N: Network, E: Write + Drop> System<SocketPorts<'w, N::Connection>> for
 
     fn begin_turn(&mut self, ports: &mut SocketPorts<'w, N::Connection>)
         ensures ports { Transfers N.Connection.to_give N.Connection.taken
-            (ports.old.bot.stream, ports.old.server.stream) TurnBegins (ports.new.bot.stream, ports.new.server.stream) }
+            (ports.old.bot.stream, ports.old.server.stream) TurnBegins (ports.new.bot.stream, ports.new.server.stream)
+            × Settles TurnBegins (ports.old.bot, ports.old.server) (ports.new.bot, ports.new.server) }
         ensures system { Transits N.Connection.to_give N.Connection.taken
             N.Connection.calls
             (λ ports. record { number = ports.number; bot = ports.bot.stream; server = ports.server.stream })
             (record { came = self.old.acceptor.came; arrivals = self.old.arrivals.items; closing = self.old.closings })
             (BeginsTurn ports.old ports.new)
-            (record { came = self.new.acceptor.came; arrivals = self.new.arrivals.items; closing = self.new.closings }) }
+            (record { came = self.new.acceptor.came; arrivals = self.new.arrivals.items; closing = self.new.closings })
+            × Wakes N.transition (λ ports. record {
+              bot = ports.bot;
+              server = ports.server;
+              reading = ports.idle.reading;
+              im_due = ports.im_due;
+            }) (self.old.poller.network, self.old.poller.table) (BeginsTurn ports.old ports.new) (self.new.poller.network, self.new.poller.table) }
         ensures silent { (ports.new.bot.timed.is_silent ≡ ports.old.bot.timed.is_silent)
             × (ports.new.server.timed.is_silent ≡ ports.old.server.timed.is_silent) }
         ensures gathering { (ports.new.bot.is_gathering ≡ false) × (ports.new.server.is_gathering ≡ false) }
@@ -365,8 +414,21 @@ impl<'w, N: Network, E: Write + Drop> System<SocketPorts<'w, N::Connection>> for
         ports.begin_turn(&mut self.poller.table);
     }
 
-    fn end_turn(&mut self, ports: &SocketPorts<'w, N::Connection>) {
-        ports.end_turn(&mut self.poller.table);
+    fn watch(&mut self, ports: &SocketPorts<'w, N::Connection>)
+        ensures transition { Transits N.Connection.to_give N.Connection.taken N.Connection.calls
+            (λ ports. record { number = ports.number; bot = ports.bot.stream; server = ports.server.stream })
+            (record { came = self.old.acceptor.came; arrivals = self.old.arrivals.items; closing = self.old.closings })
+            (Watches ports.now)
+            (record { came = self.new.acceptor.came; arrivals = self.new.arrivals.items; closing = self.new.closings })
+            × Wakes N.transition (λ ports. record {
+              bot = ports.bot;
+              server = ports.server;
+              reading = ports.idle.reading;
+              im_due = ports.im_due;
+            }) (self.old.poller.network, self.old.poller.table) (Watches ports.now) (self.new.poller.network, self.new.poller.table) }
+        ensures same { self.new ≡ record self.old { poller = self.new.poller } }
+    {
+        self.watch_also(ports, false);
     }
 
     fn accept(&mut self) -> bool {
@@ -397,7 +459,13 @@ impl<'w, N: Network, E: Write + Drop> System<SocketPorts<'w, N::Connection>> for
             (λ ports. record { number = ports.number; bot = ports.bot.stream; server = ports.server.stream })
             (record { came = self.old.acceptor.came; arrivals = self.old.arrivals.items; closing = self.old.closings })
             (Retires ports.entry end)
-            (record { came = self.new.acceptor.came; arrivals = self.new.arrivals.items; closing = self.new.closings }) }
+            (record { came = self.new.acceptor.came; arrivals = self.new.arrivals.items; closing = self.new.closings })
+            × Wakes N.transition (λ ports. record {
+              bot = ports.bot;
+              server = ports.server;
+              reading = ports.idle.reading;
+              im_due = ports.im_due;
+            }) (self.old.poller.network, self.old.poller.table) (Retires ports.entry end) (self.new.poller.network, self.new.poller.table) }
         ensures closes { ClosesBothAt N.Connection.to_give N.Connection.taken N.Connection.calls
             self.old.poller.table.reading self.old.closings (record {
               number = ports.entry.number;

@@ -1,13 +1,13 @@
 //! The table of a run: what polls reported of each socket, its nearest deadline, and the last reading of the clock.
 //!
 //! The table is a value, and calls nothing of the network: `poller` does. A socket has a row, which it names by a key.
-//! At the beginning of a turn it takes the report of its row, and at the end it leaves its nearest deadline there. So an
-//! idle session reads two rows, and makes no system call.
+//! At the beginning of a turn it takes the report of its row. A socket that is no session's leaves its nearest deadline in
+//! its row. Those of sessions are watched anew for each wait. So an idle session makes no system call.
 
 ghost use Rattle.std.specs.Duration.{as_nanos};
 ghost use Rattle.std.specs.Prelude.{◌≡◌, ◌||◌, nat_le, IsNone, IfOk, None, [], false};
-ghost use Rattle.daide_sockets.specs.Table.{row_at, merged, report_at, has_news_at, any_work, has_pending, nearest};
-ghost use Rattle.daide_sockets.specs.Table.{changed, without_report, with_due, left_with, freed, with_event, with_news, latest};
+ghost use Rattle.daide_sockets.specs.Table.{row_at, merged, report_at, has_report, is_reported_at, any_work, has_pending, nearest};
+ghost use Rattle.daide_sockets.specs.Table.{changed, without_report, with_due, left_with, watching, unwatched, freed, with_event, with_news, latest};
 ghost use Rattle.daide_sockets.specs.Table.{earlier, IsUntil};
 ghost use Rattle.daide_sockets.specs.Times.{IsAfter, IsStallEnd, StallsNext, is_past, is_time_over};
 
@@ -53,6 +53,10 @@ pub struct SocketTable {
     turns: u64,
     /// Whether a poll received events since the last wait, which port calls before the poll may have missed.
     has_news: bool,
+    /// Whether something may be done at once for a session that the next wait is to watch.
+    watched_work: bool,
+    /// The nearest deadline of the sessions that the next wait is to watch; `None` if there is none.
+    watched_due: Option<Instant>,
     /// The most rows.
     max_rows: usize,
     /// The rows that were ever taken.
@@ -68,6 +72,8 @@ impl Model for SocketTable {
       reading = t.reading;
       turns = t.turns;
       has_news = t.has_news;
+      watched_work = t.watched_work;
+      watched_due = t.watched_due;
       max_rows = t.max_rows;
       rows = t.rows.items;
     } };
@@ -174,11 +180,18 @@ fn report_of(event: SocketEvent) -> Readiness
     }
 }
 
-/// Returns the earliest deadline of the rows; `None` if there is none.
-fn nearest(rows: &[Row]) -> Option<Instant>
-    ensures { result ≡ nearest None rows.now }
+/// Returns whether a report has something.
+fn has_report(report: Readiness) -> bool
+    ensures { result ≡ has_report report }
 {
-    let mut found = None;
+    report.may_read || report.may_write || report.reads_on
+}
+
+/// Returns the earliest of a moment and the deadlines of the rows; `None` if there is none.
+fn nearest(first: Option<Instant>, rows: &[Row]) -> Option<Instant>
+    ensures { result ≡ nearest first rows.now }
+{
+    let mut found = first;
     for row in rows {
         found = earlier(found, row.due);
     }
@@ -192,11 +205,11 @@ fn either(one: bool, other: bool) -> bool
     one || other
 }
 
-/// Returns whether the last turn of a socket left something that may be done at once.
-fn any_work(rows: &[Row]) -> bool
-    ensures { result ≡ any_work false rows.now }
+/// Returns whether this is so, or something may be done at once for a row.
+fn any_work(first: bool, rows: &[Row]) -> bool
+    ensures { result ≡ any_work first rows.now }
 {
-    let mut found = false;
+    let mut found = first;
     for row in rows {
         found = either(found, row.has_work);
     }
@@ -206,12 +219,14 @@ fn any_work(rows: &[Row]) -> bool
 impl SocketTable {
     /// Creates a table with room for `sockets` rows, before any reading of the clock. Fails if its memory is refused.
     pub fn new(alloc: Global, sockets: usize) -> Result<SocketTable, AllocError>
-        ensures rows { IfOk result (λ table. table ≡ record { reading = None; turns = 0; has_news = false; max_rows = sockets; rows = [] }) }
+        ensures rows { IfOk result (λ table. table ≡ record { reading = None; turns = 0; has_news = false; watched_work = false; watched_due = None; max_rows = sockets; rows = [] }) }
     {
         Ok(SocketTable {
             reading: None,
             turns: 0,
             has_news: false,
+            watched_work: false,
+            watched_due: None,
             max_rows: sockets,
             rows: Vec::with_capacity(alloc, sockets)?,
         })
@@ -248,7 +263,8 @@ impl SocketTable {
     /// Returns `None` if there is none.
     pub fn take_row(&mut self) -> Option<usize>
         ensures rest { (self.new.reading ≡ self.old.reading) × (self.new.turns ≡ self.old.turns)
-            × (self.new.has_news ≡ self.old.has_news) × (self.new.max_rows ≡ self.old.max_rows) }
+            × (self.new.has_news ≡ self.old.has_news) × (self.new.watched_work ≡ self.old.watched_work)
+            × (self.new.watched_due ≡ self.old.watched_due) × (self.new.max_rows ≡ self.old.max_rows) }
     {
         let row = Row {
             is_taken: true,
@@ -305,33 +321,22 @@ impl SocketTable {
         ensures report { result ≡ report_at self.old key }
         ensures table { self.new ≡ without_report self.old key }
     {
-        let row = self.row(key);
-        self.set_row(
-            key,
-            Row {
-                report: Readiness::UNKNOWN,
-                ..row
-            },
-        );
-        row.report
+        if key >= self.rows.len() {
+            return Readiness::UNKNOWN;
+        }
+        let report = self.rows[key].report;
+        self.rows[key].report = Readiness::UNKNOWN;
+        report
     }
 
-    /// Returns whether there is news for a socket: a report that it did not take, something that may be done at once, or
-    /// a deadline that is past.
-    pub fn has_news_at(&self, key: usize) -> bool
-        ensures { result ≡ has_news_at self.now key }
+    /// Returns whether polls reported something of a socket since it last took the report.
+    pub fn is_reported_at(&self, key: usize) -> bool
+        ensures { result ≡ is_reported_at self.now key }
     {
-        let Row {
-            is_taken: _,
-            report,
-            has_work,
-            due,
-        } = self.row(key);
-        report.may_read
-            || report.may_write
-            || report.reads_on
-            || has_work
-            || is_past(self.reading, due)
+        match self.rows.get(key) {
+            Some(row) => has_report(row.report),
+            None => false,
+        }
     }
 
     /// Returns the nearest deadline of a socket.
@@ -349,23 +354,39 @@ impl SocketTable {
         self.set_row(key, Row { due, ..row });
     }
 
-    /// Records how a turn leaves a socket: whether it may do something at once, and its nearest deadline.
+    /// Records whether a socket may do something at once, and its nearest deadline.
     pub(crate) fn leave(&mut self, key: usize, has_work: bool, due: Option<Instant>)
         ensures { self.new ≡ left_with self.old key has_work due }
     {
-        let row = self.row(key);
-        self.set_row(
-            key,
-            Row {
+        if key < self.rows.len() {
+            let row = self.rows[key];
+            self.rows[key] = Row {
                 has_work,
                 due,
                 ..row
-            },
-        );
+            };
+        }
     }
 
-    /// Forgets all deadlines, and what turns left.
+    /// Has the next wait watch a session too: whether something may be done at once for it, and its nearest deadline.
+    pub(crate) fn watch(&mut self, has_work: bool, due: Option<Instant>)
+        ensures { self.new ≡ watching self.old has_work due }
+    {
+        self.watched_work = self.watched_work || has_work;
+        self.watched_due = earlier(self.watched_due, due);
+    }
+
+    /// Forgets the sessions that were watched.
+    pub(crate) fn unwatch(&mut self)
+        ensures { self.new ≡ unwatched self.old }
+    {
+        self.watched_work = false;
+        self.watched_due = None;
+    }
+
+    /// Forgets all deadlines, and what may be done at once.
     pub(crate) fn forget_turns(&mut self) {
+        self.unwatch();
         for row in self.rows.iter_mut() {
             row.has_work = false;
             row.due = None;
@@ -373,18 +394,18 @@ impl SocketTable {
     }
 
     /// Returns whether a wait must not block: a poll since the last wait reported something, which comes only once, or
-    /// a socket has work.
+    /// a session that it watches or a socket has work.
     pub(crate) fn has_pending(&self) -> bool
         ensures { result ≡ has_pending self.now }
     {
-        self.has_news || any_work(&self.rows)
+        self.has_news || any_work(self.watched_work, &self.rows)
     }
 
     /// Returns the time from the last reading of the clock until the next deadline; `None` without one.
     pub(crate) fn until_next(&self) -> Option<Duration>
-        ensures { IsUntil self.now.reading (nearest None self.now.rows) result }
+        ensures { IsUntil self.now.reading (nearest self.now.watched_due self.now.rows) result }
     {
-        match (self.reading, nearest(&self.rows)) {
+        match (self.reading, nearest(self.watched_due, &self.rows)) {
             (Some(now), Some(moment)) => Some(moment.saturating_duration_since(now)),
             _ => None,
         }

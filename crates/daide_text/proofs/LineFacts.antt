@@ -1,6 +1,6 @@
 -- Lines of text as tokens, the columns of their faults, and the frames of messages, worked out from docs/FORMATS.md.
-use Rattle.std.proofs.Common.{◌≡◌, ◌<◌, ◌&&◌, not, nat_lt, ℕ, Bool, true, false, List, [], ◌∷◌, ◌++◌, length, codes, refl, ap}
-use Rattle.std.proofs.Common.{Ok, Err, Result, arith}
+use Rattle.std.proofs.Common.{◌≡◌, ◌&&◌, not, nat_lt, ℕ, Bool, true, false, List, [], ◌∷◌, ◌++◌, length, codes, refl}
+use Rattle.std.proofs.Common.{Ok, Err, arith}
 use Rattle.std.specs.List.{list_all}
 use Rattle.std.proofs.lemmas.Bool.Decides.{nat_tests}
 use Rattle.daide_token.specs.Names.{Named, token_named, names}

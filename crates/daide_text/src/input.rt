@@ -1,7 +1,6 @@
 //! The lines of an input, one at a time.
 
-ghost use Rattle.std.specs.Prelude.{◌≡◌, ◌+◌, ◌≤◌, length, IfErr, MatchOption, IfOk};
-ghost use Rattle.daide_text.specs.Frames.{longest_text_line};
+ghost use Rattle.std.specs.Prelude.{IfErr, MatchOption, IfOk};
 ghost use Rattle.daide_text.specs.Lines.{IsLineFrom, IsNoLine, IsInputFault};
 
 use crate::frames::TextFault;

@@ -1,7 +1,7 @@
 //! One application of each law of `laws`, to values with known results, so that a weakened law fails to check. Nothing
 //! here is called.
 
-ghost use Rattle.std.specs.Prelude.{◌≡◌, ◌^◌, ◌<◌, ℕ, List, [], ◌∷◌, Result, Err, length, true, codes};
+ghost use Rattle.std.specs.Prelude.{◌≡◌, ℕ, List, [], ◌∷◌, Result, Err, codes};
 ghost use Rattle.daide_text.specs.Line.{IsReadAs, IsText};
 
 use crate::laws;

@@ -1,6 +1,6 @@
 //! One line of text, parsed as the tokens of a message.
 
-ghost use Rattle.std.specs.Prelude.{◌≡◌, ℕ, IfOk, IfErr};
+ghost use Rattle.std.specs.Prelude.{IfOk, IfErr};
 ghost use Rattle.daide_words.specs.Word.{names_of};
 ghost use Rattle.daide_words.specs.Words.{words_of};
 ghost use Rattle.daide_text.specs.Line.{IsText};

@@ -1,12 +1,11 @@
 -- The pages of names contain the definition's name at each code.
-use Rattle.std.proofs.Common.{◌≡◌, ℕ, zero, suc, ◌+◌, ◌*◌, ◌-◌, ◌<◌, ◌≤◌, ◌⊎◌, ◌==◌, ◌&&◌, nat_le, nat_lt, Bool}
-use Rattle.std.proofs.Common.{if◌then◌else◌, List, [], ◌∷◌, length, map, get_or, Option, None, Some, option_map, cond}
+use Rattle.std.proofs.Common.{◌≡◌, ℕ, zero, suc, ◌+◌, ◌*◌, ◌-◌, ◌<◌, ◌≤◌, ◌⊎◌, ◌==◌, nat_le, Bool}
+use Rattle.std.proofs.Common.{List, [], ◌∷◌, length, map, get_or, Option, None, Some, option_map, cond}
 use Rattle.std.proofs.Common.{true, false, inl, inr, refl, sym, ap, ◌∙◌, arith}
 use Rattle.std.proofs.Math.ListN.{get_or-map, length-map}
 use Rattle.std.proofs.lemmas.Bool.{and_parts}
 use Rattle.std.proofs.lemmas.Bool.Decides.{nat_tests}
 use Rattle.std.specs.List.{find, list_all}
-use Rattle.daide_token.proofs.TableLemmas.{found_passes}
 use Rattle.daide_token.specs.NamePages.{Page, are_short, are_spaced, is_spaced, name_of_cell, name_on, row_before}
 use Rattle.daide_token.specs.NamePages.{rows_before, rows_on}
 use Rattle.daide_token.specs.Names.{Named, name_of, names}

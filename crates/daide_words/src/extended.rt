@@ -23,7 +23,7 @@ use daide_grammar::side::Side2;
 use daide_grammar::symbol::Symbol;
 use daide_token::token::Token;
 
-/// Predicts by the constant table and the words of an operator, and counts its answers. It meets the laws of `Predict`
+/// Predicts by the constant table and the words of an operator, and counts its look-ups. It meets the laws of `Predict`
 /// over the messages with its words.
 #[derive(Drop)]
 pub struct Extended {

@@ -1,6 +1,6 @@
 //! Uses each law of `laws` once, at concrete values, so that a weaker law does not check. Nothing here is called.
 
-ghost use Rattle.std.specs.Prelude.{◌≡◌, ◌↔◌, ℕ, ◌≤◌, true, false, List, [], ◌∷◌, codes, length};
+ghost use Rattle.std.specs.Prelude.{◌≡◌, ◌↔◌, ℕ, ◌≤◌, true, List, [], ◌∷◌, codes, length};
 ghost use Rattle.daide_token.specs.declared.class.Class.TheVariants as classes;
 ghost use Rattle.daide_token.specs.Class.{class_of};
 ghost use Rattle.daide_token.specs.Token.{bra, ket, prn, huh, err};

@@ -37,7 +37,7 @@ pub fn added_words_keep_the_laws()
         (answer_over (grammar_words words)) may_end_of (IsLawful (answer_over (grammar_words words))) }
 {}
 
-/// With accepted words too, the start symbol stands for exactly the messages of its side and level that do not begin
+/// With accepted words too, the start symbol derives exactly the messages of its side and level that do not begin
 /// with PRN.
 pub fn start_symbol_stands_for_messages()
     ensures { (words : List Word) (side : Side2) (level : Level) (m : List ℕ) → are_accepted words ≡ true →
@@ -51,7 +51,7 @@ pub fn accepted_words_are_spoken()
 {}
 
 /// The code of an accepted word has a class of its own. Without the words it has the class `Other`, of a token without
-/// a meaning. At each symbol that the word may stand for, its operand in brackets follows. At every other symbol its
+/// a meaning. At each symbol that may derive the word, its operand in brackets follows. At every other symbol its
 /// class moves as `Other`.
 pub fn added_words_move_as_other()
     ensures class { (words : List Word) (place : ℕ) (word : Word) → are_accepted words ≡ true →

@@ -1,6 +1,6 @@
 //! The positions of a word in the grammar, and the operand after it.
 
-ghost use Rattle.std.specs.Prelude.{◌≡◌, ◌∷◌, [], option_map, ◌≤◌, ◌<◌};
+ghost use Rattle.std.specs.Prelude.{◌≡◌, ◌∷◌, [], option_map, ◌<◌};
 ghost use Rattle.daide_grammar.specs.Table.Answers.{Stop, Take};
 ghost use Rattle.daide_grammar.specs.Table.ParseActions.{action};
 ghost use Rattle.daide_grammar.specs.Table.Symbols.{slot_of};

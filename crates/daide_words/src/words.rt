@@ -1,7 +1,7 @@
 //! The words of an operator, in an array of fixed size.
 
-ghost use Rattle.std.specs.Prelude.{◌≡◌, ℕ, ◌≤◌, ◌<◌, true, false, not, ◌||◌, ◌==◌, List, [], ◌∷◌, ◌++◌, take, length};
-ghost use Rattle.std.specs.Prelude.{OnOk, OnErr, IfSome, is_some, get_or, slice_index_or, bytes_eq};
+ghost use Rattle.std.specs.Prelude.{◌≡◌, ◌≤◌, ◌<◌, true, false, ◌==◌, [], ◌∷◌, ◌++◌, take, length};
+ghost use Rattle.std.specs.Prelude.{OnOk, OnErr, IfSome, is_some, bytes_eq};
 ghost use Rattle.std.specs.List.{list_all, list_any};
 ghost use Rattle.daide_token.specs.Names.{token_named};
 ghost use Rattle.daide_grammar.specs.Words.{most_words};

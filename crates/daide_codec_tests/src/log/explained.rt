@@ -1,7 +1,7 @@
 //! Reports with explanations, worked out from the protocol.
 
-use daide_log::{LogFault, explain_log};
-use daide_test_support::rows::same;
+use daide_log::{LogFault, check_log, explain_log};
+use daide_test_support::rows::{holds, same};
 use std::alloc::Global;
 use std::test::Fail;
 
@@ -51,6 +51,22 @@ const ROWS: &[(&str, &str, u32)] = &[
         "4 2 bot IM 4 relay\n# the end\n    1 bot: 5 of 8 bytes of a frame\n    2 server: 3 of 4 bytes of a header\nrelayed 1 prn 0 huh 0 faults 0\n",
         2,
     ),
+    // a last line that is cut: half a byte, a word, a number; and with an incomplete frame before it
+    (
+        "daide-log 2\nconfig 60 1024 16 1 0\n1 bot 000000040001DA10\n1 server 01000000\n1 bot 02000002480",
+        "3 1 bot IM 4 relay\n4 1 server RM 0 relay\n    line 5 is cut\nrelayed 2 prn 0 huh 0 faults 0\n",
+        1,
+    ),
+    (
+        "daide-log 1\nconfig 60 1024 16\n# x\nend bo",
+        "# x\n    line 4 is cut\nrelayed 0 prn 0 huh 0 faults 0\n",
+        1,
+    ),
+    (
+        "daide-log 2\nconfig 60 1024 16 2 0\n2 bot 000000\n1",
+        "    line 4 is cut\n    2 bot: 3 of 4 bytes of a header\nrelayed 0 prn 0 huh 0 faults 0\n",
+        2,
+    ),
     // an operator's words by their names
     (
         "daide-log 2\nconfig 60 1024 16 1 1\nword XYZ 4A40 press 20 power\n1 bot 000000040001DA10\n1 server 01000000\n1 bot 020000024A40\n",
@@ -86,4 +102,18 @@ fn faults_come_after_what_is_explained(rt: HostRuntime) -> Result<(), Fail> {
     let (_answer, fault, written) = explained(rt.alloc(), log)?;
     same(&written.as_str(), &"# x\n", &log)?;
     same(&fault, &Some(LogFault::BadLine(5)), &log)
+}
+
+/// A log whose last line is cut has a fault without explanations, and so has one that ends within its head.
+#[test]
+fn cut_lines_are_faults_elsewhere(rt: HostRuntime) -> Result<(), Fail> {
+    let alloc = rt.alloc();
+    let log = "daide-log 1\nconfig 60 1024 16\nbot 03000000\nbot 0";
+    let mut report = Vec::new(alloc);
+    let plain = check_log(alloc, &mut log.as_bytes(), &mut report);
+    same(&plain.err(), &Some(LogFault::BadLine(4)), &log)?;
+    holds(report.as_slice() == b"3 bot FM 0 drop\n".as_slice(), log)?;
+    let head = "daide-log 1\nconfig 60 10";
+    let (_answer, fault, _written) = explained(alloc, head)?;
+    same(&fault, &Some(LogFault::BadLine(2)), &head)
 }

@@ -1,6 +1,6 @@
 //! The rule of an entry: the number that represents it in a `Move`.
 
-ghost use Rattle.std.specs.Prelude.{◌≡◌, ◌<◌, ◌≤◌};
+ghost use Rattle.std.specs.Prelude.{◌≡◌};
 ghost use Rattle.std.specs.Bool.{Decides};
 ghost use Rattle.daide_grammar.specs.Table.Answers.{Take, entry_of_meaning, symbols_of};
 ghost use Rattle.daide_grammar.specs.Table.ParseActions.{HasRule, action, rest_of};

@@ -8,7 +8,7 @@ ghost use Rattle.std.specs.List.{list_all};
 ghost use Rattle.toml.specs.Data.{as_str};
 ghost use Rattle.toml.specs.View.{items_view, view};
 ghost use Rattle.daide_settings.specs.Ranges.{allow_judged, are_texts, everyone, is_range_count, item_count, items_judged};
-ghost use Rattle.daide_settings.specs.Ranges.{named_or_range, range_of, ranges_of};
+ghost use Rattle.daide_settings.specs.Ranges.{most_ranges, named_or_range, range_of, ranges_of};
 
 use super::SettingsError;
 use super::key::Key;
@@ -49,7 +49,7 @@ fn are_texts(values: &[Value]) -> bool
 /// Returns true if a document may have this number of ranges.
 fn is_range_count(count: usize) -> bool
     ensures value { result ≡ is_range_count count }
-    ensures few { result ≡ true → count ≤ 16 }
+    ensures few { result ≡ true → count ≤ most_ranges }
 {
     1 <= count && count <= MAX_RANGES
 }
@@ -57,7 +57,7 @@ fn is_range_count(count: usize) -> bool
 /// Returns true if an array has at least one item, and not too many.
 fn has_range_count(values: &[Value]) -> bool
     ensures value { result ≡ is_range_count (item_count (items_view values.now)) }
-    ensures few { result ≡ true → length values.now ≤ 16 }
+    ensures few { result ≡ true → length values.now ≤ most_ranges }
 {
     is_range_count(values.len())
 }
@@ -71,7 +71,7 @@ fn range_of(value: &Value) -> Option<AddressRange>
 
 /// Returns the ranges of all values. Fails with `Range` if one is not the text of a range.
 fn ranges_of(values: &[Value]) -> Result<ArrayVec<AddressRange, MAX_RANGES>, SettingsError>
-    requires { length values.now ≤ 16 }
+    requires { length values.now ≤ most_ranges }
     ensures { let judged = named_or_range (ranges_of (items_view values.now)) in
         MatchResult result (λ ranges. judged ≡ Ok ranges.items) (λ fault. judged ≡ Err fault) }
 {

@@ -4,9 +4,14 @@ ghost use Rattle.std.specs.Prelude.{◌≡◌, true, Some, IfSome};
 ghost use Rattle.daide_settings.specs.Settings.{key_text, default_of};
 ghost use Rattle.daide_settings.specs.Settings.{is_known as is_known_key, is_in_range as is_in_keys_range};
 
+use super::ranges::MAX_RANGES;
 use daide_grammar::level::Level;
 use daide_protocol::{MAX_BODY, MAX_DEPTH, MAX_SESSIONS, MIN_BODY, MIN_DEPTH};
+use daide_words::words::MAX_WORDS;
 use std::fmt;
+
+/// The longest timeout that an operator may set, in seconds: a day.
+const LONGEST_TIMEOUT: u64 = 86_400;
 
 /// A key of the settings. The variants are in the order of the checks.
 #[derive(Clone, Copy, Debug, PartialEq, Eq)]
@@ -128,11 +133,11 @@ impl Key {
             Key::MaxSessions => 1 <= number && number <= MAX_SESSIONS as u64,
             Key::Sessions => 1 <= number && number <= 1_000_000,
             Key::Turns => 1 <= number && number <= 1_000_000_000_000,
-            Key::IdleSeconds => number <= 86_400,
-            Key::Words => number <= 16,
-            Key::StallSeconds => number <= 86_400,
+            Key::IdleSeconds => number <= LONGEST_TIMEOUT,
+            Key::Words => number <= MAX_WORDS as u64,
+            Key::StallSeconds => number <= LONGEST_TIMEOUT,
             Key::Endless => false,
-            Key::Allow => 1 <= number && number <= 16,
+            Key::Allow => 1 <= number && number <= MAX_RANGES as u64,
             Key::MaxPerAddress => number <= MAX_SESSIONS as u64,
         }
     }

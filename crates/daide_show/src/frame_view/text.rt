@@ -1,6 +1,6 @@
 //! The text of a frame.
 
-ghost use Rattle.std.specs.Prelude.{◌≡◌, ◌≤◌, ◌*◌, ◌%◌, ◌++◌, ℕ, List, length, true, IfOk, OnOk};
+ghost use Rattle.std.specs.Prelude.{◌≡◌, ◌≤◌, ◌%◌, ◌++◌, ℕ, List, length, true, IfOk, OnOk};
 ghost use Rattle.daide_token.specs.Token.{tokens_of};
 ghost use Rattle.daide_frame.specs.Head.{has_right_length};
 ghost use Rattle.daide_frame.specs.InitialMessage.{im_of};

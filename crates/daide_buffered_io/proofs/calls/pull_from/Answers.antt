@@ -20,7 +20,7 @@ returns-in-Moved-clause-asked g c =
     made_pull g.S.Duplex.calls _ c.args.readiness.now _ _ _ _ c.read_on-outcome.result c.if-not-readiness.false
     (some_room _ c.if-is_empty.ensures) c.read_on-outcome.ensures.tries
     (got_is c.read_on-outcome.result c.in-Moved.count c.in-Moved.is some)
-    (c.note_read.ensures
+    (c.note_read.ensures.value
     ∙ ap (λ (n : ℕ). after_read c.args.readiness.now n c.read_on-outcome.result) c.read_on-outcome.ensures.len)
 
 pub returns-in-Interrupted-clause-asked : goal.returns-in-Interrupted-clause-asked
@@ -28,7 +28,7 @@ returns-in-Interrupted-clause-asked g c =
     made_pull g.S.Duplex.calls _ c.args.readiness.now _ _ _ _ c.read_on-outcome.result c.if-not-readiness.false
     (some_room _ c.if-is_empty.ensures) c.read_on-outcome.ensures.tries
     (idle_is c.read_on-outcome.result c.in-Interrupted.is)
-    (c.note_read.ensures
+    (c.note_read.ensures.value
     ∙ ap (λ (n : ℕ). after_read c.args.readiness.now n c.read_on-outcome.result) c.read_on-outcome.ensures.len)
 
 pub returns-in-Moved-eq0-clause-asked : goal.returns-in-Moved-eq0-clause-asked
@@ -36,7 +36,7 @@ returns-in-Moved-eq0-clause-asked g c =
     let ended : Ended ≡ pull_of c.read_on-outcome.result = search rules in
     made_pull g.S.Duplex.calls _ c.args.readiness.now _ _ _ _ c.read_on-outcome.result c.if-not-readiness.false
     (some_room _ c.if-is_empty.ensures) c.read_on-outcome.ensures.tries ended
-    (c.note_read.ensures
+    (c.note_read.ensures.value
     ∙ ap (λ (n : ℕ). after_read c.args.readiness.now n c.read_on-outcome.result) c.read_on-outcome.ensures.len)
 
 pub returns-in-Moved-eq0-2-clause-asked : goal.returns-in-Moved-eq0-2-clause-asked
@@ -44,5 +44,5 @@ returns-in-Moved-eq0-2-clause-asked g c =
     let ended : Ended ≡ pull_of c.read_on-outcome.result = search rules in
     made_pull g.S.Duplex.calls _ c.args.readiness.now _ _ _ _ c.read_on-outcome.result c.if-not-readiness.false
     (some_room _ c.if-is_empty.ensures) c.read_on-outcome.ensures.tries ended
-    (c.note_read.ensures
+    (c.note_read.ensures.value
     ∙ ap (λ (n : ℕ). after_read c.args.readiness.now n c.read_on-outcome.result) c.read_on-outcome.ensures.len)

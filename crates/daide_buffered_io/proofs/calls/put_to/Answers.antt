@@ -13,18 +13,18 @@ returns-in-Moved-clause-asked g c =
     let front = take c.min.result c.args.bytes.now in
     made_put g.S.Duplex.calls (take 16384 c.args.bytes.now) front c.args.readiness.now _ _ _ _ c.write_on-outcome.result
     (search (rules, take_min, c.min.ensures)) c.if-not-readiness.false c.write_on-outcome.ensures.tries
-    (ap put_of (sym c.in-Moved.is)) c.note_write.ensures
+    (ap put_of (sym c.in-Moved.is)) c.note_write.ensures.value
 
 pub returns-in-Interrupted-clause-asked : goal.returns-in-Interrupted-clause-asked
 returns-in-Interrupted-clause-asked g c =
     let front = take c.min.result c.args.bytes.now in
     made_put g.S.Duplex.calls (take 16384 c.args.bytes.now) front c.args.readiness.now _ _ _ _ c.write_on-outcome.result
     (search (rules, take_min, c.min.ensures)) c.if-not-readiness.false c.write_on-outcome.ensures.tries
-    (none_is c.write_on-outcome.result c.in-Interrupted.is) c.note_write.ensures
+    (none_is c.write_on-outcome.result c.in-Interrupted.is) c.note_write.ensures.value
 
 pub returns-in-Failed-clause-asked : goal.returns-in-Failed-clause-asked
 returns-in-Failed-clause-asked g c =
     let front = take c.min.result c.args.bytes.now in
     made_put g.S.Duplex.calls (take 16384 c.args.bytes.now) front c.args.readiness.now _ _ _ _ c.write_on-outcome.result
     (search (rules, take_min, c.min.ensures)) c.if-not-readiness.false c.write_on-outcome.ensures.tries
-    (ap put_of (sym c.in-Failed.is)) c.note_write.ensures
+    (ap put_of (sym c.in-Failed.is)) c.note_write.ensures.value

@@ -1,6 +1,5 @@
--- the message has not ended while pieces are read, and at most the whole body was read
-use Rattle.std.proofs.Common.{◌≡◌, ◌≤◌, ◌*◌, false, length}
-use Rattle.daide_reader.specs.Reading.{tokens_read}
+-- the message has not ended while pieces are read
+use Rattle.std.proofs.Common.{◌≡◌, false}
 use Rattle.daide_codec_tests.proofs.judging.judged.Given as goal
 
 abbrev pub invariant-loop-turn : goal.invariant-loop-turn

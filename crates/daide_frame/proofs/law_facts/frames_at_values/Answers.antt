@@ -1,4 +1,4 @@
-use Rattle.std.proofs.Common.{◌≤◌, [], ◌∷◌, refl, ◌∙◌, arith}
+use Rattle.std.proofs.Common.{[], ◌∷◌, refl, arith}
 use Rattle.daide_frame.specs.Frames.{cut, first_items, is_alien, last_items, missing}
 use Rattle.daide_frame.specs.Head.{head_bytes, parse_head}
 use Rattle.daide_frame.specs.declared.head.Kind.TheVariants.{Dm}

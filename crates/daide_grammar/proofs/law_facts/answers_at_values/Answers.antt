@@ -1,4 +1,4 @@
-use Rattle.std.proofs.Common.{[], ◌∷◌, refl, ◌∙◌}
+use Rattle.std.proofs.Common.{[], ◌∷◌, refl}
 use Rattle.daide_token.specs.Token.{bra, ket}
 use Rattle.daide_grammar.specs.Balanced.{bracketed, empty, plain}
 use Rattle.daide_grammar.specs.declared.level.Level.TheVariants.{L0}

@@ -1,4 +1,4 @@
-use Rattle.std.proofs.Common.{◌≡◌, Bool, true, false, not, ◌&&◌, ◌||◌, ℕ, List, [], ◌∷◌, ◌⊎◌, inl, inr, refl, ap, ◌∙◌, arith}
+use Rattle.std.proofs.Common.{Bool, true, false, not, ◌&&◌, ◌||◌, ℕ, List, [], ◌∷◌, inl, inr, refl, ap, arith}
 use Rattle.std.proofs.Common.{slice_index}
 use Rattle.daide_token.specs.Token.{bra, ket, prn}
 use Rattle.daide_grammar.specs.Balanced.{IsBalanced, bracketed, plain}

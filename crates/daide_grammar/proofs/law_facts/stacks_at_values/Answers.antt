@@ -1,5 +1,5 @@
-use Rattle.std.proofs.Common.{◌≡◌, ℕ, ◌+◌, [], ◌∷◌, refl, sym, subst, arith}
-use Rattle.daide_token.specs.declared.class.Class.TheVariants.{Bra, Gof, Ket, Tme}
+use Rattle.std.proofs.Common.{◌≡◌, ℕ, [], ◌∷◌, refl, subst, arith}
+use Rattle.daide_token.specs.declared.class.Class.TheVariants.{Bra, Gof, Tme}
 use Rattle.daide_grammar.specs.declared.level.Level.TheVariants.{L60}
 use Rattle.daide_grammar.specs.declared.side.Side2.TheVariants.{Client as BotSide}
 use Rattle.daide_grammar.specs.declared.symbol.Sym.TheVariants.{Client, Closing, MaybeNumberGroup, OneNumber, Press}

@@ -1,8 +1,9 @@
 -- Lists of sizes: a bound of a shape, and the sum of shapes.
-use Rattle.std.proofs.Common.{◌≡◌, ℕ, zero, suc, ◌+◌, ◌*◌, ◌≤◌, Bool, true, false, ◌&&◌, nat_le, List, [], ◌∷◌, ◌++◌}
+use Rattle.std.proofs.Common.{◌≡◌, ℕ, zero, suc, ◌+◌, ◌≤◌, Bool, true, false, ◌&&◌, nat_le, List, [], ◌∷◌, ◌++◌}
 use Rattle.std.proofs.Common.{refl, sym, ◌∙◌, ap, subst, arith}
 use Rattle.std.proofs.lemmas.Bool.{leb-true}
 use Rattle.daide_grammar.specs.declared.symbol.Sym.{Sym}
+use Rattle.daide_grammar.specs.Bounds.{entries_bound}
 use Rattle.daide_grammar.specs.Table.Shapes.{shape, join, shapes}
 use Rattle.daide_grammar.specs.Table.Proved.Alternatives.{both-pass}
 
@@ -131,7 +132,7 @@ total-mono [] (b ∷ bs) h = absurd h
 total-mono (a ∷ as') [] h = absurd h
 
 -- the total that n open brackets allow
-pub total-caps : (n : ℕ) → total (caps n) ≡ 8 * n + 16
+pub total-caps : (n : ℕ) → total (caps n) ≡ entries_bound n
 total-caps zero = refl
 total-caps (suc n) = omega (arith, total-caps n)
 

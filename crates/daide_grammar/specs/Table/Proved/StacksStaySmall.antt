@@ -1,6 +1,6 @@
 -- Properties of every reachable stack: it is short, and a nullable symbol is directly above a closing bracket or at the
 -- bottom.
-use Rattle.std.proofs.Common.{◌≡◌, ◌≢◌, ℕ, zero, suc, ◌+◌, ◌*◌, ◌≤◌, Bool, true, false, not, ◌&&◌, ◌||◌, List, [], ◌∷◌}
+use Rattle.std.proofs.Common.{◌≡◌, ◌≢◌, ℕ, zero, suc, ◌+◌, ◌≤◌, Bool, true, false, not, ◌&&◌, ◌||◌, List, [], ◌∷◌}
 use Rattle.std.proofs.Common.{◌++◌, length, Option, None, Some, refl, sym, ◌∙◌, ap, subst, arith, add-one}
 use Rattle.std.proofs.Common.{if◌then◌else◌}
 use Rattle.std.specs.List.{list_all}
@@ -8,6 +8,7 @@ use Rattle.daide_token.specs.declared.class.Class.{Class}
 use Rattle.daide_token.specs.declared.class.Class.TheVariants.{Bra, Ket}
 use Rattle.daide_grammar.specs.declared.symbol.Sym.{Sym}
 use Rattle.daide_grammar.specs.declared.symbol.Sym.TheVariants.{Closing}
+use Rattle.daide_grammar.specs.Bounds.{entries_bound}
 use Rattle.daide_grammar.specs.Table.Symbols.{entries, may_end_of}
 use Rattle.daide_grammar.specs.Table.Answers.{TableEntry, Take, Skip, Stop}
 use Rattle.daide_grammar.specs.Table.Stacks.{stack_after, skips_before, ends_asked}
@@ -34,7 +35,7 @@ length-total (s ∷ ss) =
 
 -- at most eight entries for each open bracket, plus sixteen
 pub Lawful-short : {moves : Sym → Class → TableEntry} (g : GoodMoves moves) (ss : List Sym) (n : ℕ) → IsLawful moves ss n →
-    length ss ≤ 8 * n + 16
+    length ss ≤ entries_bound n
 Lawful-short g ss n l =
     omega (arith, length-total ss, total-mono (shapes ss) (caps n) (Lawful-ordered g l).sizes, total-caps n)
 

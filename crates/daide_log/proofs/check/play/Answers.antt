@@ -1,4 +1,4 @@
-use Rattle.std.proofs.Common.{◌≡◌, ◌+◌, refl, sym, ap, ◌∙◌, subst, Ok, None, List, ℕ, ◌⊎◌, length, All, IfOk, IfErr}
+use Rattle.std.proofs.Common.{◌≡◌, ◌+◌, refl, sym, ap, ◌∙◌, subst, Ok, Some, None, List, ℕ, ◌⊎◌, length, All, IfOk, IfErr}
 use Rattle.daide_log_lines.specs.declared.lines.LineEnd.{LineEnd}
 use Rattle.daide_log_lines.specs.declared.lines.LineEnd.TheVariants.{Line}
 use Rattle.daide_log_lines.specs.declared.fault.LogFault.{LogFault}
@@ -12,7 +12,7 @@ use Rattle.daide_log.specs.declared.heading.Preamble.{Preamble}
 use Rattle.daide_log.specs.Log.{event_in}
 use Rattle.daide_log.specs.Reporting.{IsReady, IsLateFault}
 use Rattle.daide_log.specs.Progress.{Judges, IsFinished, states_of}
-use Rattle.daide_log.proofs.EventLemmas.{plays_first, plays_more, finished_at_end, finished_at_last, fault_in_play}
+use Rattle.daide_log.proofs.EventLemmas.{plays_first, plays_more, finished_at_end, finished_at_last, finished_at_cut, fault_in_play}
 use Rattle.daide_log.proofs.EventLemmas.{nothing_reported, unfinished, fault_handed_on, bad_in_play, at_end, at_last_line, as_line}
 use Rattle.daide_log.proofs.check.play.Goals as goal
 
@@ -58,6 +58,11 @@ returns-in_err-judge_line-clause-answered g c = λ first before starts. (
       (all_of g.W.Write.contents c.judge_line.new.account.output) c.in_ok-found.found c.in_err-judge_line.field-0.0
       c.lines.invariant.0 c.in_ok-found.ensures.found (sym c.is_end.ensures ∙ c.if-is_end.false)
       c.in_ok-found.ensures.kept
+      (λ last wrong. c.is_cut.ensures.whole c.if-is_cut.false last
+      (subst (λ (h : Preamble). event_in h.version (length c.lines.sessions.items) c.line-line.result.now ≡ None)
+      (sym c.lines.invariant.3)
+      (subst (λ (l : List ℕ). event_in c.args.account.now.head.version (length c.lines.sessions.items) l ≡ None)
+      (sym c.line-line.ensures) wrong)) (words_of c.args.account.now.head.words))
       (subst (λ (h : Preamble). IsLateFault (g.S.Style.form (words_of h.words)) c.in_err-judge_line.field-0.0
       ⊎ ((c.in_err-judge_line.field-0.0 ≡ BadLine (c.lines.count + 1))
       × (event_in h.version (length c.lines.sessions.items)
@@ -67,7 +72,7 @@ returns-in_err-judge_line-clause-answered g c = λ first before starts. (
       ⊎ ((c.in_err-judge_line.field-0.0 ≡ BadLine (c.lines.count + 1))
       × (event_in c.lines.account.head.version (length c.lines.sessions.items) l ≡ None)
       × (all_of g.W.Write.contents c.judge_line.new.account.output ≡ all_of g.W.Write.contents c.find_line.new.output)))
-      c.line.ensures c.in_err-judge_line.ensures.refused)))) first before starts,
+      c.line-line.ensures c.in_err-judge_line.ensures.refused)))) first before starts,
 )
 
 pub returns-then-is_end-clause-answered : goal.returns-then-is_end-clause-answered
@@ -84,7 +89,7 @@ returns-then-is_end-clause-answered g c = λ first before starts. (
       (g.R.LogReader.reader_view c.find_line.new.input.reader.now) (rest_after f c.find_line.new.input.block))
       (at_end c.in_ok-found.found (sym c.is_end.ensures ∙ c.if-is_end.true)) c.in_ok-found.ensures.found)
       c.in_ok-found.ensures.kept
-      (subst (λ (h : Preamble). IfOk c.finish.result (λ answer. IsFinished (g.S.Style.form (words_of h.words)) h.version
+      (subst (λ (h : Preamble). IfOk c.finish.result (λ answer. IsFinished (g.S.Style.form (words_of h.words)) None h.version
       (states_of c.lines.sessions.items) c.lines.account.summary (all_of g.W.Write.contents c.find_line.new.output)
       (all_of g.W.Write.contents c.finish.new.account.output) answer)) c.lines.invariant.3 (rw c.deref.ensures.value at c.finish.ensures.written))) first before starts,
   (
@@ -122,11 +127,11 @@ returns-then-is_last-clause-answered g c = λ first before starts. (
       (c.lines.count + 1) (states_of c.lines.sessions.items) l
       (states_of c.judge_line.new.sessions.items) c.lines.account.summary c.judge_line.new.account.summary
       (all_of g.W.Write.contents c.find_line.new.output) (all_of g.W.Write.contents c.judge_line.new.account.output))
-      (c.line.ensures
+      (c.line-line.ensures
       ∙ ap (λ (f : LineEnd). line_at f c.find_line.new.input.block c.find_line.new.input.text.items)
       (at_last_line c.in_ok-found.found (sym c.is_last.ensures ∙ c.if-is_last.true)))
       c.in_ok-judge_line.ensures.judged))
-      (subst (λ (h : Preamble). IfOk c.finish-then-is_last.result (λ answer. IsFinished (g.S.Style.form (words_of h.words))
+      (subst (λ (h : Preamble). IfOk c.finish-then-is_last.result (λ answer. IsFinished (g.S.Style.form (words_of h.words)) None
       h.version (states_of c.judge_line.new.sessions.items) c.judge_line.new.account.summary
       (all_of g.W.Write.contents c.judge_line.new.account.output) (all_of g.W.Write.contents c.finish-then-is_last.new.account.output) answer))
       (c.judge_line.ensures.same_head ∙ c.lines.invariant.3) (rw c.deref-then-is_last.ensures.value at c.finish-then-is_last.ensures.written))) first before starts,
@@ -141,6 +146,50 @@ returns-then-is_last-clause-answered g c = λ first before starts. (
       (subst (λ (h : Preamble). IfErr c.finish-then-is_last.result (IsLateFault (g.S.Style.form (words_of h.words))))
       (c.judge_line.ensures.same_head ∙ c.lines.invariant.3) c.finish-then-is_last.ensures.refused)) first before starts,
 )
+
+pub returns-then-is_cut-clause-answered : goal.returns-then-is_cut-clause-answered
+returns-then-is_cut-clause-answered g c = λ first before starts. (
+  (
+      let cut = c.is_cut.ensures.cut c.if-is_cut.true in
+      let last = at_last_line c.in_ok-found.found cut.0 in
+      finished_at_cut (g.S.Style.form (words_of c.args.account.now.head.words)) (IsReady c.args.account.now.head.limits.config (words_of c.args.account.now.head.words)) _ (g.R.LogReader.reader_view c.lines.input.reader.now) (g.R.LogReader.reader_view c.find_line.new.input.reader.now)
+      c.lines.input.block c.find_line.new.input.block c.find_line.new.input.text.items c.lines.count
+      c.args.account.now.head.version
+      c.lines.sessions.items (length c.args.sessions.now.items) c.lines.account.summary
+      (all_of g.W.Write.contents c.lines.account.output) (all_of g.W.Write.contents c.find_line.new.output)
+      (all_of g.W.Write.contents c.finish-then-is_cut.new.account.output) c.finish-then-is_cut.result c.lines.invariant.0
+      (subst (λ (f : LineEnd). IsFound (all_of g.W.Write.contents c.lines.account.output) (g.R.LogReader.reader_view c.lines.input.reader.now) c.lines.input.block c.lines.count (Ok f)
+      (line_at f c.find_line.new.input.block c.find_line.new.input.text.items)
+      (g.R.LogReader.reader_view c.find_line.new.input.reader.now) (rest_after f c.find_line.new.input.block))
+      last c.in_ok-found.ensures.found)
+      c.in_ok-found.ensures.kept
+      (subst (λ (h : Preamble). event_in h.version (length c.lines.sessions.items) c.find_line.new.input.text.items ≡ None)
+      c.lines.invariant.3
+      (subst (λ (l : List ℕ). event_in c.lines.account.head.version (length c.lines.sessions.items) l ≡ None)
+      (c.line-line.ensures
+      ∙ ap (λ (f : LineEnd). line_at f c.find_line.new.input.block c.find_line.new.input.text.items) last) cut.1))
+      (cut.2 (words_of c.args.account.now.head.words))
+      (subst (λ (h : Preamble). IfOk c.finish-then-is_cut.result (λ answer. IsFinished (g.S.Style.form (words_of h.words))
+      (Some (c.lines.count + 1)) h.version (states_of c.lines.sessions.items) c.lines.account.summary
+      (all_of g.W.Write.contents c.find_line.new.output) (all_of g.W.Write.contents c.finish-then-is_cut.new.account.output) answer))
+      c.lines.invariant.3 (rw c.deref-then-is_cut.ensures.value at c.finish-then-is_cut.ensures.written))) first before starts,
+  (
+      unfinished (g.S.Style.form (words_of c.args.account.now.head.words)) (IsReady c.args.account.now.head.limits.config (words_of c.args.account.now.head.words)) _ (g.R.LogReader.reader_view c.lines.input.reader.now) (g.R.LogReader.reader_view c.find_line.new.input.reader.now)
+      c.lines.input.block (rest_after c.in_ok-found.found c.find_line.new.input.block)
+      (line_at c.in_ok-found.found c.find_line.new.input.block c.find_line.new.input.text.items) c.lines.count
+      c.args.account.now.head.version c.lines.sessions.items (length c.args.sessions.now.items) c.lines.account.summary
+      (all_of g.W.Write.contents c.lines.account.output) (all_of g.W.Write.contents c.finish-then-is_cut.new.account.output)
+      c.in_ok-found.found c.finish-then-is_cut.result c.lines.invariant.0 c.in_ok-found.ensures.found
+      (subst (λ (h : Preamble). IfErr c.finish-then-is_cut.result (IsLateFault (g.S.Style.form (words_of h.words)))) c.lines.invariant.3
+      c.finish-then-is_cut.ensures.refused)) first before starts,
+)
+
+pub finish-requires-then-is_cut-clause-ready : goal.finish-requires-then-is_cut-clause-ready
+finish-requires-then-is_cut-clause-ready g c =
+    subst (λ (l : List SessionView). All (IsReady c.lines.account.head.limits.config (words_of c.lines.account.head.words)) l)
+    (sym c.deref-then-is_cut.ensures.value)
+    (subst (λ (h : Preamble). All (IsReady h.limits.config (words_of h.words)) c.lines.sessions.items)
+    (sym c.lines.invariant.3) c.lines.invariant.0.ready)
 
 pub finish-requires-clause-ready : goal.finish-requires-clause-ready
 finish-requires-clause-ready g c =
@@ -186,7 +235,7 @@ lines-preserved g c =
           (states_of c.judge_line.new.sessions.items) c.lines.account.summary c.judge_line.new.account.summary
           (all_of g.W.Write.contents c.find_line.new.output)
           (all_of g.W.Write.contents c.judge_line.new.account.output))
-          c.line.ensures c.in_ok-judge_line.ensures.judged))
+          c.line-line.ensures c.in_ok-judge_line.ensures.judged))
           c.judge_line.ensures.few
           (subst (λ (h : Preamble). All (IsReady h.limits.config (words_of h.words)) c.judge_line.new.sessions.items)
           c.lines.invariant.3 c.judge_line.ensures.ready) c.judge_line.ensures.same,

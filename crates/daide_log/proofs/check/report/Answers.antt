@@ -1,4 +1,4 @@
-use Rattle.std.proofs.Common.{subst, sym, [], List, arith, ap, length, ◌∙◌, IfOk}
+use Rattle.std.proofs.Common.{subst, sym, [], List, None, arith, ap, length, ◌∙◌, IfOk}
 use Rattle.daide_protocol.specs.Wires.{SessionView}
 use Rattle.daide_log_lines.specs.Output.{all_of}
 use Rattle.daide_protocol.specs.Machine.{SessionState, initial_state}
@@ -66,7 +66,7 @@ returns-then-not-opened-clause-reported g c =
             c.args.account.now.summary first mid (all_of g.W.Write.contents c.finish.new.account.output)
             c.finish.result read
             c.requires.nothing (keeps_appends first mid c.in-Ok.ensures.kept)
-            (subst (λ (l : List SessionState). IfOk c.finish.result (λ answer. IsFinished (g.S.Style.form words) head.version l
+            (subst (λ (l : List SessionState). IfOk c.finish.result (λ answer. IsFinished (g.S.Style.form words) None head.version l
             c.args.account.now.summary mid (all_of g.W.Write.contents c.finish.new.account.output) answer))
             (ap states_of c.deref.ensures.value ∙ c.in-Ok-open_sessions.ensures.begun) c.finish.ensures.written),
         write_failed (g.S.Style.form words) old new first (all_of g.W.Write.contents c.finish.new.account.output) c.finish.result

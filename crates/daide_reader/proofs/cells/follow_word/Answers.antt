@@ -1,6 +1,6 @@
-use Rattle.std.proofs.Common.{◌≡◌, ◌≤◌, ◌<◌, ◌+◌, ◌%◌, ◌^◌, ◌∷◌, ℕ, IfSome, IfNone, List, Some, None, Option}
+use Rattle.std.proofs.Common.{◌≡◌, ◌≤◌, ◌<◌, ◌+◌, ◌∷◌, ℕ, IfSome, IfNone, List, Some, None, Option}
 use Rattle.std.proofs.Common.{length, get_or, take, reverse}
-use Rattle.std.proofs.Common.{refl, sym, ap, ◌∙◌, subst, rules, arith}
+use Rattle.std.proofs.Common.{sym, ap, ◌∙◌, subst, rules, arith}
 use Rattle.daide_token.specs.declared.class.Class.{Class}
 use Rattle.daide_grammar.specs.declared.symbol.Sym.{Sym}
 use Rattle.daide_grammar.specs.Words.{Words}

@@ -7,7 +7,7 @@ use Rattle.daide_grammar.specs.Table.Stacks.{stack_after}
 use Rattle.daide_reader.specs.Stack.{steps_at}
 use Rattle.daide_reader.proofs.Counts.{none_due}
 use Rattle.daide_reader.proofs.StackLemmas.{bracket_told}
-use Rattle.daide_reader.proofs.SliceLemmas.{taken_at, refused_by}
+use Rattle.daide_reader.proofs.SliceLemmas.{bra_of, no_bra_of, taken_at, refused_by}
 use Rattle.daide_reader.proofs.slice.read_token.Goals as goal
 
 -- the class decides whether the token is a bracket
@@ -28,7 +28,7 @@ returns-then-not-recount g c = record {
   taken = tt;
   inside = tt;
   counted = c.recount.ensures.counted;
-  reject_at = inl (c.recount.ensures.reject_at c.if-not-recount.true);
+  reject_at = inl (bra_of _ _ c.recount.ensures.fits c.if-not-recount.true);
   words = refl;
   steps = (0, omega arith, none_due _ 0 refl);
 }
@@ -44,7 +44,7 @@ follow-requires g c =
           c.requires.count,
           subst (λ (class : Class). IfSome (stack_after moves class stack) (λ after. length after ≤ g.row.N))
               (sym c.class_of-class.ensures)
-              (c.requires.room (c.recount.ensures.fits c.if-not-recount.false)),
+              (c.requires.room (no_bra_of _ _ c.recount.ensures.fits c.if-not-recount.false)),
         ),
       ),
     )
@@ -54,7 +54,7 @@ returns g c =
     let moves = g.T.Predict.moves (g.T.Predict.words c.args.table.now) in
     let stack = reverse (take c.args.count c.args.cells.now) in
     record {
-      fits = λ _. c.recount.ensures.fits c.if-not-recount.false;
+      fits = λ _. no_bra_of _ _ c.recount.ensures.fits c.if-not-recount.false;
       taken = taken_at moves _ _ stack c.follow.result c.follow.new.cells c.class_of-class.ensures
           c.follow.ensures.taken;
       inside = c.follow.ensures.inside;

@@ -6,17 +6,18 @@ use Rattle.daide_reader.proofs.Counts.{read_inside}
 use Rattle.daide_reader.proofs.Counts.{token_inside, whole_token}
 use Rattle.daide_reader.proofs.BodyLemmas.{tokens_of-length}
 use Rattle.daide_reader.proofs.ReadingLemmas.{none_from_test, room_more}
+use Rattle.daide_reader.proofs.SliceLemmas.{never_opens, opens_too_many}
 use Rattle.daide_reader.proofs.StretchLemmas.{at_joined, at_next, at_start, reads_all, reads_joined, reads_refused}
 use Rattle.daide_reader.proofs.slice.read_tokens.Goals as goal
 
 pub loop-next-init : goal.loop-next-init
 loop-next-init g c =
     let old : SliceState g.row.T.Denot =
-    record { table = c.args.table.now; stack = reverse (take c.args.count c.args.cells.now) } in
+    record { table = c.args.table.now; stack = reverse (take c.args.start.count c.args.cells.now) } in
     record {
       inside = c.requires.count;
-      upto = omega arith;
-      at = at_start g.T.Predict g.met.T.Predict.laws c.args.max_depth c.args.body.now 0 c.args.unclosed old
+      upto = c.requires.read;
+      at = at_start g.T.Predict g.met.T.Predict.laws c.args.max_depth c.args.body.now c.args.start.read c.args.start.unclosed old
           c.requires.deep c.requires.lawful;
     }
 
@@ -28,7 +29,7 @@ returns-then-is_some g c = record {
   all = λ none. let f : true ≡ false = c.if-is_some.ensures ∙ ap is_some none in absurd cc;
   reads =
       let old : SliceState g.row.T.Denot =
-      record { table = c.args.table.now; stack = reverse (take c.args.count c.args.cells.now) } in
+      record { table = c.args.table.now; stack = reverse (take c.args.start.count c.args.cells.now) } in
       let now : SliceState g.row.T.Denot =
       record { table = c.loop-next.table; stack = reverse (take c.loop-next.left c.loop-next.cells) } in
       let inv = c.loop-next.invariant in
@@ -38,7 +39,7 @@ returns-then-is_some g c = record {
         table = c.run_below_depth_limit-reached.new.table;
         stack = reverse (take c.run_below_depth_limit-reached.result.count c.run_below_depth_limit-reached.new.cells);
       } in
-      reads_joined g.T.Predict g.met.T.Predict.laws c.args.max_depth c.args.body.now 0 c.args.unclosed old
+      reads_joined g.T.Predict g.met.T.Predict.laws c.args.max_depth c.args.body.now c.args.start.read c.args.start.unclosed old
       i opened c.run_below_depth_limit-reached.result.tokens c.run_below_depth_limit-reached.result.unclosed c.run_below_depth_limit-reached.result.place now new
       inv.at c.run_below_depth_limit-reached.ensures.reads;
 }
@@ -47,7 +48,7 @@ returns-then-is_some g c = record {
 pub loop-next-preserved-then-opened-max_depth : goal.loop-next-preserved-then-opened-max_depth
 loop-next-preserved-then-opened-max_depth g c =
     let old : SliceState g.row.T.Denot =
-    record { table = c.args.table.now; stack = reverse (take c.args.count c.args.cells.now) } in
+    record { table = c.args.table.now; stack = reverse (take c.args.start.count c.args.cells.now) } in
     let now : SliceState g.row.T.Denot =
     record { table = c.loop-next.table; stack = reverse (take c.loop-next.left c.loop-next.cells) } in
     let inv = c.loop-next.invariant in
@@ -60,7 +61,7 @@ loop-next-preserved-then-opened-max_depth g c =
     record {
       inside = c.run_below_depth_limit-reached.ensures.inside;
       upto = c.run_below_depth_limit-reached.ensures.tokens;
-      at = at_joined g.T.Predict g.met.T.Predict.laws c.args.max_depth c.args.body.now 0 c.args.unclosed old
+      at = at_joined g.T.Predict g.met.T.Predict.laws c.args.max_depth c.args.body.now c.args.start.read c.args.start.unclosed old
           i opened c.run_below_depth_limit-reached.result.tokens c.unwrap_or-opened.result c.run_below_depth_limit-reached.result.unclosed
           c.run_below_depth_limit-reached.result.place now new
           inv.at c.run_below_depth_limit-reached.ensures.reads c.unwrap_or-opened.ensures (none_from_test _ c.if-is_some.ensures);
@@ -76,12 +77,12 @@ read_token-requires g c = (
       c.loop-next.invariant.inside,
       (
         count_low _ c.args.max_depth g.row.N c.loop-next.invariant.at.deep c.requires.size c.requires.at_depth_limit,
-        λ fits.
+        λ no_bra.
             let Predict = g.T.Predict in
             let w = Predict.words c.loop-next.table in
             let inv = c.loop-next.invariant in
             room_more Predict g.met.T.Predict.laws w g.row.N c.token_at-token.result c.loop-next.opened c.args.max_depth
-            _ inv.at.lawful inv.at.deep c.requires.at_depth_limit fits,
+            _ inv.at.lawful inv.at.deep c.requires.at_depth_limit (never_opens _ _ _ no_bra),
       ),
     ),
   ),
@@ -95,7 +96,7 @@ returns-in_default g c = record {
   all = λ none. let place = c.reject_at.ensures.place in absurd cc;
   reads =
       let old : SliceState g.row.T.Denot =
-      record { table = c.args.table.now; stack = reverse (take c.args.count c.args.cells.now) } in
+      record { table = c.args.table.now; stack = reverse (take c.args.start.count c.args.cells.now) } in
       let now : SliceState g.row.T.Denot =
       record { table = c.loop-next.table; stack = reverse (take c.loop-next.left c.loop-next.cells) } in
       let inv = c.loop-next.invariant in
@@ -104,13 +105,14 @@ returns-in_default g c = record {
       let t = c.token_at-token.result in
       let new : SliceState g.row.T.Denot =
       record { table = c.read_token.new.table; stack = reverse (take c.reject_at.result.count c.read_token.new.cells) } in
-      let whole = reads_refused g.T.Predict g.met.T.Predict.laws c.args.max_depth c.args.body.now 0 c.args.unclosed old
+      let whole = reads_refused g.T.Predict g.met.T.Predict.laws c.args.max_depth c.args.body.now c.args.start.read c.args.start.unclosed old
       i t opened c.reject_at.result.unclosed now new inv.at
       (token_inside (length c.args.body.now) i c.loop-next-test.true _ (tokens_of-length c.args.body.now))
       c.token_at-token.ensures.front (ap (λ (k : ℕ). reverse (take k c.read_token.new.cells)) c.reject_at.ensures.count)
       (record {
         words = c.read_token.ensures.words;
-        why = c.in_default.ensures.reject_at;
+        why = opens_too_many _ opened c.args.max_depth _ (all_of _ _ inv.at.deep c.if-opened-max_depth.false)
+            c.in_default.ensures.reject_at;
         counted = c.reject_at.ensures.unclosed ∙ sym c.read_token.ensures.counted;
         steps = (c.read_token.ensures.steps.0, or_one_more _ _ c.read_token.ensures.steps.1, c.read_token.ensures.steps.2);
       }) in
@@ -120,7 +122,7 @@ returns-in_default g c = record {
 pub loop-next-preserved : goal.loop-next-preserved
 loop-next-preserved g c =
     let old : SliceState g.row.T.Denot =
-    record { table = c.args.table.now; stack = reverse (take c.args.count c.args.cells.now) } in
+    record { table = c.args.table.now; stack = reverse (take c.args.start.count c.args.cells.now) } in
     let now : SliceState g.row.T.Denot =
     record { table = c.loop-next.table; stack = reverse (take c.loop-next.left c.loop-next.cells) } in
     let inv = c.loop-next.invariant in
@@ -131,11 +133,11 @@ loop-next-preserved g c =
     record {
       inside = c.in-Some.ensures.inside;
       upto = next_within i _ c.loop-next-test.true;
-      at = at_next g.T.Predict g.met.T.Predict.laws c.args.max_depth c.args.body.now 0 c.args.unclosed old
+      at = at_next g.T.Predict g.met.T.Predict.laws c.args.max_depth c.args.body.now c.args.start.read c.args.start.unclosed old
           i c.token_at-token.result opened c.read_token.new.opened now new inv.at c.token_at-token.ensures.front
           (record {
             words = c.read_token.ensures.words;
-            fits = c.in-Some.ensures.fits refl;
+            fits = never_opens _ _ _ (c.in-Some.ensures.fits refl);
             taken = c.in-Some.ensures.taken;
             counted = c.read_token.ensures.counted;
             steps = (c.read_token.ensures.steps.0, or_one_more _ _ c.read_token.ensures.steps.1, c.read_token.ensures.steps.2);
@@ -149,14 +151,14 @@ returns g c = record {
   all = λ _. refl;
   reads =
       let old : SliceState g.row.T.Denot =
-      record { table = c.args.table.now; stack = reverse (take c.args.count c.args.cells.now) } in
+      record { table = c.args.table.now; stack = reverse (take c.args.start.count c.args.cells.now) } in
       let now : SliceState g.row.T.Denot =
       record { table = c.loop-next.table; stack = reverse (take c.loop-next.left c.loop-next.cells) } in
       let all : c.loop-next.next ≡ length c.args.body.now / 2 =
       all_of _ _ c.loop-next.invariant.upto c.loop-next-test.false in
-      subst (λ (k : ℕ). ReadsTo g.T.Predict c.args.max_depth c.args.body.now 0 c.args.unclosed old k
+      subst (λ (k : ℕ). ReadsTo g.T.Predict c.args.max_depth c.args.body.now c.args.start.read c.args.start.unclosed old k
       (Some c.loop-next.opened) None now) all
-      (reads_all g.T.Predict g.met.T.Predict.laws c.args.max_depth c.args.body.now 0 c.args.unclosed old
+      (reads_all g.T.Predict g.met.T.Predict.laws c.args.max_depth c.args.body.now c.args.start.read c.args.start.unclosed old
       c.loop-next.next c.loop-next.opened now c.loop-next.invariant.at);
 }
 

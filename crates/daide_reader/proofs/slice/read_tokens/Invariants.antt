@@ -7,8 +7,8 @@ abbrev pub invariant-loop-next : goal.invariant-loop-next
 invariant-loop-next g l = record {
   inside : l.left ≤ g.row.N;
   upto : l.next ≤ length l.body / 2;
-  at : AtToken g.T.Predict g.met.T.Predict.laws l.max_depth l.body 0 l.unclosed
-      (record { table = l.fn.table; stack = reverse (take l.fn.count l.fn.cells) })
+  at : AtToken g.T.Predict g.met.T.Predict.laws l.max_depth l.body l.fn.start.read l.fn.start.unclosed
+      (record { table = l.fn.table; stack = reverse (take l.fn.start.count l.fn.cells) })
       l.next l.opened (record { table = l.table; stack = reverse (take l.left l.cells) });
 }
 

@@ -1,4 +1,4 @@
-use Rattle.std.proofs.Common.{codes, sym, refl}
+use Rattle.std.proofs.Common.{codes, sym}
 use Rattle.hex.specs.Hex.{decode_pairs}
 use Rattle.daide_frame.specs.declared.side.Side.TheVariants.{Bot}
 use Rattle.daide_frame.specs.Frames.{first_items}

@@ -1,5 +1,4 @@
-use Rattle.std.proofs.Common.{◌≡◌, ◌+◌, ◌/◌, ◌%◌, ◌≤◌, [], ◌∷◌, ◌++◌, length, ap, arith, ◌∙◌, take}
-use Rattle.std.specs.Fmt.{decimal}
+use Rattle.std.proofs.Common.{◌+◌, arith, ◌∙◌, take}
 use Rattle.daide_token.proofs.DecimalText.{digit_behind, front_shorter, only_digit, only_length}
 use Rattle.daide_token.proofs.text.+put_digits.Goals as goal
 

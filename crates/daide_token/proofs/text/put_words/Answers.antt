@@ -1,6 +1,4 @@
-use Rattle.std.proofs.Common.{◌≡◌, ◌++◌, List, ℕ, arith, refl, take, ap, sym, ◌∙◌}
-use Rattle.daide_token.specs.Token.{tokens_of}
-use Rattle.daide_token.specs.TextSteps.{some_text}
+use Rattle.std.proofs.Common.{arith, refl, take}
 use Rattle.daide_token.proofs.TextParts.{past_on, word_on}
 use Rattle.daide_token.proofs.text.put_words.Goals as goal
 

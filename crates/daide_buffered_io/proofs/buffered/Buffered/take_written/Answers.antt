@@ -1,4 +1,4 @@
-use Rattle.std.proofs.Common.{rules, refl, ◌≡◌, [], ◌++◌, ℕ, List, ap, ◌∙◌}
+use Rattle.std.proofs.Common.{rules, refl, ◌≡◌, [], ap, ◌∙◌}
 use Rattle.daide_buffered_io.specs.Buffers.{Buffer, buffered_bytes}
 use Rattle.daide_buffered_io.proofs.BufferLemmas.{of_view, drain_passes, held_passes, flush_then}
 use Rattle.daide_buffered_io.proofs.buffered.Buffered.take_written.Goals as goal

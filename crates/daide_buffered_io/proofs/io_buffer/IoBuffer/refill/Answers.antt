@@ -40,4 +40,5 @@ returns-in_default g c =
           c.pull_from-pull.ensures.asked;
       count = sym none;
       apart = c.pull_from-pull.ensures.apart;
+      writes = c.pull_from-pull.ensures.writes;
     }

@@ -16,10 +16,11 @@ returns-clause-round g c =
     let turns = c.turn_all.ensures.turns in
     let removes = c.remove_closed-removed.ensures.removes in
     let progressed = c.admit-came.result || c.in_ok-connected.connected || c.has_moved-made_progress.result || c.remove_closed-removed.result in
-    let asleep = waits_alike {P = g.row.P.Denot} _ _ _ _ _ _ _ _ admits.3 finishes.3 c.has_moved-made_progress.ensures
+    let after = c.remove_closed-removed.new.hub.places in
+    let asleep = waits_alike {P = g.row.P.Denot} after _ _ _ _ _ _ _ _ admits.3 finishes.3 c.has_moved-made_progress.ensures
     removes.3 in
     let step : Round g.P.Ports.transition (record { hub = old.hub; counters = old.counters })
-    (Begins ∷ admits.0 ++ finishes.0 ++ turns.0 ++ removes.0 ++ wait_where progressed)
+    (Begins ∷ admits.0 ++ finishes.0 ++ turns.0 ++ removes.0 ++ wait_where progressed after)
     (record { hub = c.remove_closed-removed.new.hub; counters = c.finish_connect.new.counters }) = record {
       admission = admits.0;
       meeting = finishes.0;
@@ -43,7 +44,7 @@ returns-clause-round g c =
       };
       asked = ap (λ w. Begins ∷ admits.0 ++ finishes.0 ++ turns.0 ++ removes.0 ++ w) asleep;
     } in (
-      Begins ∷ admits.0 ++ finishes.0 ++ turns.0 ++ removes.0 ++ wait_where progressed,
+      Begins ∷ admits.0 ++ finishes.0 ++ turns.0 ++ removes.0 ++ wait_where progressed after,
       transits_then go (Begins ∷ admits.0 ++ finishes.0 ++ turns.0 ++ removes.0) _ _ _ _
           (transits_then go (Begins ∷ admits.0 ++ finishes.0 ++ turns.0) removes.0 _ _ _
           (transits_then go (Begins ∷ admits.0 ++ finishes.0) turns.0 _ _ _
@@ -51,7 +52,7 @@ returns-clause-round g c =
           (c.begin_round.new.self, c.begin_round.ensures, admits.1) finishes.1) turns.1) removes.1)
           c.rest.ensures,
       subst (λ (a : ServiceView g.row.P.Denot). Round g.P.Ports.transition a
-          (Begins ∷ admits.0 ++ finishes.0 ++ turns.0 ++ removes.0 ++ wait_where progressed)
+          (Begins ∷ admits.0 ++ finishes.0 ++ turns.0 ++ removes.0 ++ wait_where progressed after)
           (record { hub = c.remove_closed-removed.new.hub; counters = c.finish_connect.new.counters })) c.self.view_is step,
     )
 

@@ -1,4 +1,4 @@
-use Rattle.std.proofs.Common.{◌≡◌, ◌==◌, ℕ, ◌+◌, false, List, [], ◌∷◌, ◌++◌, take, drop, sym, ap, ◌∙◌, rules, arith}
+use Rattle.std.proofs.Common.{◌≡◌, ◌==◌, ℕ, ◌+◌, false, List, [], ◌∷◌, ◌++◌, take, drop, sym, ap, ◌∙◌, rules}
 use Rattle.std.proofs.lemmas.List.{take-append-drop}
 use Rattle.daide_token.specs.Token.{hlo, tokens_of}
 use Rattle.daide_protocol.specs.HloLevel.{lvl_scan_of}

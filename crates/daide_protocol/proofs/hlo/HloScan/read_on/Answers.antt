@@ -1,4 +1,4 @@
-use Rattle.std.proofs.Common.{ℕ, [], ◌∷◌, ◌++◌, ◌+◌, ◌≤◌, ◌≡◌, take, drop, length, sym, ap, ◌∙◌, arith, refl}
+use Rattle.std.proofs.Common.{[], ◌∷◌, ◌++◌, ◌+◌, ◌≤◌, ◌≡◌, take, drop, length, sym, ap, ◌∙◌, arith, refl}
 use Rattle.std.proofs.lemmas.List.{take-append-drop}
 use Rattle.daide_token.specs.Token.{tokens_of}
 use Rattle.daide_frame.proofs.ListLemmas.{take_whole}

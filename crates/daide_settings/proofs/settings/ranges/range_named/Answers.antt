@@ -1,6 +1,6 @@
-use Rattle.std.proofs.Common.{Some, None, arith, ◌∙◌}
+use Rattle.std.proofs.Common.{Some, arith, ◌∙◌}
 use Rattle.std.proofs.lemmas.Str.Pattern.{split_once_first}
-use Rattle.daide_settings.proofs.Named.{range_split, range_whole}
+use Rattle.daide_settings.proofs.Named.{range_split}
 use Rattle.daide_settings.proofs.settings.ranges.range_named.Goals as goal
 
 pub returns-in-Some : goal.returns-in-Some

@@ -7,11 +7,14 @@ returns-in-Ready g c =
     let e = c.in-Ready.ensures in
     let inside = subst (λ (n : ℕ). c.loop-look._look < n) (c.len-look-end.ensures ∙ c.args.self.now.arrivals.ok.0)
     c.loop-look-test.true in (
-      e.0,
-      next_out c.loop-look._look _ _ _ e.0 c.loop-look.invariant.looks inside e.1,
-      e.2,
-      e.3 ∙ c.loop-look.invariant.came,
-      e.4 ∙ c.loop-look.invariant.closing,
+      (
+        e.0,
+        next_out c.loop-look._look _ _ _ e.0 c.loop-look.invariant.looks inside e.1,
+        e.2,
+        e.3 ∙ c.loop-look.invariant.came,
+        e.4 ∙ c.loop-look.invariant.closing,
+      ),
+      tt,
     )
 
 pub returns-in-Failed : goal.returns-in-Failed
@@ -19,10 +22,13 @@ returns-in-Failed g c =
     let e = c.in-Failed.ensures in
     let inside = subst (λ (n : ℕ). c.loop-look._look < n) (c.len-look-end.ensures ∙ c.args.self.now.arrivals.ok.0)
     c.loop-look-test.true in (
-      e.0,
-      next_out c.loop-look._look _ _ _ e.0 c.loop-look.invariant.looks inside e.1,
-      rw c.loop-look.invariant.closing at e.2,
-      e.3 ∙ c.loop-look.invariant.came,
+      (
+        e.0,
+        next_out c.loop-look._look _ _ _ e.0 c.loop-look.invariant.looks inside e.1,
+        rw c.loop-look.invariant.closing at e.2,
+        e.3 ∙ c.loop-look.invariant.came,
+      ),
+      tt,
     )
 
 pub loop-look-preserved : goal.loop-look-preserved

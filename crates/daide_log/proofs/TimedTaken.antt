@@ -1,0 +1,37 @@
+-- What an event does to a record with times.
+use Rattle.std.proofs.Common.{◌≡◌, Option, Some, None, refl, sym, subst, inl}
+use Rattle.daide_log_lines.specs.LogLine.{LogEvent}
+use Rattle.jiff_core.specs.declared.civil.datetime.DateTime.{DateTime}
+use Rattle.daide_log.specs.declared.comment.Comment.TheVariants as comments
+use Rattle.daide_log.specs.declared.moment.Moment.{Moment}
+use Rattle.daide_log.specs.RecordItem.{comment_line}
+use Rattle.daide_log.specs.Recording.{Written, RecordsEvent, GetsText, TakesEvent, KeepsText}
+use Rattle.daide_log.specs.UtcText.{IsUtcOf}
+use Rattle.daide_log.specs.TimedRecording.{TimedRecorded, TakesTime, TakesTimedCall, due_time, last_time}
+
+-- an event without a line
+pub silent_taken : {P : Type 0} → (failed : Type 0) (old new : TimedRecorded P) (event : Option LogEvent) → event ≡ None →
+    new.record_of ≡ old.record_of → new.last ≡ old.last → TakesTimedCall failed old event new
+silent_taken failed old new event none same last =
+    subst (λ (e : Option LogEvent). TakesTimedCall failed old e new) (sym none) (inl same, last)
+
+-- an event with a line, after the time that was due
+pub lined_taken : {P : Type 0} → (failed : Type 0) (old new : TimedRecorded P) (mid : Written) (event : Option LogEvent) →
+    (line : LogEvent) × (event ≡ Some line) → TakesTime failed (due_time old.present old.last) old.record_of mid →
+    RecordsEvent failed mid event new.record_of → new.last ≡ last_time (due_time old.present old.last) old.last →
+    TakesTimedCall failed old event new
+lined_taken failed old new mid event lined time taken last =
+    subst (λ (e : Option LogEvent). TakesTimedCall failed old e new) (sym lined.1) (
+      mid,
+      time,
+      subst (λ (e : Option LogEvent). RecordsEvent failed mid e new.record_of) lined.1 taken,
+      last,
+    )
+
+-- the comment of a time that was due
+pub time_taken : (failed : Type 0) (due : Moment) (time : Option Moment) (at : DateTime) (old new : Written) →
+    Some due ≡ time → IsUtcOf due at → GetsText failed old.ending old (comment_line (comments.Timed at)) new →
+    TakesTime failed time old new
+unfolding comment_line
+time_taken failed due time at old new is utc gets =
+    subst (λ (t : Option Moment). TakesTime failed t old new) is (at, utc, gets)

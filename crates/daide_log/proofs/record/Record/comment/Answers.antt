@@ -1,0 +1,21 @@
+use Rattle.std.proofs.Common.{rules, ◌≡◌, ◌≢◌, ◌<◌, ◌+◌, ◌++◌, sym, ◌∙◌}
+use Rattle.std.specs.Io.KnownBytes.{append_known}
+use Rattle.daide_log.specs.declared.record.RecordEnd.TheVariants.{Whole, Failed}
+use Rattle.daide_log_lines.specs.LogLine.{most_lines}
+use Rattle.daide_log.specs.RecordItem.{comment_line}
+use Rattle.daide_log.specs.Recording.{HasFailed}
+use Rattle.daide_log.proofs.PauseLemmas.{line_got, page_got}
+use Rattle.daide_log.proofs.record.Record.comment.Goals as goal
+
+pub returns-then-eq : goal.returns-then-eq
+returns-then-eq g c =
+    let still : c.make_room-self-inside.result ≡ Whole = search rules in
+    let old : c.args.self.now.ending ≡ Whole = search rules in
+    let few : c.args.self.now.lines < most_lines = search rules in
+    let view : c.args.self.now.text ≡ append_known (g.W.Write.contents c.self.inside.writer) c.self.inside.held.items =
+    search rules in
+    let text = page_got (g.W.Write.contents c.self.inside.writer) (g.W.Write.contents c.make_room-self-inside.new.writer)
+    c.args.self.now.text c.self.inside.held.items c.make_room-self-inside.new.held.items c.put_comment.new.line.items
+    (comment_line c.args.comment) view
+    (c.make_room-self-inside.ensures.kept (λ e. absurd (let no : Whole ≡ Failed = sym still ∙ e in cc))) c.put_comment.ensures in
+    line_got (HasFailed g.W.Sink.Fails) c.args.self.now _ (comment_line c.args.comment) old still few (search rules) text

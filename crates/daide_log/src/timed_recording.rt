@@ -1,0 +1,213 @@
+//! Ports that record their calls, with times.
+
+ghost use Rattle.std.specs.Prelude.{◌≡◌, ◌≢◌, []};
+ghost use Rattle.daide_io.specs.Ports.{TurnBegins};
+ghost use Rattle.daide_io.specs.System.{BeginsTurn};
+ghost use Rattle.daide_log.specs.TimedRecording.{due_time as time_due};
+
+use crate::comment::Comment;
+use crate::moment::Moment;
+use crate::record::{Record, RecordEnd, RecordedEvent};
+use crate::recording::Activity;
+use crate::sink::Sink;
+use daide_frame::Side;
+use daide_io::ports::{Ports, Pull, Put};
+use daide_io::system::System;
+use daide_log_lines::event_line::MOST;
+use std::marker::Model;
+
+/// Returns the time to be written before the next line: the present one, unless the last one written is less than 10
+/// milliseconds from it.
+fn due_time(now: Option<Moment>, last: Option<Moment>) -> Option<Moment>
+    ensures { result ≡ time_due now last }
+{
+    let now = now?;
+    match last {
+        Some(last) if !now.is_apart(last) => None,
+        _ => Some(now),
+    }
+}
+
+/// Ports that record what they return to a session, as `Recording` does, with times. The caller gives the present time
+/// at the beginning of each turn (`begin_turn`). A comment with it stands before the line of an event, unless the last
+/// time in the record is less than 10 milliseconds from it (`due_time`). Without a time there is no comment.
+///
+/// Premise: a writer that records its bytes.
+///
+/// Not said: that the time which the caller gives is right.
+#[derive(Drop)]
+pub struct TimedRecording<P: Ports, W: Sink + Drop> {
+    ports: P,
+    log: Record<W>,
+    activity: Activity,
+    present: Option<Moment>,
+    last: Option<Moment>,
+    /// How the record would have ended when the turn began.
+    ending_before: RecordEnd,
+}
+
+impl<P: Ports, W: Sink + Drop> Model for TimedRecording<P, W> {
+    ghost use Rattle.daide_log.specs.TimedRecording.{TimedRecorded};
+
+    ghost Value = { TimedRecorded P };
+
+    ghost view = { λ r. record {
+      ports = r.ports;
+      record_of = r.log;
+      activity = r.activity;
+      present = r.present;
+      last = r.last;
+    } };
+}
+
+impl<P: Ports, W: Sink + Drop> TimedRecording<P, W> {
+    ghost use Rattle.std.specs.Prelude.{None, Some};
+    ghost use Rattle.daide_log.specs.Recording.{KeepsText, HasFailed, FitsLine, line_event};
+    ghost use Rattle.daide_log.specs.TimedRecording.{TimedRecords, TakesTime, TakesTimedCall, last_time};
+
+    /// Wraps ports, whose calls are recorded from now on. `began` is the last time that the record has.
+    pub fn new(ports: P, log: Record<W>, began: Option<Moment>) -> TimedRecording<P, W>
+        ensures { result ≡ record {
+          ports = ports;
+          record_of = log;
+          activity = Activity.Moving;
+          present = began;
+          last = began;
+        } }
+    {
+        let ending_before = log.ending();
+        TimedRecording {
+            ports,
+            log,
+            activity: Activity::Moving,
+            present: began,
+            last: began,
+            ending_before,
+        }
+    }
+
+    /// Has the system begin a turn with the inner ports, at this time. The record is unchanged.
+    pub fn begin_turn<S: System<P>>(&mut self, system: &mut S, now: Option<Moment>)
+        ensures begins { TimedRecords P.transition (HasFailed W.Fails) self.old TurnBegins self.new }
+        ensures time { self.new.present ≡ now }
+        ensures asked { S.transition system.old (BeginsTurn self.old.ports self.new.ports) system.new }
+    {
+        self.ending_before = self.log.ending();
+        self.present = now;
+        system.begin_turn(&mut self.ports);
+    }
+
+    /// Returns whether the record failed or became full since the last turn began.
+    pub fn has_just_ended(&self) -> bool {
+        self.log.ending() != self.ending_before
+    }
+
+    /// Records the time that is due, if one is.
+    #[tactic(auto, using(crate::proofs::TimedTaken::time_taken))]
+    fn record_time(&mut self)
+        ensures ports { self.new.ports ≡ self.old.ports }
+        ensures activity { self.new.activity ≡ self.old.activity }
+        ensures present { self.new.present ≡ self.old.present }
+        ensures taken { TakesTime (HasFailed W.Fails) (time_due self.old.present self.old.last) self.old.record_of self.new.record_of }
+        ensures last { self.new.last ≡ last_time (time_due self.old.present self.old.last) self.old.last }
+    {
+        if let Some(due) = due_time(self.present, self.last) {
+            self.log.comment(Comment::Timed(due.utc()));
+            self.last = Some(due);
+        }
+    }
+
+    /// Records an event, after which bytes move or do not, and before it the time that is due.
+    #[tactic(auto, using(crate::proofs::TimedTaken::silent_taken, crate::proofs::TimedTaken::lined_taken))]
+    fn record_event(&mut self, event: RecordedEvent<'_>, activity: Activity)
+        requires { FitsLine event }
+        ensures ports { self.new.ports ≡ self.old.ports }
+        ensures present { self.new.present ≡ self.old.present }
+        ensures taken { TakesTimedCall (HasFailed W.Fails) self.old (line_event event.entry) self.new }
+        ensures activity { self.new.activity ≡ activity }
+    {
+        if !event.is_silent() {
+            self.record_time();
+            self.log.record(event);
+        }
+        self.activity = activity;
+    }
+
+    /// Notes that nothing was returned, and writes the record if no bytes moved before.
+    #[tactic(auto, using(crate::proofs::PauseLemmas::unwritten_kept))]
+    fn pause(&mut self)
+        ensures ports { self.new.ports ≡ self.old.ports }
+        ensures present { self.new.present ≡ self.old.present }
+        ensures kept { TakesTimedCall (HasFailed W.Fails) self.old None self.new }
+        ensures written { self.old.activity ≢ Activity.Moving → self.new.record_of.ending ≡ RecordEnd.Whole →
+            self.new.record_of.unwritten ≡ [] }
+        ensures activity { self.new.activity ≡ Activity.Idle }
+    {
+        if self.activity != Activity::Moving {
+            self.log.flush();
+        }
+        self.activity = Activity::Idle;
+    }
+
+    /// Returns the inner ports.
+    pub fn ports(&self) -> &P
+        ensures { result.now ≡ self.now.ports }
+    {
+        &self.ports
+    }
+
+    /// Returns the record.
+    pub fn record(&self) -> &Record<W>
+        ensures { result.now ≡ self.now.record_of }
+    {
+        &self.log
+    }
+
+    /// Returns the inner ports and the record.
+    pub fn into_parts(self) -> (P, Record<W>)
+        ensures { result ≡ (self.ports, self.record_of) }
+    {
+        (self.ports, self.log)
+    }
+}
+
+impl<P: Ports, W: Sink + Drop> Ports for TimedRecording<P, W> {
+    ghost use Rattle.daide_log.specs.Recording.{HasFailed};
+    ghost use Rattle.daide_log.specs.TimedRecording.{TimedRecords};
+
+    ghost transition = { TimedRecords P.transition (HasFailed W.Fails) };
+
+    fn pull(&mut self, side: Side, buffer: &mut [u8]) -> Pull {
+        let most = buffer.len().min(MOST);
+        let pull = self.ports.pull(side, &mut buffer[..most]);
+        match pull {
+            Pull::Got(count) => {
+                self.record_event(
+                    RecordedEvent::Received(side, &buffer[..count]),
+                    Activity::Moving,
+                );
+            }
+            Pull::Idle => self.pause(),
+            Pull::Ended => self.record_event(RecordedEvent::EndOf(side), Activity::Ended),
+        }
+        pull
+    }
+
+    fn put(&mut self, side: Side, bytes: &[u8]) -> Put {
+        let put = self.ports.put(side, bytes);
+        if put == Put::Failed {
+            self.record_event(RecordedEvent::EndOf(side), Activity::Ended);
+        }
+        put
+    }
+
+    fn clock_popped(&mut self) -> bool {
+        let im_timer_expired = self.ports.clock_popped();
+        if im_timer_expired {
+            self.record_event(RecordedEvent::ImTimer, Activity::Ended);
+        } else if self.activity == Activity::Ended {
+            self.pause();
+        }
+        im_timer_expired
+    }
+}

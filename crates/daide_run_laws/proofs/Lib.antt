@@ -1,0 +1,5 @@
+pub mod TurnSettled
+pub mod RecordedPorts
+pub mod Watched
+pub mod AsleepLemmas
+mod LawFacts

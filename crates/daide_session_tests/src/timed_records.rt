@@ -1,0 +1,148 @@
+//! Records with times, over ports in memory. The times are those of `date -u`.
+
+use crate::relays::{NEVER, QUIET};
+use daide_frame::side::Side;
+use daide_gate::{
+    Config, Connect, Notice, Ports, Pull, Record, RecordEnd, SessionEnd, System, Words, check_log,
+};
+use daide_log::{Comment, Moment, TimedRecording};
+use daide_test_support::memory_ports::{MemoryPorts, Script, ScriptedRead};
+use daide_test_support::rows::{holds, same};
+use std::alloc::Global;
+use std::test::Fail;
+
+/// The limits of each session in these tests.
+const LIMITS: Config = Config {
+    top_level: 60,
+    max_body: 1024,
+    max_depth: 16,
+};
+
+/// The head of a record with these limits.
+const HEAD: &[u8] = b"daide-log 2\nconfig 60 1024 16 1 0\n";
+
+/// Moments, in milliseconds, and their comments.
+const MOMENTS: [(u64, &str); 6] = [
+    (0, "# 1970-01-01T00:00:00.000Z\n"),
+    (951_782_400_000, "# 2000-02-29T00:00:00.000Z\n"),
+    (1_795_665_662_045, "# 2026-11-26T04:01:02.045Z\n"),
+    (4_107_542_399_999, "# 2100-02-28T23:59:59.999Z\n"),
+    (4_107_542_400_000, "# 2100-03-01T00:00:00.000Z\n"),
+    (253_402_300_799_999, "# 9999-12-31T23:59:59.999Z\n"),
+];
+
+/// Returns the moment that many milliseconds after 1970.
+fn moment(millisecond: u64) -> Result<Moment, Fail> {
+    match Moment::from_millisecond(millisecond) {
+        Some(moment) => Ok(moment),
+        None => Err(Fail::new("no moment")),
+    }
+}
+
+#[test]
+fn moments_are_written(rt: HostRuntime) -> Result<(), Fail> {
+    for (millisecond, text) in &MOMENTS {
+        let mut record = Record::new(Vec::new(rt.alloc()), LIMITS, Words::new());
+        record.comment(Comment::Timed(moment(*millisecond)?.utc()));
+        let (written, ending) = record.finish();
+        same(&ending, &RecordEnd::Whole, &"the record")?;
+        match written.as_slice().strip_prefix(HEAD) {
+            Some(comment) => holds(comment == text.as_bytes(), text)?,
+            None => return Err(Fail::new("no head")),
+        }
+    }
+    holds(
+        Moment::from_millisecond(253_402_300_800_000).is_none(),
+        "the year 10000",
+    )
+}
+
+/// A system that only begins turns.
+#[derive(Drop)]
+struct Turns;
+
+impl System<MemoryPorts<'static>> for Turns {
+    ghost transition = { λ old answer new. Unit {0} };
+
+    fn begin_round(&mut self) {}
+
+    fn has_news(&mut self, _ports: &MemoryPorts<'static>) -> bool {
+        true
+    }
+
+    fn begin_turn(&mut self, ports: &mut MemoryPorts<'static>) {
+        ports.begin_turn();
+    }
+
+    fn watch(&mut self, _ports: &MemoryPorts<'static>) {}
+
+    fn accept(&mut self) -> bool {
+        false
+    }
+
+    fn connected(&mut self) -> Connect<MemoryPorts<'static>> {
+        Connect::Pending
+    }
+
+    fn retire(&mut self, _ports: MemoryPorts<'static>, _end: SessionEnd) {}
+
+    fn tell(&mut self, _notice: Notice) {}
+
+    fn wait(&mut self) {}
+}
+
+/// A bot that sends its IM.
+const OPENS_ALONE: Script<'static> = Script {
+    pulls: &[ScriptedRead::Bytes(&[0, 0, 0, 4, 0, 1, 0xDA, 0x10])],
+    puts: &[],
+};
+
+/// When the record begins.
+const BEGAN: u64 = 1_795_665_662_345;
+
+/// How many milliseconds after that each byte is pulled: at first less than 10, and in the end the clock was set back.
+const AFTER: [u64; 8] = [9, 10, 19, 20, 0, 0, 3, 9];
+
+/// The record. Of the address nothing breaks its line.
+const RECORD: &str =
+    "daide-log 2\nconfig 60 1024 16 1 0\n# session 3, bot at 127.0.0.1:50000??, 2026-11-26T04:01:02.345Z\n1 bot 00\n# 2026-11-26T04:01:02.355Z\n1 bot 00\n1 bot 00\n# 2026-11-26T04:01:02.365Z\n1 bot 04\n# 2026-11-26T04:01:02.345Z\n1 bot 00\n1 bot 01\n1 bot DA\n1 bot 10\n";
+
+/// Its report, under the numbers of its lines.
+const REPORT: &str = "14 1 bot IM 4 relay\nrelayed 1 prn 0 huh 0 faults 0\n";
+
+/// Returns the record of a bot's IM, whose bytes are pulled one by one.
+fn timed(alloc: Global) -> Result<Vec<u8>, Fail> {
+    let began = moment(BEGAN)?;
+    let mut record = Record::new(Vec::new(alloc), LIMITS, Words::new());
+    record.comment(Comment::Begun(3, "127.0.0.1:50000\n\u{7f}", began.utc()));
+    let ports = MemoryPorts::new(alloc, OPENS_ALONE, QUIET, NEVER);
+    let mut ports = TimedRecording::new(ports, record, Some(began));
+    let mut buffer = [0; 1];
+    for after in AFTER {
+        ports.begin_turn(&mut Turns, Some(moment(BEGAN.saturating_add(after))?));
+        same(
+            &ports.pull(Side::Bot, &mut buffer),
+            &Pull::Got(1),
+            &"a byte",
+        )?;
+    }
+    ports.begin_turn(&mut Turns, Some(moment(BEGAN.saturating_add(1000))?));
+    same(&ports.pull(Side::Bot, &mut buffer), &Pull::Idle, &"no byte")?;
+    let (_, record) = ports.into_parts();
+    let (text, ending) = record.finish();
+    same(&ending, &RecordEnd::Whole, &"the record")?;
+    Ok(text)
+}
+
+#[test]
+fn times_are_comments(rt: HostRuntime) -> Result<(), Fail> {
+    let alloc = rt.alloc();
+    let text = timed(alloc)?;
+    holds(text.as_slice() == RECORD.as_bytes(), "the record")?;
+    let mut report = Vec::new(alloc);
+    holds(
+        check_log(alloc, &mut text.as_slice(), &mut report).is_ok(),
+        "a log",
+    )?;
+    holds(report.as_slice() == REPORT.as_bytes(), "the report")
+}

@@ -1,0 +1,108 @@
+-- What a session's sockets know without a call of the network, and how the calls of its ports change that. What a wait
+-- watches of them. (own)
+use Rattle.std.specs.Prelude.{◌≡◌, ◌⊎◌, ℕ, ◌<◌, ◌||◌, Bool, true, false, List, [], length, Option}
+use Rattle.std.specs.declared.time.Duration.{Duration}
+use Rattle.std.specs.declared.time.Instant.{Instant}
+use Rattle.daide_io.specs.declared.ports.Pull.{Pull}
+use Rattle.daide_io.specs.declared.ports.Pull.TheVariants.{Got, Idle}
+use Rattle.daide_io.specs.declared.ports.Put.{Put}
+use Rattle.daide_io.specs.declared.ports.Put.TheVariants.{Took}
+use Rattle.daide_io.specs.Ports.{PortCall, TurnBegins, Clock, Pulled, Offered}
+use Rattle.daide_io.specs.Network.{NetworkCall}
+use Rattle.daide_io.specs.System.{SystemCall, Begins, ReportsNews, BeginsTurn, Watches, Accepts, Connects, Retires}
+use Rattle.daide_io.specs.System.{Notifies, Waits}
+use Rattle.daide_buffered_io.specs.Streams.{stream_of}
+use Rattle.daide_sockets.specs.declared.socket.Socket.{Socket}
+use Rattle.daide_sockets.specs.Sockets.{has_socket_work, next_deadline}
+use Rattle.daide_sockets.specs.Times.{is_past}
+use Rattle.daide_sockets.specs.Table.{Table, earlier, is_reported_at, watching, PollsOnce, IsNoTime, IsWaitTime}
+
+-- Nothing was read from a socket. What is known of reads is unchanged. A socket that is not writable stays so, and what
+-- must be tried again stays so until the next turn.
+pub record StaysUnread {S : Type 0} (old new : Socket S) : Type 0 where
+  pub key : new.key ≡ old.key
+  pub may_read : new.readiness.may_read ≡ old.readiness.may_read
+  pub ahead : new.stream.read_buffer ≡ old.stream.read_buffer
+  pub full : old.readiness.may_write ≡ false → new.readiness.may_write ≡ false
+  pub tries_again : old.tries_again ≡ true → new.tries_again ≡ true
+
+-- a pull that returned neither a byte nor the end
+abbrev pub IsNothing : Pull → Type 0
+IsNothing pull = (pull ≡ Idle) ⊎ (pull ≡ Got 0)
+
+-- A socket was pulled, with this much room. If it returned nothing though there was room, it is not readable and nothing
+-- was read ahead, or a read must be tried again.
+pub record IsPulled {S : Type 0} (room : ℕ) (pull : Pull) (old new : Socket S) : Type 0 where
+  pub key : new.key ≡ old.key
+  pub none_left : IsNothing pull → 0 < room → new.tries_again ≡ false →
+      (new.readiness.may_read ≡ false) × (new.stream.read_buffer ≡ [])
+  pub full : old.readiness.may_write ≡ false → new.readiness.may_write ≡ false
+  pub tries_again : old.tries_again ≡ true → new.tries_again ≡ true
+
+-- A socket was offered these bytes. If it took none of some, it is not writable, or a write must be tried again.
+pub record IsOffered {S : Type 0} (bytes : List ℕ) (put : Put) (old new : Socket S) : Type 0 where
+  pub none_taken : put ≡ Took 0 → 0 < length bytes → new.tries_again ≡ false → new.readiness.may_write ≡ false
+  pub unread : StaysUnread old new
+
+-- What the sockets of a session, the bot's and the server's, know after a call of its ports. From the socket of the side
+-- that the call does not name nothing is read.
+abbrev pub Settles : {S : Type 0} → PortCall → Socket S × Socket S → Socket S × Socket S → Type 0
+Settles TurnBegins old new = Unit {0}
+Settles (Clock im_timer_expired) old new = new ≡ old
+Settles (Pulled side room pull bytes) old new = IsPulled room pull (stream_of old side) (stream_of new side)
+    × StaysUnread (stream_of (old.1, old.0) side) (stream_of (new.1, new.0) side)
+Settles (Offered side bytes put) old new = IsOffered bytes put (stream_of old side) (stream_of new side)
+    × StaysUnread (stream_of (old.1, old.0) side) (stream_of (new.1, new.0) side)
+
+-- ---- a wait
+
+-- The sockets of a session, the reading of the clock at which its last turn began, and the deadline of its initial
+-- message.
+pub record SessionSockets (S : Type 0) : Type 0 where
+  pub bot : Socket S
+  pub server : Socket S
+  pub reading : Option Instant
+  pub im_due : Option Instant
+
+-- something may be done at once for a socket
+abbrev pub may_go_on : {S : Type 0} → Table → Socket S → Bool
+may_go_on table socket = is_reported_at table socket.key || has_socket_work socket.stream socket.readiness socket.tries_again
+
+-- Something may be done at once for a session: a poll reported something that was not taken yet, or there is work.
+abbrev pub may_session_go_on : {S : Type 0} → Table → SessionSockets S → Bool
+may_session_go_on table session = may_go_on table session.bot || may_go_on table session.server
+
+-- the nearest deadline of a session: of its peers' timeouts, and of the initial message
+abbrev pub session_due : {S : Type 0} → SessionSockets S → Option Instant
+session_due session =
+    earlier (earlier (next_deadline session.reading session.bot.stalls_at session.bot.silent_from)
+    (next_deadline session.reading session.server.stalls_at session.server.silent_from)) session.im_due
+
+-- There is news for a session: something may be done at once, or its nearest deadline is past.
+abbrev pub has_session_news : {S : Type 0} → Table → SessionSockets S → Bool
+has_session_news table session = may_session_go_on table session || is_past table.reading (session_due session)
+
+-- A poll for the time of a wait, or for no time. All that it reported is in the rows.
+pub record RestsOnce {N C : Type 0} (transition : N → NetworkCall C → N → Type 0) (old : N) (before : Table) (new : N)
+    (after : Table) : Type 0 where
+  pub time : Option Duration
+  pub polled : Table
+  pub lasts : IsWaitTime before time ⊎ IsNoTime time
+  pub polls : PollsOnce transition time old before new polled
+  pub rows : after.rows ≡ polled.rows
+
+-- The effect of a system call on the network and the table, as far as a wait needs it; `view` is the content of ports.
+-- A wait watches each session that it was to watch: whether something may be done at once, by the ports or for another
+-- reason, and its nearest deadline.
+abbrev pub Wakes : {P S N C : Type 0} → (N → NetworkCall C → N → Type 0) → (P → SessionSockets S) → N × Table →
+    SystemCall P → N × Table → Type 0
+Wakes transition view old (Watches ports) new =
+    (other : Bool) × (new ≡ (old.0, watching old.1 (may_session_go_on old.1 (view ports) || other) (session_due (view ports))))
+Wakes transition view old Waits new = RestsOnce transition old.0 old.1 new.0 new.1
+Wakes transition view old Begins new = Unit {0}
+Wakes transition view old (ReportsNews ports news) new = Unit {0}
+Wakes transition view old (BeginsTurn before after) new = Unit {0}
+Wakes transition view old (Accepts came) new = Unit {0}
+Wakes transition view old (Connects connect) new = Unit {0}
+Wakes transition view old (Retires ports end) new = Unit {0}
+Wakes transition view old (Notifies notice) new = Unit {0}

@@ -1,0 +1,422 @@
+//! A connection with its buffers, its readiness and its deadlines.
+//!
+//! A socket has a read buffer, and a write buffer for small puts. So the process holds of a peer the weight of its
+//! session, and at most `MOST_HELD` bytes each way of each socket. It works over any stream, and its contracts state the
+//! bytes that this returned and accepted.
+
+ghost use Rattle.std.specs.Prelude.{◌≡◌, ◌<◌, ◌||◌, ◌&&◌, nat_lt, IsNone, IfSome, None, [], min, length, take, true, false};
+ghost use Rattle.daide_io.specs.Ports.{IsPullWithin, IsPutWithin, pulled_len};
+ghost use Rattle.daide_buffered_io.specs.Buffers.{Passes, ReadsNothing, IsBufferedPull, IsFlushed};
+ghost use Rattle.daide_buffered_io.specs.Taking.{bytes_taken, taken_len};
+ghost use Rattle.daide_sockets.specs.Lingering.{IsWriting, IsWritingOver};
+ghost use Rattle.daide_sockets.specs.Pairing.{IsFresh};
+ghost use Rattle.daide_sockets.specs.Sockets.{has_socket_work, next_deadline};
+ghost use Rattle.daide_sockets.specs.Table.{earlier, merged, report_at, without_report};
+ghost use Rattle.daide_sockets.specs.Times.{StallsNext, has_stalled, is_past};
+ghost use Rattle.daide_sockets.specs.Wakeups.{StaysUnread, IsNothing, IsPulled, IsOffered, may_go_on};
+
+use crate::poller::Poller;
+use crate::table::{SocketTable, earlier, is_past, merged, stalls_next};
+use crate::timed::Timed;
+use daide_buffered_io::buffered::Buffered;
+use daide_buffered_io::pool::Pool;
+use daide_buffered_io::readiness::Readiness;
+use daide_io::duplex::Duplex;
+use daide_io::network::Network;
+use daide_io::ports::{Pull, Put};
+use std::time::{Duration, Instant};
+
+/// The most turns for which writable bytes stay buffered, even if each turn adds more.
+const MOST_TURNS_HELD: usize = 32;
+
+/// A non-blocking connection with its buffers, its readiness and its deadlines. It has a row of the table.
+#[derive(Drop)]
+pub struct Socket<'w, S: Drop> {
+    /// The connection with its buffers.
+    pub stream: Buffered<S>,
+    /// The key of its row.
+    pub key: usize,
+    /// What is known of it without a system call.
+    pub readiness: Readiness,
+    /// The pool of its buffers.
+    pub(crate) pool: &'w Pool,
+    /// The stall timeout of its peer; `None` if there is none.
+    pub(crate) stall_time: Option<Duration>,
+    /// The moment at which the stall timeout expires, unless its peer takes a byte before. `None` if no byte is queued
+    /// for it, or for never.
+    pub(crate) stalls_at: Option<Instant>,
+    /// The moment at which the idle timeout of its peer expires, unless it sends something before; `None` for never.
+    pub(crate) silent_from: Option<Instant>,
+    /// Its expired timeouts.
+    pub(crate) timed: Timed,
+    /// Whether it accepted bytes since its turn began, so that more may follow.
+    pub(crate) is_gathering: bool,
+    /// Whether its last pull returned bytes, so that an answer to them may be put to it in parts.
+    pub(crate) gave: bool,
+    /// Whether a read or a write since its turn began must be tried again, since it was interrupted each time.
+    pub(crate) tries_again: bool,
+    /// The number of the session whose connect created it; 0 if no connect of a run did.
+    pub(crate) made_for: u32,
+}
+
+impl<'w, S: Duplex + Drop> Socket<'w, S> {
+    /// Has a connection followed. Returns `None` if the table has no free row, or the system refuses.
+    pub fn new<N: Network<Connection = S>>(
+        poller: &mut Poller<N>,
+        pool: &'w Pool,
+        stream: S,
+    ) -> Option<Socket<'w, S>>
+        ensures fresh { IfSome result (λ socket. IsFresh socket.stream) }
+        ensures clock { poller.new.table.reading ≡ poller.old.table.reading }
+    {
+        let mut stream = stream;
+        let key = poller.follow(&mut stream)?;
+        Some(Socket::over(pool, stream, key))
+    }
+}
+
+impl<'w, S: Drop> Socket<'w, S> {
+    /// Creates a socket from any stream, with empty buffers, and the key of its row of the table. Nothing is known of
+    /// its readiness.
+    pub fn over(pool: &'w Pool, stream: S, key: usize) -> Socket<'w, S>
+        ensures stream { result.stream ≡ record { stream = stream; read_buffer = []; write_buffer = []; has_failed = false } }
+        ensures timed { result.timed ≡ record { is_silent = false; is_stalled = false; ends_stalled = false } }
+        ensures stall_time { IsNone result.stall_time }
+    {
+        Socket {
+            stream: Buffered::new(stream),
+            key,
+            readiness: Readiness::UNKNOWN,
+            pool,
+            stall_time: None,
+            stalls_at: None,
+            silent_from: None,
+            timed: Timed::NONE,
+            is_gathering: false,
+            gave: false,
+            tries_again: false,
+            made_for: 0,
+        }
+    }
+
+    /// Records that the connect of the session with this number created the socket.
+    pub(crate) fn of_connect(self, number: u32) -> Socket<'w, S>
+        ensures stream { result.stream ≡ self.entry.stream }
+        ensures made_for { result.made_for ≡ number }
+    {
+        let mut socket = self;
+        socket.made_for = number;
+        socket
+    }
+
+    /// Sets the stall timeout of its peer; `None` if there is none.
+    pub fn set_stall_time(&mut self, time: Option<Duration>)
+        ensures { self.new ≡ record self.old { stall_time = time } }
+    {
+        self.stall_time = time;
+    }
+
+    /// Starts the stall timeout of its peer again, with this time; `None` for never.
+    pub(crate) fn restart_stall(&mut self, time: Option<Duration>)
+        ensures { self.new ≡ record self.old { stall_time = time; stalls_at = None } }
+    {
+        self.stall_time = time;
+        self.stalls_at = None;
+    }
+
+    /// Returns the moment at which the stall timeout of its peer expires.
+    pub(crate) fn stalls_at(&self) -> Option<Instant>
+        ensures { result ≡ self.now.stalls_at }
+    {
+        self.stalls_at
+    }
+
+    /// Adds a report to its readiness.
+    pub fn note_report(&mut self, report: Readiness)
+        ensures { self.new ≡ record self.old { readiness = merged self.old.readiness report } }
+    {
+        self.readiness = merged(self.readiness, report);
+    }
+
+    /// Adds the report of its row to its readiness, and takes it out of the row.
+    pub fn take_report(&mut self, table: &mut SocketTable)
+        ensures readiness { self.new ≡ record self.old {
+          readiness = merged self.old.readiness (report_at table.old self.old.key);
+        } }
+        ensures table { table.new ≡ without_report table.old self.old.key }
+    {
+        let report = table.take_report(self.key);
+        self.note_report(report);
+    }
+
+    /// Returns the nearest deadline of its peer's timeouts after a turn at this reading of the clock. An idle timeout
+    /// that already expired is no deadline, since the next pull reports it. Without room in the session there is no
+    /// pull, and nothing to do.
+    pub(crate) fn deadline(&self, now: Option<Instant>) -> Option<Instant>
+        ensures { result ≡ next_deadline now self.now.stalls_at self.now.silent_from }
+    {
+        let silent_from = if is_past(now, self.silent_from) {
+            None
+        } else {
+            self.silent_from
+        };
+        earlier(self.stalls_at, silent_from)
+    }
+
+    /// Returns whether something may be done at once: a byte is buffered that may be written, or a read or a write
+    /// must be tried again.
+    pub(crate) fn has_work(&self) -> bool
+        ensures { result ≡ has_socket_work self.now.stream self.now.readiness self.now.tries_again }
+    {
+        self.tries_again || self.stream.is_behind() && self.readiness.may_write
+    }
+
+    /// Returns whether something may be done at once: a poll reported something that was not taken yet, or there is
+    /// work.
+    pub(crate) fn may_go_on(&self, table: &SocketTable) -> bool
+        ensures { result ≡ may_go_on table.now self.now }
+    {
+        table.is_reported_at(self.key) || self.has_work()
+    }
+
+    /// Returns the stream itself.
+    pub fn connection(&self) -> &S
+        ensures { result.now ≡ self.now.stream.stream }
+    {
+        self.stream.stream()
+    }
+}
+
+impl<S: Duplex + Drop> Socket<'_, S> {
+    /// Records a write at this reading of the clock: whether it took a byte, and whether bytes are still queued.
+    fn note_written(&mut self, now: Option<Instant>, took: bool, is_waiting: bool)
+        ensures time { is_waiting ≡ true → StallsNext self.old.stall_time now self.old.stalls_at took self.new.stalls_at }
+        ensures none { is_waiting ≡ false → self.new.stalls_at ≡ None }
+        ensures stream { self.new.stream ≡ self.old.stream }
+        ensures readiness { self.new.readiness ≡ self.old.readiness }
+        ensures rest { self.new ≡ record self.old { stalls_at = self.new.stalls_at } }
+    {
+        self.stalls_at = if is_waiting {
+            stalls_next(self.stall_time, now, self.stalls_at, took)
+        } else {
+            None
+        };
+    }
+
+    /// Gives up writing to a peer whose stall timeout is over at this reading of the clock, and leaves the socket as it
+    /// is otherwise. It moves no byte.
+    ///
+    /// `patient`: if no time is set, it does nothing.
+    ///
+    /// `stalled`: from then on each put fails.
+    ///
+    /// `gives_up`: it gives up if and only if the moment is past: `stall_seconds` after the last byte that the peer
+    /// took, or after the first byte was queued.
+    ///
+    /// Not said: that the reading is the present time. `tests/program` shows for a bot and a server that it comes in
+    /// time, and that no such peer holds a run open.
+    #[tactic(auto, using(daide_buffered_io::proofs::BufferLemmas::same_passes))]
+    pub(crate) fn give_up_stalled(&mut self, now: Option<Instant>)
+        ensures passes { Passes S.to_give S.taken self.old.stream [] [] self.new.stream }
+        ensures unread { ReadsNothing S.to_give self.old.stream self.new.stream }
+        ensures stalled { self.new.timed.is_stalled ≡ true → self.old.timed.is_stalled ≡ false →
+            self.new.stream.has_failed ≡ true }
+        ensures gives_up { has_stalled self.old.stall_time now self.old.stalls_at ≡ true →
+            self.new.stream ≡ record self.old.stream { has_failed = true } }
+        ensures waits { has_stalled self.old.stall_time now self.old.stalls_at ≡ false →
+            (self.new.stream ≡ self.old.stream) × (self.new.stalls_at ≡ self.old.stalls_at)
+            × (self.new.timed ≡ self.old.timed) }
+        ensures stall_time { self.new.stall_time ≡ self.old.stall_time }
+        ensures patient { IsNone self.old.stall_time → self.new.timed ≡ self.old.timed }
+        ensures silent { self.new.timed.is_silent ≡ self.old.timed.is_silent }
+        ensures ends { self.new.timed.ends_stalled ≡ self.old.timed.ends_stalled }
+        ensures gathering { self.new.is_gathering ≡ self.old.is_gathering }
+    {
+        if self.stall_time.is_none() {
+            return;
+        }
+        if !is_past(now, self.stalls_at) {
+            return;
+        }
+        self.stalls_at = None;
+        self.stream.give_up();
+        self.timed.is_stalled = true;
+    }
+
+    /// Returns buffered bytes, or reads from the connection. The bytes of `Got` are, in order, those that the
+    /// connection returned.
+    #[tactic(auto, using(daide_buffered_io::proofs::BufferLemmas::same_passes))]
+    pub fn pull(&mut self, buffer: &mut [u8]) -> Pull
+        ensures within { IsPullWithin result (length buffer.old) }
+        ensures len { length buffer.new ≡ length buffer.old }
+        ensures passes { Passes S.to_give S.taken self.old.stream (take (pulled_len result) buffer.new) []
+            self.new.stream }
+        ensures asked { IsBufferedPull S.calls (length buffer.old) self.old.readiness self.old.stream result
+            self.new.readiness self.new.stream }
+        ensures handed { 0 < length self.old.stream.read_buffer →
+            result ≡ Pull.Got (min (length self.old.stream.read_buffer) (length buffer.old)) }
+        ensures timed { self.new.timed ≡ self.old.timed }
+        ensures times { (self.new.silent_from ≡ self.old.silent_from) × (self.new.stalls_at ≡ self.old.stalls_at) }
+        ensures gathering { self.new.is_gathering ≡ self.old.is_gathering }
+        ensures idle { result ≡ Pull.Idle → self.new.gave ≡ false }
+        ensures pulled { IsPulled (length buffer.old) result self.old self.new }
+    {
+        self.gave = false;
+        // Most turns of an idle session end here.
+        if !self.readiness.may_read && !self.stream.is_ahead() {
+            return Pull::Idle;
+        }
+        let pull = self.stream.pull(self.pool, &mut self.readiness, buffer);
+        self.gave = matches!(pull, Pull::Got(_));
+        let is_left = self.readiness.may_read || self.stream.is_ahead();
+        if is_left && is_nothing(pull) && !buffer.is_empty() {
+            self.tries_again = true;
+        }
+        pull
+    }
+
+    /// Buffers the bytes, or writes what the connection accepts. The bytes of `Took` are, in order, in the connection
+    /// or in the write buffer. Returns `Failed` also for a failure of an earlier flush.
+    pub fn put(&mut self, now: Option<Instant>, bytes: &[u8]) -> Put
+        ensures within { IsPutWithin result (length bytes.now) }
+        ensures passes { Passes S.to_give S.taken self.old.stream [] (bytes_taken result bytes.now) self.new.stream }
+        ensures fails { result ≡ Put.Failed → self.new.stream.has_failed ≡ true }
+        ensures failed { self.old.stream.has_failed ≡ true →
+            (result ≡ Put.Failed) × (self.new.stream ≡ self.old.stream) }
+        ensures timed { self.new.timed ≡ self.old.timed }
+        ensures gathers { 0 < taken_len result → self.new.is_gathering ≡ true }
+        ensures gathering { taken_len result ≡ 0 → self.new.is_gathering ≡ self.old.is_gathering }
+        ensures offered { IsOffered bytes.now result self.old self.new }
+    {
+        let held = self.stream.behind_len();
+        let put = self.stream.put(self.pool, &mut self.readiness, bytes);
+        match put {
+            Put::Took(count) => {
+                if count > 0 {
+                    self.is_gathering = true;
+                }
+                let took = self.stream.behind_len() < held.saturating_add(count);
+                let is_waiting = count < bytes.len() || self.stream.is_behind();
+                self.note_written(now, took, is_waiting);
+                if count == 0 && !bytes.is_empty() && self.readiness.may_write {
+                    self.tries_again = true;
+                }
+            }
+            Put::Failed => self.note_written(None, false, false),
+        }
+        put
+    }
+
+    /// Writes all buffered bytes to the connection once, unless a write failed before, and keeps those that it doesn't
+    /// take. The stall timeout starts again at this reading of the clock if the peer took a byte.
+    #[tactic(auto, using(daide_buffered_io::proofs::BufferLemmas::same_passes))]
+    pub fn flush_at(&mut self, now: Option<Instant>)
+        ensures passes { Passes S.to_give S.taken self.old.stream [] [] self.new.stream }
+        ensures unread { ReadsNothing S.to_give self.old.stream self.new.stream }
+        ensures written { IsWriting self.old.stream →
+            IsFlushed S.calls self.old.readiness self.old.stream self.new.readiness self.new.stream }
+        ensures nothing { IsWritingOver self.old.stream →
+            (self.new.stream ≡ self.old.stream) × (self.new.stalls_at ≡ self.old.stalls_at) }
+        ensures waits { IsWriting self.old.stream → IsWriting self.new.stream →
+            StallsNext self.old.stall_time now self.old.stalls_at
+            (nat_lt (length self.new.stream.write_buffer) (length self.old.stream.write_buffer)) self.new.stalls_at }
+        ensures stall_time { self.new.stall_time ≡ self.old.stall_time }
+        ensures timed { self.new.timed ≡ self.old.timed }
+        ensures gathering { self.new.is_gathering ≡ self.old.is_gathering }
+        ensures stays { StaysUnread self.old self.new }
+    {
+        if !self.stream.is_behind() {
+            return;
+        }
+        let held = self.stream.behind_len();
+        self.stream.flush(self.pool, &mut self.readiness);
+        let took = self.stream.behind_len() < held;
+        let is_waiting = self.stream.is_behind();
+        self.note_written(now, took, is_waiting);
+    }
+
+    /// Writes buffered bytes, unless the session may still put more: an answer to bytes that it pulled, some parts of
+    /// which were put in this turn. A turn that puts something is followed by another without a wait.
+    #[tactic(auto, using(daide_buffered_io::proofs::BufferLemmas::same_passes))]
+    pub(crate) fn flush_gathered(&mut self, now: Option<Instant>)
+        ensures passes { Passes S.to_give S.taken self.old.stream [] [] self.new.stream }
+        ensures unread { ReadsNothing S.to_give self.old.stream self.new.stream }
+        ensures timed { self.new.timed ≡ self.old.timed }
+        ensures gathering { self.old.is_gathering ≡ true → self.old.gave ≡ true → self.new ≡ self.old }
+        ensures stays { StaysUnread self.old self.new }
+        ensures written { (self.old.is_gathering && self.old.gave) ≡ false → IsWriting self.old.stream →
+            IsFlushed S.calls self.old.readiness self.old.stream self.new.readiness self.new.stream }
+    {
+        if self.is_gathering && self.gave {
+            return;
+        }
+        self.flush_at(now);
+    }
+}
+
+/// Returns whether a pull returned neither a byte nor the end.
+fn is_nothing(pull: Pull) -> bool
+    ensures some { result ≡ false → IsNothing pull → ⊥ }
+{
+    matches!(pull, Pull::Idle | Pull::Got(0))
+}
+
+/// The number of turns since the last write to a socket with buffered bytes.
+#[derive(Clone, Copy)]
+pub(crate) struct TurnsHeld {
+    turns: usize,
+    /// How many bytes were buffered when the last of them began.
+    len: usize,
+}
+
+impl TurnsHeld {
+    /// The state with an empty write buffer.
+    pub(crate) const NONE: TurnsHeld = TurnsHeld { turns: 0, len: 0 };
+
+    /// Returns the state after one more turn began with `len` bytes buffered. If these are fewer than in the turn
+    /// before, some were written in it.
+    pub(crate) fn with_turn(self, len: usize) -> TurnsHeld {
+        let turns = if len == 0 || len < self.len {
+            0
+        } else {
+            self.turns.saturating_add(1)
+        };
+        TurnsHeld { turns, len }
+    }
+
+    /// Returns true if the buffered bytes must be written now.
+    fn is_over(self) -> bool {
+        self.turns >= MOST_TURNS_HELD
+    }
+}
+
+impl<S: Duplex + Drop> Socket<'_, S> {
+    /// Writes buffered bytes whose turns are over.
+    #[tactic(auto, using(daide_buffered_io::proofs::BufferLemmas::same_passes))]
+    fn flush_late(&mut self, now: Option<Instant>, held: TurnsHeld)
+        ensures passes { Passes S.to_give S.taken self.old.stream [] [] self.new.stream }
+        ensures unread { ReadsNothing S.to_give self.old.stream self.new.stream }
+        ensures timed { self.new.timed ≡ self.old.timed }
+        ensures gathering { self.new.is_gathering ≡ self.old.is_gathering }
+    {
+        if held.is_over() {
+            self.flush_at(now);
+        }
+    }
+
+    /// Begins a turn, in which nothing is put yet: gives up a stalled peer, and writes buffered bytes whose turns are
+    /// over.
+    #[tactic(auto, using(daide_buffered_io::proofs::BufferLemmas::flush_then, daide_buffered_io::proofs::BufferLemmas::unread_then))]
+    pub(crate) fn begin_turn(&mut self, now: Option<Instant>, held: TurnsHeld)
+        ensures passes { Passes S.to_give S.taken self.old.stream [] [] self.new.stream }
+        ensures unread { ReadsNothing S.to_give self.old.stream self.new.stream }
+        ensures silent { self.new.timed.is_silent ≡ self.old.timed.is_silent }
+        ensures ends { self.new.timed.ends_stalled ≡ self.old.timed.ends_stalled }
+        ensures gathering { self.new.is_gathering ≡ false }
+    {
+        self.is_gathering = false;
+        self.tries_again = false;
+        self.give_up_stalled(now);
+        self.flush_late(now, held);
+    }
+}
