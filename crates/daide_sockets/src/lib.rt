@@ -14,6 +14,7 @@
 pub mod admission;
 pub mod bound_sockets;
 pub mod connection;
+pub mod control_listener;
 pub mod laws;
 pub mod lingering_close;
 pub mod os_network;
