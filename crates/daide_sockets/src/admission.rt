@@ -224,7 +224,8 @@ impl Acceptor {
         ensures allowed { IfOk result (λ bot. may_come rules.entry.0.now rules.entry.1 present.old.hosts.items
             (host_of (socket_ip bot.2)) ≡ true) }
         ensures added { IfOk result (λ bot. (present.new.numbers.items ≡ present.old.numbers.items ++ bot.0 ∷ [])
-            × (present.new.hosts.items ≡ present.old.hosts.items ++ host_of (socket_ip bot.2) ∷ [])) }
+            × (present.new.hosts.items ≡ present.old.hosts.items ++ host_of (socket_ip bot.2) ∷ [])
+            × (present.new.addresses.items ≡ present.old.addresses.items ++ bot.2 ∷ [])) }
         ensures same { IfErr result (λ _. present.new ≡ present.old) }
         ensures declined { (address : SocketAddr) → result ≡ Err (Some address) →
             may_come rules.entry.0.now rules.entry.1 present.old.hosts.items (host_of (socket_ip address)) ≡ false }
@@ -246,7 +247,7 @@ impl Acceptor {
             return Err(None);
         };
         // The list has room for each bot of a run.
-        if !present.add(number, host) {
+        if !present.add(number, host, address) {
             poller.table.release(bot.key);
             self.pause_after_refusal(&mut poller.table);
             return Err(None);

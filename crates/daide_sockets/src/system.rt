@@ -1,7 +1,7 @@
 //! The environment of the event loop, `System`, over sockets.
 
 ghost use Rattle.std.specs.Duration.{as_nanos};
-ghost use Rattle.std.specs.Prelude.{◌≡◌, ◌⊎◌, ℕ, ◌+◌, ◌*◌, ◌^◌, ◌<◌, ◌||◌, IfSome, IfNone, None, true, false, [], length, vec_capacity};
+ghost use Rattle.std.specs.Prelude.{◌≡◌, ◌⊎◌, ℕ, ◌+◌, ◌*◌, ◌^◌, ◌<◌, ◌||◌, IfSome, IfNone, None, true, false, [], length, slice_get, vec_capacity};
 ghost use Rattle.daide_io.specs.Ports.{TurnBegins};
 ghost use Rattle.daide_io.specs.System.{ReportsNews, BeginsTurn, Watches, Retires};
 ghost use Rattle.daide_buffered_io.specs.Streams.{Transfers};
@@ -120,7 +120,7 @@ impl<'w, N: Network, E: Write + Drop> Sockets<'w, N, E> {
         ensures rules { IfSome result (λ sockets. (sockets.allow.now ≡ settings.now.allow.items)
             × (sockets.max_per_address ≡ settings.now.max_per_address)) }
         ensures none_present { IfSome result (λ sockets. (sockets.present.numbers.items ≡ [])
-            × (sockets.present.hosts.items ≡ [])) }
+            × (sockets.present.hosts.items ≡ []) × (sockets.present.addresses.items ≡ [])) }
     {
         let (network, servers, table, pool) = ground;
         let Ok(mut poller) = Poller::new(alloc, network, table) else {
@@ -153,6 +153,14 @@ impl<'w, N: Network, E: Write + Drop> Sockets<'w, N, E> {
             errors,
             is_verbose: false,
         })
+    }
+
+    /// Returns the address of the bot with this number, if it is there.
+    pub fn address_of(&self, number: u32) -> Option<SocketAddr>
+        ensures { result ≡ slice_get self.now.present.addresses.items
+            (position_of number self.now.present.numbers.items) }
+    {
+        self.present.address_of(number)
     }
 
     /// Returns the table.
@@ -218,6 +226,8 @@ impl<'w, N: Network, E: Write + Drop> Sockets<'w, N, E> {
             ≡ without_at (position_of left.entry.number self.old.present.numbers.items) self.old.present.numbers.items }
         ensures hosts { self.new.present.hosts.items
             ≡ without_at (position_of left.entry.number self.old.present.numbers.items) self.old.present.hosts.items }
+        ensures addresses { self.new.present.addresses.items
+            ≡ without_at (position_of left.entry.number self.old.present.numbers.items) self.old.present.addresses.items }
     {
         self.present.remove(left.number);
         self.tell_of_session(SessionNotice::of_no_server(left.number));
@@ -304,8 +314,7 @@ impl<'w, N: Network, E: Write + Drop> Sockets<'w, N, E> {
             (as_nanos self.old.im_time) self.new.arrivals.items) }
         ensures allowed { IfSome result (λ began. IsAllowed self.old.allow.now self.old.max_per_address
             self.old.present.hosts.items began) }
-        ensures present { IfSome result (λ began. IsPresentWith self.old.present.numbers.items
-            self.old.present.hosts.items began self.new.present.numbers.items self.new.present.hosts.items) }
+        ensures present { IfSome result (λ began. IsPresentWith self.old.present began self.new.present) }
         ensures absent { IfNone result (self.new.present ≡ self.old.present) }
     {
         if self.arrivals.len() >= self.arrivals.capacity() {
@@ -476,6 +485,8 @@ impl<'w, N: Network, E: Write + Drop> System<SocketPorts<'w, N::Connection>> for
             ≡ without_at (position_of ports.entry.number self.old.present.numbers.items) self.old.present.numbers.items }
         ensures hosts { self.new.present.hosts.items
             ≡ without_at (position_of ports.entry.number self.old.present.numbers.items) self.old.present.hosts.items }
+        ensures addresses { self.new.present.addresses.items
+            ≡ without_at (position_of ports.entry.number self.old.present.numbers.items) self.old.present.addresses.items }
     {
         self.present.remove(ports.number());
         let notice = SessionNotice::of_end(ports.number(), end, ports.timed(), self.stall_seconds);
