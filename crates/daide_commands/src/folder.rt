@@ -217,18 +217,19 @@ impl<'a, R: AllocGlobal + Files> Folder<'a, R> {
     /// Not said: that memory for the text of the address was refused if the comment is missing.
     pub(crate) fn begin<P: Ports, E: Write>(
         &self,
-        (number, bot): (u32, Option<SocketAddr>),
+        session: (u32, Option<SocketAddr>),
         ports: P,
         now: Option<Moment>,
         errors: &mut E,
     ) -> TimedRecording<P, SessionFile<R::File>>
         ensures ports { result.ports ≡ ports }
-        ensures record { (before : Option (List ℕ)) × (address : Option (List ℕ)) × IsAddressOf bot address
-            × BeginsRecord (HasFailed ⟦<SessionFile<R::File> as Sink>⟧.Fails) number address now
+        ensures record { (before : Option (List ℕ)) × (address : Option (List ℕ)) × IsAddressOf session.1 address
+            × BeginsRecord (HasFailed ⟦<SessionFile<R::File> as Sink>⟧.Fails) session.0 address now
             (headed before self.now.config (words_of self.now.words)) result.record_of
             × (result.last ≡ time_begun address now) }
         ensures activity { result.activity ≡ Activity.Moving }
     {
+        let (number, bot) = session;
         let mut log = Record::new(self.open_file(number, errors), self.config, self.words);
         let address = bot.and_then(|bot| text_of(self.rt.alloc(), bot));
         let began = match (address, now) {
