@@ -9,7 +9,7 @@ ghost use Rattle.daide_words.specs.Words.{words_of};
 use crate::arguments::RunOrder;
 use crate::faults::{CLEAN, FAULT, tell};
 use crate::folder::{Folder, SessionFile};
-use crate::gateway::{GatewayFault, bind, serve_on};
+use crate::gateway::{GatewayFault, bind, log_beginning, serve_on};
 use crate::recorded::RecordedSockets;
 use crate::text::{SettingsTextFault, read_text};
 use daide_event_loop::ServeFault;
@@ -163,6 +163,9 @@ fn serve_sockets<'r, R: AllocGlobal + Clock + Net, F: AllocGlobal + Files, O: Si
         table,
         pool,
     } = bind(rt, settings).map_err(RunFault::Gateway)?;
+    if reports.is_verbose {
+        log_beginning(settings, errors);
+    }
     let ground = (network, servers.as_slice(), table, &pool);
     let Some(mut sockets) = sockets_on(rt.alloc(), settings, ground, errors) else {
         return Err(RunFault::Memory);
