@@ -149,8 +149,8 @@ ComesWith {S} old reading im_time new =
     (arrival : Arriving S) × (new ≡ old ++ arrival ∷ []) × IsAfter reading im_time arrival.im_due
 
 -- The effect of a system call on the sockets; `pair` is the content of ports. At the beginning of a round closing
--- streams advance. A report of news changes nothing. A turn begins and ends with the streams of one session, and leaves
--- these here unchanged.
+-- streams advance. A report of news changes nothing. A turn begins with the streams of one session, and leaves these here
+-- unchanged.
 abbrev pub Transits : {P S : Type 0} → (S → Option (List ℕ)) → (S → Option (List ℕ)) →
     (S → Option (List StreamCall)) → (P → Paired S) → RunSockets S → SystemCall P → RunSockets S → Type 0
 Transits to_give taken calls pair old Begins new = (new.came ≡ old.came) × (new.arrivals ≡ old.arrivals)

@@ -3,7 +3,7 @@
 //! Neither an accept nor a connect blocks. The server's name is resolved at the start. If it has several addresses,
 //! they are tried one after the other, within one deadline for all.
 
-ghost use Rattle.std.specs.Prelude.{◌≡◌, ◌≢◌, ◌+◌, ◌<◌, ◌++◌, ◌∷◌, [], Some, None, Err, true, false, IfOk, IfErr, IfSome, IfNone, IsSome};
+ghost use Rattle.std.specs.Prelude.{◌≡◌, ◌≢◌, ◌+◌, ◌<◌, ◌++◌, ◌∷◌, [], Some, None, Err, true, false, IfOk, IfErr, IfSome, IsSome};
 ghost use Rattle.daide_sockets.specs.Table.{left_with};
 ghost use Rattle.daide_sockets.specs.Accepting.{is_accept_made, is_accept_due, ReportsAccept, MakesAccept, Pauses};
 ghost use Rattle.std.specs.Duration.{as_nanos};
