@@ -10,11 +10,12 @@ use Rattle.daide_protocol.specs.Wires.{SessionView}
 use Rattle.daide_io.specs.Ports.{PortCall, TurnBegins}
 use Rattle.daide_io.specs.System.{SystemCall, Begins, Shows, ReportsNews, BeginsTurn, Watches, Accepts, Connects}
 use Rattle.daide_io.specs.System.{Retires, Notifies, Waits, TransitsBy, status_of}
+use Rattle.daide_io.specs.declared.system.Orders.{Orders}
 use Rattle.daide_io.specs.declared.system.SessionStatus.{SessionStatus}
 use Rattle.daide_driver.specs.Hub.{HubView, with_ports, with_ports_at, Changes, IsTurned}
 use Rattle.daide_event_loop.specs.QuotaPorts.{QuotaPortsView, Meters, beginning, beginning_where}
 use Rattle.daide_event_loop.specs.Serving.{IsDueBy, OpensTurn, TurnsIf, VisitsPlace, TurnsBelow, watches}
-use Rattle.daide_event_loop.specs.Serving.{shows, shows_where}
+use Rattle.daide_event_loop.specs.Serving.{shows, shows_where, opening}
 use Rattle.daide_event_loop.specs.Served.{sum_over_calls}
 use Rattle.daide_event_loop.proofs.TransitLemmas.{transits_then}
 
@@ -102,6 +103,14 @@ module _ {P : Type 0} where
       let one = silent place.1.ports (status_of place.0) in
       let rest = none_shown count true places silent in
       omega (arith, one, rest)
+
+  -- and neither does the beginning of the round
+  pub opening_none : (count : SystemCall P → ℕ) (orders : Orders) (places : List (SessionView × QuotaPortsView P)) →
+      count (Begins orders) ≡ 0 → ((ports : P) (status : SessionStatus) → count (Shows ports status) ≡ 0) →
+      sum_over_calls count (opening orders places) ≡ 0
+  opening_none count orders places begins silent =
+      let shown = none_shown count orders.shows_sessions places silent in
+      omega (arith, begins, shown)
 
   pub all_shown : (Q : SystemCall P → Type 0) (shown : Bool) (places : List (SessionView × QuotaPortsView P)) →
       ((ports : P) (status : SessionStatus) → Q (Shows ports status)) → All Q (shows_where shown places)

@@ -1,5 +1,5 @@
 -- The bots accepted, the connects under way, and the fate of the others.
-use Rattle.std.proofs.Common.{◌≡◌, ℕ, zero, suc, ◌+◌, Bool, true, false, List, [], ◌∷◌, ◌++◌, refl, sym, ◌∙◌}
+use Rattle.std.proofs.Common.{◌≡◌, ℕ, zero, suc, ◌+◌, Bool, true, false, List, [], ◌∷◌, ◌++◌, refl, sym}
 use Rattle.std.proofs.Common.{subst, arith}
 use Rattle.std.specs.Prelude.{◌==◌, is_none, if◌then◌else◌}
 use Rattle.daide_protocol.specs.Wires.{SessionView, is_closed}
@@ -14,7 +14,7 @@ use Rattle.daide_io.specs.declared.system.Orders.{Orders}
 use Rattle.daide_event_loop.specs.Serving.{arrived, come, closed, heeding, opening, AdmitsWhere, MeetsWhere, MeetsBy, last_words, retirement_where}
 use Rattle.daide_event_loop.specs.Serving.{end_of, retirement, retirements, watches, wait_where}
 use Rattle.daide_event_loop.specs.Served.{comes, connects, unreached, sum_over_calls}
-use Rattle.daide_event_loop.proofs.BeginningLemmas.{OnlyTurns, none_counted, none_shown}
+use Rattle.daide_event_loop.proofs.BeginningLemmas.{OnlyTurns, none_counted, opening_none}
 
 -- a number that is not zero is a successor
 one_fewer : (n : ℕ) → (n == 0) ≡ false → (m : ℕ) × (n ≡ suc m)
@@ -86,9 +86,9 @@ module _ {P : Type 0} where
       Counts (opening orders places) counters (heeding orders counters)
   opening_counts orders places counters =
       heeded_counts orders.stops_accepting (opening orders places) counters (record {
-        came = none_shown comes orders.shows_sessions places (λ ports status. refl);
-        joined = none_shown connects orders.shows_sessions places (λ ports status. refl);
-        failed = none_shown unreached orders.shows_sessions places (λ ports status. refl);
+        came = opening_none comes orders places refl (λ ports status. refl);
+        joined = opening_none connects orders places refl (λ ports status. refl);
+        failed = opening_none unreached orders places refl (λ ports status. refl);
       })
 
   -- reporting news and beginning turns accepts no bot
@@ -123,7 +123,7 @@ module _ {P : Type 0} where
       record {
         came = rw none (omega arith);
         connected = rw none (omega (arith, is, one));
-          }
+      }
 
   pub meeting_counts : (b : Bool) (old : HubView (QuotaPortsView P)) (counters : AdmissionCounters) (answers : List (SystemCall P))
       (new : HubView (QuotaPortsView P)) (new_counters : AdmissionCounters) → (counters.connecting == 0) ≡ b →

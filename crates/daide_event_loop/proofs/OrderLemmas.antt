@@ -1,5 +1,5 @@
 -- The operator's orders, round by round.
-use Rattle.std.proofs.Common.{◌≡◌, ℕ, zero, suc, ◌+◌, ◌<◌, ◌≤◌, Bool, true, false, List, [], ◌∷◌, ◌++◌, length}
+use Rattle.std.proofs.Common.{◌≡◌, ℕ, ◌+◌, ◌<◌, ◌≤◌, Bool, true, false, List, [], ◌∷◌, ◌++◌, length}
 use Rattle.std.proofs.Common.{refl, sym, ap, ◌∙◌, subst, arith}
 use Rattle.std.specs.Prelude.{◌==◌, ◌&&◌, ◌||◌, is_none, if◌then◌else◌}
 use Rattle.daide_frame.proofs.ListLemmas.{ltb_no, eqb_same}
@@ -13,14 +13,13 @@ use Rattle.daide_io.specs.declared.system.Notice.{Notice}
 use Rattle.daide_io.specs.declared.system.Notice.TheVariants.{CannotReach, TurnsSpent}
 use Rattle.daide_io.specs.declared.system.Orders.{Orders}
 use Rattle.daide_io.specs.declared.system.SessionEnd.{SessionEnd}
-use Rattle.daide_io.specs.declared.system.SessionStatus.{SessionStatus}
-use Rattle.daide_io.specs.System.{SystemCall, Begins, Shows, ReportsNews, BeginsTurn, Watches, Accepts, Connects}
+use Rattle.daide_io.specs.System.{SystemCall, ReportsNews, BeginsTurn, Watches, Accepts, Connects}
 use Rattle.daide_io.specs.System.{Retires, Notifies, Waits}
 use Rattle.daide_event_loop.specs.declared.admission_counters.AdmissionCounters.{AdmissionCounters}
 use Rattle.daide_event_loop.specs.QuotaPorts.{QuotaPortsView}
-use Rattle.daide_event_loop.specs.Serving.{ServiceView, initial_service, bots_in_all, may_accept, is_served, is_done, closed, heeding, opening}
-use Rattle.daide_event_loop.specs.Serving.{arrived, come, shows_where, AdmitsWhere, MeetsWhere, MeetsBy, last_words, retirement_where}
-use Rattle.daide_event_loop.specs.Serving.{end_of, retirement, retirements, watches, wait_where, any_progress, any_moved, Round}
+use Rattle.daide_event_loop.specs.Serving.{ServiceView, initial_service, bots_in_all, may_accept, is_done, closed, heeding, opening}
+use Rattle.daide_event_loop.specs.Serving.{come, shows_where, AdmitsWhere, MeetsWhere, MeetsBy, last_words, retirement_where}
+use Rattle.daide_event_loop.specs.Serving.{end_of, retirements, watches, wait_where, any_progress, any_moved, Round}
 use Rattle.daide_event_loop.specs.Served.{sum_over_calls, accept_calls, show_calls, orders_with, stop_orders, show_orders, HeedsStops, HeedsOrders}
 use Rattle.daide_event_loop.proofs.BeginningLemmas.{none_counted, none_shown, turns_only, watches_only}
 use Rattle.daide_event_loop.proofs.CountLemmas.{counted_append}
@@ -269,18 +268,21 @@ heeds false old within = record {
   at_most = omega (arith);
 }
 
-one_if : (b : Bool) → 0 < (if b then 1 else 0) → b ≡ true
+abbrev count_if : Bool → ℕ
+count_if b = if b then 1 else 0
+
+one_if : (b : Bool) → 0 < count_if b → b ≡ true
 one_if true some = refl
 one_if false some = absurd (omega (arith, some))
 
-none_if : (b : Bool) → (if b then 1 else 0) ≡ 0 → b ≡ false
+none_if : (b : Bool) → count_if b ≡ 0 → b ≡ false
 none_if false none = refl
 none_if true none = absurd (omega (arith, none))
 
 module _ {P : Type 0} (port_transition : P → PortCall → P → Type 0) (settings : Settings) where
   -- what a round does with its orders
   record Obeys (ys : List (SystemCall P)) (old new : AdmissionCounters) (orders : Orders) : Type 0 where
-    stops : stop_orders ys ≡ (if orders.stops_accepting then 1 else 0)
+    stops : stop_orders ys ≡ count_if orders.stops_accepting
     shows : show_orders ys ≡ 0 → sum_over_calls show_calls ys ≡ 0
     heeds : HeedsStops ys
     none : ((if orders.stops_accepting then closed old else old).sessions
@@ -314,7 +316,7 @@ module _ {P : Type 0} (port_transition : P → PortCall → P → Type 0) (setti
       met : (new.counters.sessions ≡ r.came.sessions) × (new.counters.accepted ≡ r.came.accepted)
       met = meeting_limit (r.came.connecting == 0) old.hub r.came r.meeting r.connected new.counters r.finishes
 
-      ordered : (Has : Orders → Bool) → sum_over_calls (orders_with Has) ys ≡ (if Has r.orders then 1 else 0)
+      ordered : (Has : Orders → Bool) → sum_over_calls (orders_with Has) ys ≡ count_if (Has r.orders)
       ordered Has =
           let all = counted_early (orders_with Has) (orders_early Has) port_transition ys old new r in
           let shown = none_shown (orders_with Has) r.orders.shows_sessions old.hub.places (λ ports status. refl) in
@@ -322,7 +324,7 @@ module _ {P : Type 0} (port_transition : P → PortCall → P → Type 0) (setti
           r.admission r.came r.admits in
           omega (arith, all, shown, admitted)
 
-      stops : stop_orders ys ≡ (if r.orders.stops_accepting then 1 else 0)
+      stops : stop_orders ys ≡ count_if r.orders.stops_accepting
       stops = ordered (λ orders. orders.stops_accepting)
 
       shows : show_orders ys ≡ 0 → sum_over_calls show_calls ys ≡ 0
@@ -343,16 +345,18 @@ module _ {P : Type 0} (port_transition : P → PortCall → P → Type 0) (setti
 
       none : under.sessions ≡ under.accepted → (sum_over_calls accept_calls ys ≡ 0) × (new.counters.sessions ≡ new.counters.accepted)
       none over =
-          let admitted = admission_over (length old.hub.places) under r.admission r.came r.admits over in
-          (calls ∙ admitted.0, met.0 ∙ ap (λ (c : AdmissionCounters). c.sessions) admitted.1 ∙ over
-          ∙ sym (ap (λ (c : AdmissionCounters). c.accepted) admitted.1) ∙ sym met.1)
+          let admitted = admission_over (length old.hub.places) under r.admission r.came r.admits over in (
+            calls ∙ admitted.0,
+            met.0 ∙ ap (λ (c : AdmissionCounters). c.sessions) admitted.1 ∙ over
+                ∙ sym (ap (λ (c : AdmissionCounters). c.accepted) admitted.1) ∙ sym met.1,
+          )
 
       no_more : stop_orders rest ≡ 0
       no_more =
           let all = sym (ap stop_orders r.asked) ∙ stops in
           omega (arith, all)
 
-      heeded : 0 < (if r.orders.stops_accepting then 1 else 0) → sum_over_calls accept_calls rest ≡ 0
+      heeded : 0 < count_if r.orders.stops_accepting → sum_over_calls accept_calls rest ≡ 0
       heeded some =
           let all = sym (ap (sum_over_calls accept_calls) r.asked) ∙ (none ((heeds r.orders.stops_accepting old.counters within).over
           (one_if r.orders.stops_accepting some))).0 in
@@ -365,7 +369,7 @@ module _ {P : Type 0} (port_transition : P → PortCall → P → Type 0) (setti
     stops = heeds_then xs ys h.stops own.heeds (λ some. (own.none (under.still_over (h.over some))).0);
     goes_on = λ none. (
         let before : stop_orders xs ≡ 0 = omega (arith, none, stops) in
-        let now : (if r.orders.stops_accepting then 1 else 0) ≡ 0 = omega (arith, none, stops, ordered) in
+        let now : count_if r.orders.stops_accepting ≡ 0 = omega (arith, none, stops, ordered) in
         own.limit ∙ ap (λ (c : AdmissionCounters). c.sessions) (under.kept (none_if r.orders.stops_accepting now))
         ∙ h.goes_on before);
     over = λ some. (own.none (over some)).1;
@@ -392,7 +396,7 @@ module _ {P : Type 0} (port_transition : P → PortCall → P → Type 0) (setti
       stops : stop_orders (xs ++ ys) ≡ stop_orders xs + stop_orders ys
       stops = counted_append (orders_with (λ orders. orders.stops_accepting)) xs ys
 
-      ordered : stop_orders ys ≡ (if r.orders.stops_accepting then 1 else 0)
+      ordered : stop_orders ys ≡ count_if r.orders.stops_accepting
       ordered = own.stops
 
       over : 0 < stop_orders (xs ++ ys) → (heeding r.orders old.counters).sessions ≡ (heeding r.orders old.counters).accepted
@@ -402,7 +406,7 @@ module _ {P : Type 0} (port_transition : P → PortCall → P → Type 0) (setti
               (heeding r.orders old.counters).sessions ≡ (heeding r.orders old.counters).accepted
           by true e = under.over e
           by false e =
-              let none : stop_orders ys ≡ 0 = ordered ∙ ap (λ (b : Bool). if b then 1 else 0) e in
+              let none : stop_orders ys ≡ 0 = ordered ∙ ap count_if e in
               under.still_over (h.over (omega (arith, some, stops, none)))
 
   -- the law, from the limit

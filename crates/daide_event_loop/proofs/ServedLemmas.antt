@@ -39,7 +39,7 @@ use Rattle.daide_event_loop.specs.Serving.{cause_by, end_of}
 use Rattle.daide_event_loop.specs.Serving.{MeetsBy, watches, wait_where, any_progress, any_moved, Round, Rounds, is_done}
 use Rattle.daide_event_loop.specs.Served.{IsServedSession, run_limits, IsSessionOfRun, IsServed, IsEndOf, RetiresClosed, connects, retires, sum_over_calls}
 use Rattle.daide_event_loop.specs.Served.{IsWholeRun}
-use Rattle.daide_event_loop.proofs.BeginningLemmas.{OnlyTurns, none_counted, none_shown, all_turns, all_shown, turns_only, watches_only}
+use Rattle.daide_event_loop.proofs.BeginningLemmas.{OnlyTurns, none_counted, opening_none, all_turns, all_shown, turns_only, watches_only}
 use Rattle.daide_event_loop.proofs.CauseLemmas.{IsCut, cut_begins, cut_begun, cut_turn, cut_cause}
 use Rattle.daide_event_loop.proofs.CountLemmas.{counted_append, Counts, counts_then, admission_counts, meeting_counts}
 use Rattle.daide_event_loop.proofs.CountLemmas.{opening_counts, turns_count, removal_counts, wait_counts}
@@ -81,8 +81,8 @@ module _ {P : Type 0} where
 
   opening_passes : (orders : Orders) (places : List (SessionView × QuotaPortsView P)) → Passes (opening orders places) 0 0
   opening_passes orders places = record {
-    came = none_shown connects orders.shows_sessions places (λ ports status. refl);
-    went = none_shown retires orders.shows_sessions places (λ ports status. refl);
+    came = opening_none connects orders places refl (λ ports status. refl);
+    went = opening_none retires orders places refl (λ ports status. refl);
   }
 
   turns_pass : (answers : List (SystemCall P)) → OnlyTurns answers → Passes answers 0 0

@@ -9,7 +9,7 @@ use Rattle.daide_io.specs.declared.ports.Pull.TheVariants.{Got, Idle}
 use Rattle.daide_io.specs.declared.ports.Put.TheVariants.{Took}
 use Rattle.daide_io.specs.Ports.{PortCall, TurnBegins, Clock, Pulled, Offered, EvolvesBy}
 use Rattle.daide_io.specs.declared.system.Connect.TheVariants.{Pending}
-use Rattle.daide_io.specs.System.{SystemCall, ReportsNews, BeginsTurn, Watches, Accepts, Connects, Waits}
+use Rattle.daide_io.specs.System.{SystemCall, ReportsNews, BeginsTurn, Accepts, Connects, Waits}
 use Rattle.daide_driver.specs.Turn.{Turn, most_pulled}
 use Rattle.daide_settings.specs.declared.settings.Settings.{Settings}
 use Rattle.daide_event_loop.specs.QuotaPorts.{QuotaPortsView}

@@ -390,9 +390,10 @@ impl<P: Ports, A: Memory + Copy> Service<P, A> {
 }
 
 /// Serves as many bots as the settings say, in rounds (`Round`), and returns when all were served and no session is
-/// held. An endless run (`endless`) serves until the process is stopped: it would return after 2^32 - 1 bots, the
-/// greatest number of a session. A run waits for its peers, so no bound on its time is known. Each clause is about the
-/// calls that took the system from its old to its new value (`TransitsBy`). So a body that makes no call meets none.
+/// held. An endless run (`endless`) would return after 2^32 - 1 bots, the greatest number of a session. After an order
+/// to stop accepting, the bots accepted so far are all, and it returns when they were served. A run waits for its peers,
+/// so no bound on its time is known. Each clause is about the calls that took the system from its old to its new value
+/// (`TransitsBy`). So a body that makes no call meets none.
 ///
 /// `served` (`each`): if it returns `Ok`, the calls are those of a whole run (`IsWholeRun`). Each session that it
 /// served is bounded and exact by all that its ports returned, as `sessions_are_served` says. With a session's ports
@@ -401,7 +402,8 @@ impl<P: Ports, A: Memory + Copy> Service<P, A> {
 /// session was open until then.
 ///
 /// `served` (`none_lost`): no ports are lost. As many bots came as the settings say, or 2^32 - 1 if the run is endless
-/// (`all_came`). For each one the ports were handed back or the server could not be reached (`all_served`).
+/// (`all_came`). If there was an order to stop accepting, at most as many came, and accept was not called after it
+/// (`HeedsStops`). For each one the ports were handed back or the server could not be reached (`all_served`).
 ///
 /// `given_up`: else the calls are those of a run that was given up for its fault (`GivesUp`). No memory for the places
 /// is returned before any call. After no memory for a session, the round is broken off. The other fault is that

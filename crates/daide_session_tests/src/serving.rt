@@ -8,12 +8,10 @@ use crate::relays::{NEVER, QUIET, assert_sent};
 use crate::script::counts_of;
 use daide_frame::code::Code;
 use daide_frame::side::Side::{Bot, Server};
-use daide_gate::{Level, Phase, Summary};
 use daide_gate::serving::{ServeFault, Service, serve};
 use daide_gate::settings::{Settings, read_settings};
-use daide_gate::system::{
-    Cause, Connect, Notice, Orders, SessionEnd, SessionStatus, System,
-};
+use daide_gate::system::{Cause, Connect, Notice, Orders, SessionEnd, SessionStatus, System};
+use daide_gate::{Level, Phase, Summary};
 use daide_protocol::ending::Ending;
 use daide_test_support::memory_ports::{Acceptance, Call, MemoryPorts, Script, ScriptedRead};
 use daide_test_support::rows::{holds, same};

@@ -1,6 +1,6 @@
-use Rattle.std.proofs.Common.{◌≤◌, ◌<◌, ◌++◌, ◌∷◌, [], List, refl, sym, ap, ◌∙◌, subst, add-one, take}
+use Rattle.std.proofs.Common.{◌≤◌, ◌<◌, ◌∷◌, [], refl, subst, add-one, take}
 use Rattle.std.proofs.lemmas.List.{take_all}
-use Rattle.daide_io.specs.System.{SystemCall, Shows, TransitsBy, status_of}
+use Rattle.daide_io.specs.System.{Shows, TransitsBy, status_of}
 use Rattle.daide_io.specs.declared.system.SessionStatus.{SessionStatus}
 use Rattle.daide_event_loop.specs.Serving.{shows}
 use Rattle.daide_event_loop.proofs.ServingLemmas.{show_more}
