@@ -8,7 +8,7 @@ ghost use Rattle.daide_sockets.specs.Wakeups.{Wakes};
 
 use crate::folder::{Folder, SessionFile, end, tell_if_ended};
 use crate::running::Finish;
-use daide_io::{Connect, Network, Notice, SessionEnd, System};
+use daide_io::{Connect, Network, Notice, Orders, SessionEnd, SessionStatus, System};
 use daide_log::{Moment, TimedRecording};
 use daide_sockets::ports::SocketPorts;
 use daide_sockets::system::Sockets;
@@ -98,9 +98,17 @@ impl<'w, N: Network, R: AllocGlobal + Files, C: Clock, E: Write + Drop> System<
         (new.sockets.poller.network, new.sockets.poller.table) };
 
     /// The times that are recorded in the round are that of its beginning.
-    fn begin_round(&mut self) {
+    fn begin_round(&mut self) -> Orders {
         self.now = moment_by(self.clock);
-        self.sockets.begin_round();
+        self.sockets.begin_round()
+    }
+
+    fn show(
+        &mut self,
+        ports: &TimedRecording<SocketPorts<'w, N::Connection>, SessionFile<R::File>>,
+        status: SessionStatus,
+    ) {
+        self.sockets.show(ports.ports(), status);
     }
 
     /// A record that has just ended is news too, so that the next turn begins at once and logs it.
