@@ -28,4 +28,4 @@ pub mod timed;
 
 // Only this crate depends on `mio`, so it exports the names that its callers need.
 pub use mio::Interest;
-pub use mio::net::{TcpListener, TcpStream};
+pub use mio::net::{TcpListener, TcpStream, UnixListener, UnixStream};
