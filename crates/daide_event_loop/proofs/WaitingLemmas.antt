@@ -14,8 +14,8 @@ use Rattle.daide_protocol.specs.Wires.{SessionView, is_closed}
 use Rattle.daide_io.specs.Ports.{PortCall, TurnBegins, events_of}
 use Rattle.daide_io.specs.declared.system.Connect.{Connect}
 use Rattle.daide_io.specs.declared.system.Connect.TheVariants.{Ready, Failed, Pending}
-use Rattle.daide_io.specs.System.{SystemCall, Begins, ReportsNews, BeginsTurn, Watches, Accepts, Connects, Retires}
-use Rattle.daide_io.specs.System.{Notifies, Waits}
+use Rattle.daide_io.specs.System.{SystemCall, Begins, Shows, ReportsNews, BeginsTurn, Watches, Accepts, Connects}
+use Rattle.daide_io.specs.System.{Retires, Notifies, Waits}
 use Rattle.daide_driver.specs.Hub.{HubView, Changes, IsBegun, IsTurned}
 use Rattle.daide_settings.specs.declared.settings.Settings.{Settings}
 use Rattle.daide_event_loop.specs.declared.admission_counters.AdmissionCounters.{AdmissionCounters}

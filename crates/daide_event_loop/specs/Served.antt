@@ -16,8 +16,8 @@ use Rattle.daide_io.specs.declared.system.Cause.{Cause}
 use Rattle.daide_io.specs.declared.system.Cause.TheVariants as Causes
 use Rattle.daide_io.specs.declared.system.SessionEnd.{SessionEnd}
 use Rattle.daide_event_loop.specs.QuotaPorts.{QuotaPortsView, Meters, progress_by}
-use Rattle.daide_io.specs.System.{SystemCall, Begins, ReportsNews, BeginsTurn, Watches, Accepts, Connects, Retires}
-use Rattle.daide_io.specs.System.{Notifies, Waits}
+use Rattle.daide_io.specs.System.{SystemCall, Begins, Shows, ReportsNews, BeginsTurn, Watches, Accepts, Connects}
+use Rattle.daide_io.specs.System.{Retires, Notifies, Waits}
 use Rattle.daide_event_loop.specs.Serving.{ServiceView, fresh, initial_service, bots_in_all, Rounds, Serves}
 
 -- the limits of a run's sessions

@@ -19,7 +19,7 @@ use crate::quota_ports::QuotaPorts;
 use daide_driver::hub::{AddFault, Hub, Removed};
 use daide_frame::memory::Memory;
 use daide_io::ports::Ports;
-use daide_io::system::{Cause, Connect, Notice, SessionEnd, System};
+use daide_io::system::{Cause, Connect, Notice, Orders, SessionEnd, System};
 use daide_protocol::ending::Ending;
 use daide_settings::settings::Settings;
 use std::alloc::{AllocError, Allocator, Global};

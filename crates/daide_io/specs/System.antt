@@ -2,14 +2,17 @@
 use Rattle.std.specs.Prelude.{◌≡◌, Bool, List, [], ◌∷◌}
 use Rattle.daide_io.specs.declared.system.Connect.{Connect}
 use Rattle.daide_io.specs.declared.system.Notice.{Notice}
+use Rattle.daide_io.specs.declared.system.Orders.{Orders}
 use Rattle.daide_io.specs.declared.system.SessionEnd.{SessionEnd}
+use Rattle.daide_io.specs.declared.system.SessionStatus.{SessionStatus}
 
--- One call with its result: the beginning of a round; whether there is news for the ports of a session; the beginning
--- of a turn, with the ports of its session before and after; the ports of a session that the next wait is to watch;
--- whether a bot arrived; the result of a connect; ports that were retired, with how their session ended; a line that was
--- logged; and a wait that ended.
+-- One call with its result: the beginning of a round, with the operator's orders; the ports of a session whose status is
+-- shown; whether there is news for the ports of a session; the beginning of a turn, with the ports of its session before
+-- and after; the ports of a session that the next wait is to watch; whether a bot arrived; the result of a connect; ports
+-- that were retired, with how their session ended; a line that was logged; and a wait that ended.
 pub data SystemCall (P : Type 0) : Type 0 where
-  Begins : SystemCall P
+  Begins : (orders : Orders) → SystemCall P
+  Shows : (ports : P) → (status : SessionStatus) → SystemCall P
   ReportsNews : (ports : P) → (news : Bool) → SystemCall P
   BeginsTurn : (before after : P) → SystemCall P
   Watches : (ports : P) → SystemCall P

@@ -23,7 +23,7 @@ use crate::session_notice::SessionNotice;
 use crate::table::SocketTable;
 use daide_buffered_io::pool::Pool;
 use daide_io::network::Network;
-use daide_io::system::{Connect, Notice, SessionEnd, System};
+use daide_io::system::{Connect, Notice, Orders, SessionEnd, SessionStatus, System};
 use daide_settings::{AddressRange, Settings};
 use std::alloc::Global;
 use std::io::Write;
@@ -358,10 +358,13 @@ impl<'w, N: Network, E: Write + Drop> System<SocketPorts<'w, N::Connection>> for
           im_due = ports.im_due;
         }) (old.poller.network, old.poller.table) answer (new.poller.network, new.poller.table) };
 
-    fn begin_round(&mut self) {
+    fn begin_round(&mut self) -> Orders {
         self.poller.look_by_turns();
         self.tidy();
+        Orders::NONE
     }
+
+    fn show(&mut self, _ports: &SocketPorts<'w, N::Connection>, _status: SessionStatus) {}
 
     fn has_news(&mut self, ports: &SocketPorts<'w, N::Connection>) -> bool
         ensures transition { Transits N.Connection.to_give N.Connection.taken N.Connection.calls
