@@ -4,10 +4,10 @@
 use crate::control::Given::{Bytes, End, Fails, Interrupted, Later};
 use crate::wires::some;
 use daide_buffered_io::pool::Pool;
+use daide_frame::side::Side;
 use daide_gate::settings::{Settings, read_settings};
 use daide_gate::system::{Connect, System};
 use daide_io::duplex::Duplex;
-use daide_frame::side::Side;
 use daide_io::network::{ConnectStatus, Network, SocketEvent};
 use daide_io::ports::{Ports, Pull};
 use daide_io::system::Orders;
@@ -102,7 +102,9 @@ impl Duplex for Line<'_> {
 
 impl Drop for Line<'_> {
     fn drop(self) {
-        self.seen.closed.set(self.seen.closed.get().saturating_add(1));
+        self.seen
+            .closed
+            .set(self.seen.closed.get().saturating_add(1));
         let Line {
             client: _,
             at: _,
@@ -125,11 +127,12 @@ impl Clock for At {
     }
 }
 
-/// A network with these clients at its control socket, and some bots. The server accepts each connect. Each poll reports
+/// A network with so many clients at its control socket, which are these again and again, and some bots. The server accepts each connect. Each poll reports
 /// every row, and takes this number of milliseconds.
 #[derive(Drop)]
 struct Door<'n> {
     clients: &'static [Client],
+    count: usize,
     next: usize,
     bots: usize,
     seen: &'n Seen,
@@ -197,7 +200,10 @@ impl<'n> Network for Door<'n> {
     }
 
     fn accept_control(&mut self) -> io::Result<Line<'n>> {
-        let Some(client) = self.clients.get(self.next) else {
+        if self.next >= self.count || self.clients.is_empty() {
+            return Err(ErrorKind::WouldBlock.into());
+        }
+        let Some(client) = self.clients.get(self.next % self.clients.len()) else {
             return Err(ErrorKind::WouldBlock.into());
         };
         self.next = self.next.saturating_add(1);
@@ -236,20 +242,14 @@ fn orders_after(sockets: &mut DoorSockets<'_, '_, '_>, rounds: usize) -> Orders 
 
 /// The clients | the milliseconds of a poll | the rounds | the bytes that all of them took | whether a stop is ordered then |
 /// how many connections are closed then.
-type Asked = (
-    &'static [Client],
-    u64,
-    usize,
-    &'static [u8],
-    bool,
-    usize,
-);
+type Asked = (&'static [Client], u64, usize, &'static [u8], bool, usize);
 
 /// The answer to anything that is no request.
 const UNKNOWN: &[u8] = b"unknown request\n";
 
 /// A status without a session.
-const NOBODY: &[u8] = b"{\"open\":0,\"connecting\":0,\"served\":0,\"unreached\":0,\"bots_wait\":false,\"stopping\":false,\"seconds\":0,\"sessions\":[\n]}\n";
+const NOBODY: &[u8] =
+    b"{\"open\":0,\"connecting\":0,\"served\":0,\"unreached\":0,\"bots_wait\":false,\"stopping\":false,\"seconds\":0,\"sessions\":[\n]}\n";
 
 /// 63 bytes without a line feed.
 const LONG: &[u8] = b"status table status table status table status table status tabl";
@@ -263,13 +263,34 @@ const ASKED: &[Asked] = &[
     (&[], 0, 5, b"", false, 0),
     (&[(&[Bytes(b"hello\n")], 99)], 0, 6, UNKNOWN, false, 1),
     (&[(&[Bytes(b"\n")], 99)], 0, 6, UNKNOWN, false, 1),
-    (&[(&[Bytes(b"\xff\x00\x80\n")], 99)], 0, 6, UNKNOWN, false, 1),
+    (
+        &[(&[Bytes(b"\xff\x00\x80\n")], 99)],
+        0,
+        6,
+        UNKNOWN,
+        false,
+        1,
+    ),
     (&[(&[Bytes(b"STOP\n")], 99)], 0, 6, UNKNOWN, false, 1),
     (&[(&[Bytes(b"stop \n")], 99)], 0, 6, UNKNOWN, false, 1),
     // 63 bytes may still be a request, 64 bytes without a line feed are none.
     (&[(&[Bytes(LONG)], 99)], 0, 6, b"", false, 0),
-    (&[(&[Bytes(LONG), Bytes(b"x")], 99)], 0, 8, UNKNOWN, false, 1),
-    (&[(&[Bytes(LONG), Bytes(b"\n")], 99)], 0, 8, UNKNOWN, false, 1),
+    (
+        &[(&[Bytes(LONG), Bytes(b"x")], 99)],
+        0,
+        8,
+        UNKNOWN,
+        false,
+        1,
+    ),
+    (
+        &[(&[Bytes(LONG), Bytes(b"\n")], 99)],
+        0,
+        8,
+        UNKNOWN,
+        false,
+        1,
+    ),
     // The end, or a failure, without a line is no request.
     (&[(&[End], 99)], 0, 6, UNKNOWN, false, 1),
     (&[(&[Bytes(b"stop"), End], 99)], 0, 8, UNKNOWN, false, 1),
@@ -277,7 +298,14 @@ const ASKED: &[Asked] = &[
     // A stop has no answer, and its connection stays open.
     (&[(&[Bytes(b"stop\n")], 99)], 0, 6, b"", true, 0),
     (&[(&[Bytes(b"stop\n")], 99)], 900, 20, b"", true, 0),
-    (&[(&[Bytes(b"st"), Later, Bytes(b"op\n")], 99)], 0, 9, b"", true, 0),
+    (
+        &[(&[Bytes(b"st"), Later, Bytes(b"op\n")], 99)],
+        0,
+        9,
+        b"",
+        true,
+        0,
+    ),
     (&[(&[Bytes(b"stop now\n")], 99)], 0, 6, b"", true, 0),
     (&[(&[Bytes(b"stop\n"), End], 99)], 0, 8, b"", true, 1),
     (
@@ -304,14 +332,35 @@ const ASKED: &[Asked] = &[
     // An answer is written in as many pieces as the client takes.
     (&[(&[Bytes(b"?\n")], 3)], 0, 12, UNKNOWN, false, 1),
     (&[(&[Bytes(b"?\n")], 0)], 0, 12, b"", false, 0),
-    (&[(&[Bytes(b"status json\n")], 9_999)], 0, 6, NOBODY, false, 1),
+    (
+        &[(&[Bytes(b"status json\n")], 9_999)],
+        0,
+        6,
+        NOBODY,
+        false,
+        1,
+    ),
     // Two seconds after it was accepted, a connection is closed.
     (&[SILENT], 500, 5, b"", false, 0),
     (&[SILENT], 500, 8, b"", false, 1),
     (&[(&[Bytes(b"?\n")], 0)], 500, 9, b"", false, 1),
     // Four at once: a fifth waits until one is closed.
-    (&[SILENT, SILENT, SILENT, SILENT, (&[Bytes(b"stop\n")], 99)], 0, 20, b"", false, 0),
-    (&[SILENT, SILENT, SILENT, SILENT, (&[Bytes(b"stop\n")], 99)], 500, 20, b"", true, 4),
+    (
+        &[SILENT, SILENT, SILENT, SILENT, (&[Bytes(b"stop\n")], 99)],
+        0,
+        20,
+        b"",
+        false,
+        0,
+    ),
+    (
+        &[SILENT, SILENT, SILENT, SILENT, (&[Bytes(b"stop\n")], 99)],
+        500,
+        20,
+        b"",
+        true,
+        4,
+    ),
 ];
 
 /// Returns the settings of a run. Its addresses are not resolved.
@@ -329,14 +378,10 @@ fn nothing_seen(alloc: Global) -> Seen {
 }
 
 /// Returns a network with these clients and so many bots, whose polls take this time.
-fn door_of<'n>(
-    clients: &'static [Client],
-    bots: usize,
-    step: u64,
-    seen: &'n Seen,
-) -> Door<'n> {
+fn door_of<'n>(clients: &'static [Client], bots: usize, step: u64, seen: &'n Seen) -> Door<'n> {
     Door {
         clients,
+        count: clients.len(),
         next: 0,
         bots,
         seen,
@@ -378,10 +423,12 @@ fn is_as_asked(rt: &HostRuntime, settings: &Settings, asked: &Asked) -> Result<b
     let ground = (door_of(clients, 0, step, &seen), [].as_slice());
     let mut sockets = sockets_on(rt.alloc(), ground, &pool, settings, &mut told)?;
     let orders = orders_after(&mut sockets, rounds);
-    Ok(orders.stops_accepting == stops
-        && seen.is_shut.get() == stops
-        && seen.closed.get() == closed
-        && took(&seen, written))
+    Ok(
+        orders.stops_accepting == stops
+            && seen.is_shut.get() == stops
+            && seen.closed.get() == closed
+            && took(&seen, written),
+    )
 }
 
 #[test]
@@ -420,7 +467,10 @@ fn turn_of<'w, 'n>(
 }
 
 /// A client that requests a stop at once.
-const STOPS_NOW: &[Client] = &[(&[Later, Later, Later, Later, Later, Bytes(b"stop now\n")], 99)];
+const STOPS_NOW: &[Client] = &[(
+    &[Later, Later, Later, Later, Later, Bytes(b"stop now\n")],
+    99,
+)];
 
 /// After `stop now` a session has news until its next turn, in which both sides count as ended, and no news after that.
 #[test]
@@ -444,4 +494,47 @@ fn session_ends_at_stop_now(rt: HostRuntime) -> Result<(), Fail> {
     same(&stopped, &(true, Pull::Ended, Pull::Ended), &"ended once")?;
     let again = turn_of(&mut sockets, &mut ports);
     same(&again, &(false, Pull::Ended, Pull::Ended), &"no news after")
+}
+
+/// Clients that request nothing: one that is silent, one whose line is too long, one with other bytes, one that ends its
+/// line too early, one that fails, and one that takes no answer.
+const HOSTILE: &[Client] = &[
+    SILENT,
+    (&[Bytes(LONG), Bytes(LONG)], 99),
+    (&[Bytes(b"\x00\xff\xfe\n")], 99),
+    (&[Bytes(b"stop"), End], 99),
+    (&[Fails], 99),
+    (&[Bytes(b"?\n")], 0),
+];
+
+/// The number of hostile clients.
+const MANY: usize = 300;
+
+/// Hostile clients delay no session: the first bot has its ports as early as without them, and a turn of its session finds
+/// what it would find. All of them are closed in the end, and no stop is ordered.
+#[test]
+fn hostile_clients_delay_no_session(rt: HostRuntime) -> Result<(), Fail> {
+    let settings = plain_settings(rt.alloc())?;
+    let seen = nothing_seen(rt.alloc());
+    let pool = Pool::new(rt.alloc());
+    let mut told = Vec::new(rt.alloc());
+    let server = [SocketAddr::from(([127, 0, 0, 1], 16_714))];
+    let mut door = door_of(HOSTILE, 1, 250, &seen);
+    door.count = MANY;
+    let mut sockets = sockets_on(
+        rt.alloc(),
+        (door, server.as_slice()),
+        &pool,
+        &settings,
+        &mut told,
+    )?;
+    let mut ports = first_ports(&mut sockets)?;
+    let turn = turn_of(&mut sockets, &mut ports);
+    holds(
+        (turn.1, turn.2) == (Pull::Idle, Pull::Idle),
+        "nothing comes",
+    )?;
+    let orders = orders_after(&mut sockets, 1_500);
+    same(&orders, &Orders::NONE, &"no order")?;
+    same(&seen.closed.get(), &MANY, &"each client is closed")
 }

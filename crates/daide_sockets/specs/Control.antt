@@ -19,10 +19,10 @@ use Rattle.daide_status.specs.declared.snapshot.SessionRow.{SessionRow}
 use Rattle.daide_status.specs.declared.text.StatusText.{StatusText}
 use Rattle.daide_sockets.specs.Table.{Table, merged, watching}
 use Rattle.daide_sockets.specs.Times.{is_past}
-use Rattle.daide_sockets.specs.ControlAnswer.{answer_text, Begins, Adds, Finishes}
+use Rattle.daide_sockets.specs.ControlAnswer.{reply_text, Begins, Adds, Finishes}
 use Rattle.daide_sockets.specs.declared.control_answer.Answer.{Answer}
 use Rattle.daide_sockets.specs.declared.control_answer.Answer.TheVariants.{UnknownRequest}
-use Rattle.daide_sockets.specs.ControlRequest.{longest_request, judged, at_end}
+use Rattle.daide_sockets.specs.ControlRequest.{request_room, judgement_of, at_end}
 use Rattle.daide_sockets.specs.declared.control_connection.ControlConnection.{ControlConnection}
 use Rattle.daide_sockets.specs.declared.control_connection.Stage.{Stage}
 use Rattle.daide_sockets.specs.declared.control_connection.Stage.TheVariants.{Reads, Gathers, Writes, Stays}
@@ -41,12 +41,12 @@ stage_after Unknown = Writes 0
 stage_after Unfinished = Reads
 
 -- The status or the answer that begins by what was received. Of a status it is that of the run.
-abbrev pub Answers : RunStatus → Judgement → Option StatusText → Answer → Type 0
-Answers run (Requests (Status format)) status answer = Begins format run status
-Answers run (Requests Stop) status answer = Unit {0}
-Answers run (Requests StopNow) status answer = Unit {0}
-Answers run Unknown status answer = answer ≡ UnknownRequest
-Answers run Unfinished status answer = Unit {0}
+abbrev pub BeginsReply : RunStatus → Judgement → Option StatusText → Answer → Type 0
+BeginsReply run (Requests (Status format)) status answer = Begins format run status
+BeginsReply run (Requests Stop) status answer = Unit {0}
+BeginsReply run (Requests StopNow) status answer = Unit {0}
+BeginsReply run Unknown status answer = answer ≡ UnknownRequest
+BeginsReply run Unfinished status answer = Unit {0}
 
 abbrev pub is_idle : Pull → Bool
 is_idle Idle = true
@@ -54,8 +54,8 @@ is_idle (Got count) = false
 is_idle Ended = false
 
 -- the bytes of an answer after those that were written
-abbrev pub rest_of : ℕ → List ℕ → List ℕ
-rest_of written text = drop (min written (length text)) text
+abbrev pub unwritten_of : ℕ → List ℕ → List ℕ
+unwritten_of written text = drop (min written (length text)) text
 
 -- whether some of so many bytes are still to be written after this put
 abbrev pub is_more_left : Put → ℕ → Bool
@@ -69,7 +69,7 @@ module _ {S : Type 0} (to_give taken : S → Option (List ℕ)) (calls : S → O
     pub gives : Consumes (to_give old.stream) (to_give new.stream) bytes
     pub count : length bytes ≡ pulled_len pull
     pub line : new.line.items ≡ old.line.items ++ bytes
-    pub pulled : IsPull calls (longest_request - length old.line.items) old.readiness old.stream pull new.readiness
+    pub pulled : IsPull calls (request_room - length old.line.items) old.readiness old.stream pull new.readiness
         new.stream
     pub rest : new ≡ record old { stream = new.stream; readiness = new.readiness; line = new.line }
 
@@ -78,19 +78,19 @@ module _ {S : Type 0} (to_give taken : S → Option (List ℕ)) (calls : S → O
     pub pull : Pull
     pub heard : ControlConnection S
     pub hears : Hears old pull heard
-    pub stage : new.stage ≡ stage_after (at_end (judged heard.line.items) pull)
-    pub answer : Answers run (at_end (judged heard.line.items) pull) new.status new.answer
+    pub stage : new.stage ≡ stage_after (at_end (judgement_of heard.line.items) pull)
+    pub answer : BeginsReply run (at_end (judgement_of heard.line.items) pull) new.status new.answer
     pub rest : new ≡ record heard { stage = new.stage; status = new.status; answer = new.answer }
 
   -- One write of the rest of an answer, of which this many bytes were taken before. The connection stays open if some are
   -- left, and no write failed.
   pub record WritesOn (old : ControlConnection S) (written : ℕ) (is_open : Bool) (new : ControlConnection S) : Type 0 where
     pub put : Put
-    pub puts : IsPut calls (take 16384 (rest_of written (answer_text old.answer))) old.readiness old.stream put new.readiness
+    pub puts : IsPut calls (take 16384 (unwritten_of written (reply_text old.answer))) old.readiness old.stream put new.readiness
         new.stream
-    pub takes : IsTaken (taken old.stream) (rest_of written (answer_text old.answer)) put (taken new.stream)
-    pub is_over : is_open ≡ is_more_left put (length (rest_of written (answer_text old.answer)))
-    pub stage : is_open ≡ true → new.stage ≡ Writes (min written (length (answer_text old.answer)) + taken_len put)
+    pub takes : IsTaken (taken old.stream) (unwritten_of written (reply_text old.answer)) put (taken new.stream)
+    pub is_over : is_open ≡ is_more_left put (length (unwritten_of written (reply_text old.answer)))
+    pub stage : is_open ≡ true → new.stage ≡ Writes (min written (length (reply_text old.answer)) + taken_len put)
     pub rest : new ≡ record old { stream = new.stream; readiness = new.readiness; stage = new.stage }
 
   -- The rows of a status are gathered: it is finished, and written once.

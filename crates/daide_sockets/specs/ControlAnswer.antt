@@ -10,10 +10,10 @@ use Rattle.daide_sockets.specs.declared.control_answer.Answer.{Answer}
 use Rattle.daide_sockets.specs.declared.control_answer.Answer.TheVariants.{Status, UnknownRequest, OutOfMemory}
 
 -- the bytes of an answer
-abbrev pub answer_text : Answer → List ℕ
-answer_text (Status text) = text.items
-answer_text UnknownRequest = codes "unknown request\n"
-answer_text OutOfMemory = codes "out of memory\n"
+abbrev pub reply_text : Answer → List ℕ
+reply_text (Status text) = text.items
+reply_text UnknownRequest = codes "unknown request\n"
+reply_text OutOfMemory = codes "out of memory\n"
 
 -- a status begins with that of the run, unless memory is refused
 abbrev pub Begins : Format → RunStatus → Option StatusText → Type 0
@@ -29,4 +29,4 @@ Adds row (Some old) (Some new) = view_of new ≡ with_row row (view_of old)
 -- The answer is the whole text of the status, or says that memory was refused.
 abbrev pub Finishes : Option StatusText → Answer → Type 0
 Finishes None answer = answer ≡ OutOfMemory
-Finishes (Some text) answer = (answer_text answer ≡ ended (view_of text)) ⊎ (answer ≡ OutOfMemory)
+Finishes (Some text) answer = (reply_text answer ≡ ended (view_of text)) ⊎ (answer ≡ OutOfMemory)

@@ -9,8 +9,8 @@ use Rattle.daide_sockets.specs.declared.control_request.Judgement.{Judgement}
 use Rattle.daide_sockets.specs.declared.control_request.Judgement.TheVariants.{Requests, Unknown, Unfinished}
 
 -- the most bytes of a request, with its line feed
-abbrev pub longest_request : ℕ
-longest_request = 64
+abbrev pub request_room : ℕ
+request_room = 64
 
 -- the position of the first line feed
 abbrev pub line_end : List ℕ → Option ℕ
@@ -22,11 +22,11 @@ judged_request None = Unknown
 
 abbrev pub judged_line : Option ℕ → List ℕ → Judgement
 judged_line (Some at) bytes = judged_request (request_of (take at bytes))
-judged_line None bytes = if nat_lt (length bytes) longest_request then Unfinished else Unknown
+judged_line None bytes = if nat_lt (length bytes) request_room then Unfinished else Unknown
 
 -- The line up to the first line feed is a request or none. Without a line feed in 64 bytes there is none.
-abbrev pub judged : List ℕ → Judgement
-judged bytes = judged_line (line_end bytes) bytes
+abbrev pub judgement_of : List ℕ → Judgement
+judgement_of bytes = judged_line (line_end bytes) bytes
 
 -- at the end of the stream, what is unfinished is no request
 abbrev pub at_end : Judgement → Pull → Judgement

@@ -63,13 +63,13 @@ pub record IsAccepted {S : Type 0} (reading : Option Instant) (connection : Cont
   pub closes_at : IsAfter reading 2000000000 connection.closes_at
 
 -- whether a place is free
-abbrev pub is_free : {S : Type 0} → Option (ControlConnection S) → Bool
-is_free None = true
-is_free (Some connection) = false
+abbrev pub is_place_free : {S : Type 0} → Option (ControlConnection S) → Bool
+is_place_free None = true
+is_place_free (Some connection) = false
 
 abbrev pub has_free : {S : Type 0} → List (Option (ControlConnection S)) → Bool
 has_free [] = false
-has_free (place ∷ rest) = is_free place || has_free rest
+has_free (place ∷ rest) = is_place_free place || has_free rest
 
 -- a connection comes to the first free place
 abbrev pub with_one : {S : Type 0} → ControlConnection S → List (Option (ControlConnection S)) → List (Option (ControlConnection S))

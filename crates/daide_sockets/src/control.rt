@@ -9,7 +9,6 @@ ghost use Rattle.daide_sockets.specs.Control.{gathers_at, stops_at, stops_now_at
 ghost use Rattle.daide_sockets.specs.ControlSlots.{places, Each, at_some, PlaceAdvances, PlaceShows};
 ghost use Rattle.daide_sockets.specs.ControlSlots.{at_place, has_free, with_one, watching_place, watching_places, watching_listener};
 ghost use Rattle.daide_sockets.specs.ControlSlots.{MakesControlAccept, AcceptsOne, watching_control, BeginsRound};
-ghost use Rattle.daide_sockets.specs.Table.{Table};
 
 use crate::admission::ACCEPT_PAUSE;
 use crate::control_connection::ControlConnection;
@@ -353,7 +352,7 @@ impl<S: Duplex + Drop> Control<S> {
     }
 
     /// Has the next wait watch each connection, and the listener if a place is free.
-    fn watch(&self, table: &mut SocketTable)
+    pub(crate) fn watch(&self, table: &mut SocketTable)
         ensures { table.new ≡ watching_control table.old self.now }
     {
         if let Some(listener) = &self.listener {
@@ -367,23 +366,21 @@ impl<S: Duplex + Drop> Control<S> {
     /// `control`: each connection is read or written once, and then at most one is accepted, to a free place. A stop is
     /// ordered from the round on in which a connection requests it, and stays so. Sessions are shown if a connection
     /// gathers a status (`BeginsRound`).
-    ///
-    /// `watched`: the next wait watches the listener and each connection.
     pub(crate) fn begin_round<N: Network<Connection = S>>(
         &mut self,
         poller: &mut Poller<N>,
         run: &RunStatus,
     ) -> Orders
         ensures control { BeginsRound S.to_give S.taken S.calls run.now poller.old.table.reading self.old result self.new }
-        ensures watched { (before : Table) × (poller.new.table ≡ watching_control before self.new) }
         ensures clock { poller.new.table.reading ≡ poller.old.table.reading }
+        ensures kept { self.old.stops_accepting ≡ true → self.new.stops_accepting ≡ true }
+        ensures now_kept { self.old.stops_now ≡ true → self.new.stops_now ≡ true }
     {
         self.slots.advance(&mut poller.table, self.alloc, run);
         self.accept(poller);
         let (stops, at_once) = self.slots.stop();
         self.stops_accepting = either(self.stops_accepting, stops);
         self.stops_now = either(self.stops_now, at_once);
-        self.watch(&mut poller.table);
         Orders {
             stops_accepting: self.stops_accepting,
             shows_sessions: self.slots.gather(),

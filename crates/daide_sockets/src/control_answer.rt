@@ -1,7 +1,7 @@
 //! The answer on a control connection.
 
 ghost use Rattle.std.specs.Prelude.{◌≡◌};
-ghost use Rattle.daide_sockets.specs.ControlAnswer.{answer_text, Begins, Adds, Finishes};
+ghost use Rattle.daide_sockets.specs.ControlAnswer.{reply_text, Begins, Adds, Finishes};
 
 use daide_status::{Format, RunStatus, SessionRow, StatusText};
 use std::alloc::Global;
@@ -26,7 +26,7 @@ pub(crate) enum Answer {
 impl Answer {
     /// Returns its bytes.
     pub(crate) fn as_slice(&self) -> &[u8]
-        ensures { result.now ≡ answer_text self.now }
+        ensures { result.now ≡ reply_text self.now }
     {
         match self {
             Answer::Status(text) => text.as_slice(),

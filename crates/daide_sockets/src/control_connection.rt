@@ -3,11 +3,11 @@
 ghost use Rattle.std.specs.Prelude.{◌≡◌, [], None};
 ghost use Rattle.daide_sockets.specs.Table.{merged};
 ghost use Rattle.daide_sockets.specs.Times.{is_past};
-ghost use Rattle.daide_sockets.specs.Control.{Hears, Receives, Answers, stage_after, WritesOn, Completes, StaysOpen, Advances, ShowsOn};
+ghost use Rattle.daide_sockets.specs.Control.{Hears, Receives, BeginsReply, stage_after, WritesOn, Completes, StaysOpen, Advances, ShowsOn};
 ghost use Rattle.daide_sockets.specs.Control.{has_control_work, control_due, gathers_at, stops_at, stops_now_at};
 
 use crate::control_answer::{Answer, add, begun, finished};
-use crate::control_request::{Judgement, LONGEST_REQUEST, at_end, judged};
+use crate::control_request::{Judgement, LONGEST_REQUEST, at_end, judgement_of};
 use crate::table::{is_past, merged};
 use arrayvec::ArrayVec;
 use daide_buffered_io::calls::{pull_from, put_to};
@@ -86,7 +86,7 @@ impl<S: Duplex + Drop> ControlConnection<S> {
     fn begin(&mut self, alloc: Global, judgement: Judgement, run: &RunStatus)
         requires { self.old.stage ≡ Stage.Reads }
         ensures stage { self.new.stage ≡ stage_after judgement }
-        ensures answer { Answers run.now judgement self.new.status self.new.answer }
+        ensures answer { BeginsReply run.now judgement self.new.status self.new.answer }
         ensures rest { self.new ≡ record self.old {
           stage = self.new.stage;
           status = self.new.status;
@@ -114,7 +114,7 @@ impl<S: Duplex + Drop> ControlConnection<S> {
         ensures { Receives S.to_give S.taken S.calls run.now self.old self.new }
     {
         let pull = self.hear();
-        let judgement = at_end(judged(self.line.as_slice()), pull);
+        let judgement = at_end(judgement_of(self.line.as_slice()), pull);
         self.begin(alloc, judgement, run);
     }
 

@@ -1,7 +1,7 @@
 //! The request of a control connection, by the bytes received so far.
 
 ghost use Rattle.std.specs.Prelude.{◌≡◌};
-ghost use Rattle.daide_sockets.specs.ControlRequest.{line_end, judged, at_end};
+ghost use Rattle.daide_sockets.specs.ControlRequest.{line_end, judgement_of, at_end};
 
 use daide_io::ports::Pull;
 use daide_status::ControlRequest;
@@ -28,8 +28,8 @@ fn line_end(bytes: &[u8]) -> Option<usize>
 }
 
 /// Judges the bytes received so far. The line ends at the first line feed, and what follows it is ignored.
-pub(crate) fn judged(bytes: &[u8]) -> Judgement
-    ensures { result ≡ judged bytes.now }
+pub(crate) fn judgement_of(bytes: &[u8]) -> Judgement
+    ensures { result ≡ judgement_of bytes.now }
 {
     match line_end(bytes) {
         Some(at) => match ControlRequest::of_line(&bytes[..at]) {

@@ -297,7 +297,10 @@ impl<'w, S: Drop> SocketPorts<'w, S> {
         ensures bot { result.0 ≡ length self.now.bot.stream.write_buffer }
         ensures server { result.1 ≡ length self.now.server.stream.write_buffer }
     {
-        (self.bot.stream.behind_len(), self.server.stream.behind_len())
+        (
+            self.bot.stream.behind_len(),
+            self.server.stream.behind_len(),
+        )
     }
 
     /// Returns the reading of the clock at which the bot last sent something, and the server; `None` if it has sent nothing.

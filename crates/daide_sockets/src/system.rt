@@ -5,10 +5,10 @@ ghost use Rattle.std.specs.Prelude.{◌≡◌, ◌⊎◌, ℕ, ◌+◌, ◌-◌,
 ghost use Rattle.daide_io.specs.Network.{StopsListening};
 ghost use Rattle.daide_io.specs.Ports.{TurnBegins};
 ghost use Rattle.daide_status.specs.declared.snapshot.RunStatus.{RunStatus};
-ghost use Rattle.daide_io.specs.System.{ReportsNews, BeginsTurn, Watches, Retires};
+ghost use Rattle.daide_io.specs.System.{Begins, ReportsNews, BeginsTurn, Watches, Retires};
 ghost use Rattle.daide_buffered_io.specs.Streams.{Transfers};
 ghost use Rattle.daide_sockets.specs.Accepting.{is_accept_due, MakesAccept};
-ghost use Rattle.daide_sockets.specs.ControlSlots.{BeginsRound, is_newly_stopped};
+ghost use Rattle.daide_sockets.specs.ControlSlots.{BeginsRound, is_newly_stopped, watching_control};
 ghost use Rattle.daide_sockets.specs.Snapshot.{counted, IsSilence};
 ghost use Rattle.daide_sockets.specs.Lingering.{LooksAround, in_pass, GoOnFor, no_closing};
 ghost use Rattle.daide_sockets.specs.Pairing.{FirstArrivalEvolves, Transits, Closes, ClosesBothAt, Comes, ComesWith};
@@ -90,6 +90,11 @@ fn silence(now: Option<Instant>, heard_at: Option<Instant>) -> Option<u64>
 /// (`accept_next`: `made`). It is accepted only if it may come by the settings, beside the hosts of those that are there
 /// (`allowed`). A bot that comes is added to those, and the end of its session removes it (`retire` and `let_go`:
 /// `hosts`).
+///
+/// At the end of `begin_round` the control socket advances, and the next wait watches it (`take_orders`: `control`,
+/// `watched`). Once a stop is requested, the listener for bots is closed (`closes`). Once it is requested that sessions end
+/// now, a pending connect is given up (`look_at_first`: `given_up`). Each session has news until its next turn (`has_news`:
+/// `news`), and that turn stops it (`begin_turn`: `stops`).
 ///
 /// Not said: that a wait ended because something came. Which eight of more sockets are looked at, and that a connect
 /// goes to the server's address, is read from the code. That held bytes are given up only after a failed write, or
@@ -269,7 +274,6 @@ impl<'w, N: Network, E: Write + Drop> Sockets<'w, N, E> {
     fn look_at_first(&mut self) -> Connect<SocketPorts<'w, N::Connection>>
         requires { 0 < length self.old.arrivals.items }
         ensures given_up { self.old.control.stops_now ≡ true → result ≡ Connect.Failed }
-        ensures stays { self.new.control ≡ self.old.control }
         ensures evolves { FirstArrivalEvolves N.Connection.to_give N.Connection.taken
             N.Connection.calls
             (λ ports. record { number = ports.number; bot = ports.bot.stream; server = ports.server.stream })
@@ -391,10 +395,16 @@ impl<'w, N: Network, E: Write + Drop> Sockets<'w, N, E> {
     /// Advances the control socket, and returns the operator's orders. Once a stop is requested, the listener for bots is
     /// closed.
     ///
-    /// `control`: the status of the run is that of the beginning of the round.
+    /// `control`: a status has the run as it is at the beginning of the round.
+    ///
+    /// `watched`: the next wait watches the control socket.
     fn take_orders(&mut self) -> Orders
+        ensures orders { result.stops_accepting ≡ self.new.control.stops_accepting }
+        ensures kept { self.old.control.stops_accepting ≡ true → self.new.control.stops_accepting ≡ true }
+        ensures now_kept { self.old.control.stops_now ≡ true → self.new.control.stops_now ≡ true }
         ensures control { (run : RunStatus) × BeginsRound N.Connection.to_give N.Connection.taken
             N.Connection.calls run self.old.poller.table.reading self.old.control result self.new.control }
+        ensures watched { (before : Table) × (self.new.poller.table ≡ watching_control before self.new.control) }
         ensures closes { result.stops_accepting ≡ true → self.old.control.stops_accepting ≡ false →
             (before : N) × N.transition before StopsListening self.new.poller.network }
         ensures came { self.new.acceptor.came ≡ self.old.acceptor.came }
@@ -410,6 +420,7 @@ impl<'w, N: Network, E: Write + Drop> Sockets<'w, N, E> {
         if orders.stops_accepting && !was_stopped {
             self.acceptor.close(&mut self.poller);
         }
+        self.control.watch(&mut self.poller.table);
         orders
     }
 
@@ -504,7 +515,23 @@ impl<'w, N: Network, E: Write + Drop> System<SocketPorts<'w, N::Connection>> for
           im_due = ports.im_due;
         }) (old.poller.network, old.poller.table) answer (new.poller.network, new.poller.table) };
 
-    fn begin_round(&mut self) -> Orders {
+    fn begin_round(&mut self) -> Orders
+        ensures transition { Transits N.Connection.to_give N.Connection.taken N.Connection.calls
+            (λ ports. record { number = ports.number; bot = ports.bot.stream; server = ports.server.stream })
+            (record { came = self.old.acceptor.came; arrivals = self.old.arrivals.items; closing = self.old.closings })
+            (Begins result)
+            (record { came = self.new.acceptor.came; arrivals = self.new.arrivals.items; closing = self.new.closings })
+            × Wakes N.transition (λ ports. record {
+              bot = ports.bot;
+              server = ports.server;
+              reading = ports.idle.reading;
+              im_due = ports.im_due;
+            }) (self.old.poller.network, self.old.poller.table) (Begins result) (self.new.poller.network, self.new.poller.table) }
+        ensures orders { result.stops_accepting ≡ self.new.control.stops_accepting }
+        ensures kept { self.old.control.stops_accepting ≡ true → self.new.control.stops_accepting ≡ true }
+        ensures now_kept { self.old.control.stops_now ≡ true → self.new.control.stops_now ≡ true }
+        ensures watched { (before : Table) × (self.new.poller.table ≡ watching_control before self.new.control) }
+    {
         self.poller.look_by_turns();
         self.tidy();
         self.take_orders()
@@ -530,11 +557,11 @@ impl<'w, N: Network, E: Write + Drop> System<SocketPorts<'w, N::Connection>> for
             }) (self.old.poller.network, self.old.poller.table) (ReportsNews ports.now result) (self.new.poller.network, self.new.poller.table) }
         ensures news { result ≡ (is_newly_stopped self.old.control.stops_now ports.now.is_stopped
             || has_session_news self.old.poller.table (record {
-          bot = ports.now.bot;
-          server = ports.now.server;
-          reading = ports.now.idle.reading;
-          im_due = ports.now.im_due;
-        })) }
+              bot = ports.now.bot;
+              server = ports.now.server;
+              reading = ports.now.idle.reading;
+              im_due = ports.now.im_due;
+            })) }
         ensures same { self.new ≡ self.old }
     {
         self.stops_newly(ports) || ports.has_news(&self.poller.table)

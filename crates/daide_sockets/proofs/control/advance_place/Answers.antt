@@ -14,9 +14,9 @@ returns-then-advance-clause-advances g c =
       true,
       c.advance.new.self,
       subst (λ (k : ControlConnection g.row.S.Denot). Advances g.S.Duplex.to_give g.S.Duplex.taken g.S.Duplex.calls
-      c.args.run.now c.args.table.now.reading k true c.advance.new.self) c.note_report.ensures
-      (subst (λ (now : Option Instant). Advances g.S.Duplex.to_give g.S.Duplex.taken g.S.Duplex.calls c.args.run.now now
-      c.note_report.new.self true c.advance.new.self) clock c.if-advance.ensures.advances),
+          c.args.run.now c.args.table.now.reading k true c.advance.new.self) c.note_report.ensures
+          (subst (λ (now : Option Instant). Advances g.S.Duplex.to_give g.S.Duplex.taken g.S.Duplex.calls c.args.run.now now
+          c.note_report.new.self true c.advance.new.self) clock c.if-advance.ensures.advances),
       refl,
     )
 
@@ -29,8 +29,8 @@ returns-clause-advances g c =
       false,
       c.advance.new.self,
       subst (λ (k : ControlConnection g.row.S.Denot). Advances g.S.Duplex.to_give g.S.Duplex.taken g.S.Duplex.calls
-      c.args.run.now c.args.table.now.reading k false c.advance.new.self) c.note_report.ensures
-      (subst (λ (now : Option Instant). Advances g.S.Duplex.to_give g.S.Duplex.taken g.S.Duplex.calls c.args.run.now now
-      c.note_report.new.self false c.advance.new.self) clock c.if-advance.ensures.advances),
+          c.args.run.now c.args.table.now.reading k false c.advance.new.self) c.note_report.ensures
+          (subst (λ (now : Option Instant). Advances g.S.Duplex.to_give g.S.Duplex.taken g.S.Duplex.calls c.args.run.now now
+          c.note_report.new.self false c.advance.new.self) clock c.if-advance.ensures.advances),
       refl,
     )
