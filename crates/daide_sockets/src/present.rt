@@ -61,8 +61,15 @@ impl Present {
         self.hosts.as_slice()
     }
 
+    /// Returns their number.
+    pub(crate) fn len(&self) -> usize
+        ensures { result ≡ length self.now.numbers.items }
+    {
+        self.numbers.len()
+    }
+
     /// Returns the address of the bot with this number, if it is there.
-    pub fn address_of(&self, number: u32) -> Option<SocketAddr>
+    pub(crate) fn address_of(&self, number: u32) -> Option<SocketAddr>
         ensures { result ≡ slice_get self.now.addresses.items (position_of number self.now.numbers.items) }
     {
         let at = position_of(number, self.numbers.as_slice());

@@ -199,7 +199,7 @@ fn nearest(first: Option<Instant>, rows: &[Row]) -> Option<Instant>
 }
 
 /// Returns whether one of two things is so.
-fn either(one: bool, other: bool) -> bool
+pub(crate) fn either(one: bool, other: bool) -> bool
     ensures { result ≡ (one || other) }
 {
     one || other
