@@ -3,4 +3,5 @@ mod OnceLemmas
 mod LingeringLemmas
 mod TableLemmas
 pub mod InTimeLemmas
+pub mod ControlInTimeLemmas
 mod LawFacts

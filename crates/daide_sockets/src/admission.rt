@@ -4,6 +4,7 @@
 //! they are tried one after the other, within one deadline for all.
 
 ghost use Rattle.std.specs.Prelude.{◌≡◌, ◌≢◌, ◌+◌, ◌<◌, ◌++◌, ◌∷◌, [], Some, None, Err, true, false, IfOk, IfErr, IfSome, IfNone, IsSome};
+ghost use Rattle.daide_io.specs.Network.{StopsListening};
 ghost use Rattle.daide_sockets.specs.Table.{left_with};
 ghost use Rattle.daide_sockets.specs.Accepting.{is_accept_made, is_accept_due, ReportsAccept, MakesAccept, Pauses};
 ghost use Rattle.std.specs.Duration.{as_nanos};
@@ -28,7 +29,7 @@ use std::net::SocketAddr;
 use std::time::{Duration, Instant};
 
 /// The pause after a failed accept, for example for lack of descriptors, in milliseconds.
-const ACCEPT_PAUSE: u64 = 100;
+pub(crate) const ACCEPT_PAUSE: u64 = 100;
 
 /// Why no bot was accepted.
 #[derive(Clone, Copy, Debug, PartialEq, Eq)]
@@ -80,10 +81,29 @@ impl Acceptor {
 
     /// Ends the pause, if there is one, so that no wait is for a bot any more.
     pub(crate) fn stop(&mut self, table: &mut SocketTable)
-        ensures { self.new.came ≡ self.old.came }
+        ensures came { self.new.came ≡ self.old.came }
+        ensures clock { table.new.reading ≡ table.old.reading }
     {
         self.resumes_at = None;
         table.leave(self.key, false, None);
+    }
+
+    /// Closes the listener: no bot is accepted any more, and no wait is for one.
+    pub(crate) fn close<N: Network>(&mut self, poller: &mut Poller<N>)
+        ensures came { self.new.came ≡ self.old.came }
+        ensures clock { poller.new.table.reading ≡ poller.old.table.reading }
+        ensures closes { N.transition poller.old.network StopsListening poller.new.network }
+    {
+        self.readiness.may_read = false;
+        self.stop(&mut poller.table);
+        poller.network.stop_listening();
+    }
+
+    /// Returns the number of bots accepted.
+    pub(crate) fn came(&self) -> u32
+        ensures { result ≡ self.now.came }
+    {
+        self.came
     }
 
     /// Leaves work for the listener, so that the next wait does not block: more may wait behind a bot that may not come.
@@ -95,7 +115,7 @@ impl Acceptor {
     }
 
     /// Returns whether an accept is made now: the listener is ready by the table, and no pause is under way.
-    fn is_due(&self, table: &SocketTable) -> bool
+    pub(crate) fn is_due(&self, table: &SocketTable) -> bool
         ensures { result ≡ is_accept_due table.now self.now.key self.now.readiness self.now.resumes_at }
     {
         match self.resumes_at {
@@ -224,7 +244,8 @@ impl Acceptor {
         ensures allowed { IfOk result (λ bot. may_come rules.entry.0.now rules.entry.1 present.old.hosts.items
             (host_of (socket_ip bot.2)) ≡ true) }
         ensures added { IfOk result (λ bot. (present.new.numbers.items ≡ present.old.numbers.items ++ bot.0 ∷ [])
-            × (present.new.hosts.items ≡ present.old.hosts.items ++ host_of (socket_ip bot.2) ∷ [])) }
+            × (present.new.hosts.items ≡ present.old.hosts.items ++ host_of (socket_ip bot.2) ∷ [])
+            × (present.new.addresses.items ≡ present.old.addresses.items ++ bot.2 ∷ [])) }
         ensures same { IfErr result (λ _. present.new ≡ present.old) }
         ensures declined { (address : SocketAddr) → result ≡ Err (Some address) →
             may_come rules.entry.0.now rules.entry.1 present.old.hosts.items (host_of (socket_ip address)) ≡ false }
@@ -246,7 +267,7 @@ impl Acceptor {
             return Err(None);
         };
         // The list has room for each bot of a run.
-        if !present.add(number, host) {
+        if !present.add(number, host, address) {
             poller.table.release(bot.key);
             self.pause_after_refusal(&mut poller.table);
             return Err(None);

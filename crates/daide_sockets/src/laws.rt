@@ -1,5 +1,6 @@
 //! Laws of the sockets of a run: functions with no parameters and an empty body, whose contracts are the laws.
 
+ghost use Rattle.daide_sockets.specs.ControlInTime.{ControlWaitsAreInTime};
 ghost use Rattle.daide_sockets.specs.InTime.{WaitsAreInTime};
 ghost use Rattle.daide_sockets.specs.PairedOnce.{SessionsComeOnce};
 
@@ -17,4 +18,10 @@ pub fn sessions_come_once<P: Ports, S: Duplex + Drop>()
 /// blocks.
 pub fn waits_are_in_time()
     ensures { WaitsAreInTime }
+{}
+
+/// A wait lasts at most until the deadline of each control connection, and takes no time while one of them may be read or
+/// written. The same holds of the listener of the control socket while a place is free.
+pub fn control_waits_are_in_time<S: Duplex + Drop>()
+    ensures { ControlWaitsAreInTime S }
 {}

@@ -1,6 +1,6 @@
 //! The network of a run, polled into its table.
 
-ghost use Rattle.std.specs.Prelude.{◌≡◌, Option, false};
+ghost use Rattle.std.specs.Prelude.{◌≡◌, Option};
 ghost use Rattle.std.specs.declared.time.Duration.{Duration};
 ghost use Rattle.daide_sockets.specs.Table.{PollsOnce, IsNoTime, WaitsOnce};
 
@@ -86,7 +86,7 @@ impl<N: Network> Poller<N> {
     }
 
     /// Blocks until a socket is ready, or until the next deadline. Does not block if a poll since the last wait
-    /// received events, since the system reports each of them only once, or if a turn left something that may be done.
+    /// received events, since the system reports each of them only once, or if something may be done at once.
     pub fn wait(&mut self)
         ensures { WaitsOnce N.transition self.old.network self.old.table self.new.network self.new.table }
     {

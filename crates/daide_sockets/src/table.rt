@@ -28,9 +28,9 @@ pub struct Row {
     pub is_taken: bool,
     /// What polls reported of the socket since it last took the report.
     pub report: Readiness,
-    /// Whether its last turn left something that may be done at once.
+    /// Whether something may be done at once for it. Never for a session's socket: a wait watches the session.
     pub has_work: bool,
-    /// Its nearest deadline; `None` if there is none.
+    /// Its nearest deadline; `None` if there is none. None for a session's socket.
     pub due: Option<Instant>,
 }
 
@@ -199,7 +199,7 @@ fn nearest(first: Option<Instant>, rows: &[Row]) -> Option<Instant>
 }
 
 /// Returns whether one of two things is so.
-fn either(one: bool, other: bool) -> bool
+pub(crate) fn either(one: bool, other: bool) -> bool
     ensures { result ≡ (one || other) }
 {
     one || other
