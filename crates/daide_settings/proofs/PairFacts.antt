@@ -105,7 +105,7 @@ told fault =
 
 first_key_told : (pairs ranged ranged ≡ told Range) × (pairs typed typed ≡ told WrongType)
     × (pairs ranged typed ≡ told Range) × (pairs typed ranged ≡ told WrongType)
-unfolding judged_members
+unfolding judged_members read_number read_octet read_ipv4
 first_key_told = (refl, refl, refl, refl)
 
 -- a fault of one key alone
