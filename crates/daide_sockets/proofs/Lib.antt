@@ -3,4 +3,8 @@ mod OnceLemmas
 mod LingeringLemmas
 mod TableLemmas
 pub mod InTimeLemmas
+mod BesideLemmas
+mod FinishingLemmas
+mod AccountedLemmas
+mod AcceptLemmas
 mod LawFacts
