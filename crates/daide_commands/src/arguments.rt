@@ -15,6 +15,9 @@ use daide_grammar::level::Level;
 use std::alloc::{AllocError, Global};
 use std::convert::AsStr;
 
+/// The version of the program.
+pub const VERSION: &str = "1.0.0";
+
 /// The order that the arguments give. The slices of arguments are borrowed for `'m`, their texts for `'a`.
 #[derive(Clone, Copy)]
 pub(crate) enum Order<'m, 'a> {
@@ -306,7 +309,7 @@ pub(crate) fn command<'a>(alloc: Global, takes_negative: bool) -> Result<Command
     let subcommands = subcommands(alloc, takes_negative)?;
     Command::new(alloc, "daide-gate")
         .bin_name("daide-gate")?
-        .version("1.0.0")
+        .version(VERSION)
         .about("A gateway between one bot and a DAIDE server")
         .after_help(NOTES)
         .subcommands(subcommands)

@@ -136,14 +136,18 @@ fn plain_settings(alloc: Global) -> Result<Settings, Fail> {
     Ok(read_settings(alloc, "listen = 'a'\nserver = 'b'")?)
 }
 
+/// Returns whether a connection sends small writes without delay.
+fn is_undelayed(connection: &Connection) -> bool {
+    match connection {
+        Connection::Tcp(stream) => matches!(stream.nodelay(), Ok(true)),
+        Connection::Control(_) => false,
+    }
+}
+
 /// Returns whether both sockets of a session send small writes without delay.
 fn are_undelayed(ports: SocketPorts<'_, Connection>) -> bool {
     let (bot, server) = ports.into_sockets();
-    let both = (
-        bot.connection().0.nodelay(),
-        server.connection().0.nodelay(),
-    );
-    matches!(both, (Ok(true), Ok(true)))
+    is_undelayed(bot.connection()) && is_undelayed(server.connection())
 }
 
 /// The same for the first bot, and whether the third row then has no deadline.

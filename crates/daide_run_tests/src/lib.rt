@@ -9,6 +9,8 @@ mod addresses;
 #[cfg(test)]
 mod admission;
 #[cfg(test)]
+mod control;
+#[cfg(test)]
 mod doors;
 #[cfg(test)]
 mod frames;

@@ -5,7 +5,7 @@ use Rattle.std.specs.Prelude.{nat_lt, nat_eq, if◌then◌else◌, remove}
 use Rattle.std.proofs.lemmas.List.{length-append}
 use Rattle.std.specs.declared.time.Instant.{Instant}
 use Rattle.daide_buffered_io.specs.Buffers.{Buffer}
-use Rattle.daide_io.specs.System.{SystemCall, Begins, ReportsNews, BeginsTurn, Watches, Accepts, Connects, Retires}
+use Rattle.daide_io.specs.System.{SystemCall, Begins, Shows, ReportsNews, BeginsTurn, Watches, Accepts, Connects, Retires}
 use Rattle.daide_io.specs.System.{Notifies, Waits, TransitsBy}
 use Rattle.daide_io.specs.declared.system.Connect.TheVariants.{Ready, Failed, Pending}
 use Rattle.daide_io.specs.Streams.{StreamCall}
@@ -122,7 +122,7 @@ module _ {P S : Type 0} (to_give taken : S → Option (List ℕ)) (calls : S →
 
   one : (answer : SystemCall P) (old new : RunSockets S) → Transits to_give taken calls pair old answer new →
       Counts (answer ∷ []) old new
-  one Begins old new h =
+  one (Begins orders) old new h =
       let came = h.0 in
       let arrivals : length new.arrivals ≡ length old.arrivals = ap length h.1 in
       let fewer = round_len old.closing new.closing h.2 in
@@ -131,6 +131,7 @@ module _ {P S : Type 0} (to_give taken : S → Option (List ℕ)) (calls : S →
         closing = omega (arith, fewer);
         few = λ few. omega (arith, fewer, few);
       }
+  one (Shows ports status) old new h = same_counts (Shows ports status) old new h refl refl
   one (ReportsNews ports news) old new h = same_counts (ReportsNews ports news) old new h refl refl
   one (BeginsTurn before after) old new h = same_counts (BeginsTurn before after) old new h refl refl
   one (Watches ports) old new h = same_counts (Watches ports) old new h refl refl
@@ -195,7 +196,8 @@ module _ {P S : Type 0} (to_give taken : S → Option (List ℕ)) (calls : S →
   -- the first call is counted apart from the rest
   joined_first : (answer : SystemCall P) (answers : List (SystemCall P)) →
       bots_joined (answer ∷ answers) ≡ bots_joined (answer ∷ []) + bots_joined answers
-  joined_first Begins answers = omega arith
+  joined_first (Begins orders) answers = omega arith
+  joined_first (Shows ports status) answers = omega arith
   joined_first (ReportsNews ports news) answers = omega arith
   joined_first (BeginsTurn before after) answers = omega arith
   joined_first (Watches ports) answers = omega arith
@@ -209,7 +211,8 @@ module _ {P S : Type 0} (to_give taken : S → Option (List ℕ)) (calls : S →
 
   given_up_first : (answer : SystemCall P) (answers : List (SystemCall P)) →
       bots_given_up (answer ∷ answers) ≡ bots_given_up (answer ∷ []) + bots_given_up answers
-  given_up_first Begins answers = omega arith
+  given_up_first (Begins orders) answers = omega arith
+  given_up_first (Shows ports status) answers = omega arith
   given_up_first (ReportsNews ports news) answers = omega arith
   given_up_first (BeginsTurn before after) answers = omega arith
   given_up_first (Watches ports) answers = omega arith
@@ -223,7 +226,8 @@ module _ {P S : Type 0} (to_give taken : S → Option (List ℕ)) (calls : S →
 
   retired_first : (answer : SystemCall P) (answers : List (SystemCall P)) →
       sessions_retired (answer ∷ answers) ≡ sessions_retired (answer ∷ []) + sessions_retired answers
-  retired_first Begins answers = omega arith
+  retired_first (Begins orders) answers = omega arith
+  retired_first (Shows ports status) answers = omega arith
   retired_first (ReportsNews ports news) answers = omega arith
   retired_first (BeginsTurn before after) answers = omega arith
   retired_first (Watches ports) answers = omega arith

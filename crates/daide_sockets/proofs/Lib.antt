@@ -7,4 +7,5 @@ mod BesideLemmas
 mod FinishingLemmas
 mod AccountedLemmas
 mod AcceptLemmas
+pub mod ControlInTimeLemmas
 mod LawFacts

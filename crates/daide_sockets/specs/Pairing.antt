@@ -3,8 +3,8 @@ use Rattle.std.specs.Prelude.{◌≡◌, ◌⊎◌, ℕ, ◌+◌, ◌-◌, nat_l
 use Rattle.std.specs.Prelude.{Option, Some, None, Ok, slice_get, if◌then◌else◌}
 use Rattle.std.specs.declared.net.socket_addr.SocketAddr.{SocketAddr}
 use Rattle.daide_io.specs.Network.{NetworkCall, BeginsConnect, Follows}
-use Rattle.daide_io.specs.System.{SystemCall, Begins, ReportsNews, BeginsTurn, Watches, Accepts, Connects, Retires}
-use Rattle.daide_io.specs.System.{Notifies, Waits}
+use Rattle.daide_io.specs.System.{SystemCall, Begins, Shows, ReportsNews, BeginsTurn, Watches, Accepts, Connects}
+use Rattle.daide_io.specs.System.{Retires, Notifies, Waits}
 use Rattle.daide_io.specs.declared.system.Connect.{Connect}
 use Rattle.daide_io.specs.declared.system.Connect.TheVariants.{Ready, Failed, Pending}
 use Rattle.daide_buffered_io.specs.Buffers.{Buffer}
@@ -175,12 +175,13 @@ ComesWith {S} old reading im_time connect_time new = (arrival : Arriving S) × (
     × IsAfter reading im_time arrival.im_due × IsAfter reading connect_time arrival.gives_up
 
 -- The effect of a system call on the sockets; `pair` is the content of ports. At the beginning of a round closing
--- streams advance. A report of news changes nothing. A turn begins with the streams of one session, and leaves these here
--- unchanged.
+-- streams advance. A status that is shown, or a report of news, changes nothing. A turn begins with the streams of one
+-- session, and leaves these here unchanged.
 abbrev pub Transits : {P S : Type 0} → (S → Option (List ℕ)) → (S → Option (List ℕ)) →
     (S → Option (List StreamCall)) → (P → Paired S) → RunSockets S → SystemCall P → RunSockets S → Type 0
-Transits to_give taken calls pair old Begins new = (new.came ≡ old.came) × (new.arrivals ≡ old.arrivals)
+Transits to_give taken calls pair old (Begins orders) new = (new.came ≡ old.came) × (new.arrivals ≡ old.arrivals)
     × ClosingsGoOn to_give taken calls old.closing new.closing
+Transits to_give taken calls pair old (Shows ports status) new = new ≡ old
 Transits to_give taken calls pair old (ReportsNews ports news) new = new ≡ old
 Transits to_give taken calls pair old (BeginsTurn before after) new = new ≡ old
 Transits to_give taken calls pair old (Watches ports) new = new ≡ old

@@ -9,8 +9,8 @@ use Rattle.daide_io.specs.declared.ports.Put.{Put}
 use Rattle.daide_io.specs.declared.ports.Put.TheVariants.{Took}
 use Rattle.daide_io.specs.Ports.{PortCall, TurnBegins, Clock, Pulled, Offered}
 use Rattle.daide_io.specs.Network.{NetworkCall}
-use Rattle.daide_io.specs.System.{SystemCall, Begins, ReportsNews, BeginsTurn, Watches, Accepts, Connects, Retires}
-use Rattle.daide_io.specs.System.{Notifies, Waits}
+use Rattle.daide_io.specs.System.{SystemCall, Begins, Shows, ReportsNews, BeginsTurn, Watches, Accepts, Connects}
+use Rattle.daide_io.specs.System.{Retires, Notifies, Waits}
 use Rattle.daide_buffered_io.specs.Streams.{stream_of}
 use Rattle.daide_sockets.specs.declared.socket.Socket.{Socket}
 use Rattle.daide_sockets.specs.Sockets.{has_socket_work, next_deadline}
@@ -102,7 +102,8 @@ Wakes transition view old (Watches ports) new =
     (other : Bool) × (new ≡ (old.0, watching old.1 (may_session_go_on old.1 (view ports) || other) (session_due (view ports))))
 Wakes transition view old Waits new =
     (others : List (Bool × Option Instant)) × RestsOnce transition others old.0 old.1 new.0 new.1
-Wakes transition view old Begins new = Unit {0}
+Wakes transition view old (Begins orders) new = Unit {0}
+Wakes transition view old (Shows ports status) new = Unit {0}
 Wakes transition view old (ReportsNews ports news) new = Unit {0}
 Wakes transition view old (BeginsTurn before after) new = Unit {0}
 Wakes transition view old (Accepts came) new = Unit {0}

@@ -6,7 +6,7 @@
 ghost use Rattle.std.specs.Prelude.{◌≡◌, ◌≢◌, ◌⊎◌, ◌+◌, ◌<◌, ◌++◌, ◌∷◌, [], Some, None, Err, true, false, IfOk, IfErr, IfSome, IsSome};
 ghost use Rattle.std.specs.Option.{is_none};
 ghost use Rattle.daide_buffered_io.specs.Buffers.{Buffer};
-ghost use Rattle.daide_io.specs.Network.{AsksConnect};
+ghost use Rattle.daide_io.specs.Network.{AsksConnect, StopsListening};
 ghost use Rattle.daide_sockets.specs.Beside.{may_connect, arrivals_watched};
 ghost use Rattle.daide_sockets.specs.InTime.{watching_all};
 ghost use Rattle.daide_sockets.specs.Pairing.{ConnectsTo};
@@ -34,7 +34,7 @@ use std::net::SocketAddr;
 use std::time::{Duration, Instant};
 
 /// The pause after a failed accept, for example for lack of descriptors, in milliseconds.
-const ACCEPT_PAUSE: u64 = 100;
+pub(crate) const ACCEPT_PAUSE: u64 = 100;
 
 /// Why no bot was accepted.
 #[derive(Clone, Copy, Debug, PartialEq, Eq)]
@@ -97,8 +97,28 @@ impl Acceptor {
         table.watch(self.looks_again, self.resumes_at);
     }
 
+    /// Closes the listener: no bot is accepted any more, and no wait is for one.
+    pub(crate) fn close<N: Network>(&mut self, poller: &mut Poller<N>)
+        ensures came { self.new.came ≡ self.old.came }
+        ensures none { (self.new.looks_again ≡ false) × (self.new.resumes_at ≡ None) }
+        ensures table { poller.new.table ≡ poller.old.table }
+        ensures closes { N.transition poller.old.network StopsListening poller.new.network }
+    {
+        self.readiness.may_read = false;
+        self.looks_again = false;
+        self.resumes_at = None;
+        poller.network.stop_listening();
+    }
+
+    /// Returns the number of bots accepted.
+    pub(crate) fn came(&self) -> u32
+        ensures { result ≡ self.now.came }
+    {
+        self.came
+    }
+
     /// Returns whether an accept is made now: the listener is ready by the table, and no pause is under way.
-    fn is_due(&self, table: &SocketTable) -> bool
+    pub(crate) fn is_due(&self, table: &SocketTable) -> bool
         ensures { result ≡ is_accept_due table.now self.now.key self.now.readiness self.now.resumes_at }
     {
         match self.resumes_at {
@@ -239,7 +259,8 @@ impl Acceptor {
         ensures allowed { IfOk result (λ bot. may_come rules.entry.0.now rules.entry.1 present.old.hosts.items
             (host_of (socket_ip bot.2)) ≡ true) }
         ensures added { IfOk result (λ bot. (present.new.numbers.items ≡ present.old.numbers.items ++ bot.0 ∷ [])
-            × (present.new.hosts.items ≡ present.old.hosts.items ++ host_of (socket_ip bot.2) ∷ [])) }
+            × (present.new.hosts.items ≡ present.old.hosts.items ++ host_of (socket_ip bot.2) ∷ [])
+            × (present.new.addresses.items ≡ present.old.addresses.items ++ bot.2 ∷ [])) }
         ensures same { IfErr result (λ _. present.new ≡ present.old) }
         ensures left { IfErr result (λ _. self.old.came < u32.MAX → self.new.looks_again ≡ false →
             is_accept_due poller.new.table self.new.key self.new.readiness self.new.resumes_at ≡ false) }
@@ -263,7 +284,7 @@ impl Acceptor {
             return Err(None);
         };
         // The list has room for each bot of a run.
-        if !present.add(number, host) {
+        if !present.add(number, host, address) {
             poller.table.release(bot.key);
             self.pause_after_refusal(poller.table.now());
             return Err(None);

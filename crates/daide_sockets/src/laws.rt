@@ -2,6 +2,7 @@
 
 ghost use Rattle.daide_sockets.specs.Accounted.{SocketsAreAccounted};
 ghost use Rattle.daide_sockets.specs.Beside.{WaitsAreInTimeBeside};
+ghost use Rattle.daide_sockets.specs.ControlInTime.{ControlWaitsAreInTime};
 ghost use Rattle.daide_sockets.specs.InTime.{WaitsAreInTime};
 ghost use Rattle.daide_sockets.specs.PairedOnce.{SessionsComeOnce};
 
@@ -19,6 +20,12 @@ pub fn sessions_come_once<P: Ports, S: Duplex + Drop>()
 /// blocks.
 pub fn waits_are_in_time()
     ensures { WaitsAreInTime }
+{}
+
+/// A wait lasts at most until the deadline of each control connection, and takes no time while one of them may be read or
+/// written. The same holds of the listener of the control socket while a place is free.
+pub fn control_waits_are_in_time<S: Duplex + Drop>()
+    ensures { ControlWaitsAreInTime S }
 {}
 
 /// A wait leaves none behind of the sockets that are no session's. Each wait of a run watches the listener, each connect

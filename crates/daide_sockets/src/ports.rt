@@ -91,6 +91,7 @@ fn pull_or_flush_peer<S: Duplex + Drop>(
     ensures late { has_stalled idle.time idle.reading own.old.silent_from ≡ true → result ≢ Pull.Idle }
     // the timeout starts again with what a side sends
     ensures starts { pulled_len result ≢ 0 → IsStallEnd idle.reading idle.time own.new.silent_from }
+    ensures heard { pulled_len result ≢ 0 → own.new.heard_at ≡ idle.reading }
     ensures goes_on { result ≡ Pull.Idle → own.new.silent_from ≡ own.old.silent_from }
     ensures stays { own.old.timed.is_silent ≡ true → own.new.timed.is_silent ≡ true }
     // a side counts as ended for a stall only if its writes fail for that
@@ -114,6 +115,9 @@ fn pull_or_flush_peer<S: Duplex + Drop>(
     let pull = own.pull(buffer);
     if pull != Pull::Idle {
         own.silent_from = idle.end();
+        if let Pull::Got(_) = pull {
+            own.heard_at = idle.reading;
+        }
         return pull;
     }
     other.flush_gathered(idle.reading);
@@ -184,6 +188,8 @@ pub struct SocketPorts<'w, S: Drop> {
     im_due: Option<Instant>,
     /// Whether the deadline of the initial message passed at the beginning of the turn, for the first time.
     im_timer_expired: bool,
+    /// Whether an operator stopped the session: both sides count as ended.
+    is_stopped: bool,
     bot: Socket<'w, S>,
     server: Socket<'w, S>,
 }
@@ -196,6 +202,7 @@ impl<'w, S: Drop> SocketPorts<'w, S> {
         ensures number { result.number ≡ 0 }
         ensures patient { IsNone result.idle.time }
         ensures no_im { IsNone result.im_due }
+        ensures goes_on { result.is_stopped ≡ false }
         ensures timed { (result.bot.timed ≡ bot.entry.timed) × (result.server.timed ≡ server.entry.timed) }
     {
         SocketPorts {
@@ -208,6 +215,7 @@ impl<'w, S: Drop> SocketPorts<'w, S> {
             held_for_server: TurnsHeld::NONE,
             im_due: None,
             im_timer_expired: false,
+            is_stopped: false,
             bot,
             server,
         }
@@ -231,6 +239,7 @@ impl<'w, S: Drop> SocketPorts<'w, S> {
             × IsStallEnd now times.0 result.server.silent_from }
         ensures stall_time { (result.bot.stall_time ≡ times.1) × (result.server.stall_time ≡ times.1) }
         ensures timed { (result.bot.timed ≡ self.entry.bot.timed) × (result.server.timed ≡ self.entry.server.timed) }
+        ensures goes_on { result.is_stopped ≡ self.entry.is_stopped }
     {
         let (time, stall_time) = times;
         let SocketPorts {
@@ -240,6 +249,7 @@ impl<'w, S: Drop> SocketPorts<'w, S> {
             held_for_server,
             im_due: _,
             im_timer_expired,
+            is_stopped,
             mut bot,
             mut server,
         } = self;
@@ -255,6 +265,7 @@ impl<'w, S: Drop> SocketPorts<'w, S> {
             held_for_server,
             im_due,
             im_timer_expired,
+            is_stopped,
             bot,
             server,
         }
@@ -265,6 +276,38 @@ impl<'w, S: Drop> SocketPorts<'w, S> {
         ensures { result ≡ self.now.number }
     {
         self.number
+    }
+
+    /// Has both sides count as ended from now on: a pull returns the end, and nothing is read. No byte that was put is lost.
+    pub(crate) fn stop(&mut self)
+        ensures { self.new ≡ record self.old { is_stopped = true } }
+    {
+        self.is_stopped = true;
+    }
+
+    /// Returns whether an operator stopped the session.
+    pub(crate) fn is_stopped(&self) -> bool
+        ensures { result ≡ self.now.is_stopped }
+    {
+        self.is_stopped
+    }
+
+    /// Returns the number of bytes that are held for the bot, and for the server.
+    pub(crate) fn held(&self) -> (usize, usize)
+        ensures bot { result.0 ≡ length self.now.bot.stream.write_buffer }
+        ensures server { result.1 ≡ length self.now.server.stream.write_buffer }
+    {
+        (
+            self.bot.stream.behind_len(),
+            self.server.stream.behind_len(),
+        )
+    }
+
+    /// Returns the reading of the clock at which the bot last sent something, and the server; `None` if it has sent nothing.
+    pub(crate) fn heard_at(&self) -> (Option<Instant>, Option<Instant>)
+        ensures { result ≡ (self.now.bot.heard_at, self.now.server.heard_at) }
+    {
+        (self.bot.heard_at, self.server.heard_at)
     }
 
     /// Returns the expired timeouts of the bot's socket and of the server's.
@@ -294,6 +337,7 @@ impl<'w, S: Drop> SocketPorts<'w, S> {
             held_for_server: _,
             im_due: _,
             im_timer_expired: _,
+            is_stopped: _,
             bot,
             server,
         } = self;
@@ -365,6 +409,7 @@ impl<'w, S: Drop> SocketPorts<'w, S> {
         ensures number { self.new.number ≡ self.old.number }
         ensures idle { self.new.idle ≡ record self.old.idle { reading = now } }
         ensures im { self.new.im_due ≡ self.old.im_due }
+        ensures goes_on { self.new.is_stopped ≡ self.old.is_stopped }
     {
         self.idle = IdleTimeout {
             reading: now,
@@ -419,6 +464,7 @@ impl<S: Duplex + Drop> SocketPorts<'_, S> {
         ensures number { self.new.number ≡ self.old.number }
         ensures idle { self.new.idle ≡ self.old.idle }
         ensures im { self.new.im_due ≡ self.old.im_due }
+        ensures goes_on { self.new.is_stopped ≡ self.old.is_stopped }
     {
         self.bot.begin_turn(self.idle.reading, self.held_for_bot);
         self.server
@@ -433,6 +479,7 @@ impl<S: Duplex + Drop> SocketPorts<'_, S> {
         ensures idle { self.new.idle ≡ self.old.idle }
         ensures expires { self.new.im_timer_expired ≡ is_past self.old.idle.reading self.old.im_due }
         ensures once { self.new.im_due ≡ due_after self.old.idle.reading self.old.im_due }
+        ensures goes_on { self.new.is_stopped ≡ self.old.is_stopped }
     {
         self.im_timer_expired = is_past(self.idle.reading, self.im_due);
         if self.im_timer_expired {
@@ -457,6 +504,7 @@ impl<S: Duplex + Drop> SocketPorts<'_, S> {
         ensures idle { self.new.idle ≡ record self.old.idle { reading = table.old.reading } }
         ensures expires { self.new.im_timer_expired ≡ is_past table.old.reading self.old.im_due }
         ensures once { self.new.im_due ≡ due_after table.old.reading self.old.im_due }
+        ensures goes_on { self.new.is_stopped ≡ self.old.is_stopped }
         ensures clock { table.new.reading ≡ table.old.reading }
     {
         table.note_turn();
@@ -478,7 +526,9 @@ impl<S: Duplex + Drop> Ports for SocketPorts<'_, S> {
             (self.new.bot.stream, self.new.server.stream)
             × Settles (Pulled side (length buffer.old) result (take (pulled_len result) buffer.new))
             (self.old.bot, self.old.server) (self.new.bot, self.new.server) }
-        ensures asked { (stream_of (self.new.bot, self.new.server) side).timed.is_silent ≡ false →
+        ensures stopped { self.old.is_stopped ≡ true → (result ≡ Pull.Ended) × (self.new ≡ self.old) }
+        ensures asked { self.old.is_stopped ≡ false →
+            (stream_of (self.new.bot, self.new.server) side).timed.is_silent ≡ false →
             (stream_of (self.new.bot, self.new.server) side).timed.ends_stalled ≡ false →
             IsBufferedPull S.calls (length buffer.old) (read_if (has_stalled self.old.idle.time self.old.idle.reading
             (stream_of (self.old.bot, self.old.server) side).silent_from) (stream_of (self.old.bot, self.old.server) side).readiness)
@@ -490,6 +540,9 @@ impl<S: Duplex + Drop> Ports for SocketPorts<'_, S> {
             IsFlushed S.calls (stream_of (self.old.server, self.old.bot) side).readiness (stream_of (self.old.server, self.old.bot) side).stream
             (stream_of (self.new.server, self.new.bot) side).readiness (stream_of (self.new.server, self.new.bot) side).stream }
     {
+        if self.is_stopped {
+            return Pull::Ended;
+        }
         match side {
             Side::Bot => pull_or_flush_peer(self.idle, &mut self.bot, &mut self.server, buffer),
             Side::Server => pull_or_flush_peer(self.idle, &mut self.server, &mut self.bot, buffer),

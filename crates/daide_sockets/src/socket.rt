@@ -47,6 +47,8 @@ pub struct Socket<'w, S: Drop> {
     pub(crate) stalls_at: Option<Instant>,
     /// The moment at which the idle timeout of its peer expires, unless it sends something before; `None` for never.
     pub(crate) silent_from: Option<Instant>,
+    /// The reading of the clock at which its peer last sent something; `None` if it has sent nothing.
+    pub(crate) heard_at: Option<Instant>,
     /// Its expired timeouts.
     pub(crate) timed: Timed,
     /// Whether it accepted bytes since its turn began, so that more may follow.
@@ -91,6 +93,7 @@ impl<'w, S: Drop> Socket<'w, S> {
             stall_time: None,
             stalls_at: None,
             silent_from: None,
+            heard_at: None,
             timed: Timed::NONE,
             is_gathering: false,
             gave: false,

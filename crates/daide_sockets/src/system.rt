@@ -1,22 +1,27 @@
 //! The environment of the event loop, `System`, over sockets.
 
 ghost use Rattle.std.specs.Duration.{as_nanos};
-ghost use Rattle.std.specs.Prelude.{◌≡◌, ◌⊎◌, ℕ, ◌+◌, ◌*◌, ◌^◌, ◌<◌, ◌||◌, IfSome, IfNone, None, true, false, [], length, vec_capacity};
+ghost use Rattle.std.specs.Prelude.{◌≡◌, ◌⊎◌, ℕ, ◌+◌, ◌-◌, ◌*◌, ◌^◌, ◌<◌, ◌||◌, ◌&&◌, nat_le, IfSome, IfNone, None, Some, true, false, [], length, slice_get, vec_capacity};
+ghost use Rattle.daide_io.specs.Network.{StopsListening};
 ghost use Rattle.daide_io.specs.Ports.{TurnBegins};
-ghost use Rattle.daide_io.specs.System.{ReportsNews, BeginsTurn, Watches, Retires, Waits};
+ghost use Rattle.daide_status.specs.declared.snapshot.RunStatus.{RunStatus};
+ghost use Rattle.daide_io.specs.System.{Begins, ReportsNews, BeginsTurn, Watches, Retires, Waits};
 ghost use Rattle.daide_buffered_io.specs.Streams.{Transfers};
 ghost use Rattle.daide_sockets.specs.Accepting.{is_accept_due, MakesAccept};
 ghost use Rattle.daide_sockets.specs.Beside.{others_watched};
+ghost use Rattle.daide_sockets.specs.ControlSlots.{BeginsRound, is_newly_stopped, watching_control};
 ghost use Rattle.daide_sockets.specs.Finishing.{FinishesAll};
+ghost use Rattle.daide_sockets.specs.Snapshot.{counted, IsSilence};
 ghost use Rattle.daide_sockets.specs.Lingering.{LooksAround, in_pass, GoOnFor, no_closing};
 ghost use Rattle.daide_sockets.specs.Pairing.{FirstArrivalEvolves, Transits, Closes, ClosesBothAt, Comes, ComesWith};
 ghost use Rattle.daide_sockets.specs.Present.{IsAllowed, IsPresentWith, position_of, without_at};
 ghost use Rattle.daide_sockets.specs.Sockets.{due_after};
-ghost use Rattle.daide_sockets.specs.Table.{watching};
+ghost use Rattle.daide_sockets.specs.Table.{Table, watching};
 ghost use Rattle.daide_sockets.specs.Times.{IsSeconds, IsIdleTime, is_past};
 ghost use Rattle.daide_sockets.specs.Wakeups.{Settles, Wakes, RestsOnce, may_session_go_on, session_due, has_session_news};
 
 use crate::admission::{Acceptor, PendingConnection, Unreached, watch_arrivals};
+use crate::control::{Control, MOST_CONTROLS};
 use crate::lingering_close::{Closings, MOST_CLOSING};
 use crate::poller::Poller;
 use crate::ports::SocketPorts;
@@ -25,21 +30,24 @@ use crate::session_notice::SessionNotice;
 use crate::table::SocketTable;
 use daide_buffered_io::pool::Pool;
 use daide_io::network::Network;
-use daide_io::system::{Connect, Notice, SessionEnd, System};
+use daide_io::system::{Connect, Notice, Orders, SessionEnd, SessionStatus, System};
 use daide_settings::{AddressRange, Settings};
+use daide_status::{RunStatus, SessionRow};
 use std::alloc::Global;
 use std::io::Write;
 use std::net::SocketAddr;
-use std::time::Duration;
+use std::time::{Duration, Instant};
 
-/// Returns the most sockets of a run: the listener, two a session, and those that are closing.
+/// Returns the most sockets of a run: the listener, two a session, those that are closing, and those of control: its
+/// listener and its connections.
 pub fn most_sockets(max_sessions: usize) -> usize
-    ensures { max_sessions < 2 ^ 62 → result ≡ 2 * max_sessions + MOST_CLOSING + 1 }
+    ensures { max_sessions < 2 ^ 62 → result ≡ 2 * max_sessions + MOST_CLOSING + MOST_CONTROLS + 2 }
 {
     max_sessions
         .saturating_mul(2)
         .saturating_add(MOST_CLOSING)
-        .saturating_add(1)
+        .saturating_add(MOST_CONTROLS)
+        .saturating_add(2)
 }
 
 /// Converts a timeout from seconds; 0 is `None`, for never.
@@ -50,6 +58,23 @@ fn idle_time_of(seconds: u32) -> Option<Duration>
         return None;
     }
     Some(Duration::from_secs(u64::from(seconds)))
+}
+
+/// Returns a number of bots as 32 bits.
+fn counted(count: usize) -> u32
+    ensures { result ≡ counted count }
+{
+    u32::try_from(count).unwrap_or(u32::MAX)
+}
+
+/// Returns the seconds from a moment until a reading of the clock; `None` without one of them.
+fn silence(now: Option<Instant>, heard_at: Option<Instant>) -> Option<u64>
+    ensures { IsSilence now heard_at result }
+{
+    match (now, heard_at) {
+        (Some(now), Some(moment)) => Some(now.saturating_duration_since(moment).as_secs()),
+        _ => None,
+    }
 }
 
 /// The sockets of a run: its system. `Transits` says what each call does to the bots and to the sockets that close. An
@@ -68,6 +93,11 @@ fn idle_time_of(seconds: u32) -> Option<Duration>
 /// be asked again (`left`). A bot is accepted only if it may come by the settings, beside the hosts of those that are
 /// there (`allowed`). A bot that comes is added to those, and the end of its session removes it (`retire` and `let_go`:
 /// `hosts`).
+///
+/// At the end of `begin_round` the control socket advances, and the next wait watches it (`take_orders`: `control`,
+/// `watched`). Once a stop is requested, the listener for bots is closed (`closes`). Once it is requested that sessions end
+/// now, a pending connect is given up (`look_at_first`: `given_up`). Each session has news until its next turn (`has_news`:
+/// `news`), and that turn stops it (`begin_turn`: `stops`).
 ///
 /// Not said: that a wait ended because something came. That held bytes are given up only after a failed write, or after
 /// `stall_seconds`, is read from `flush_at` and `give_up_stalled`. `SessionNotice::of_end` and `why_of` give the counts
@@ -93,8 +123,14 @@ pub struct Sockets<'w, N: Network, E: Write + Drop> {
     allow: &'w [AddressRange],
     /// The greatest number of sessions at once with bots from one address; 0 for no limit.
     max_per_address: u16,
+    /// The most sessions at once.
+    max_sessions: usize,
     /// The bots that are there.
     present: Present,
+    /// The number of bots whose server could not be reached.
+    unreached: u32,
+    /// The control socket.
+    control: Control<N::Connection>,
     /// The output for log lines.
     pub errors: E,
     /// Whether the beginning and the end of each session are logged.
@@ -121,14 +157,17 @@ impl<'w, N: Network, E: Write + Drop> Sockets<'w, N, E> {
         ensures connect_time { IfSome result (λ sockets. sockets.connect_time ≡ connect_time) }
         ensures rules { IfSome result (λ sockets. (sockets.allow.now ≡ settings.now.allow.items)
             × (sockets.max_per_address ≡ settings.now.max_per_address)) }
+        ensures no_orders { IfSome result (λ sockets. (sockets.control.stops_accepting ≡ false)
+            × (sockets.control.stops_now ≡ false)) }
         ensures none_present { IfSome result (λ sockets. (sockets.present.numbers.items ≡ [])
-            × (sockets.present.hosts.items ≡ [])) }
+            × (sockets.present.hosts.items ≡ []) × (sockets.present.addresses.items ≡ [])) }
     {
         let (network, servers, table, pool) = ground;
         let Ok(mut poller) = Poller::new(alloc, network, table) else {
             return None;
         };
         let acceptor = Acceptor::new(&mut poller)?;
+        let control = Control::new(alloc, &mut poller)?;
         let Ok(arrivals) = Vec::with_capacity(alloc, settings.max_sessions) else {
             return None;
         };
@@ -151,10 +190,21 @@ impl<'w, N: Network, E: Write + Drop> Sockets<'w, N, E> {
             closings,
             allow: settings.allow.as_slice(),
             max_per_address: settings.max_per_address,
+            max_sessions: settings.max_sessions,
             present,
+            unreached: 0,
+            control,
             errors,
             is_verbose: false,
         })
+    }
+
+    /// Returns the address of the bot with this number, if it is there.
+    pub fn address_of(&self, number: u32) -> Option<SocketAddr>
+        ensures { result ≡ slice_get self.now.present.addresses.items
+            (position_of number self.now.present.numbers.items) }
+    {
+        self.present.address_of(number)
     }
 
     /// Returns the table.
@@ -220,23 +270,35 @@ impl<'w, N: Network, E: Write + Drop> Sockets<'w, N, E> {
             ≡ without_at (position_of left.entry.number self.old.present.numbers.items) self.old.present.numbers.items }
         ensures hosts { self.new.present.hosts.items
             ≡ without_at (position_of left.entry.number self.old.present.numbers.items) self.old.present.hosts.items }
+        ensures addresses { self.new.present.addresses.items
+            ≡ without_at (position_of left.entry.number self.old.present.numbers.items) self.old.present.addresses.items }
     {
         self.present.remove(left.number);
+        self.unreached = self.unreached.saturating_add(1);
         self.tell_of_session(SessionNotice::of_no_server(left.number));
         self.closings.begin(&mut self.poller.table, left.bot);
     }
 
     /// Checks the first arrival. Returns its ports if its connect completed, and `Failed` if its session is over and
     /// its socket closes. Otherwise the connect is still under way, and the arrival moves to the end.
+    ///
+    /// `given_up`: after a request that sessions end now, the connect is given up.
     fn look_at_first(&mut self) -> Connect<SocketPorts<'w, N::Connection>>
         requires { 0 < length self.old.arrivals.items }
-        ensures { FirstArrivalEvolves N.Connection.to_give N.Connection.taken
+        ensures given_up { self.old.control.stops_now ≡ true → result ≡ Connect.Failed }
+        ensures evolves { FirstArrivalEvolves N.Connection.to_give N.Connection.taken
             N.Connection.calls
             (λ ports. record { number = ports.number; bot = ports.bot.stream; server = ports.server.stream })
             (record { came = self.old.acceptor.came; arrivals = self.old.arrivals.items; closing = self.old.closings })
             result (record { came = self.new.acceptor.came; arrivals = self.new.arrivals.items; closing = self.new.closings }) }
     {
         let mut arrival = self.arrivals.remove(0);
+        let is_given_up = self.control.stops_now();
+        if is_given_up {
+            let left = arrival.give_up(&mut self.poller.table);
+            self.let_go(left);
+            return Connect::Failed;
+        }
         if arrival.advances(&mut self.poller, self.servers) {
             return match self.arrivals.push(arrival) {
                 Ok(()) => Connect::Pending,
@@ -268,6 +330,111 @@ impl<'w, N: Network, E: Write + Drop> Sockets<'w, N, E> {
     {
         self.acceptor.reopen(self.poller.table.now());
         self.closings.advance(&mut self.poller.table);
+    }
+
+    /// Returns whether both sides of a session count as ended from its next turn on, and did not before.
+    fn stops_newly(&self, ports: &SocketPorts<'w, N::Connection>) -> bool
+        ensures { result ≡ is_newly_stopped self.now.control.stops_now ports.now.is_stopped }
+    {
+        self.control.stops_now() && !ports.is_stopped()
+    }
+
+    /// Returns the status of the run.
+    fn run_status(&self) -> RunStatus
+        ensures connecting { result.connecting ≡ counted (length self.now.arrivals.items) }
+        ensures open { result.open ≡ counted (length self.now.present.numbers.items) - result.connecting }
+        ensures served { result.served ≡ self.now.acceptor.came - counted (length self.now.present.numbers.items)
+            - self.now.unreached }
+        ensures unreached { result.unreached ≡ self.now.unreached }
+        ensures waiting { result.has_waiting ≡ (nat_le self.now.max_sessions (length self.now.present.numbers.items)
+            && is_accept_due self.now.poller.table self.now.acceptor.key self.now.acceptor.readiness
+            self.now.acceptor.resumes_at) }
+        ensures stopping { result.is_stopping ≡ self.now.control.stops_accepting }
+    {
+        let connecting = counted(self.arrivals.len());
+        let present = counted(self.present.len());
+        let is_full = self.present.len() >= self.max_sessions;
+        RunStatus {
+            open: present.saturating_sub(connecting),
+            connecting,
+            served: self
+                .acceptor
+                .came()
+                .saturating_sub(present)
+                .saturating_sub(self.unreached),
+            unreached: self.unreached,
+            has_waiting: is_full && self.acceptor.is_due(&self.poller.table),
+            is_stopping: self.control.stops_accepting(),
+            seconds: self.control.seconds(self.poller.table.now()),
+        }
+    }
+
+    /// Returns the row of a session with this status; `None` if its bot is not among those that are there.
+    fn row_of(
+        &self,
+        ports: &SocketPorts<'w, N::Connection>,
+        status: SessionStatus,
+    ) -> Option<SessionRow>
+        ensures number { IfSome result (λ row. row.number ≡ ports.now.number) }
+        ensures bot { IfSome result (λ row. slice_get self.now.present.addresses.items
+            (position_of ports.now.number self.now.present.numbers.items) ≡ Some row.bot) }
+        ensures status { IfSome result (λ row. (row.phase ≡ status.phase) × (row.level ≡ status.level)
+            × (row.summary ≡ status.summary) × (row.queued_to_bot ≡ status.queued_to_bot)
+            × (row.queued_to_server ≡ status.queued_to_server)) }
+        ensures held { IfSome result (λ row. (row.held_to_bot ≡ length ports.now.bot.stream.write_buffer)
+            × (row.held_to_server ≡ length ports.now.server.stream.write_buffer)) }
+        ensures idle { IfSome result (λ row. IsSilence self.now.poller.table.reading ports.now.bot.heard_at row.bot_idle
+            × IsSilence self.now.poller.table.reading ports.now.server.heard_at row.server_idle) }
+    {
+        let bot = self.present.address_of(ports.number())?;
+        let (held_to_bot, held_to_server) = ports.held();
+        let (bot_heard_at, server_heard_at) = ports.heard_at();
+        let now = self.poller.table.now();
+        Some(SessionRow {
+            number: ports.number(),
+            bot,
+            phase: status.phase,
+            level: status.level,
+            summary: status.summary,
+            queued_to_bot: status.queued_to_bot,
+            queued_to_server: status.queued_to_server,
+            held_to_bot,
+            held_to_server,
+            bot_idle: silence(now, bot_heard_at),
+            server_idle: silence(now, server_heard_at),
+        })
+    }
+
+    /// Advances the control socket, and returns the operator's orders. Once a stop is requested, the listener for bots is
+    /// closed.
+    ///
+    /// `control`: a status has the run as it is at the beginning of the round.
+    ///
+    /// `watched`: the next wait watches the control socket.
+    fn take_orders(&mut self) -> Orders
+        ensures orders { result.stops_accepting ≡ self.new.control.stops_accepting }
+        ensures kept { self.old.control.stops_accepting ≡ true → self.new.control.stops_accepting ≡ true }
+        ensures now_kept { self.old.control.stops_now ≡ true → self.new.control.stops_now ≡ true }
+        ensures control { (run : RunStatus) × BeginsRound N.Connection.to_give N.Connection.taken
+            N.Connection.calls run self.old.poller.table.reading self.old.control result self.new.control }
+        ensures watched { (before : Table) × (self.new.poller.table ≡ watching_control before self.new.control) }
+        ensures closes { result.stops_accepting ≡ true → self.old.control.stops_accepting ≡ false →
+            (before : N) × N.transition before StopsListening self.new.poller.network }
+        ensures came { self.new.acceptor.came ≡ self.old.acceptor.came }
+        ensures same { self.new ≡ record self.old {
+          poller = self.new.poller;
+          acceptor = self.new.acceptor;
+          control = self.new.control;
+        } }
+    {
+        let run = self.run_status();
+        let was_stopped = self.control.stops_accepting();
+        let orders = self.control.begin_round(&mut self.poller, &run);
+        if orders.stops_accepting && !was_stopped {
+            self.acceptor.close(&mut self.poller);
+        }
+        self.control.watch(&mut self.poller.table);
+        orders
     }
 
     /// Waits until the last sockets are closed. That takes at most a second after their peers accepted the buffered
@@ -316,8 +483,7 @@ impl<'w, N: Network, E: Write + Drop> Sockets<'w, N, E> {
             (as_nanos self.old.im_time) (as_nanos self.old.connect_time) self.new.arrivals.items) }
         ensures allowed { IfSome result (λ began. IsAllowed self.old.allow.now self.old.max_per_address
             self.old.present.hosts.items began) }
-        ensures present { IfSome result (λ began. IsPresentWith self.old.present.numbers.items
-            self.old.present.hosts.items began self.new.present.numbers.items self.new.present.hosts.items) }
+        ensures present { IfSome result (λ began. IsPresentWith self.old.present began self.new.present) }
         ensures absent { IfNone result (self.new.present ≡ self.old.present) }
     {
         if self.arrivals.len() >= self.arrivals.capacity() {
@@ -371,9 +537,32 @@ impl<'w, N: Network, E: Write + Drop> System<SocketPorts<'w, N::Connection>> for
           im_due = ports.im_due;
         }) (old.poller.network, old.poller.table) answer (new.poller.network, new.poller.table) };
 
-    fn begin_round(&mut self) {
+    fn begin_round(&mut self) -> Orders
+        ensures transition { Transits N.Connection.to_give N.Connection.taken N.Connection.calls
+            (λ ports. record { number = ports.number; bot = ports.bot.stream; server = ports.server.stream })
+            (record { came = self.old.acceptor.came; arrivals = self.old.arrivals.items; closing = self.old.closings })
+            (Begins result)
+            (record { came = self.new.acceptor.came; arrivals = self.new.arrivals.items; closing = self.new.closings })
+            × Wakes N.transition (λ ports. record {
+              bot = ports.bot;
+              server = ports.server;
+              reading = ports.idle.reading;
+              im_due = ports.im_due;
+            }) (self.old.poller.network, self.old.poller.table) (Begins result) (self.new.poller.network, self.new.poller.table) }
+        ensures orders { result.stops_accepting ≡ self.new.control.stops_accepting }
+        ensures kept { self.old.control.stops_accepting ≡ true → self.new.control.stops_accepting ≡ true }
+        ensures now_kept { self.old.control.stops_now ≡ true → self.new.control.stops_now ≡ true }
+        ensures watched { (before : Table) × (self.new.poller.table ≡ watching_control before self.new.control) }
+    {
         self.poller.look_by_turns();
         self.tidy();
+        self.take_orders()
+    }
+
+    fn show(&mut self, ports: &SocketPorts<'w, N::Connection>, status: SessionStatus) {
+        if let Some(row) = self.row_of(ports, status) {
+            self.control.show(&row);
+        }
     }
 
     fn has_news(&mut self, ports: &SocketPorts<'w, N::Connection>) -> bool
@@ -388,15 +577,16 @@ impl<'w, N: Network, E: Write + Drop> System<SocketPorts<'w, N::Connection>> for
               reading = ports.idle.reading;
               im_due = ports.im_due;
             }) (self.old.poller.network, self.old.poller.table) (ReportsNews ports.now result) (self.new.poller.network, self.new.poller.table) }
-        ensures news { result ≡ has_session_news self.old.poller.table (record {
-          bot = ports.now.bot;
-          server = ports.now.server;
-          reading = ports.now.idle.reading;
-          im_due = ports.now.im_due;
-        }) }
+        ensures news { result ≡ (is_newly_stopped self.old.control.stops_now ports.now.is_stopped
+            || has_session_news self.old.poller.table (record {
+              bot = ports.now.bot;
+              server = ports.now.server;
+              reading = ports.now.idle.reading;
+              im_due = ports.now.im_due;
+            })) }
         ensures same { self.new ≡ self.old }
     {
-        ports.has_news(&self.poller.table)
+        self.stops_newly(ports) || ports.has_news(&self.poller.table)
     }
 
     fn begin_turn(&mut self, ports: &mut SocketPorts<'w, N::Connection>)
@@ -423,8 +613,12 @@ impl<'w, N: Network, E: Write + Drop> System<SocketPorts<'w, N::Connection>> for
         ensures clock { self.new.poller.table.reading ≡ self.old.poller.table.reading }
         ensures expires { ports.new.im_timer_expired ≡ is_past self.old.poller.table.reading ports.old.im_due }
         ensures once { ports.new.im_due ≡ due_after self.old.poller.table.reading ports.old.im_due }
+        ensures stops { ports.new.is_stopped ≡ (ports.old.is_stopped || self.old.control.stops_now) }
     {
         ports.begin_turn(&mut self.poller.table);
+        if self.control.stops_now() {
+            ports.stop();
+        }
     }
 
     fn watch(&mut self, ports: &SocketPorts<'w, N::Connection>)
@@ -486,6 +680,8 @@ impl<'w, N: Network, E: Write + Drop> System<SocketPorts<'w, N::Connection>> for
             ≡ without_at (position_of ports.entry.number self.old.present.numbers.items) self.old.present.numbers.items }
         ensures hosts { self.new.present.hosts.items
             ≡ without_at (position_of ports.entry.number self.old.present.numbers.items) self.old.present.hosts.items }
+        ensures addresses { self.new.present.addresses.items
+            ≡ without_at (position_of ports.entry.number self.old.present.numbers.items) self.old.present.addresses.items }
     {
         self.present.remove(ports.number());
         let notice = SessionNotice::of_end(ports.number(), end, ports.timed(), self.stall_seconds);
@@ -494,6 +690,10 @@ impl<'w, N: Network, E: Write + Drop> System<SocketPorts<'w, N::Connection>> for
     }
 
     fn tell(&mut self, notice: Notice) {
+        // Once sessions end at an operator's request, no connect is tried, so the server was not unreachable.
+        if self.control.stops_now() && notice == Notice::CannotReach {
+            return;
+        }
         // The run goes on if the line cannot be written.
         let _ = writeln!(self.errors, "daide-gate: {notice}");
     }

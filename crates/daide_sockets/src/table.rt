@@ -217,7 +217,7 @@ fn first_free(rows: &[Row]) -> usize
 }
 
 /// Returns whether one of two things is so.
-fn either(one: bool, other: bool) -> bool
+pub(crate) fn either(one: bool, other: bool) -> bool
     ensures { result ≡ (one || other) }
 {
     one || other

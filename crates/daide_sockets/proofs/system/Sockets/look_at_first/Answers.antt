@@ -1,8 +1,8 @@
 use Rattle.std.proofs.Common.{refl, rules}
 use Rattle.daide_sockets.proofs.system.Sockets.look_at_first.Goals as goal
 
-pub returns-in-Ok : goal.returns-in-Ok
-returns-in-Ok g c = (
+pub returns-in-Ok-clause-evolves : goal.returns-in-Ok-clause-evolves
+returns-in-Ok-clause-evolves g c = (
   c.remove-arrival.result,
   c.advances.new.self,
   c.remove-arrival.new.self.items,
@@ -13,8 +13,8 @@ returns-in-Ok g c = (
   refl,
 )
 
-pub returns-in-Ok-join : goal.returns-in-Ok-join
-returns-in-Ok-join g c = (c.remove-arrival.result, search rules, search rules, refl, refl)
+pub returns-in-Ok-join-clause-evolves : goal.returns-in-Ok-join-clause-evolves
+returns-in-Ok-join-clause-evolves g c = (c.remove-arrival.result, search rules, search rules, refl, refl)
 
-pub returns-in-Err-join : goal.returns-in-Err-join
-returns-in-Err-join g c = (c.remove-arrival.result, search rules, search rules, search rules)
+pub returns-in-Err-join-clause-evolves : goal.returns-in-Err-join-clause-evolves
+returns-in-Err-join-clause-evolves g c = (c.remove-arrival.result, search rules, search rules, search rules)

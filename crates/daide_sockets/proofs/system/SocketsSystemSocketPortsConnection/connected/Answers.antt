@@ -5,7 +5,7 @@ use Rattle.daide_sockets.proofs.system.SocketsSystemSocketPortsConnection.connec
 
 pub returns-in-Ready : goal.returns-in-Ready
 returns-in-Ready g c =
-    let e = c.in-Ready.ensures in
+    let e = c.in-Ready.ensures.evolves in
     let inside = subst (λ (n : ℕ). c.loop-look._look < n) (c.len-look-end.ensures ∙ c.args.self.now.arrivals.ok.0)
     c.loop-look-test.true in (
       (
@@ -20,7 +20,7 @@ returns-in-Ready g c =
 
 pub returns-in-Failed : goal.returns-in-Failed
 returns-in-Failed g c =
-    let e = c.in-Failed.ensures in
+    let e = c.in-Failed.ensures.evolves in
     let inside = subst (λ (n : ℕ). c.loop-look._look < n) (c.len-look-end.ensures ∙ c.args.self.now.arrivals.ok.0)
     c.loop-look-test.true in (
       (
@@ -34,7 +34,7 @@ returns-in-Failed g c =
 
 pub loop-look-preserved : goal.loop-look-preserved
 loop-look-preserved g c =
-    let e = c.in-Pending.ensures in
+    let e = c.in-Pending.ensures.evolves in
     let inside = subst (λ (n : ℕ). c.loop-look._look < n) (c.len-look-end.ensures ∙ c.args.self.now.arrivals.ok.0)
     c.loop-look-test.true in
     record {
