@@ -14,13 +14,12 @@ use crate::running::{RunFault, settings_at};
 use daide_settings::ControlPath;
 use daide_status::ControlRequest;
 use std::alloc::Global;
-use std::fmt;
-use std::io;
 use std::io::{ErrorKind, Read, Write};
 use std::net::Net;
 use std::os::unix::net::UnixStream;
 use std::rt::Files;
 use std::time::Duration;
+use std::{fmt, io};
 
 /// The most bytes of an answer.
 const MOST_BYTES: u64 = 4_194_304;
@@ -163,11 +162,7 @@ fn wait_for_end<S: Read>(stream: &mut S) -> Result<(), RequestFault>
 }
 
 /// Requests a stop of the run at a path, and waits until the run is over.
-fn stop_run<R: Net>(
-    rt: &R,
-    path: &ControlPath,
-    order: StopOrder<'_>,
-) -> Result<(), RequestFault> {
+fn stop_run<R: Net>(rt: &R, path: &ControlPath, order: StopOrder<'_>) -> Result<(), RequestFault> {
     let timeout = order
         .timeout
         .map(|seconds| Duration::from_secs(seconds as u64));

@@ -36,6 +36,26 @@ fn listener_at<R: Files + Net>(rt: &R, path: &str) -> io::Result<UnixListener> {
     }
 }
 
+/// The file of a control socket. It is removed when this is dropped.
+pub struct ControlFile<'a, R: Files> {
+    rt: &'a R,
+    path: &'a str,
+}
+
+impl<R: Files> Drop for ControlFile<'_, R> {
+    fn drop(self) {
+        let ControlFile { rt, path } = self;
+        let _ = fs::remove_file(rt, path);
+    }
+}
+
+impl<'a, R: Files> ControlFile<'a, R> {
+    /// Takes over the file at the path, at which a listener was bound.
+    pub fn at(rt: &'a R, path: &'a str) -> ControlFile<'a, R> {
+        ControlFile { rt, path }
+    }
+}
+
 /// Creates the listener of a control socket at this path, to which its user alone may connect. The system creates its
 /// file before the mode is set, so until then the mode of the folder decides who may connect.
 ///
