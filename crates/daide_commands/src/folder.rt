@@ -110,12 +110,7 @@ fn text_of(alloc: Global, address: SocketAddr) -> Option<String>
 }
 
 /// Adds a comment to a record: the number of its session, the address of its bot, and when the session began.
-fn put_beginning<W: Sink + Drop>(
-    log: &mut Record<W>,
-    number: u32,
-    address: &str,
-    began: Moment,
-)
+fn put_beginning<W: Sink + Drop>(log: &mut Record<W>, number: u32, address: &str, began: Moment)
     ensures { BeginsRecord (HasFailed W.Fails) number (Some address.now) (Some began) log.old log.new }
 {
     log.comment(Comment::Begun(number, address, began.utc()));

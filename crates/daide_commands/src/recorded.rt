@@ -40,7 +40,14 @@ pub(crate) struct RecordedSockets<
     now: Option<Moment>,
 }
 
-impl<'w, 'f, N: Network, R: AllocGlobal + Files, C: Clock, E: Write + Drop> RecordedSockets<'w, 'f, N, R, C, E> {
+impl<'w, 'f, N: Network, R: AllocGlobal + Files, C: Clock, E: Write + Drop> RecordedSockets<
+    'w,
+    'f,
+    N,
+    R,
+    C,
+    E,
+> {
     /// Has a folder keep a record of each session over these sockets.
     pub fn new(
         sockets: Sockets<'w, N, E>,
@@ -128,7 +135,10 @@ impl<'w, N: Network, R: AllocGlobal + Files, C: Clock, E: Write + Drop> System<
         ports.begin_turn(&mut self.sockets, self.now);
     }
 
-    fn watch(&mut self, ports: &TimedRecording<SocketPorts<'w, N::Connection>, SessionFile<R::File>>) {
+    fn watch(
+        &mut self,
+        ports: &TimedRecording<SocketPorts<'w, N::Connection>, SessionFile<R::File>>,
+    ) {
         self.sockets
             .watch_also(ports.ports(), ports.has_just_ended());
     }

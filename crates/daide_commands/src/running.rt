@@ -19,6 +19,7 @@ use daide_log::{Sink, TimedRecording};
 use daide_settings::{Settings, SettingsError, read_settings};
 use daide_sockets::bound_sockets::{BoundSockets, sockets_on};
 use daide_sockets::connection::Connection;
+use daide_sockets::control_listener::ControlFile;
 use daide_sockets::ports::SocketPorts;
 use daide_sockets::system::Sockets;
 use daide_words::Words;
@@ -133,9 +134,23 @@ struct SessionReports<'f, F: Files> {
     folder: Option<&'f Folder<'f, F>>,
 }
 
+/// Returns the file of the control socket that was bound, if the settings have one.
+fn control_file<'a, R: Files>(rt: &'a R, settings: &'a Settings) -> Option<ControlFile<'a, R>> {
+    match &settings.control {
+        Some(path) => Some(ControlFile::at(rt, path.as_str())),
+        None => None,
+    }
+}
+
 /// Serves over sockets at the addresses of the settings: binds, opens the sockets, serves on them, and finishes closing.
 /// If there is a folder, the system is one around the sockets, which keeps a record of each session there.
-fn serve_sockets<'r, R: AllocGlobal + Clock + Net, F: AllocGlobal + Files, O: Sink, E: Write>(
+fn serve_sockets<
+    'r,
+    R: AllocGlobal + Files + Clock + Net,
+    F: AllocGlobal + Files,
+    O: Sink,
+    E: Write,
+>(
     rt: &'r R,
     settings: &Settings,
     reports: SessionReports<'r, F>,
@@ -163,6 +178,7 @@ fn serve_sockets<'r, R: AllocGlobal + Clock + Net, F: AllocGlobal + Files, O: Si
         table,
         pool,
     } = bind(rt, settings).map_err(RunFault::Gateway)?;
+    let _file = control_file(rt, settings);
     if reports.is_verbose {
         log_beginning(settings, errors);
     }
@@ -193,7 +209,7 @@ fn serve_sockets<'r, R: AllocGlobal + Clock + Net, F: AllocGlobal + Files, O: Si
 /// Not said: which sockets and calls they are, since the run opens its sockets itself. Two causes depend on the
 /// operating system: that the address can't be listened on if `Listen` is returned, and that memory was refused if
 /// `Memory` is.
-pub fn run_text<R: AllocGlobal + Clock + Net, O: Sink, E: Write>(
+pub fn run_text<R: AllocGlobal + Files + Clock + Net, O: Sink, E: Write>(
     rt: &R,
     text: &str,
     is_verbose: bool,

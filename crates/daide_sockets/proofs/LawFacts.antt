@@ -1,7 +1,7 @@
 -- The laws of `laws`, each used once. A fact takes only its law, so that a weaker law does not check.
-use Rattle.std.proofs.Common.{◌≡◌, ℕ, ◌+◌, ◌≤◌, Bool, true, false, List, [], ◌∷◌, Option, Some, None, length, refl, ap, arith}
-use Rattle.std.specs.Prelude.{slice_get}
-use Rattle.std.proofs.lemmas.List.Elements.{All-contains, All-head}
+use Rattle.std.proofs.Common.{◌≡◌, ℕ, ◌+◌, ◌≤◌, Bool, true, false, List, [], ◌∷◌, Option, Some, None, length, refl, ap, ◌∙◌, subst, arith}
+use Rattle.std.specs.Prelude.{slice_get, ◌||◌}
+use Rattle.std.proofs.lemmas.List.Elements.{All-contains, All-head, All-tail}
 use Rattle.std.specs.Duration.{as_nanos}
 use Rattle.std.specs.Time.{instant_nanos}
 use Rattle.std.specs.declared.time.Duration.{Duration}
@@ -17,6 +17,14 @@ use Rattle.daide_sockets.specs.PairedOnce.{SessionsComeOnce, is_same}
 use Rattle.daide_sockets.specs.declared.table.Row.{Row}
 use Rattle.daide_sockets.specs.Table.{Table, IsWaitTime}
 use Rattle.daide_sockets.specs.InTime.{WaitsAreInTime, IsInTimeFor, watching_all}
+use Rattle.daide_sockets.specs.Control.{has_work_at}
+use Rattle.daide_sockets.specs.ControlInTime.{IsPlaceInTime, ControlWaitsAreInTime}
+use Rattle.daide_sockets.specs.ControlSlots.{is_place_free, has_free, watching_control}
+use Rattle.daide_sockets.specs.declared.control.Control.{Control}
+use Rattle.daide_sockets.specs.declared.control.ControlListener.{ControlListener}
+use Rattle.daide_sockets.specs.declared.control_connection.ControlConnection.{ControlConnection}
+use Rattle.daide_sockets.specs.declared.control_connection.Stage.{Stage}
+use Rattle.daide_sockets.specs.declared.control_connection.Stage.TheVariants.{Reads}
 
 -- no two connects deliver ports of session 5
 never_twice : {P S : Type 0} (to_give taken : S → Option (List ℕ)) (calls : S → Option (List StreamCall)) →
@@ -107,3 +115,26 @@ given_up_closes_one : {P S : Type 0} (to_give taken : S → Option (List ℕ)) (
 given_up_closes_one to_give taken calls law pair old new none no_arrivals no_closing goes =
     let few = (law pair old new (Accepts true ∷ Connects Failed ∷ []) none no_arrivals no_closing goes).closing in
     omega (arith, few)
+
+-- while the second control connection may be read, a wait takes no time
+control_is_read : (S : Type 0) → ControlWaitsAreInTime S → (table : Table) (control : Control S)
+    (connection : ControlConnection S) (time : Duration) → control.slots.second ≡ Some connection →
+    connection.stage ≡ Reads → connection.readiness.may_read ≡ true →
+    IsWaitTime (watching_control table control) (Some time) → as_nanos time ≡ 0
+control_is_read S law table control connection time second reads ready lasts =
+    let InTime : Option (ControlConnection S) → Type 0 = IsPlaceInTime table.reading (Some time) in
+    let rest = control.slots.third ∷ control.slots.fourth ∷ [] in
+    let own : InTime control.slots.second =
+    All-head InTime control.slots.second rest
+    (All-tail InTime control.slots.first (control.slots.second ∷ rest) (law table control [] (Some time) lasts).connections) in
+    let there : InTime (Some connection) = subst InTime second own in
+    there.work (ap (λ (s : Stage). has_work_at s connection.readiness) reads ∙ ready)
+
+-- while the first place is free, and the listener may give a connection, a wait takes no time
+control_is_accepted : (S : Type 0) → ControlWaitsAreInTime S → (table : Table) (control : Control S)
+    (listener : ControlListener) (time : Duration) → control.slots.first ≡ None → control.listener ≡ Some listener →
+    listener.readiness.may_read ≡ true → IsWaitTime (watching_control table control) (Some time) → as_nanos time ≡ 0
+control_is_accepted S law table control listener time free there ready lasts =
+    ((law table control [] (Some time) lasts).listener listener (ap (λ (p : Option (ControlConnection S)).
+    is_place_free p || has_free (control.slots.second ∷ control.slots.third ∷ control.slots.fourth ∷ [])) free) there).work
+    ready

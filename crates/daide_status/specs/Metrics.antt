@@ -15,10 +15,13 @@ metric_head name kind help =
     codes "# HELP daide_gate_" ++ name ++ codes " " ++ help ++ codes "\n# TYPE daide_gate_" ++ name ++ codes " " ++ kind
     ++ codes "\n"
 
+-- the sample of a metric of the run
+abbrev pub run_sample : List ℕ → ℕ → List ℕ
+run_sample name value = codes "daide_gate_" ++ name ++ codes " " ++ decimal value ++ codes "\n"
+
 -- a metric of the run, with its one sample
 abbrev pub run_metric : List ℕ → List ℕ → List ℕ → ℕ → List ℕ
-run_metric name kind help value =
-    metric_head name kind help ++ codes "daide_gate_" ++ name ++ codes " " ++ decimal value ++ codes "\n"
+run_metric name kind help value = metric_head name kind help ++ run_sample name value
 
 -- a flag as a number
 abbrev pub flag_number : Bool → ℕ
@@ -80,3 +83,16 @@ phase_label phase = codes "phase=\"" ++ phase_name phase ++ codes "\""
 -- the level of a session, with its phase
 abbrev pub level_sample : SessionRow → List ℕ
 level_sample row = sample (codes "session_level") row (phase_label row.phase) (level_number row.level)
+
+-- a metric of the sessions, with all its samples
+abbrev pub session_metric : List ℕ → List ℕ → List ℕ → List ℕ → List ℕ
+session_metric name kind help samples = metric_head name kind help ++ samples
+
+-- the metrics of the sessions, each with these samples
+abbrev pub session_metrics : List ℕ → List ℕ → List ℕ → List ℕ → List ℕ
+session_metrics frames waiting idle levels =
+    session_metric (codes "session_frames_total") (codes "counter")
+    (codes "Frames of a session, by what was done with them.") frames
+    ++ session_metric (codes "session_waiting_bytes") (codes "gauge") (codes "Bytes that wait for a side.") waiting
+    ++ session_metric (codes "session_idle_seconds") (codes "gauge") (codes "Seconds since the last byte from a side.") idle
+    ++ session_metric (codes "session_level") (codes "gauge") (codes "The level of press of a session.") levels

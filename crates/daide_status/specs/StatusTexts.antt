@@ -8,16 +8,7 @@ use Rattle.daide_status.specs.declared.snapshot.SessionRow.{SessionRow}
 use Rattle.daide_status.specs.declared.text.StatusText.{StatusText}
 use Rattle.daide_status.specs.Columns.{table_head, table_row}
 use Rattle.daide_status.specs.Json.{json_head, json_row, json_rows, json_end}
-use Rattle.daide_status.specs.Metrics.{metric_head, metrics_head, frame_samples, waiting_samples, idle_samples, level_sample}
-
--- the metrics of the sessions, each with these samples
-abbrev pub session_metrics : List ℕ → List ℕ → List ℕ → List ℕ → List ℕ
-session_metrics frames waiting idle levels =
-    metric_head (codes "session_frames_total") (codes "counter") (codes "Frames of a session, by what was done with them.")
-    ++ frames
-    ++ metric_head (codes "session_waiting_bytes") (codes "gauge") (codes "Bytes that wait for a side.") ++ waiting
-    ++ metric_head (codes "session_idle_seconds") (codes "gauge") (codes "Seconds since the last byte from a side.")
-    ++ idle ++ metric_head (codes "session_level") (codes "gauge") (codes "The level of press of a session.") ++ levels
+use Rattle.daide_status.specs.Metrics.{metrics_head, session_metrics, frame_samples, waiting_samples, idle_samples, level_sample}
 
 -- the text of a status
 abbrev pub status_text : Format → RunStatus → List SessionRow → List ℕ
@@ -43,10 +34,10 @@ view_of t = record {
   format = t.format;
   has_rows = t.has_rows;
   text = t.text.items;
-  frames = t.frames.items;
-  waiting = t.waiting.items;
-  idle = t.idle.items;
-  levels = t.levels.items;
+  frames = t.samples.frames.items;
+  waiting = t.samples.waiting.items;
+  idle = t.samples.idle.items;
+  levels = t.samples.levels.items;
 }
 
 -- what comes before the first session
