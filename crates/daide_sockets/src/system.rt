@@ -9,6 +9,7 @@ ghost use Rattle.daide_io.specs.System.{Begins, ReportsNews, BeginsTurn, Watches
 ghost use Rattle.daide_buffered_io.specs.Streams.{Transfers};
 ghost use Rattle.daide_sockets.specs.Accepting.{is_accept_due, MakesAccept};
 ghost use Rattle.daide_sockets.specs.Beside.{others_watched};
+ghost use Rattle.daide_sockets.specs.declared.ports.SocketPorts.{SocketPorts as PortsOf};
 ghost use Rattle.daide_sockets.specs.ControlSlots.{BeginsRound, is_newly_stopped, watching_control};
 ghost use Rattle.daide_sockets.specs.Finishing.{FinishesAll};
 ghost use Rattle.daide_sockets.specs.Snapshot.{counted, IsSilence};
@@ -327,6 +328,7 @@ impl<'w, N: Network, E: Write + Drop> Sockets<'w, N, E> {
         ensures closing { LooksAround N.Connection.to_give N.Connection.taken N.Connection.calls
             self.old.poller.table.reading (in_pass self.old.closings) self.new.closings }
         ensures clock { self.new.poller.table.reading ≡ self.old.poller.table.reading }
+        ensures control { self.new.control ≡ self.old.control }
     {
         self.acceptor.reopen(self.poller.table.now());
         self.closings.advance(&mut self.poller.table);
@@ -538,12 +540,13 @@ impl<'w, N: Network, E: Write + Drop> System<SocketPorts<'w, N::Connection>> for
         }) (old.poller.network, old.poller.table) answer (new.poller.network, new.poller.table) };
 
     fn begin_round(&mut self) -> Orders
-        ensures transition { Transits N.Connection.to_give N.Connection.taken N.Connection.calls
+        ensures transition { Transits {P = PortsOf N.Connection} N.Connection.to_give N.Connection.taken
+            N.Connection.calls
             (λ ports. record { number = ports.number; bot = ports.bot.stream; server = ports.server.stream })
             (record { came = self.old.acceptor.came; arrivals = self.old.arrivals.items; closing = self.old.closings })
             (Begins result)
             (record { came = self.new.acceptor.came; arrivals = self.new.arrivals.items; closing = self.new.closings })
-            × Wakes N.transition (λ ports. record {
+            × Wakes {P = PortsOf N.Connection} N.transition (λ ports. record {
               bot = ports.bot;
               server = ports.server;
               reading = ports.idle.reading;
