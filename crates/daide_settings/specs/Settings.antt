@@ -135,14 +135,14 @@ abbrev pub read_flag : Key → Option Data → Result Bool SettingsError
 read_flag key None = Ok false
 read_flag key (Some value) = flag_judged key (as_bool value)
 
-abbrev pub some_text : Result (List ℕ) SettingsError → Result (Option (List ℕ)) SettingsError
-some_text (Ok text) = Ok (Some text)
-some_text (Err fault) = Err fault
+abbrev pub found_text : Result (List ℕ) SettingsError → Result (Option (List ℕ)) SettingsError
+found_text (Ok text) = Ok (Some text)
+found_text (Err fault) = Err fault
 
 -- a missing text is none; otherwise the value must be a text, and in range, in this order
 abbrev pub read_text : Key → Option Data → Result (Option (List ℕ)) SettingsError
 read_text key None = Ok None
-read_text key (Some value) = some_text (text_judged key (as_str value))
+read_text key (Some value) = found_text (text_judged key (as_str value))
 
 -- ---- the document
 

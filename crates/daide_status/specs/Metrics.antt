@@ -47,29 +47,29 @@ metrics_head run =
     (codes "Bots for which the server could not be reached.") run.unreached ++ waiting_metrics run
 
 -- a sample of a session, with one more label
-abbrev pub sample : List ℕ → SessionRow → List ℕ → ℕ → List ℕ
-sample name row label value =
+abbrev pub session_sample : List ℕ → SessionRow → List ℕ → ℕ → List ℕ
+session_sample name row label value =
     codes "daide_gate_" ++ name ++ codes "{session=\"" ++ decimal row.number ++ codes "\",bot=\"" ++ socket_text row.bot
     ++ codes "\"," ++ label ++ codes "} " ++ decimal value ++ codes "\n"
 
 -- the frames of a session, by what was done with them
 abbrev pub frame_samples : SessionRow → List ℕ
 frame_samples row =
-    sample (codes "session_frames_total") row (codes "result=\"relayed\"") row.summary.relayed
-    ++ sample (codes "session_frames_total") row (codes "result=\"prn\"") row.summary.prn
-    ++ sample (codes "session_frames_total") row (codes "result=\"huh\"") row.summary.huh
-    ++ sample (codes "session_frames_total") row (codes "result=\"fault\"") row.summary.faults
+    session_sample (codes "session_frames_total") row (codes "result=\"relayed\"") row.summary.relayed
+    ++ session_sample (codes "session_frames_total") row (codes "result=\"prn\"") row.summary.prn
+    ++ session_sample (codes "session_frames_total") row (codes "result=\"huh\"") row.summary.huh
+    ++ session_sample (codes "session_frames_total") row (codes "result=\"fault\"") row.summary.faults
 
 -- the bytes that wait for each side, in the session and in the side's socket
 abbrev pub waiting_samples : SessionRow → List ℕ
 waiting_samples row =
-    sample (codes "session_waiting_bytes") row (codes "side=\"bot\"") (row.queued_to_bot + row.held_to_bot)
-    ++ sample (codes "session_waiting_bytes") row (codes "side=\"server\"") (row.queued_to_server + row.held_to_server)
+    session_sample (codes "session_waiting_bytes") row (codes "side=\"bot\"") (row.queued_to_bot + row.held_to_bot)
+    ++ session_sample (codes "session_waiting_bytes") row (codes "side=\"server\"") (row.queued_to_server + row.held_to_server)
 
 -- the seconds since a side's last byte, if it has sent one
 abbrev pub idle_sample : SessionRow → List ℕ → Option ℕ → List ℕ
 idle_sample row label None = []
-idle_sample row label (Some seconds) = sample (codes "session_idle_seconds") row label seconds
+idle_sample row label (Some seconds) = session_sample (codes "session_idle_seconds") row label seconds
 
 -- the seconds since each side's last byte
 abbrev pub idle_samples : SessionRow → List ℕ
@@ -82,7 +82,7 @@ phase_label phase = codes "phase=\"" ++ phase_name phase ++ codes "\""
 
 -- the level of a session, with its phase
 abbrev pub level_sample : SessionRow → List ℕ
-level_sample row = sample (codes "session_level") row (phase_label row.phase) (level_number row.level)
+level_sample row = session_sample (codes "session_level") row (phase_label row.phase) (level_number row.level)
 
 -- a metric of the sessions, with all its samples
 abbrev pub session_metric : List ℕ → List ℕ → List ℕ → List ℕ → List ℕ

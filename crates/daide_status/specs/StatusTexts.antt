@@ -29,8 +29,8 @@ pub record StatusView : Type 0 where
   pub idle : List ℕ
   pub levels : List ℕ
 
-abbrev pub view_of : StatusText → StatusView
-view_of t = record {
+abbrev pub status_view : StatusText → StatusView
+status_view t = record {
   format = t.format;
   has_rows = t.has_rows;
   text = t.text.items;
@@ -41,17 +41,17 @@ view_of t = record {
 }
 
 -- what comes before the first session
-abbrev pub head_text : Format → RunStatus → List ℕ
-head_text Table run = table_head run
-head_text Json run = json_head run
-head_text Prometheus run = metrics_head run
+abbrev pub status_head : Format → RunStatus → List ℕ
+status_head Table run = table_head run
+status_head Json run = json_head run
+status_head Prometheus run = metrics_head run
 
 -- the text before any session
 abbrev pub begun : Format → RunStatus → StatusView
 begun format run = record {
   format = format;
   has_rows = false;
-  text = head_text format run;
+  text = status_head format run;
   frames = [];
   waiting = [];
   idle = [];
@@ -97,11 +97,11 @@ abbrev pub all_samples : StatusView → List ℕ
 all_samples view = session_metrics view.frames view.waiting view.idle view.levels
 
 -- what a text ends with, by the format
-abbrev pub end_text : Format → StatusView → List ℕ
-end_text Table view = []
-end_text Json view = json_end
-end_text Prometheus view = all_samples view
+abbrev pub status_end : Format → StatusView → List ℕ
+status_end Table view = []
+status_end Json view = json_end
+status_end Prometheus view = all_samples view
 
 -- the finished text
 abbrev pub ended : StatusView → List ℕ
-ended view = view.text ++ end_text view.format view
+ended view = view.text ++ status_end view.format view

@@ -5,7 +5,7 @@ ghost use Rattle.daide_status.specs.declared.request.ControlRequest.{ControlRequ
 ghost use Rattle.daide_status.specs.declared.request.Format.{Format};
 ghost use Rattle.daide_status.specs.declared.snapshot.RunStatus.{RunStatus};
 ghost use Rattle.daide_status.specs.declared.snapshot.SessionRow.{SessionRow};
-ghost use Rattle.daide_status.specs.Requests.{request_of, request_text};
+ghost use Rattle.daide_status.specs.Requests.{requested_by, request_text};
 ghost use Rattle.daide_status.specs.StatusTexts.{begun, ended, status_text, with_rows};
 
 /// A text that begins with the status of a run, and gets a row for each session, is the text of that status and of those
@@ -17,5 +17,5 @@ pub fn status_is_of_the_snapshot()
 
 /// A request is read back from its own line.
 pub fn request_is_read_back()
-    ensures { (request : ControlRequest) → request_of (request_text request) ≡ Some request }
+    ensures { (request : ControlRequest) → requested_by (request_text request) ≡ Some request }
 {}

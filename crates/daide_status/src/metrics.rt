@@ -2,7 +2,7 @@
 
 ghost use Rattle.std.specs.Prelude.{◌≡◌, ◌+◌, ◌++◌, [], OnOk, codes};
 ghost use Rattle.daide_status.specs.Metrics.{flag_number, frame_samples, idle_samples, idle_sample, level_sample};
-ghost use Rattle.daide_status.specs.Metrics.{metric_head, metrics_head, phase_label, run_metric, sample, waiting_samples};
+ghost use Rattle.daide_status.specs.Metrics.{metric_head, metrics_head, phase_label, run_metric, session_sample, waiting_samples};
 ghost use Rattle.daide_status.specs.Metrics.{run_sample, session_metric, session_metrics, waiting_metrics};
 
 use crate::pieces::sum;
@@ -133,7 +133,7 @@ fn put_sample(
     value: u128,
     out: &mut Vec<u8>,
 ) -> io::Result<()>
-    ensures { OnOk result (out.new.items ≡ out.old.items ++ sample name.now row.now label.now value) }
+    ensures { OnOk result (out.new.items ≡ out.old.items ++ session_sample name.now row.now label.now value) }
 {
     let number = row.number;
     let bot = row.bot;

@@ -1,7 +1,7 @@
 //! The text of a status, made row by row.
 
 ghost use Rattle.std.specs.Prelude.{◌≡◌, ◌++◌, IfOk, OnOk};
-ghost use Rattle.daide_status.specs.StatusTexts.{begun, ended, head_text, view_of, with_object, with_row, with_samples};
+ghost use Rattle.daide_status.specs.StatusTexts.{begun, ended, status_head, status_view, with_object, with_row, with_samples};
 
 use crate::metrics::Samples;
 use crate::request::Format;
@@ -24,7 +24,7 @@ pub struct StatusText {
 
 /// Appends what comes before the first session.
 fn put_head(format: Format, run: &RunStatus, out: &mut Vec<u8>) -> io::Result<()>
-    ensures { OnOk result (out.new.items ≡ out.old.items ++ head_text format run.now) }
+    ensures { OnOk result (out.new.items ≡ out.old.items ++ status_head format run.now) }
 {
     match format {
         Format::Table => table::put_table_head(run, out),
@@ -36,7 +36,7 @@ fn put_head(format: Format, run: &RunStatus, out: &mut Vec<u8>) -> io::Result<()
 impl StatusText {
     /// Begins a text in a format, with the status of the run.
     pub fn begin(alloc: Global, format: Format, run: &RunStatus) -> Result<StatusText, AllocError>
-        ensures { IfOk result (λ text. view_of text ≡ begun format run.now) }
+        ensures { IfOk result (λ text. status_view text ≡ begun format run.now) }
     {
         let mut text = Vec::new(alloc);
         if put_head(format, run, &mut text).is_err() {
@@ -52,7 +52,7 @@ impl StatusText {
 
     /// Appends the object of a session, on a line of its own.
     fn add_object(&mut self, row: &SessionRow) -> io::Result<()>
-        ensures { OnOk result (view_of self.new ≡ with_object row.now (view_of self.old)) }
+        ensures { OnOk result (status_view self.new ≡ with_object row.now (status_view self.old)) }
     {
         if self.has_rows {
             self.text.write_all(b",")?;
@@ -64,7 +64,7 @@ impl StatusText {
 
     /// Appends the samples of a session, each to those of its metric.
     fn add_samples(&mut self, row: &SessionRow) -> io::Result<()>
-        ensures { OnOk result (view_of self.new ≡ with_samples row.now (view_of self.old)) }
+        ensures { OnOk result (status_view self.new ≡ with_samples row.now (status_view self.old)) }
     {
         metrics::put_frames(row, &mut self.samples.frames)?;
         metrics::put_waiting(row, &mut self.samples.waiting)?;
@@ -74,7 +74,7 @@ impl StatusText {
 
     /// Adds the status of a session. If a growth is refused, the text is of no more use.
     pub fn add(&mut self, row: &SessionRow) -> Result<(), AllocError>
-        ensures { OnOk result (view_of self.new ≡ with_row row.now (view_of self.old)) }
+        ensures { OnOk result (status_view self.new ≡ with_row row.now (status_view self.old)) }
     {
         let written = match self.format {
             Format::Table => table::put_table_row(row, &mut self.text),
@@ -86,7 +86,7 @@ impl StatusText {
 
     /// Finishes the text, and returns it.
     pub fn finish(mut self) -> Result<Vec<u8>, AllocError>
-        ensures { IfOk result (λ text. text.items ≡ ended (view_of self)) }
+        ensures { IfOk result (λ text. text.items ≡ ended (status_view self)) }
     {
         let written = match self.format {
             Format::Table => Ok(()),
