@@ -29,6 +29,16 @@ first_in_time table work due others time lasts =
     All-head (λ (session : Watched). IsInTimeFor table.reading time session.0 session.1) (work, due) others
     (sessions_in_time table ((work, due) ∷ others) time lasts)
 
+same_clock : (table : Table) (has_room : Bool) (found : Option ControlListener) →
+    (watching_listener table has_room found).reading ≡ table.reading
+same_clock table has_room None = refl
+same_clock table true (Some listener) = refl
+same_clock table false (Some listener) = refl
+
+abbrev listener_or : ControlListener → Option ControlListener → ControlListener
+listener_or other None = other
+listener_or other (Some listener) = listener
+
 module _ {S : Type 0} where
   abbrev watched_in : List (Option (ControlConnection S)) → List Watched
   watched_in [] = []
@@ -62,16 +72,6 @@ module _ {S : Type 0} where
       (first_in_time table (has_control_work connection) (control_due connection) (watched_in rest ++ sessions) time
       (beside rest sessions next time lasts)) (places_in_time rest sessions next time lasts)
 
-  same_clock : (table : Table) (has_room : Bool) (found : Option ControlListener) →
-      (watching_listener table has_room found).reading ≡ table.reading
-  same_clock table has_room None = refl
-  same_clock table true (Some listener) = refl
-  same_clock table false (Some listener) = refl
-
-  abbrev listener_or : ControlListener → Option ControlListener → ControlListener
-  listener_or other None = other
-  listener_or other (Some listener) = listener
-
   listener_in_time : (rest : List (Option (ControlConnection S))) (sessions : List Watched) (table : Table)
       (has_room : Bool) (found : Option ControlListener) (time : Option Duration) →
       IsWaitTime (watching_all (watching_places (watching_listener table has_room found) rest) sessions) time →
@@ -91,6 +91,6 @@ control_in_time S table control sessions time lasts =
     let first : Table = watching_listener table room control.listener in
     record {
       connections = subst (λ (reading : Option Instant). All (IsPlaceInTime reading time) (places control.slots))
-          (same_clock {S = S} table room control.listener) (places_in_time (places control.slots) sessions first time lasts);
+          (same_clock table room control.listener) (places_in_time (places control.slots) sessions first time lasts);
       listener = listener_in_time (places control.slots) sessions table room control.listener time lasts;
     }

@@ -49,6 +49,16 @@ impl IdleTimeout {
     }
 }
 
+/// Returns the reading of the clock at which a peer last sent something, after this pull.
+fn heard_after(pull: Pull, now: Option<Instant>, before: Option<Instant>) -> Option<Instant>
+    ensures some { pulled_len pull ≢ 0 → result ≡ now }
+{
+    match pull {
+        Pull::Got(_) => now,
+        Pull::Idle | Pull::Ended => before,
+    }
+}
+
 /// Pulls from one socket of a session. If it returns nothing, what is held for the other side is written. If nothing
 /// came for too long, one more read is made, and if it finds nothing, the side counts as ended. So does a stalled side
 /// of which nothing comes.
@@ -115,9 +125,7 @@ fn pull_or_flush_peer<S: Duplex + Drop>(
     let pull = own.pull(buffer);
     if pull != Pull::Idle {
         own.silent_from = idle.end();
-        if let Pull::Got(_) = pull {
-            own.heard_at = idle.reading;
-        }
+        own.heard_at = heard_after(pull, idle.reading, own.heard_at);
         return pull;
     }
     other.flush_gathered(idle.reading);

@@ -18,3 +18,6 @@ returns-in-Ok-join-clause-evolves g c = (c.remove-arrival.result, search rules, 
 
 pub returns-in-Err-join-clause-evolves : goal.returns-in-Err-join-clause-evolves
 returns-in-Err-join-clause-evolves g c = (c.remove-arrival.result, search rules, search rules, search rules)
+
+pub returns-then-is_given_up-clause-evolves : goal.returns-then-is_given_up-clause-evolves
+returns-then-is_given_up-clause-evolves g c = (c.remove-arrival.result, search rules, search rules, search rules)
