@@ -19,7 +19,7 @@ module _ {P S : Type 0} (to_give taken : S → Option (List ℕ)) (calls : S →
   one (Accepts false) old new h = let e = ap (λ (s : RunSockets S). s.came) h in omega (arith, e)
   one (Connects (Ready ports)) old new h = let e = h.3 in omega (arith, e)
   one (Connects Failed) old new h = let e = h.3 in omega (arith, e)
-  one (Connects Pending) old new h = let e = h.2 in omega (arith, e)
+  one (Connects Pending) old new h = let e = h.1 in omega (arith, e)
   one (Retires ports end) old new h = let e = h.1 in omega (arith, e)
   one (Notifies notice) old new h = let e = ap (λ (s : RunSockets S). s.came) h in omega (arith, e)
   one Waits old new h = let e = ap (λ (s : RunSockets S). s.came) h in omega (arith, e)

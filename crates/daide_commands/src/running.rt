@@ -9,16 +9,17 @@ ghost use Rattle.daide_words.specs.Words.{words_of};
 use crate::arguments::RunOrder;
 use crate::faults::{CLEAN, FAULT, tell};
 use crate::folder::{Folder, SessionFile};
-use crate::gateway::{GatewayFault, bind, serve_on};
+use crate::gateway::{GatewayFault, bind, log_beginning, serve_on};
 use crate::recorded::RecordedSockets;
 use crate::text::{SettingsTextFault, read_text};
 use daide_event_loop::ServeFault;
 use daide_io::duplex::Duplex;
 use daide_io::{Network, Ports, System};
-use daide_log::{Recording, Sink};
+use daide_log::{Sink, TimedRecording};
 use daide_settings::{Settings, SettingsError, read_settings};
 use daide_sockets::bound_sockets::{BoundSockets, sockets_on};
 use daide_sockets::connection::Connection;
+use daide_sockets::control_listener::ControlFile;
 use daide_sockets::ports::SocketPorts;
 use daide_sockets::system::Sockets;
 use daide_words::Words;
@@ -133,9 +134,23 @@ struct SessionReports<'f, F: Files> {
     folder: Option<&'f Folder<'f, F>>,
 }
 
+/// Returns the file of the control socket that was bound, if the settings have one.
+fn control_file<'a, R: Files>(rt: &'a R, settings: &'a Settings) -> Option<ControlFile<'a, R>> {
+    match &settings.control {
+        Some(path) => Some(ControlFile::at(rt, path.as_str())),
+        None => None,
+    }
+}
+
 /// Serves over sockets at the addresses of the settings: binds, opens the sockets, serves on them, and finishes closing.
 /// If there is a folder, the system is one around the sockets, which keeps a record of each session there.
-fn serve_sockets<'r, R: AllocGlobal + Clock + Net, F: AllocGlobal + Files, O: Sink, E: Write>(
+fn serve_sockets<
+    'r,
+    R: AllocGlobal + Files + Clock + Net,
+    F: AllocGlobal + Files,
+    O: Sink,
+    E: Write,
+>(
     rt: &'r R,
     settings: &Settings,
     reports: SessionReports<'r, F>,
@@ -154,7 +169,7 @@ fn serve_sockets<'r, R: AllocGlobal + Clock + Net, F: AllocGlobal + Files, O: Si
           bot = ports.ports.bot.stream;
           server = ports.ports.server.stream;
         })
-        ⟦<Recording<SocketPorts<'static, Connection>, SessionFile<F::File>> as Ports>⟧.transition settings.now
+        ⟦<TimedRecording<SocketPorts<'static, Connection>, SessionFile<F::File>> as Ports>⟧.transition settings.now
         (HasFailed O.Fails) (O.contents output.old) (O.contents output.new) result) }
 {
     let BoundSockets {
@@ -163,6 +178,10 @@ fn serve_sockets<'r, R: AllocGlobal + Clock + Net, F: AllocGlobal + Files, O: Si
         table,
         pool,
     } = bind(rt, settings).map_err(RunFault::Gateway)?;
+    let _file = control_file(rt, settings);
+    if reports.is_verbose {
+        log_beginning(settings, errors);
+    }
     let ground = (network, servers.as_slice(), table, &pool);
     let Some(mut sockets) = sockets_on(rt.alloc(), settings, ground, errors) else {
         return Err(RunFault::Memory);
@@ -171,7 +190,7 @@ fn serve_sockets<'r, R: AllocGlobal + Clock + Net, F: AllocGlobal + Files, O: Si
     match reports.folder {
         None => run_on(rt.alloc(), settings, &mut sockets, output),
         Some(folder) => {
-            let mut system = RecordedSockets { sockets, folder };
+            let mut system = RecordedSockets::new(sockets, folder, rt);
             run_on(rt.alloc(), settings, &mut system, output)
         }
     }
@@ -190,7 +209,7 @@ fn serve_sockets<'r, R: AllocGlobal + Clock + Net, F: AllocGlobal + Files, O: Si
 /// Not said: which sockets and calls they are, since the run opens its sockets itself. Two causes depend on the
 /// operating system: that the address can't be listened on if `Listen` is returned, and that memory was refused if
 /// `Memory` is.
-pub fn run_text<R: AllocGlobal + Clock + Net, O: Sink, E: Write>(
+pub fn run_text<R: AllocGlobal + Files + Clock + Net, O: Sink, E: Write>(
     rt: &R,
     text: &str,
     is_verbose: bool,
@@ -230,7 +249,7 @@ fn run_recorded<'r, R: AllocGlobal + Files + Clock + Net, O: Sink, E: Write>(
           bot = ports.ports.bot.stream;
           server = ports.ports.server.stream;
         })
-        ⟦<Recording<SocketPorts<'static, Connection>, SessionFile<R::File>> as Ports>⟧.transition
+        ⟦<TimedRecording<SocketPorts<'static, Connection>, SessionFile<R::File>> as Ports>⟧.transition
         (HasFailed O.Fails) (O.contents output.old) (O.contents output.new) result }
 {
     let settings = settings_at(rt, order.settings)?;

@@ -5,7 +5,7 @@ ghost use Rattle.daide_run_laws.specs.NoLostWakeups.{NoWakeupIsLost};
 use daide_io::duplex::Duplex;
 use daide_io::network::Network;
 use daide_io::ports::Ports;
-use daide_log::{Recording, Sink};
+use daide_log::{Sink, TimedRecording};
 use daide_sockets::ports::SocketPorts;
 
 /// No wake-up is lost. At each wait of a run over sockets the network is polled once, and what it reports is in the rows.
@@ -30,7 +30,7 @@ pub fn no_wakeup_is_lost<S: Duplex + Drop, N: Network>()
 
 /// The same of a run that records its sessions: the ports are those around which a record is, over any two streams.
 pub fn no_wakeup_is_lost_beside_records<S: Duplex + Drop, N: Network, W: Sink + Drop>()
-    ensures { NoWakeupIsLost ⟦<Recording<SocketPorts<'static, S>, W> as Ports>⟧.transition (λ ports. record {
+    ensures { NoWakeupIsLost ⟦<TimedRecording<SocketPorts<'static, S>, W> as Ports>⟧.transition (λ ports. record {
       bot = ports.ports.bot;
       server = ports.ports.server;
       reading = ports.ports.idle.reading;

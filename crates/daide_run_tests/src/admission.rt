@@ -13,7 +13,7 @@ use daide_sockets::poller::{EVENTS, Poller};
 use daide_sockets::ports::SocketPorts;
 use daide_sockets::system::Sockets;
 use daide_sockets::table::SocketTable;
-use daide_test_support::rows::holds;
+use daide_test_support::rows::{holds, same};
 use std::alloc::Global;
 use std::io::ErrorKind;
 use std::net::{SocketAddr, TcpListener, TcpStream};
@@ -39,12 +39,13 @@ fn check_acceptor<'w>(
 ) -> Result<(), Fail> {
     poller.wait();
     acceptor.pause(poller.table.after(Duration::ZERO), ErrorKind::Other);
-    let resumes_at = poller.table.after(Duration::from_millis(100));
-    poller.table.set_due(0, resumes_at);
     holds(acceptor.accept(poller).is_none(), "none is made")?;
+    acceptor.watch(&mut poller.table);
     poller.wait();
     holds(acceptor.accept(poller).is_some(), "the bot that came")?;
-    holds(poller.table.due(0).is_none(), "the pause is over")
+    poller.table.unwatch();
+    acceptor.watch(&mut poller.table);
+    same(&poller.table.watched(), &(false, None), &"the pause is over")
 }
 
 /// The same for a listener, in the only row of a table.

@@ -1,15 +1,18 @@
 -- The laws of `laws`, each used once. A fact takes only its law, so that a weaker law does not check.
-use Rattle.std.proofs.Common.{◌≡◌, ℕ, ◌+◌, ◌≤◌, Bool, true, false, List, [], ◌∷◌, Option, Some, None, refl, ap, ◌∙◌, subst, arith}
+use Rattle.std.proofs.Common.{◌≡◌, ℕ, ◌+◌, ◌≤◌, Bool, true, false, List, [], ◌∷◌, Option, Some, None, length, refl, ap, ◌∙◌, subst, arith}
 use Rattle.std.specs.Prelude.{slice_get, ◌||◌}
 use Rattle.std.proofs.lemmas.List.Elements.{All-contains, All-head, All-tail}
 use Rattle.std.specs.Duration.{as_nanos}
 use Rattle.std.specs.Time.{instant_nanos}
 use Rattle.std.specs.declared.time.Duration.{Duration}
 use Rattle.std.specs.declared.time.Instant.{Instant}
-use Rattle.daide_io.specs.System.{Connects, TransitsBy}
-use Rattle.daide_io.specs.declared.system.Connect.TheVariants.{Ready}
+use Rattle.daide_io.specs.System.{Accepts, Connects, TransitsBy}
+use Rattle.daide_io.specs.declared.system.Connect.TheVariants.{Ready, Failed}
 use Rattle.daide_io.specs.Streams.{StreamCall}
-use Rattle.daide_sockets.specs.Pairing.{Paired, RunSockets, Transits}
+use Rattle.daide_sockets.specs.Pairing.{Arriving, Paired, RunSockets, Transits}
+use Rattle.daide_sockets.specs.Lingering.{ClosingStream}
+use Rattle.daide_sockets.specs.Beside.{WaitsAreInTimeBeside, may_close_on, closing_due, may_connect, others_watched}
+use Rattle.daide_sockets.specs.Accounted.{SocketsAreAccounted}
 use Rattle.daide_sockets.specs.PairedOnce.{SessionsComeOnce, is_same}
 use Rattle.daide_sockets.specs.declared.table.Row.{Row}
 use Rattle.daide_sockets.specs.Table.{Table, IsWaitTime}
@@ -82,6 +85,36 @@ watched_not_for_ever law table now due reading lasts =
     let watched = (false, Some due) ∷ [] in
     (All-contains (λ (s : Bool × Option Instant). IsInTimeFor table.reading None s.0 s.1) watched (false, Some due)
     (law.sessions table watched None lasts) (0, omega arith, refl)).deadline now due reading refl
+
+-- while a byte is buffered for a closing stream that is writable, a wait takes no time
+closing_goes_out : {S : Type 0} → WaitsAreInTimeBeside S → (table : Table) (time : Duration) (closing : ClosingStream S) →
+    closing.stream.has_failed ≡ false → closing.stream.write_buffer ≡ 7 ∷ [] → closing.known.may_write ≡ true →
+    IsWaitTime (watching_all table (others_watched {S = S} table (false, None) [] (closing ∷ []))) (Some time) →
+    as_nanos time ≡ 0
+closing_goes_out {S} law table time closing failed held may lasts =
+    let goes : may_close_on table closing ≡ true = rw (failed, held, may) refl in
+    (All-head (λ (c : ClosingStream S). IsInTimeFor table.reading (Some time) (may_close_on table c) (closing_due c)) closing
+    [] (law table (Some time) (false, None) [] (closing ∷ []) lasts).closes).work goes
+
+-- the deadline of a connect seven nanoseconds after the reading ends a wait within them
+connect_within_seven : {S : Type 0} → WaitsAreInTimeBeside S → (table : Table) (time : Duration) (arrival : Arriving S)
+    (now due : Instant) → table.reading ≡ Some now → arrival.gives_up ≡ Some due →
+    instant_nanos due ≡ instant_nanos now + 7 →
+    IsWaitTime (watching_all table (others_watched table (false, None) (arrival ∷ []) [])) (Some time) → as_nanos time ≤ 7
+connect_within_seven {S} law table time arrival now due reading deadline seven lasts =
+    let most = (All-head (λ (a : Arriving S). IsInTimeFor table.reading (Some time) (may_connect table a.row) a.gives_up)
+    arrival [] (law table (Some time) (false, None) (arrival ∷ []) [] lasts).connects).deadline now due reading deadline in
+    omega (arith, most, seven)
+
+-- of the only bot, which was given up, at most one socket closes
+given_up_closes_one : {P S : Type 0} (to_give taken : S → Option (List ℕ)) (calls : S → Option (List StreamCall)) →
+    SocketsAreAccounted P to_give taken calls → (pair : P → Paired S) (old new : RunSockets S) → old.came ≡ 0 →
+    old.arrivals ≡ [] → old.closing.streams ≡ [] →
+    TransitsBy (Transits to_give taken calls pair) old (Accepts true ∷ Connects Failed ∷ []) new →
+    length new.closing.streams ≤ 1
+given_up_closes_one to_give taken calls law pair old new none no_arrivals no_closing goes =
+    let few = (law pair old new (Accepts true ∷ Connects Failed ∷ []) none no_arrivals no_closing goes).closing in
+    omega (arith, few)
 
 -- while the second control connection may be read, a wait takes no time
 control_is_read : (S : Type 0) → ControlWaitsAreInTime S → (table : Table) (control : Control S)

@@ -1,5 +1,5 @@
 -- Each session number is given once.
-use Rattle.std.proofs.Common.{◌≡◌, ◌≤◌, ℕ, ◌+◌, Bool, true, false, List, [], ◌∷◌, ◌++◌, Option, ap, ◌∙◌, arith}
+use Rattle.std.proofs.Common.{◌≡◌, ◌≤◌, ℕ, ◌+◌, Bool, true, false, List, [], ◌∷◌, ◌++◌, length, Option, ap, ◌∙◌, arith}
 use Rattle.std.specs.Prelude.{nat_lt, if◌then◌else◌}
 use Rattle.daide_io.specs.System.{SystemCall, Begins, Shows, ReportsNews, BeginsTurn, Watches, Accepts, Connects}
 use Rattle.daide_io.specs.System.{Retires, Notifies, Waits, TransitsBy}
@@ -98,8 +98,8 @@ module _ {S : Type 0} (n : ℕ) where
         let c : to_come n new.came ≡ to_come n old.came = ap (to_come n) h.3 in
         omega (arith, a, c)
     one (Connects Pending) old new h =
-        let a = looked old.arrivals new.arrivals h.0 h.1 in
-        let c : to_come n new.came ≡ to_come n old.came = ap (to_come n) h.2 in
+        let a = looked old.arrivals new.arrivals (length old.arrivals) h.0 in
+        let c : to_come n new.came ≡ to_come n old.came = ap (to_come n) h.1 in
         omega (arith, a, c)
     one (Retires ports end) old new h = let e = kept old new h.1 h.2 in omega (arith, e)
     one (Notifies notice) old new h = let e : left new ≡ left old = ap left h in omega (arith, e)

@@ -3,7 +3,7 @@ use Rattle.std.specs.Prelude.{ℕ, ◌==◌, nat_lt, List, length, take, Option,
 use Rattle.std.specs.List.{position}
 use Rattle.daide_io.specs.declared.ports.Pull.{Pull}
 use Rattle.daide_io.specs.declared.ports.Pull.TheVariants.{Ended}
-use Rattle.daide_status.specs.Requests.{request_of}
+use Rattle.daide_status.specs.Requests.{requested_by}
 use Rattle.daide_status.specs.declared.request.ControlRequest.{ControlRequest}
 use Rattle.daide_sockets.specs.declared.control_request.Judgement.{Judgement}
 use Rattle.daide_sockets.specs.declared.control_request.Judgement.TheVariants.{Requests, Unknown, Unfinished}
@@ -21,7 +21,7 @@ judged_request (Some request) = Requests request
 judged_request None = Unknown
 
 abbrev pub judged_line : Option ℕ → List ℕ → Judgement
-judged_line (Some at) bytes = judged_request (request_of (take at bytes))
+judged_line (Some at) bytes = judged_request (requested_by (take at bytes))
 judged_line None bytes = if nat_lt (length bytes) request_room then Unfinished else Unknown
 
 -- The line up to the first line feed is a request or none. Without a line feed in 64 bytes there is none.

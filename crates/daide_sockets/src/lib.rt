@@ -18,6 +18,7 @@ pub mod connection;
 pub mod control;
 mod control_answer;
 mod control_connection;
+pub mod control_listener;
 mod control_request;
 pub mod laws;
 pub mod lingering_close;

@@ -1,14 +1,14 @@
-//! The hosts of the bots that are there, by which a further one is let in.
+//! The bots that are there, by whose hosts a further one is let in.
 
-ghost use Rattle.std.specs.Prelude.{◌≡◌, ◌++◌, ◌∷◌, [], true, false, ◌<◌, IfSome, length, vec_capacity, slice_get};
+ghost use Rattle.std.specs.Prelude.{◌≡◌, ◌++◌, ◌∷◌, [], true, false, ◌<◌, IfSome, length, slice_get, vec_capacity};
 ghost use Rattle.daide_sockets.specs.Present.{position_of, without_at};
 
 use daide_settings::Host;
 use std::alloc::Global;
 use std::net::SocketAddr;
 
-/// The bots that are there, with a connect under way or in a session: the number, the host and the address of each, in the order in
-/// which they came.
+/// The bots that are there, with a connect under way or in a session: the number, the host and the address of each, in
+/// the order in which they came.
 #[derive(Drop)]
 pub struct Present {
     numbers: Vec<u32>,
@@ -35,7 +35,8 @@ fn position_of(number: u32, numbers: &[u32]) -> usize
 impl Present {
     /// Creates the list of a run with at most this many bots at once. Returns `None` if memory is refused.
     pub fn new(alloc: Global, most: usize) -> Option<Present>
-        ensures { IfSome result (λ present. (present.numbers.items ≡ []) × (present.hosts.items ≡ [])) }
+        ensures { IfSome result (λ present. (present.numbers.items ≡ []) × (present.hosts.items ≡ [])
+            × (present.addresses.items ≡ [])) }
     {
         let Ok(numbers) = Vec::with_capacity(alloc, most) else {
             return None;
@@ -67,7 +68,7 @@ impl Present {
         self.numbers.len()
     }
 
-    /// Returns the address of the bot with this number; `None` if it is not there.
+    /// Returns the address of the bot with this number, if it is there.
     pub(crate) fn address_of(&self, number: u32) -> Option<SocketAddr>
         ensures { result ≡ slice_get self.now.addresses.items (position_of number self.now.numbers.items) }
     {
@@ -75,7 +76,7 @@ impl Present {
         self.addresses.get(at).copied()
     }
 
-    /// Adds a bot. Returns false if there is no room for it, and changes nothing then.
+    /// Adds a bot, with its host and its address. Returns false if there is no room for it, and changes nothing then.
     pub(crate) fn add(&mut self, number: u32, host: Host, address: SocketAddr) -> bool
         ensures numbers { result ≡ true → self.new.numbers.items ≡ self.old.numbers.items ++ number ∷ [] }
         ensures hosts { result ≡ true → self.new.hosts.items ≡ self.old.hosts.items ++ host ∷ [] }

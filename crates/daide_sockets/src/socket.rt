@@ -230,6 +230,7 @@ impl<S: Duplex + Drop> Socket<'_, S> {
             (self.new.stream ≡ self.old.stream) × (self.new.stalls_at ≡ self.old.stalls_at)
             × (self.new.timed ≡ self.old.timed) }
         ensures stall_time { self.new.stall_time ≡ self.old.stall_time }
+        ensures known { (self.new.key ≡ self.old.key) × (self.new.readiness ≡ self.old.readiness) }
         ensures patient { IsNone self.old.stall_time → self.new.timed ≡ self.old.timed }
         ensures silent { self.new.timed.is_silent ≡ self.old.timed.is_silent }
         ensures ends { self.new.timed.ends_stalled ≡ self.old.timed.ends_stalled }
@@ -320,6 +321,7 @@ impl<S: Duplex + Drop> Socket<'_, S> {
             IsFlushed S.calls self.old.readiness self.old.stream self.new.readiness self.new.stream }
         ensures nothing { IsWritingOver self.old.stream →
             (self.new.stream ≡ self.old.stream) × (self.new.stalls_at ≡ self.old.stalls_at) }
+        ensures unasked { IsWritingOver self.old.stream → self.new.readiness ≡ self.old.readiness }
         ensures waits { IsWriting self.old.stream → IsWriting self.new.stream →
             StallsNext self.old.stall_time now self.old.stalls_at
             (nat_lt (length self.new.stream.write_buffer) (length self.old.stream.write_buffer)) self.new.stalls_at }

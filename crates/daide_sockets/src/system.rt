@@ -6,21 +6,23 @@ ghost use Rattle.daide_io.specs.Network.{StopsListening};
 ghost use Rattle.daide_io.specs.Ports.{TurnBegins};
 ghost use Rattle.daide_status.specs.declared.snapshot.RunStatus.{RunStatus};
 ghost use Rattle.daide_status.specs.declared.snapshot.SessionRow.{SessionRow};
-ghost use Rattle.daide_io.specs.System.{Begins, Shows, ReportsNews, BeginsTurn, Watches, Retires};
+ghost use Rattle.daide_io.specs.System.{Begins, Shows, ReportsNews, BeginsTurn, Watches, Retires, Waits};
 ghost use Rattle.daide_buffered_io.specs.Streams.{Transfers};
 ghost use Rattle.daide_sockets.specs.Accepting.{is_accept_due, MakesAccept};
+ghost use Rattle.daide_sockets.specs.Beside.{others_watched};
 ghost use Rattle.daide_sockets.specs.declared.ports.SocketPorts.{SocketPorts as PortsOf};
 ghost use Rattle.daide_sockets.specs.ControlSlots.{BeginsRound, Each, PlaceShows, places, is_newly_stopped, watching_control};
+ghost use Rattle.daide_sockets.specs.Finishing.{FinishesAll};
 ghost use Rattle.daide_sockets.specs.Snapshot.{counted, seconds_between, or_zero, IsRunStatus, IsSessionRow};
 ghost use Rattle.daide_sockets.specs.Lingering.{LooksAround, in_pass, GoOnFor, no_closing};
 ghost use Rattle.daide_sockets.specs.Pairing.{FirstArrivalEvolves, Transits, Closes, ClosesBothAt, Comes, ComesWith};
 ghost use Rattle.daide_sockets.specs.Present.{IsAllowed, IsPresentWith, position_of, without_at};
 ghost use Rattle.daide_sockets.specs.Sockets.{due_after};
-ghost use Rattle.daide_sockets.specs.Table.{Table, WaitsOnce, watching, unwatched};
+ghost use Rattle.daide_sockets.specs.Table.{Table, watching};
 ghost use Rattle.daide_sockets.specs.Times.{IsSeconds, IsIdleTime, is_past};
 ghost use Rattle.daide_sockets.specs.Wakeups.{Settles, Wakes, RestsOnce, may_session_go_on, session_due, has_session_news};
 
-use crate::admission::{Acceptor, PendingConnection, Unreached};
+use crate::admission::{Acceptor, PendingConnection, Unreached, watch_arrivals};
 use crate::control::{Control, MOST_CONTROLS, seconds_between};
 use crate::lingering_close::{Closings, MOST_CLOSING};
 use crate::poller::Poller;
@@ -77,10 +79,11 @@ fn counted(count: usize) -> u32
 /// them, or eight if there are more (`ClosingsGoOn`). They keep their order. If a turn begins, what was held for too long
 /// is written to that session's own sockets, and neither is read. There is news for a session exactly if something may be
 /// done at once for it, or its nearest deadline is past (`has_news`: `news`). A wait watches the sessions that it was to
-/// watch (`Wakes`). It polls once, for the time until the nearest deadline, unless something is pending or a closing
-/// socket may go on (`rest`: `waits`, `polls`). With room for one more, a bot is accepted if the listener is ready
-/// (`accept_next`: `made`). It is accepted only if it may come by the settings, beside the hosts of those that are there
-/// (`allowed`). A bot that comes is added to those, and the end of its session removes it (`retire` and `let_go`:
+/// watch (`Wakes`), the listener, each connect and each closing socket (`wait`: `polls`). It polls once, for the time
+/// until the nearest deadline, unless something is pending or may be done at once. With room for one more, a bot is
+/// accepted if the listener is ready (`accept_next`: `made`). If none comes, the listener is not ready any more, or is to
+/// be asked again (`left`). A bot is accepted only if it may come by the settings, beside the hosts of those that are
+/// there (`allowed`). A bot that comes is added to those, and the end of its session removes it (`retire` and `let_go`:
 /// `hosts`).
 ///
 /// At the end of `begin_round` the control socket advances, and the next wait watches it (`take_orders`: `control`,
@@ -88,10 +91,9 @@ fn counted(count: usize) -> u32
 /// now, a pending connect is given up (`look_at_first`: `given_up`). Each session has news until its next turn (`has_news`:
 /// `news`), and that turn stops it (`begin_turn`: `stops`).
 ///
-/// Not said: that a wait ended because something came. Which eight of more sockets are looked at, and that a connect
-/// goes to the server's address, is read from the code. That held bytes are given up only after a failed write, or
-/// after `stall_seconds`, is read from `flush_at` and `give_up_stalled`. `SessionNotice::of_end` and `why_of` give the
-/// counts and the cause in a line of a session's end. Tests and `scripts/recorded` show that `--verbose` writes it.
+/// Not said: that a wait ended because something came. That held bytes are given up only after a failed write, or after
+/// `stall_seconds`, is read from `flush_at` and `give_up_stalled`. `SessionNotice::of_end` and `why_of` give the counts
+/// and the cause in a line of a session's end. Tests and `scripts/recorded` show that `--verbose` writes it.
 #[derive(Drop)]
 pub struct Sockets<'w, N: Network, E: Write + Drop> {
     poller: Poller<N>,
@@ -150,7 +152,7 @@ impl<'w, N: Network, E: Write + Drop> Sockets<'w, N, E> {
         ensures no_orders { IfSome result (λ sockets. (sockets.control.stops_accepting ≡ false)
             × (sockets.control.stops_now ≡ false)) }
         ensures none_present { IfSome result (λ sockets. (sockets.present.numbers.items ≡ [])
-            × (sockets.present.hosts.items ≡ [])) }
+            × (sockets.present.hosts.items ≡ []) × (sockets.present.addresses.items ≡ [])) }
     {
         let (network, servers, table, pool) = ground;
         let Ok(mut poller) = Poller::new(alloc, network, table) else {
@@ -187,6 +189,14 @@ impl<'w, N: Network, E: Write + Drop> Sockets<'w, N, E> {
             errors,
             is_verbose: false,
         })
+    }
+
+    /// Returns the address of the bot with this number, if it is there.
+    pub fn address_of(&self, number: u32) -> Option<SocketAddr>
+        ensures { result ≡ slice_get self.now.present.addresses.items
+            (position_of number self.now.present.numbers.items) }
+    {
+        self.present.address_of(number)
     }
 
     /// Returns the table.
@@ -252,6 +262,8 @@ impl<'w, N: Network, E: Write + Drop> Sockets<'w, N, E> {
             ≡ without_at (position_of left.entry.number self.old.present.numbers.items) self.old.present.numbers.items }
         ensures hosts { self.new.present.hosts.items
             ≡ without_at (position_of left.entry.number self.old.present.numbers.items) self.old.present.hosts.items }
+        ensures addresses { self.new.present.addresses.items
+            ≡ without_at (position_of left.entry.number self.old.present.numbers.items) self.old.present.addresses.items }
     {
         self.present.remove(left.number);
         self.unreached = self.unreached.saturating_add(1);
@@ -290,7 +302,8 @@ impl<'w, N: Network, E: Write + Drop> Sockets<'w, N, E> {
                 }
             };
         }
-        match arrival.join(&mut self.poller.table, (self.idle_time, self.stall_time)) {
+        let now = self.poller.table.now();
+        match arrival.join(now, (self.idle_time, self.stall_time)) {
             Ok(ports) => Connect::Ready(ports),
             Err(left) => {
                 self.let_go(left);
@@ -308,7 +321,7 @@ impl<'w, N: Network, E: Write + Drop> Sockets<'w, N, E> {
         ensures clock { self.new.poller.table.reading ≡ self.old.poller.table.reading }
         ensures control { self.new.control ≡ self.old.control }
     {
-        self.acceptor.reopen(&mut self.poller.table);
+        self.acceptor.reopen(self.poller.table.now());
         self.closings.advance(&mut self.poller.table);
     }
 
@@ -416,15 +429,17 @@ impl<'w, N: Network, E: Write + Drop> Sockets<'w, N, E> {
     }
 
     /// Waits until the last sockets are closed. That takes at most a second after their peers accepted the buffered
-    /// bytes, or are stalled. The closing sockets are advanced by rounds, and by nothing else.
+    /// bytes, or are stalled. The closing sockets are advanced by rounds, and by nothing else. Each round is at the last
+    /// reading of the clock (`readings`).
     pub fn finish(&mut self)
         ensures closing { (rounds : ℕ) × GoOnFor N.Connection.to_give N.Connection.taken
             N.Connection.calls rounds self.old.closings self.new.closings
             × ((self.new.closings.streams ≡ []) ⊎ (rounds ≡ u64.MAX)) }
+        ensures readings { FinishesAll N.transition N.Connection.to_give N.Connection.taken N.Connection.calls u64.MAX
+            self.old.poller.network self.old.poller.table.reading self.old.closings self.new.closings }
         ensures came { self.new.acceptor.came ≡ self.old.acceptor.came }
         ensures arrivals { self.new.arrivals.items ≡ self.old.arrivals.items }
     {
-        self.acceptor.stop(&mut self.poller.table);
         self.closings.finish(&mut self.poller);
     }
 
@@ -433,7 +448,10 @@ impl<'w, N: Network, E: Write + Drop> Sockets<'w, N, E> {
     ///
     /// `made`: with room for one more, an accept is made if the listener is ready by the table, and no pause is under way.
     ///
-    /// `im_due`: its IM timer runs from the table's reading of the clock on.
+    /// `left`: if no bot came, no accept is due any more at this reading of the clock, or the listener is to be asked again
+    /// at once.
+    ///
+    /// `times`: its IM timer, and the time of its connect, run from the table's reading of the clock on.
     ///
     /// `allowed`: a bot that is accepted may come by the ranges, and by the limit beside those that are there.
     ///
@@ -448,12 +466,15 @@ impl<'w, N: Network, E: Write + Drop> Sockets<'w, N, E> {
             self.old.acceptor.came < u32.MAX → is_accept_due self.old.poller.table self.old.acceptor.key
             self.old.acceptor.readiness self.old.acceptor.resumes_at ≡ true →
             MakesAccept N.transition self.old.poller.network }
-        ensures im_due { IfSome result (λ _. ComesWith self.old.arrivals.items self.old.poller.table.reading
-            (as_nanos self.old.im_time) self.new.arrivals.items) }
+        ensures left { IfNone result (length self.old.arrivals.items < vec_capacity self.old.arrivals →
+            self.old.acceptor.came < u32.MAX → self.new.acceptor.looks_again ≡ false →
+            is_accept_due self.new.poller.table self.new.acceptor.key self.new.acceptor.readiness
+            self.new.acceptor.resumes_at ≡ false) }
+        ensures times { IfSome result (λ _. ComesWith self.old.arrivals.items self.old.poller.table.reading
+            (as_nanos self.old.im_time) (as_nanos self.old.connect_time) self.new.arrivals.items) }
         ensures allowed { IfSome result (λ began. IsAllowed self.old.allow.now self.old.max_per_address
             self.old.present.hosts.items began) }
-        ensures present { IfSome result (λ began. IsPresentWith self.old.present.numbers.items
-            self.old.present.hosts.items began self.new.present.numbers.items self.new.present.hosts.items) }
+        ensures present { IfSome result (λ began. IsPresentWith self.old.present began self.new.present) }
         ensures absent { IfNone result (self.new.present ≡ self.old.present) }
     {
         if self.arrivals.len() >= self.arrivals.capacity() {
@@ -480,17 +501,18 @@ impl<'w, N: Network, E: Write + Drop> Sockets<'w, N, E> {
         })
     }
 
-    /// Waits, and watches the sessions that it was to watch. If a closing socket may have more to discard, it only polls.
+    /// Waits, and watches the sessions that it was to watch, the listener, each connect and each closing socket
+    /// (`others_watched`). It only polls if something may be done at once for one of them.
     fn rest(&mut self)
         ensures rest { self.new ≡ record self.old { poller = self.new.poller } }
-        ensures waits { self.old.closings.streams ≡ [] → (after : Table) × WaitsOnce N.transition
-            self.old.poller.network self.old.poller.table self.new.poller.network after
-            × (self.new.poller.table ≡ unwatched after) }
-        ensures polls { RestsOnce N.transition self.old.poller.network self.old.poller.table self.new.poller.network
+        ensures polls { RestsOnce N.transition (others_watched self.old.poller.table
+            (self.old.acceptor.looks_again, self.old.acceptor.resumes_at) self.old.arrivals.items
+            self.old.closings.streams) self.old.poller.network self.old.poller.table self.new.poller.network
             self.new.poller.table }
     {
+        self.acceptor.watch(&mut self.poller.table);
+        watch_arrivals(self.arrivals.as_slice(), &mut self.poller.table);
         self.closings.rest(&mut self.poller);
-        self.poller.table.unwatch();
     }
 }
 
@@ -638,9 +660,6 @@ impl<'w, N: Network, E: Write + Drop> System<SocketPorts<'w, N::Connection>> for
     fn connected(&mut self) -> Connect<SocketPorts<'w, N::Connection>> {
         // A pending arrival moves to the end, so after a check of each the order is as before.
         for _look in 0..self.arrivals.len() {
-            if self.arrivals.is_empty() {
-                break;
-            }
             match self.look_at_first() {
                 Connect::Ready(ports) => return Connect::Ready(ports),
                 Connect::Failed => return Connect::Failed,
@@ -672,6 +691,8 @@ impl<'w, N: Network, E: Write + Drop> System<SocketPorts<'w, N::Connection>> for
             ≡ without_at (position_of ports.entry.number self.old.present.numbers.items) self.old.present.numbers.items }
         ensures hosts { self.new.present.hosts.items
             ≡ without_at (position_of ports.entry.number self.old.present.numbers.items) self.old.present.hosts.items }
+        ensures addresses { self.new.present.addresses.items
+            ≡ without_at (position_of ports.entry.number self.old.present.numbers.items) self.old.present.addresses.items }
     {
         self.present.remove(ports.number());
         let notice = SessionNotice::of_end(ports.number(), end, ports.timed(), self.stall_seconds);
@@ -688,7 +709,27 @@ impl<'w, N: Network, E: Write + Drop> System<SocketPorts<'w, N::Connection>> for
         let _ = writeln!(self.errors, "daide-gate: {notice}");
     }
 
-    fn wait(&mut self) {
+    fn wait(&mut self)
+        ensures transition { Transits N.Connection.to_give N.Connection.taken N.Connection.calls
+            (λ (ports : SocketPorts N.Connection). record {
+              number = ports.number;
+              bot = ports.bot.stream;
+              server = ports.server.stream;
+            })
+            (record { came = self.old.acceptor.came; arrivals = self.old.arrivals.items; closing = self.old.closings }) Waits
+            (record { came = self.new.acceptor.came; arrivals = self.new.arrivals.items; closing = self.new.closings })
+            × Wakes N.transition (λ (ports : SocketPorts N.Connection). record {
+              bot = ports.bot;
+              server = ports.server;
+              reading = ports.idle.reading;
+              im_due = ports.im_due;
+            }) (self.old.poller.network, self.old.poller.table) Waits (self.new.poller.network, self.new.poller.table) }
+        ensures polls { RestsOnce N.transition (others_watched self.old.poller.table
+            (self.old.acceptor.looks_again, self.old.acceptor.resumes_at) self.old.arrivals.items
+            self.old.closings.streams) self.old.poller.network self.old.poller.table self.new.poller.network
+            self.new.poller.table }
+        ensures same { self.new ≡ record self.old { poller = self.new.poller } }
+    {
         self.rest();
     }
 }

@@ -1,6 +1,5 @@
 -- A number that is written with a width is aligned to the right.
 use Rattle.std.proofs.Common.{zero, suc, true, ◌&&◌, if◌then◌else◌, ◌≡◌, ℕ, ◌-◌, ◌^◌, ◌++◌, false, List, [], ◌∷◌, length, refl, sym, ap, ◌∙◌, arith, rules}
-use native.Mathlib.Numerals.{unary_clauses}
 use Rattle.std.specs.Prelude.{◌==◌, codes}
 use Rattle.std.proofs.Math.Nat.{sub_self}
 use Rattle.std.proofs.lemmas.List.{append-nil}

@@ -1,1 +1,5 @@
-mod Aligned
+pub mod Aligned
+pub mod Chains
+pub mod TextLemmas
+pub mod RequestFacts
+mod StatusFacts

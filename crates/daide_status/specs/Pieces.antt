@@ -1,5 +1,5 @@
 -- The pieces of which the texts of a status are made. (own)
-use Rattle.std.specs.Prelude.{ℕ, ◌-◌, ◌++◌, List, Option, Some, None, codes, length}
+use Rattle.std.specs.Prelude.{ℕ, ◌-◌, ◌++◌, Bool, true, false, List, [], Option, Some, None, codes, length}
 use Rattle.std.specs.List.{repeat}
 use Rattle.std.specs.Fmt.{decimal}
 use Rattle.daide_protocol.specs.declared.phase.Phase.{Phase}
@@ -25,3 +25,8 @@ seconds_cell width None = right_aligned width (codes "-")
 abbrev pub seconds_or_null : Option ℕ → List ℕ
 seconds_or_null (Some seconds) = decimal seconds
 seconds_or_null None = codes "null"
+
+-- a text, if a condition holds
+abbrev pub text_if : Bool → List ℕ → List ℕ
+text_if true text = text
+text_if false text = []

@@ -24,8 +24,8 @@ abbrev pub longest_request : ℕ
 longest_request = 17
 
 -- the request with this line, byte for byte
-abbrev pub request_of : List ℕ → Option ControlRequest
-request_of line =
+abbrev pub requested_by : List ℕ → Option ControlRequest
+requested_by line =
     if bytes_eq line (codes "status table") then Some (Status Table) else
     if bytes_eq line (codes "status json") then Some (Status Json) else
     if bytes_eq line (codes "status prometheus") then Some (Status Prometheus) else

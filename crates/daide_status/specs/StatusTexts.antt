@@ -8,16 +8,7 @@ use Rattle.daide_status.specs.declared.snapshot.SessionRow.{SessionRow}
 use Rattle.daide_status.specs.declared.text.StatusText.{StatusText}
 use Rattle.daide_status.specs.Columns.{table_head, table_row}
 use Rattle.daide_status.specs.Json.{json_head, json_row, json_rows, json_end}
-use Rattle.daide_status.specs.Metrics.{metric_head, metrics_head, frame_samples, waiting_samples, idle_samples, level_sample}
-
--- the metrics of the sessions, each with these samples
-abbrev pub session_metrics : List ℕ → List ℕ → List ℕ → List ℕ → List ℕ
-session_metrics frames waiting idle levels =
-    metric_head (codes "session_frames_total") (codes "counter") (codes "Frames of a session, by what was done with them.")
-    ++ frames
-    ++ metric_head (codes "session_waiting_bytes") (codes "gauge") (codes "Bytes that wait for a side.") ++ waiting
-    ++ metric_head (codes "session_idle_seconds") (codes "gauge") (codes "Seconds since the last byte from a side.")
-    ++ idle ++ metric_head (codes "session_level") (codes "gauge") (codes "The level of press of a session.") ++ levels
+use Rattle.daide_status.specs.Metrics.{metrics_head, session_metrics, frame_samples, waiting_samples, idle_samples, level_sample}
 
 -- the text of a status
 abbrev pub status_text : Format → RunStatus → List SessionRow → List ℕ
@@ -38,29 +29,29 @@ pub record StatusView : Type 0 where
   pub idle : List ℕ
   pub levels : List ℕ
 
-abbrev pub view_of : StatusText → StatusView
-view_of t = record {
+abbrev pub status_view : StatusText → StatusView
+status_view t = record {
   format = t.format;
   has_rows = t.has_rows;
   text = t.text.items;
-  frames = t.frames.items;
-  waiting = t.waiting.items;
-  idle = t.idle.items;
-  levels = t.levels.items;
+  frames = t.samples.frames.items;
+  waiting = t.samples.waiting.items;
+  idle = t.samples.idle.items;
+  levels = t.samples.levels.items;
 }
 
 -- what comes before the first session
-abbrev pub head_text : Format → RunStatus → List ℕ
-head_text Table run = table_head run
-head_text Json run = json_head run
-head_text Prometheus run = metrics_head run
+abbrev pub status_head : Format → RunStatus → List ℕ
+status_head Table run = table_head run
+status_head Json run = json_head run
+status_head Prometheus run = metrics_head run
 
 -- the text before any session
 abbrev pub begun : Format → RunStatus → StatusView
 begun format run = record {
   format = format;
   has_rows = false;
-  text = head_text format run;
+  text = status_head format run;
   frames = [];
   waiting = [];
   idle = [];
@@ -106,11 +97,11 @@ abbrev pub all_samples : StatusView → List ℕ
 all_samples view = session_metrics view.frames view.waiting view.idle view.levels
 
 -- what a text ends with, by the format
-abbrev pub end_text : Format → StatusView → List ℕ
-end_text Table view = []
-end_text Json view = json_end
-end_text Prometheus view = all_samples view
+abbrev pub status_end : Format → StatusView → List ℕ
+status_end Table view = []
+status_end Json view = json_end
+status_end Prometheus view = all_samples view
 
 -- the finished text
 abbrev pub ended : StatusView → List ℕ
-ended view = view.text ++ end_text view.format view
+ended view = view.text ++ status_end view.format view

@@ -4,6 +4,7 @@
 #![tactic(auto)]
 
 mod json;
+pub mod laws;
 mod metrics;
 mod pieces;
 pub mod request;

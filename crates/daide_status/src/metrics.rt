@@ -1,18 +1,49 @@
 //! The status in the text format of Prometheus: each metric with its help and its type, and then all its samples.
 
-ghost use Rattle.std.specs.Prelude.{◌≡◌, ◌+◌, ◌++◌, OnOk, codes};
+ghost use Rattle.std.specs.Prelude.{◌≡◌, ◌+◌, ◌++◌, [], OnOk, codes};
 ghost use Rattle.daide_status.specs.Metrics.{flag_number, frame_samples, idle_samples, idle_sample, level_sample};
-ghost use Rattle.daide_status.specs.Metrics.{metric_head, metrics_head, phase_label, run_metric, sample, waiting_samples};
-ghost use Rattle.daide_status.specs.Metrics.{waiting_metrics};
+ghost use Rattle.daide_status.specs.Metrics.{metric_head, metrics_head, phase_label, run_metric, session_sample, waiting_samples};
+ghost use Rattle.daide_status.specs.Metrics.{run_sample, session_metric, session_metrics, waiting_metrics};
 
 use crate::pieces::sum;
 use crate::snapshot::{RunStatus, SessionRow};
 use daide_protocol::{Phase, Summary};
+use std::alloc::Global;
 use std::io;
 use std::io::Write;
 
+/// The samples of all sessions, by metric, since a metric has all its samples together.
+#[derive(Drop)]
+pub(crate) struct Samples {
+    /// The frames of each session, by what was done with them.
+    pub frames: Vec<u8>,
+    /// The bytes that wait for each side.
+    pub waiting: Vec<u8>,
+    /// The seconds since each side's last byte.
+    pub idle: Vec<u8>,
+    /// The level of each session.
+    pub levels: Vec<u8>,
+}
+
+impl Samples {
+    /// Returns no samples.
+    pub(crate) fn new(alloc: Global) -> Samples
+        ensures frames { result.frames.items ≡ [] }
+        ensures waiting { result.waiting.items ≡ [] }
+        ensures idle { result.idle.items ≡ [] }
+        ensures levels { result.levels.items ≡ [] }
+    {
+        Samples {
+            frames: Vec::new(alloc),
+            waiting: Vec::new(alloc),
+            idle: Vec::new(alloc),
+            levels: Vec::new(alloc),
+        }
+    }
+}
+
 /// Appends the help and the type of a metric.
-pub(crate) fn put_metric(name: &str, kind: &str, help: &str, out: &mut Vec<u8>) -> io::Result<()>
+fn put_metric(name: &str, kind: &str, help: &str, out: &mut Vec<u8>) -> io::Result<()>
     ensures { OnOk result (out.new.items ≡ out.old.items ++ metric_head name.now kind.now help.now) }
 {
     write!(
@@ -21,12 +52,19 @@ pub(crate) fn put_metric(name: &str, kind: &str, help: &str, out: &mut Vec<u8>) 
     )
 }
 
+/// Appends the sample of a metric of the run.
+fn put_value(name: &str, value: u64, out: &mut Vec<u8>) -> io::Result<()>
+    ensures { OnOk result (out.new.items ≡ out.old.items ++ run_sample name.now value) }
+{
+    writeln!(out, "daide_gate_{name} {value}")
+}
+
 /// Appends a gauge of the run.
 fn put_gauge(name: &str, help: &str, value: u64, out: &mut Vec<u8>) -> io::Result<()>
     ensures { OnOk result (out.new.items ≡ out.old.items ++ run_metric name.now (codes "gauge") help.now value) }
 {
     put_metric(name, "gauge", help, out)?;
-    writeln!(out, "daide_gate_{name} {value}")
+    put_value(name, value, out)
 }
 
 /// Appends a counter of the run.
@@ -34,7 +72,7 @@ fn put_counter(name: &str, help: &str, value: u64, out: &mut Vec<u8>) -> io::Res
     ensures { OnOk result (out.new.items ≡ out.old.items ++ run_metric name.now (codes "counter") help.now value) }
 {
     put_metric(name, "counter", help, out)?;
-    writeln!(out, "daide_gate_{name} {value}")
+    put_value(name, value, out)
 }
 
 /// Appends whether bots wait, whether the run is stopping, and its seconds.
@@ -62,7 +100,7 @@ fn put_state(run: &RunStatus, out: &mut Vec<u8>) -> io::Result<()>
 }
 
 /// Appends the metrics of the run.
-pub(crate) fn put_head(run: &RunStatus, out: &mut Vec<u8>) -> io::Result<()>
+pub(crate) fn put_metrics_head(run: &RunStatus, out: &mut Vec<u8>) -> io::Result<()>
     ensures { OnOk result (out.new.items ≡ out.old.items ++ metrics_head run.now) }
 {
     put_gauge("sessions", "Sessions that are open.", run.open as u64, out)?;
@@ -95,7 +133,7 @@ fn put_sample(
     value: u128,
     out: &mut Vec<u8>,
 ) -> io::Result<()>
-    ensures { OnOk result (out.new.items ≡ out.old.items ++ sample name.now row.now label.now value) }
+    ensures { OnOk result (out.new.items ≡ out.old.items ++ session_sample name.now row.now label.now value) }
 {
     let number = row.number;
     let bot = row.bot;
@@ -201,5 +239,48 @@ pub(crate) fn put_level(row: &SessionRow, out: &mut Vec<u8>) -> io::Result<()>
     ensures { OnOk result (out.new.items ≡ out.old.items ++ level_sample row.now) }
 {
     let label = phase_label(row.phase);
-    put_sample("session_level", row, label, row.level.number() as u128, out)
+    let level = row.level.number();
+    put_sample("session_level", row, label, level as u128, out)
+}
+
+/// Appends a metric of the sessions with all its samples.
+fn put_session_metric(
+    name: &str,
+    kind: &str,
+    help: &str,
+    samples: &Vec<u8>,
+    out: &mut Vec<u8>,
+) -> io::Result<()>
+    ensures { OnOk result (out.new.items ≡ out.old.items ++ session_metric name.now kind.now help.now samples.now.items) }
+{
+    put_metric(name, kind, help, out)?;
+    out.write_all(samples.as_slice())
+}
+
+/// Appends the metrics of the sessions, each with all its samples.
+pub(crate) fn put_session_metrics(samples: &Samples, out: &mut Vec<u8>) -> io::Result<()>
+    ensures { OnOk result (out.new.items ≡ out.old.items
+        ++ session_metrics samples.now.frames.items samples.now.waiting.items samples.now.idle.items
+        samples.now.levels.items) }
+{
+    let done = "Frames of a session, by what was done with them.";
+    put_session_metric(
+        "session_frames_total",
+        "counter",
+        done,
+        &samples.frames,
+        out,
+    )?;
+    let waiting = "Bytes that wait for a side.";
+    put_session_metric(
+        "session_waiting_bytes",
+        "gauge",
+        waiting,
+        &samples.waiting,
+        out,
+    )?;
+    let silence = "Seconds since the last byte from a side.";
+    put_session_metric("session_idle_seconds", "gauge", silence, &samples.idle, out)?;
+    let level = "The level of press of a session.";
+    put_session_metric("session_level", "gauge", level, &samples.levels, out)
 }

@@ -2,7 +2,7 @@
 
 ghost use Rattle.std.specs.Prelude.{◌≡◌, ◌+◌, ◌++◌, OnOk};
 ghost use Rattle.std.specs.Fmt.{decimal};
-ghost use Rattle.daide_status.specs.Pieces.{phase_name, right_aligned, seconds_cell, seconds_or_null};
+ghost use Rattle.daide_status.specs.Pieces.{phase_name, right_aligned, seconds_cell, seconds_or_null, text_if};
 
 use daide_protocol::Phase;
 use std::io;
@@ -51,5 +51,16 @@ pub(crate) fn put_seconds_or_null(seconds: Option<u64>, out: &mut Vec<u8>) -> io
     match seconds {
         Some(seconds) => write!(out, "{seconds}"),
         None => out.write_all(b"null"),
+    }
+}
+
+/// Appends a text if a condition holds.
+pub(crate) fn put_if(holds: bool, text: &str, out: &mut Vec<u8>) -> io::Result<()>
+    ensures { OnOk result (out.new.items ≡ out.old.items ++ text_if holds text.now) }
+{
+    if holds {
+        out.write_all(text.as_bytes())
+    } else {
+        Ok(())
     }
 }

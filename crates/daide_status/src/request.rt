@@ -1,7 +1,7 @@
 //! The request of an operator: one line of text.
 
 ghost use Rattle.std.specs.Prelude.{◌≡◌, ◌≤◌, length};
-ghost use Rattle.daide_status.specs.Requests.{longest_request, request_of, request_text};
+ghost use Rattle.daide_status.specs.Requests.{longest_request, requested_by, request_text};
 
 /// The form of a status.
 #[derive(Clone, Copy, Debug, PartialEq, Eq)]
@@ -45,7 +45,7 @@ impl ControlRequest {
 
     /// Returns the request of a line without its line end, if it is the line of one, byte for byte.
     pub fn of_line(line: &[u8]) -> Option<ControlRequest>
-        ensures { result ≡ request_of line.now }
+        ensures { result ≡ requested_by line.now }
     {
         if line == ControlRequest::Status(Format::Table).text().as_bytes() {
             return Some(ControlRequest::Status(Format::Table));
