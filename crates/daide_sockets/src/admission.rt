@@ -7,6 +7,7 @@ ghost use Rattle.std.specs.Prelude.{◌≡◌, ◌≢◌, ◌+◌, ◌<◌, ◌+
 ghost use Rattle.daide_sockets.specs.Table.{left_with};
 ghost use Rattle.daide_sockets.specs.Accepting.{is_accept_made, is_accept_due, ReportsAccept, MakesAccept, Pauses};
 ghost use Rattle.std.specs.Duration.{as_nanos};
+ghost use Rattle.daide_sockets.specs.Timers.{BeginsAt, timers_of};
 ghost use Rattle.daide_sockets.specs.Times.{IsAfter, IsStallEnd};
 ghost use Rattle.std.specs.Net.Socket.{socket_ip};
 ghost use Rattle.daide_settings.specs.Ranges.{host_of, may_come};
@@ -430,6 +431,7 @@ impl<'w, S: Duplex + Drop> PendingConnection<'w, S> {
         ensures im_due { IfOk result (λ ports. ports.im_due ≡ self.entry.im_due) }
         ensures silent_from { IfOk result (λ ports. IsStallEnd table.old.reading times.0 ports.bot.silent_from
             × IsStallEnd table.old.reading times.0 ports.server.silent_from) }
+        ensures begins { IfOk result (λ ports. BeginsAt table.old.reading times (timers_of ports)) }
         ensures unreached { IfErr result (λ left. (left.number ≡ self.entry.number)
             × (left.bot.stream ≡ self.entry.bot) × (self.entry.server ≡ None)) }
     {
