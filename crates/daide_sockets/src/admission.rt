@@ -13,6 +13,7 @@ ghost use Rattle.daide_sockets.specs.Pairing.{ConnectsTo};
 ghost use Rattle.daide_sockets.specs.Table.{watching, no_report, report_at};
 ghost use Rattle.daide_sockets.specs.Accepting.{is_accept_made, is_accept_due, accept_pause, ReportsAccept, MakesAccept, Pauses};
 ghost use Rattle.std.specs.Duration.{as_nanos};
+ghost use Rattle.daide_sockets.specs.Timers.{BeginsAt, timers_of};
 ghost use Rattle.daide_sockets.specs.Times.{IsAfter, IsStallEnd, is_past};
 ghost use Rattle.std.specs.Net.Socket.{socket_ip};
 ghost use Rattle.daide_settings.specs.Ranges.{host_of, may_come};
@@ -497,6 +498,7 @@ impl<'w, S: Duplex + Drop> PendingConnection<'w, S> {
         ensures im_due { IfOk result (λ ports. ports.im_due ≡ self.entry.im_due) }
         ensures silent_from { IfOk result (λ ports. IsStallEnd now times.0 ports.bot.silent_from
             × IsStallEnd now times.0 ports.server.silent_from) }
+        ensures begins { IfOk result (λ ports. BeginsAt now times (timers_of ports)) }
         ensures unreached { IfErr result (λ left. (left.number ≡ self.entry.number)
             × (left.bot.stream ≡ self.entry.bot) × (self.entry.server ≡ None)) }
     {

@@ -5,6 +5,7 @@
 
 ghost use Rattle.std.specs.Prelude.{◌≡◌, ◌||◌, List, Option, [], ◌∷◌, false, true, IfSome, None, Some};
 ghost use Rattle.daide_sockets.specs.Accepting.{is_accept_due, Pauses};
+ghost use Rattle.daide_sockets.specs.Snapshot.{seconds_between, or_zero};
 ghost use Rattle.daide_sockets.specs.Control.{gathers_at, stops_at, stops_now_at};
 ghost use Rattle.daide_sockets.specs.ControlSlots.{places, Each, at_some, PlaceAdvances, PlaceShows};
 ghost use Rattle.daide_sockets.specs.ControlSlots.{at_place, has_free, with_one, watching_place, watching_places, watching_listener};
@@ -28,6 +29,16 @@ pub const MOST_CONTROLS: usize = 4;
 
 /// The number of seconds after which a control connection is closed.
 const CONTROL_SECONDS: u64 = 2;
+
+/// Returns the whole seconds from one moment until another; `None` without one of them.
+pub(crate) fn seconds_between(moment: Option<Instant>, later: Option<Instant>) -> Option<u64>
+    ensures { result ≡ seconds_between moment later }
+{
+    match (moment, later) {
+        (Some(moment), Some(later)) => Some(later.saturating_duration_since(moment).as_secs()),
+        _ => None,
+    }
+}
 
 /// The places of the control connections.
 #[derive(Drop)]
@@ -410,10 +421,9 @@ impl<S: Duplex + Drop> Control<S> {
     }
 
     /// Returns the seconds from the beginning of the run to this reading of the clock; 0 without a reading.
-    pub(crate) fn seconds(&self, now: Option<Instant>) -> u64 {
-        match (self.started_at, now) {
-            (Some(start), Some(now)) => now.saturating_duration_since(start).as_secs(),
-            _ => 0,
-        }
+    pub(crate) fn seconds(&self, now: Option<Instant>) -> u64
+        ensures { result ≡ or_zero (seconds_between self.now.started_at now) }
+    {
+        seconds_between(self.started_at, now).unwrap_or(0)
     }
 }

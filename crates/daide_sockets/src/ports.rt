@@ -12,6 +12,7 @@ ghost use Rattle.daide_buffered_io.specs.Taking.{bytes_taken};
 ghost use Rattle.daide_sockets.specs.Lingering.{IsWriting};
 ghost use Rattle.daide_sockets.specs.Sockets.{read_if, due_after};
 ghost use Rattle.daide_sockets.specs.Table.{merged, report_at, without_report, watching};
+ghost use Rattle.daide_sockets.specs.Timers.{BeginsAt, PullsInTime, PutsInTime, FlushesInTime, BeginsInTime, SetsTimers, is_got, timers_of};
 ghost use Rattle.daide_sockets.specs.Times.{IsStallEnd, has_stalled, is_past};
 ghost use Rattle.daide_sockets.specs.Wakeups.{StaysUnread, IsPulled, IsOffered, Settles};
 ghost use Rattle.daide_sockets.specs.Wakeups.{may_session_go_on, session_due, has_session_news};
@@ -39,6 +40,18 @@ impl IdleTimeout {
         ensures { IsStallEnd self.reading self.time result }
     {
         timeout_end(self.reading, self.time)
+    }
+
+    /// Returns the moment at which the idle timeout of a socket expires after this pull, by the moment before it. It
+    /// starts again if the side sent something.
+    fn end_after(self, pull: Pull, before: Option<Instant>) -> Option<Instant>
+        ensures starts { is_got pull ≡ true → IsStallEnd self.reading self.time result }
+        ensures goes_on { is_got pull ≡ false → result ≡ before }
+    {
+        match pull {
+            Pull::Got(_) => self.end(),
+            Pull::Idle | Pull::Ended => before,
+        }
     }
 
     /// Returns true if the idle timeout of a socket is over; never true without one.
@@ -74,6 +87,8 @@ fn heard_after(pull: Pull, now: Option<Instant>, before: Option<Instant>) -> Opt
 /// finds nothing leaves it as it is.
 ///
 /// `written`: what is held for the other side is written once, if this side has nothing more.
+///
+/// `own_time`, `other_time`: a pull ends no stall timeout. That of the other side goes on while its peer takes no byte.
 fn pull_or_flush_peer<S: Duplex + Drop>(
     idle: IdleTimeout,
     own: &mut Socket<'_, S>,
@@ -117,6 +132,9 @@ fn pull_or_flush_peer<S: Duplex + Drop>(
     // with room, nothing is left that may be read, but for a read that must be tried again
     ensures pulled { IsPulled (length buffer.old) result own.old own.new }
     ensures other_stays { StaysUnread other.old other.new }
+    // the timeouts of both
+    ensures own_time { PullsInTime idle.reading idle.time result own.old own.new }
+    ensures other_time { FlushesInTime idle.reading other.old other.new }
 {
     let is_late = idle.is_over(own.silent_from);
     if is_late {
@@ -124,7 +142,7 @@ fn pull_or_flush_peer<S: Duplex + Drop>(
     }
     let pull = own.pull(buffer);
     if pull != Pull::Idle {
-        own.silent_from = idle.end();
+        own.silent_from = idle.end_after(pull, own.silent_from);
         own.heard_at = heard_after(pull, idle.reading, own.heard_at);
         return pull;
     }
@@ -162,6 +180,8 @@ fn put_or_flush_peer<S: Duplex + Drop>(
         IsFlushed S.calls other.old.readiness other.old.stream other.new.readiness other.new.stream }
     ensures offered { IsOffered bytes.now result own.old own.new }
     ensures other_stays { StaysUnread other.old other.new }
+    ensures own_time { PutsInTime now bytes.now result own.old own.new }
+    ensures other_time { FlushesInTime now other.old other.new }
 {
     let put = own.put(now, bytes);
     if put != Put::Took(0) {
@@ -182,6 +202,11 @@ fn put_or_flush_peer<S: Duplex + Drop>(
 /// A pull with room that finds nothing leaves the socket not readable, with nothing read ahead, or it must be tried again.
 /// A put that nothing is taken of leaves it not writable, or it must be tried again (`transition`, `Settles`). What must be
 /// tried again, and what is held that may be written, is work, which each wait watches (`watch`).
+///
+/// The timeouts start and expire by the reading of the turn (`transition`, `SetsTimers`). A peer whose stall timeout is over
+/// when a turn begins is given up: its writes fail. It starts when bytes wait for the peer, and starts again only if the peer
+/// takes a byte. The silence of a side starts again only with a pull that returns bytes. Once it is over, a pull that finds
+/// nothing is the side's end.
 ///
 /// Not said: the bytes of the operating system's own connections (`Connection`), of which nothing is known but what its
 /// calls returned.
@@ -248,6 +273,7 @@ impl<'w, S: Drop> SocketPorts<'w, S> {
         ensures stall_time { (result.bot.stall_time ≡ times.1) × (result.server.stall_time ≡ times.1) }
         ensures timed { (result.bot.timed ≡ self.entry.bot.timed) × (result.server.timed ≡ self.entry.server.timed) }
         ensures goes_on { result.is_stopped ≡ self.entry.is_stopped }
+        ensures begins { BeginsAt now times (timers_of result) }
     {
         let (time, stall_time) = times;
         let SocketPorts {
@@ -262,8 +288,8 @@ impl<'w, S: Drop> SocketPorts<'w, S> {
             mut server,
         } = self;
         let idle = IdleTimeout { reading: now, time };
-        bot.set_stall_time(stall_time);
-        server.set_stall_time(stall_time);
+        bot.restart_stall(stall_time);
+        server.restart_stall(stall_time);
         bot.silent_from = idle.end();
         server.silent_from = idle.end();
         SocketPorts {
@@ -473,6 +499,8 @@ impl<S: Duplex + Drop> SocketPorts<'_, S> {
         ensures idle { self.new.idle ≡ self.old.idle }
         ensures im { self.new.im_due ≡ self.old.im_due }
         ensures goes_on { self.new.is_stopped ≡ self.old.is_stopped }
+        ensures bot_time { BeginsInTime self.old.idle.reading self.old.bot self.new.bot }
+        ensures server_time { BeginsInTime self.old.idle.reading self.old.server self.new.server }
     {
         self.bot.begin_turn(self.idle.reading, self.held_for_bot);
         self.server
@@ -500,6 +528,8 @@ impl<S: Duplex + Drop> SocketPorts<'_, S> {
     /// yet. All is by the table's reading of the clock.
     ///
     /// `expires`: the IM timer expires exactly in the first turn that begins at its deadline or after it (`once`).
+    ///
+    /// `timers`: a peer is given up if its stall timeout is over at that reading. No silence begins with a turn.
     pub fn begin_turn(&mut self, table: &mut SocketTable)
         ensures begins { Transfers S.to_give S.taken (self.old.bot.stream, self.old.server.stream) TurnBegins
             (self.new.bot.stream, self.new.server.stream) }
@@ -514,6 +544,7 @@ impl<S: Duplex + Drop> SocketPorts<'_, S> {
         ensures once { self.new.im_due ≡ due_after table.old.reading self.old.im_due }
         ensures goes_on { self.new.is_stopped ≡ self.old.is_stopped }
         ensures clock { table.new.reading ≡ table.old.reading }
+        ensures timers { SetsTimers TurnBegins (timers_of self.old) (timers_of self.new) }
     {
         table.note_turn();
         self.count_turn(table.now());
@@ -525,7 +556,8 @@ impl<S: Duplex + Drop> SocketPorts<'_, S> {
 
 impl<S: Duplex + Drop> Ports for SocketPorts<'_, S> {
     ghost transition = { λ old answer new. Transfers S.to_give S.taken (old.bot.stream, old.server.stream) answer
-        (new.bot.stream, new.server.stream) × Settles answer (old.bot, old.server) (new.bot, new.server) };
+        (new.bot.stream, new.server.stream) × Settles answer (old.bot, old.server) (new.bot, new.server)
+        × SetsTimers answer (timers_of old) (timers_of new) };
 
     fn pull(&mut self, side: Side, buffer: &mut [u8]) -> Pull
         ensures within { IsPullWithin result (length buffer.old) }
@@ -533,7 +565,9 @@ impl<S: Duplex + Drop> Ports for SocketPorts<'_, S> {
             (Pulled side (length buffer.old) result (take (pulled_len result) buffer.new))
             (self.new.bot.stream, self.new.server.stream)
             × Settles (Pulled side (length buffer.old) result (take (pulled_len result) buffer.new))
-            (self.old.bot, self.old.server) (self.new.bot, self.new.server) }
+            (self.old.bot, self.old.server) (self.new.bot, self.new.server)
+            × SetsTimers (Pulled side (length buffer.old) result (take (pulled_len result) buffer.new))
+            (timers_of self.old) (timers_of self.new) }
         ensures stopped { self.old.is_stopped ≡ true → (result ≡ Pull.Ended) × (self.new ≡ self.old) }
         ensures asked { self.old.is_stopped ≡ false →
             (stream_of (self.new.bot, self.new.server) side).timed.is_silent ≡ false →
@@ -561,7 +595,8 @@ impl<S: Duplex + Drop> Ports for SocketPorts<'_, S> {
         ensures within { IsPutWithin result (length bytes.now) }
         ensures transition { Transfers S.to_give S.taken (self.old.bot.stream, self.old.server.stream)
             (Offered side bytes.now result) (self.new.bot.stream, self.new.server.stream)
-            × Settles (Offered side bytes.now result) (self.old.bot, self.old.server) (self.new.bot, self.new.server) }
+            × Settles (Offered side bytes.now result) (self.old.bot, self.old.server) (self.new.bot, self.new.server)
+            × SetsTimers (Offered side bytes.now result) (timers_of self.old) (timers_of self.new) }
         ensures written { result ≡ Put.Took 0 → ((stream_of (self.old.server, self.old.bot) side).is_gathering
             && (stream_of (self.old.server, self.old.bot) side).gave) ≡ false →
             IsWriting (stream_of (self.old.server, self.old.bot) side).stream →
@@ -584,7 +619,8 @@ impl<S: Duplex + Drop> Ports for SocketPorts<'_, S> {
     fn clock_popped(&mut self) -> bool
         ensures transition { Transfers S.to_give S.taken (self.old.bot.stream, self.old.server.stream) (Popped result)
             (self.new.bot.stream, self.new.server.stream)
-            × Settles (Popped result) (self.old.bot, self.old.server) (self.new.bot, self.new.server) }
+            × Settles (Popped result) (self.old.bot, self.old.server) (self.new.bot, self.new.server)
+            × SetsTimers (Popped result) (timers_of self.old) (timers_of self.new) }
         ensures answer { result ≡ self.old.im_timer_expired }
         ensures same { self.new ≡ self.old }
     {

@@ -1,28 +1,30 @@
 //! The environment of the event loop, `System`, over sockets.
 
 ghost use Rattle.std.specs.Duration.{as_nanos};
-ghost use Rattle.std.specs.Prelude.{◌≡◌, ◌⊎◌, ℕ, ◌+◌, ◌-◌, ◌*◌, ◌^◌, ◌<◌, ◌||◌, ◌&&◌, nat_le, IfSome, IfNone, None, Some, true, false, [], length, slice_get, vec_capacity};
+ghost use Rattle.std.specs.Prelude.{◌≡◌, ◌⊎◌, ℕ, ◌+◌, ◌-◌, ◌*◌, ◌^◌, ◌<◌, ◌||◌, ◌&&◌, nat_le, IfSome, IfNone, IsSome, IsNone, None, Some, true, false, [], length, slice_get, vec_capacity};
 ghost use Rattle.daide_io.specs.Network.{StopsListening};
 ghost use Rattle.daide_io.specs.Ports.{TurnBegins};
 ghost use Rattle.daide_status.specs.declared.snapshot.RunStatus.{RunStatus};
-ghost use Rattle.daide_io.specs.System.{Begins, ReportsNews, BeginsTurn, Watches, Retires, Waits};
+ghost use Rattle.daide_status.specs.declared.snapshot.SessionRow.{SessionRow};
+ghost use Rattle.daide_io.specs.System.{Begins, Shows, ReportsNews, BeginsTurn, Watches, Retires, Waits};
 ghost use Rattle.daide_buffered_io.specs.Streams.{Transfers};
 ghost use Rattle.daide_sockets.specs.Accepting.{is_accept_due, MakesAccept};
 ghost use Rattle.daide_sockets.specs.Beside.{others_watched};
 ghost use Rattle.daide_sockets.specs.declared.ports.SocketPorts.{SocketPorts as PortsOf};
-ghost use Rattle.daide_sockets.specs.ControlSlots.{BeginsRound, is_newly_stopped, watching_control};
+ghost use Rattle.daide_sockets.specs.ControlSlots.{BeginsRound, Each, PlaceShows, places, is_newly_stopped, watching_control};
 ghost use Rattle.daide_sockets.specs.Finishing.{FinishesAll};
-ghost use Rattle.daide_sockets.specs.Snapshot.{counted, IsSilence};
+ghost use Rattle.daide_sockets.specs.Snapshot.{counted, seconds_between, or_zero, IsRunStatus, IsSessionRow};
 ghost use Rattle.daide_sockets.specs.Lingering.{LooksAround, in_pass, GoOnFor, no_closing};
 ghost use Rattle.daide_sockets.specs.Pairing.{FirstArrivalEvolves, Transits, Closes, ClosesBothAt, Comes, ComesWith};
 ghost use Rattle.daide_sockets.specs.Present.{IsAllowed, IsPresentWith, position_of, without_at};
 ghost use Rattle.daide_sockets.specs.Sockets.{due_after};
 ghost use Rattle.daide_sockets.specs.Table.{Table, watching};
+ghost use Rattle.daide_sockets.specs.Timers.{SetsTimers, timers_of};
 ghost use Rattle.daide_sockets.specs.Times.{IsSeconds, IsIdleTime, is_past};
 ghost use Rattle.daide_sockets.specs.Wakeups.{Settles, Wakes, RestsOnce, may_session_go_on, session_due, has_session_news};
 
 use crate::admission::{Acceptor, PendingConnection, Unreached, watch_arrivals};
-use crate::control::{Control, MOST_CONTROLS};
+use crate::control::{Control, MOST_CONTROLS, seconds_between};
 use crate::lingering_close::{Closings, MOST_CLOSING};
 use crate::poller::Poller;
 use crate::ports::SocketPorts;
@@ -37,7 +39,7 @@ use daide_status::{RunStatus, SessionRow};
 use std::alloc::Global;
 use std::io::Write;
 use std::net::SocketAddr;
-use std::time::{Duration, Instant};
+use std::time::Duration;
 
 /// Returns the most sockets of a run: the listener, two a session, those that are closing, and those of control: its
 /// listener and its connections.
@@ -66,16 +68,6 @@ fn counted(count: usize) -> u32
     ensures { result ≡ counted count }
 {
     u32::try_from(count).unwrap_or(u32::MAX)
-}
-
-/// Returns the seconds from a moment until a reading of the clock; `None` without one of them.
-fn silence(now: Option<Instant>, heard_at: Option<Instant>) -> Option<u64>
-    ensures { IsSilence now heard_at result }
-{
-    match (now, heard_at) {
-        (Some(now), Some(moment)) => Some(now.saturating_duration_since(moment).as_secs()),
-        _ => None,
-    }
 }
 
 /// The sockets of a run: its system. `Transits` says what each call does to the bots and to the sockets that close. An
@@ -343,15 +335,12 @@ impl<'w, N: Network, E: Write + Drop> Sockets<'w, N, E> {
 
     /// Returns the status of the run.
     fn run_status(&self) -> RunStatus
-        ensures connecting { result.connecting ≡ counted (length self.now.arrivals.items) }
-        ensures open { result.open ≡ counted (length self.now.present.numbers.items) - result.connecting }
-        ensures served { result.served ≡ self.now.acceptor.came - counted (length self.now.present.numbers.items)
-            - self.now.unreached }
-        ensures unreached { result.unreached ≡ self.now.unreached }
-        ensures waiting { result.has_waiting ≡ (nat_le self.now.max_sessions (length self.now.present.numbers.items)
+        ensures { IsRunStatus self.now.acceptor.came (length self.now.present.numbers.items)
+            (length self.now.arrivals.items) self.now.unreached
+            (nat_le self.now.max_sessions (length self.now.present.numbers.items)
             && is_accept_due self.now.poller.table self.now.acceptor.key self.now.acceptor.readiness
-            self.now.acceptor.resumes_at) }
-        ensures stopping { result.is_stopping ≡ self.now.control.stops_accepting }
+            self.now.acceptor.resumes_at) self.now.control.stops_accepting
+            (or_zero (seconds_between self.now.control.started_at self.now.poller.table.reading)) result }
     {
         let connecting = counted(self.arrivals.len());
         let present = counted(self.present.len());
@@ -377,16 +366,11 @@ impl<'w, N: Network, E: Write + Drop> Sockets<'w, N, E> {
         ports: &SocketPorts<'w, N::Connection>,
         status: SessionStatus,
     ) -> Option<SessionRow>
-        ensures number { IfSome result (λ row. row.number ≡ ports.now.number) }
-        ensures bot { IfSome result (λ row. slice_get self.now.present.addresses.items
-            (position_of ports.now.number self.now.present.numbers.items) ≡ Some row.bot) }
-        ensures status { IfSome result (λ row. (row.phase ≡ status.phase) × (row.level ≡ status.level)
-            × (row.summary ≡ status.summary) × (row.queued_to_bot ≡ status.queued_to_bot)
-            × (row.queued_to_server ≡ status.queued_to_server)) }
-        ensures held { IfSome result (λ row. (row.held_to_bot ≡ length ports.now.bot.stream.write_buffer)
-            × (row.held_to_server ≡ length ports.now.server.stream.write_buffer)) }
-        ensures idle { IfSome result (λ row. IsSilence self.now.poller.table.reading ports.now.bot.heard_at row.bot_idle
-            × IsSilence self.now.poller.table.reading ports.now.server.heard_at row.server_idle) }
+        ensures row { IfSome result (λ row. IsSessionRow self.now.poller.table.reading ports.now.number
+            (slice_get self.now.present.addresses.items (position_of ports.now.number self.now.present.numbers.items))
+            (ports.now.bot, ports.now.server) status row) }
+        ensures absent { IsNone result →
+            slice_get self.now.present.addresses.items (position_of ports.now.number self.now.present.numbers.items) ≡ None }
     {
         let bot = self.present.address_of(ports.number())?;
         let (held_to_bot, held_to_server) = ports.held();
@@ -402,8 +386,8 @@ impl<'w, N: Network, E: Write + Drop> Sockets<'w, N, E> {
             queued_to_server: status.queued_to_server,
             held_to_bot,
             held_to_server,
-            bot_idle: silence(now, bot_heard_at),
-            server_idle: silence(now, server_heard_at),
+            bot_idle: seconds_between(bot_heard_at, now),
+            server_idle: seconds_between(server_heard_at, now),
         })
     }
 
@@ -417,7 +401,13 @@ impl<'w, N: Network, E: Write + Drop> Sockets<'w, N, E> {
         ensures orders { result.stops_accepting ≡ self.new.control.stops_accepting }
         ensures kept { self.old.control.stops_accepting ≡ true → self.new.control.stops_accepting ≡ true }
         ensures now_kept { self.old.control.stops_now ≡ true → self.new.control.stops_now ≡ true }
-        ensures control { (run : RunStatus) × BeginsRound N.Connection.to_give N.Connection.taken
+        ensures control { (run : RunStatus) × IsRunStatus self.old.acceptor.came
+            (length self.old.present.numbers.items) (length self.old.arrivals.items) self.old.unreached
+            (nat_le self.old.max_sessions (length self.old.present.numbers.items)
+            && is_accept_due self.old.poller.table self.old.acceptor.key self.old.acceptor.readiness
+            self.old.acceptor.resumes_at) self.old.control.stops_accepting
+            (or_zero (seconds_between self.old.control.started_at self.old.poller.table.reading)) run
+            × BeginsRound N.Connection.to_give N.Connection.taken
             N.Connection.calls run self.old.poller.table.reading self.old.control result self.new.control }
         ensures watched { (before : Table) × (self.new.poller.table ≡ watching_control before self.new.control) }
         ensures closes { result.stops_accepting ≡ true → self.old.control.stops_accepting ≡ false →
@@ -562,7 +552,26 @@ impl<'w, N: Network, E: Write + Drop> System<SocketPorts<'w, N::Connection>> for
         self.take_orders()
     }
 
-    fn show(&mut self, ports: &SocketPorts<'w, N::Connection>, status: SessionStatus) {
+    fn show(&mut self, ports: &SocketPorts<'w, N::Connection>, status: SessionStatus)
+        ensures transition { Transits N.Connection.to_give N.Connection.taken N.Connection.calls
+            (λ ports. record { number = ports.number; bot = ports.bot.stream; server = ports.server.stream })
+            (record { came = self.old.acceptor.came; arrivals = self.old.arrivals.items; closing = self.old.closings })
+            (Shows ports.now status)
+            (record { came = self.new.acceptor.came; arrivals = self.new.arrivals.items; closing = self.new.closings })
+            × Wakes N.transition (λ ports. record {
+              bot = ports.bot;
+              server = ports.server;
+              reading = ports.idle.reading;
+              im_due = ports.im_due;
+            }) (self.old.poller.network, self.old.poller.table) (Shows ports.now status) (self.new.poller.network, self.new.poller.table) }
+        ensures shows { IsSome (slice_get self.old.present.addresses.items
+            (position_of ports.now.number self.old.present.numbers.items)) → (row : SessionRow)
+            × IsSessionRow self.old.poller.table.reading ports.now.number
+            (slice_get self.old.present.addresses.items (position_of ports.now.number self.old.present.numbers.items))
+            (ports.now.bot, ports.now.server) status row
+            × Each (PlaceShows row) (places self.old.control.slots) (places self.new.control.slots) }
+        ensures same { self.new ≡ record self.old { control = self.new.control } }
+    {
         if let Some(row) = self.row_of(ports, status) {
             self.control.show(&row);
         }
@@ -595,7 +604,8 @@ impl<'w, N: Network, E: Write + Drop> System<SocketPorts<'w, N::Connection>> for
     fn begin_turn(&mut self, ports: &mut SocketPorts<'w, N::Connection>)
         ensures ports { Transfers N.Connection.to_give N.Connection.taken
             (ports.old.bot.stream, ports.old.server.stream) TurnBegins (ports.new.bot.stream, ports.new.server.stream)
-            × Settles TurnBegins (ports.old.bot, ports.old.server) (ports.new.bot, ports.new.server) }
+            × Settles TurnBegins (ports.old.bot, ports.old.server) (ports.new.bot, ports.new.server)
+            × SetsTimers TurnBegins (timers_of ports.old) (timers_of ports.new) }
         ensures system { Transits N.Connection.to_give N.Connection.taken
             N.Connection.calls
             (λ ports. record { number = ports.number; bot = ports.bot.stream; server = ports.server.stream })

@@ -8,7 +8,7 @@ returns-clause-control g c = record {
   mid = places c.advance.new.self;
   advances = c.advance.ensures.advances;
   accepts = subst (λ (reading : Option Instant). AcceptsOne reading (places c.advance.new.self)
-  (places c.accept.new.self.slots)) c.advance.ensures.clock c.accept.ensures.accepts;
+      (places c.accept.new.self.slots)) c.advance.ensures.clock c.accept.ensures.accepts;
   stops = search rules;
   at_once = search rules;
   returned = search rules;

@@ -25,6 +25,22 @@ returns-then-self-clause-transition g c = (
     },
     record { key = refl; may_read = refl; ahead = refl; full = λ h. h; tries_again = λ h. h },
   ),
+  (
+    record { reading = refl; im_due = refl; idle_time = refl },
+    record {
+      stall_time = refl;
+      stalls_at = refl;
+      failed = refl;
+      starts = λ got. absurd (cc);
+      goes_on = λ got. refl;
+      late = λ past e. absurd (cc);
+    },
+    record {
+      kept = record { stall_time = refl; silent_from = refl; stall = inl refl; failed = λ h. (h, inl refl) };
+      goes_on = λ failed len moment h. h;
+      full = λ full moment h. h;
+    },
+  ),
 )
 
 pub returns-in-Bot-clause-transition : goal.returns-in-Bot-clause-transition
@@ -33,6 +49,7 @@ returns-in-Bot-clause-transition g c =
       pulled_moves g.S.Duplex.to_give g.S.Duplex.taken _ _ Bot (length c.args.buffer.now) c.pull_or_flush_peer.result
           c.pull_or_flush_peer.new.buffer c.pull_or_flush_peer.ensures.own c.pull_or_flush_peer.ensures.other c.pull_or_flush_peer.ensures.unread,
       (c.pull_or_flush_peer.ensures.pulled, c.pull_or_flush_peer.ensures.other_stays),
+      (record { reading = refl; im_due = refl; idle_time = refl }, c.pull_or_flush_peer.ensures.own_time, c.pull_or_flush_peer.ensures.other_time),
     )
 
 pub returns-in-Server-clause-transition : goal.returns-in-Server-clause-transition
@@ -42,6 +59,7 @@ returns-in-Server-clause-transition g c =
           c.pull_or_flush_peer-in-Server.new.buffer c.pull_or_flush_peer-in-Server.ensures.own c.pull_or_flush_peer-in-Server.ensures.other
           c.pull_or_flush_peer-in-Server.ensures.unread,
       (c.pull_or_flush_peer-in-Server.ensures.pulled, c.pull_or_flush_peer-in-Server.ensures.other_stays),
+      (record { reading = refl; im_due = refl; idle_time = refl }, c.pull_or_flush_peer-in-Server.ensures.own_time, c.pull_or_flush_peer-in-Server.ensures.other_time),
     )
 
 pub returns-in-Bot-clause-asked : goal.returns-in-Bot-clause-asked
