@@ -73,7 +73,10 @@ pub fn bind<'r, R: AllocGlobal + Files + Clock + Net>(
 ) -> Result<BoundSockets<'r, R>, GatewayFault>
     ensures { IfErr result IsBeforeServing }
 {
-    let mut bound = bind_sockets(rt, settings).map_err(fault_of)?;
+    let mut bound = match bind_sockets(rt, settings) {
+        Ok(bound) => bound,
+        Err(fault) => return Err(fault_of(fault)),
+    };
     if let Some(path) = &settings.control {
         match bind_control(rt, path.as_str()) {
             Ok(listener) => bound.network.set_control(listener),
