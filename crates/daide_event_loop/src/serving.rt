@@ -65,7 +65,8 @@ fn show_all<P: Ports, A: Allocator + Copy, S: System<P>>(
 {
     for i in 0..hub.count() {
         let ports = hub.ports(i);
-        system.show(ports.ports(), session_status(hub.session(i)));
+        let status = session_status(hub.session(i));
+        system.show(ports.ports(), status);
     }
 }
 

@@ -1,5 +1,5 @@
 -- The laws of `laws`, used at single values. A fact takes only the law, so that a weaker law does not check.
-use Rattle.std.proofs.Common.{◌≡◌, ◌<◌, ◌+◌, ◌-◌, ◌≤◌, true, false, List, [], ◌∷◌, ◌++◌, refl, ap, subst, ⊎_elim, arith, Option, Some}
+use Rattle.std.proofs.Common.{◌≡◌, ◌<◌, ◌+◌, ◌-◌, ◌≤◌, true, false, List, [], ◌∷◌, ◌++◌, refl, ap, subst, ⊎_elim, arith, Option, Some, None}
 use Rattle.std.specs.Prelude.{All, Contains}
 use Rattle.std.specs.Duration.{as_nanos}
 use Rattle.std.specs.Time.{instant_nanos}
@@ -17,9 +17,9 @@ use Rattle.daide_event_loop.specs.Serving.{ServiceView, Round, initial_service, 
 use Rattle.daide_event_loop.specs.Served.{IsServed}
 use Rattle.daide_sockets.specs.InTime.{IsAtMost}
 use Rattle.daide_sockets.specs.Table.{Table, IsNoTime}
-use Rattle.daide_sockets.specs.Timers.{SessionTimers}
+use Rattle.daide_sockets.specs.Timers.{SessionTimers, BeginsAt}
 use Rattle.daide_sockets.specs.Wakeups.{SessionSockets, Wakes, session_due}
-use Rattle.daide_run_laws.specs.FreedPlaces.{BeginsTimed, ClockGoesOn, IsTimed, HasDeadline, WaitsByDeadlines, deliveries}
+use Rattle.daide_run_laws.specs.FreedPlaces.{ClockGoesOn, IsTimed, HasDeadline, WaitsByDeadlines, deliveries}
 use Rattle.daide_run_laws.specs.FreedPlaces.{overdue_turns, CameFrom, IsQuietFor, NoSessionWaitsForEver, TimeoutsStay, DeadlinesPassSeldom}
 use Rattle.daide_run_laws.specs.NoLostWakeups.{Sleeps, WaitsAsleep, NoWakeupIsLost}
 
@@ -65,14 +65,14 @@ module _ {P S N C : Type 0} (port_transition : P → PortCall → P → Type 0) 
 module _ {P S : Type 0} (port_transition : P → PortCall → P → Type 0) (timers : P → SessionTimers S)
     (law : DeadlinesPassSeldom port_transition timers) (settings : Settings) (answers : List (SystemCall P))
     (place : SessionView × QuotaPortsView P) (session : IsServed port_transition settings answers place) (idle stall : Duration)
-    (begins : BeginsTimed idle stall (timers session.ports))
+    (begins : BeginsAt None (None, None) (timers session.ports))
     (clock : ClockGoesOn port_transition timers idle stall session.history (fresh session.ports settings.turns) place.1 session.answered)
   where
-    -- without a byte from a peer a session has at most five turns that begin at or past its deadline
+    -- without a byte from a peer a session, here one without timeouts, has at most five turns that begin at or past its deadline
     five_at_most : deliveries session.history ≡ 0 →
         overdue_turns port_transition timers session.history (fresh session.ports settings.turns) place.1 session.answered ≤ 5
     five_at_most none =
-        let all = law settings answers (fresh session.ports settings.turns) session.history place idle stall
+        let all = law settings answers (fresh session.ports settings.turns) session.history place idle stall None (None, None)
         (record { session = session; early = []; history = refl; before = refl; since = session.answered }) begins clock in
         let least = all.0 in
         let most = all.1 in

@@ -16,12 +16,12 @@ use Rattle.daide_event_loop.specs.Serving.{fresh}
 use Rattle.daide_sockets.specs.declared.socket.Socket.{Socket}
 use Rattle.daide_sockets.specs.Sockets.{due_after, next_deadline}
 use Rattle.daide_sockets.specs.Table.{earlier}
-use Rattle.daide_sockets.specs.Timers.{SessionTimers, BeginsInTime, PullsInTime, KeepsTimers, SetsTimers, is_got}
-use Rattle.daide_sockets.specs.Times.{has_stalled, is_past}
+use Rattle.daide_sockets.specs.Timers.{SessionTimers, BeginsAt, BeginsInTime, PullsInTime, KeepsTimers, SetsTimers, is_got}
+use Rattle.daide_sockets.specs.Times.{IsStallEnd, has_stalled, is_past}
 use Rattle.daide_sockets.specs.Wakeups.{session_due}
-use Rattle.daide_run_laws.specs.FreedPlaces.{HasTimeouts, IsLater, ClockGoesOn, one_if, peer_timeouts_left, timeouts_left}
+use Rattle.daide_run_laws.specs.FreedPlaces.{IsLater, ClockGoesOn, one_if, peer_timeouts_left, timeouts_left}
 use Rattle.daide_run_laws.specs.FreedPlaces.{is_overdue, overdue_turns, deliveries, DeadlinesPassSeldom}
-use Rattle.daide_run_laws.proofs.TimedSessions.{PortsSetTimers, begins_set, history_timeouts, made_or_spent}
+use Rattle.daide_run_laws.proofs.TimedSessions.{PortsSetTimers, own, KeepsStall, step_stall, made_or_spent}
 
 -- ---- counts
 
@@ -107,6 +107,34 @@ abbrev may_stall : Bool → Option Instant → Bool
 may_stall failed moment = not failed || is_some moment
 
 module _ {S : Type 0} where
+  -- a peer has a stall timeout, or never one that runs
+  abbrev MayStall : Socket S → Type 0
+  MayStall socket = ((time : Duration) × (socket.stall_time ≡ Some time))
+      ⊎ ((socket.stall_time ≡ None) × (socket.stalls_at ≡ None))
+
+  may_stall_then : (reading : Option Instant) (old new : Socket S) → KeepsStall reading old new → MayStall old → MayStall new
+  may_stall_then reading old new k set = ⊎_elim
+      (λ (t : (time : Duration) × (old.stall_time ≡ Some time)). inl (t.0, k.stall_time ∙ t.1))
+      (λ (never : (old.stall_time ≡ None) × (old.stalls_at ≡ None)).
+      inr (
+        k.stall_time ∙ never.0,
+        ⊎_elim (λ (same : new.stalls_at ≡ old.stalls_at). same ∙ never.1)
+            (λ (other : (new.stalls_at ≡ None) ⊎ IsStallEnd reading old.stall_time new.stalls_at).
+            ⊎_elim (λ (none : new.stalls_at ≡ None). none)
+            (λ (end : IsStallEnd reading old.stall_time new.stalls_at).
+            subst (λ (t : Option Duration). IsStallEnd reading t new.stalls_at) never.0 end) other) k.stall,
+      )) set
+
+  may_stall_from : (time : Option Duration) (socket : Socket S) → socket.stall_time ≡ time → socket.stalls_at ≡ None →
+      MayStall socket
+  may_stall_from None socket e none = inr (e, none)
+  may_stall_from (Some time) socket e none = inl (time, e)
+
+  begins_stall : (start : Option Instant) (times : Option Duration × Option Duration) (session : SessionTimers S) →
+      BeginsAt start times session → (side : Side) → MayStall (own session side)
+  begins_stall start times session h Bot = may_stall_from times.1 session.sockets.bot h.stall_time.0 h.stalls_at.0
+  begins_stall start times session h Server = may_stall_from times.1 session.sockets.server h.stall_time.1 h.stalls_at.1
+
   abbrev stall_left : Socket S → ℕ
   stall_left socket = one_if (not socket.stream.has_failed || is_some socket.stalls_at)
 
@@ -132,9 +160,9 @@ module _ {S : Type 0} where
           let zero_left = ap (λ (m : Option Instant). one_if (is_some m)) none in omega (arith, was, is, zero_left)) after.1
 
   -- a turn that begins at a stall timeout or past it gives the peer up
-  stall_begun : (reading : Option Instant) (stall : Duration) (old new : Socket S) → old.stall_time ≡ Some stall →
+  stall_begun : (reading : Option Instant) (old new : Socket S) → MayStall old →
       BeginsInTime reading old new → stall_left new + one_if (is_past reading old.stalls_at) ≤ stall_left old
-  stall_begun reading stall old new time h = by (is_past reading old.stalls_at) refl old.stalls_at refl
+  stall_begun reading old new set h = by (is_past reading old.stalls_at) refl old.stalls_at refl
     where
       by : (past : Bool) → is_past reading old.stalls_at ≡ past → (moment : Option Instant) → old.stalls_at ≡ moment →
           stall_left new + one_if (is_past reading old.stalls_at) ≤ stall_left old
@@ -144,8 +172,9 @@ module _ {S : Type 0} where
       by true e None m =
           let never = ap (λ (x : Option Instant). is_past reading x) m ∙ none_past reading in absurd (cc)
       by true e (Some moment) m =
+          let time = time_of moment m in
           let stalled : has_stalled old.stall_time reading old.stalls_at ≡ true =
-          ap (λ (t : Option Duration). has_stalled t reading old.stalls_at) time ∙ e in
+          ap (λ (t : Option Duration). has_stalled t reading old.stalls_at) time.1 ∙ e in
           let over = h.gives_up stalled in
           let is : stall_left new ≡ one_if (is_some new.stalls_at) = ap (λ (f : Bool). one_if (may_stall f new.stalls_at)) over.0 in
           let zero_left = ap (λ (x : Option Instant). one_if (is_some x)) over.1 in
@@ -153,19 +182,23 @@ module _ {S : Type 0} where
           let was = held old.stream.has_failed moment m in
           omega (arith, is, zero_left, one, was)
         where
+          time_of : (moment : Instant) → old.stalls_at ≡ Some moment → (time : Duration) × (old.stall_time ≡ Some time)
+          time_of moment m = ⊎_elim (λ (t : (time : Duration) × (old.stall_time ≡ Some time)). t)
+              (λ (never : (old.stall_time ≡ None) × (old.stalls_at ≡ None)). let none = never.1 in absurd (cc)) set
+
           held : (failed : Bool) (moment : Instant) → old.stalls_at ≡ Some moment → one_if (may_stall failed old.stalls_at) ≡ 1
           held false moment m = refl
           held true moment m = ap (λ (x : Option Instant). one_if (is_some x)) m
 
   -- ---- the timeouts of one peer
 
-  peer_begun : (before now : Instant) (stall : Duration) (old_reading new_reading : Option Instant) (old new : Socket S) →
+  peer_begun : (before now : Instant) (old_reading new_reading : Option Instant) (old new : Socket S) →
       old_reading ≡ Some before → new_reading ≡ Some now → instant_nanos before ≤ instant_nanos now →
-      old.stall_time ≡ Some stall → BeginsInTime new_reading old new →
+      MayStall old → BeginsInTime new_reading old new →
       peer_timeouts_left new_reading new + one_if (is_past new_reading (next_deadline old_reading old.stalls_at old.silent_from))
       ≤ peer_timeouts_left old_reading old
-  peer_begun before now stall old_reading new_reading old new was is order time h =
-      let stalls = stall_begun new_reading stall old new time h in
+  peer_begun before now old_reading new_reading old new was is order set h =
+      let stalls = stall_begun new_reading old new set h in
       let both = past_counted new_reading old.stalls_at (due_after old_reading old.silent_from) in
       let silence : one_if (is_some (due_after new_reading new.silent_from))
       + one_if (is_past new_reading (due_after old_reading old.silent_from))
@@ -215,15 +248,15 @@ module _ {S : Type 0} where
       one_if (is_some new.sockets.im_due) ≡ one_if (is_some old.sockets.im_due)
   im_kept old new same = ap (λ (m : Option Instant). one_if (is_some m)) same
 
-  begun_left : (idle stall : Duration) (old new : SessionTimers S) → HasTimeouts idle stall old →
+  begun_left : (idle stall : Duration) (old new : SessionTimers S) → ((side : Side) → MayStall (own old side)) →
       IsLater idle stall old.sockets.reading new.sockets.reading → SetsTimers TurnBegins old new →
       timeouts_left new + one_if (is_past new.sockets.reading (session_due old.sockets)) ≤ timeouts_left old
   begun_left idle stall old new set later h =
       let due = λ (socket : Socket S). next_deadline old.sockets.reading socket.stalls_at socket.silent_from in
-      let bot = peer_begun later.before later.now stall old.sockets.reading new.sockets.reading old.sockets.bot new.sockets.bot
-      later.was later.is.read later.order (set.stall_time Bot) h.3 in
-      let server = peer_begun later.before later.now stall old.sockets.reading new.sockets.reading old.sockets.server new.sockets.server
-      later.was later.is.read later.order (set.stall_time Server) h.4 in
+      let bot = peer_begun later.before later.now old.sockets.reading new.sockets.reading old.sockets.bot new.sockets.bot
+      later.was later.is.read later.order (set Bot) h.3 in
+      let server = peer_begun later.before later.now old.sockets.reading new.sockets.reading old.sockets.server new.sockets.server
+      later.was later.is.read later.order (set Server) h.4 in
       let im : one_if (is_some new.sockets.im_due) + one_if (is_past new.sockets.reading old.sockets.im_due)
       ≤ one_if (is_some old.sockets.im_due) =
       subst (λ (m : Option Instant). one_if (is_some m) + one_if (is_past new.sockets.reading old.sockets.im_due)
@@ -277,8 +310,12 @@ module _ {P S : Type 0} (port_transition : P → PortCall → P → Type 0) (tim
   spent_left : (a b : QuotaPortsView P) → b.ports ≡ a.ports → left b ≡ left a
   spent_left a b e = ap (λ (p : P). timeouts_left (timers p)) e
 
+  -- each peer of a session has a stall timeout, or never one that runs
+  abbrev IsSet : QuotaPortsView P → Type 0
+  IsSet m = (side : Side) → MayStall (own (timers m.ports) side)
+
   -- the call that begins a turn
-  begins_left : (a b : QuotaPortsView P) → Meters port_transition a TurnBegins b → HasTimeouts idle stall (timers a.ports) →
+  begins_left : (a b : QuotaPortsView P) → Meters port_transition a TurnBegins b → IsSet a →
       IsLater idle stall (timers a.ports).sockets.reading (timers b.ports).sockets.reading →
       left b + one_if (is_overdue port_transition timers a b) ≤ left a
   begins_left a b h set later = by b.turns_left refl h.ports
@@ -303,42 +340,50 @@ module _ {P S : Type 0} (port_transition : P → PortCall → P → Type 0) (tim
       (λ (e : b.ports ≡ a.ports). let same = spent_left a b e in omega (arith, same))
       (made_or_spent idle stall port_transition timers keeps call a b h)
 
-  later_timeouts : (call : PortCall) (a b : QuotaPortsView P) → Meters port_transition a call b →
-      HasTimeouts idle stall (timers a.ports) → HasTimeouts idle stall (timers b.ports)
-  later_timeouts call a b h set = history_timeouts idle stall port_transition timers keeps (call ∷ []) a b (b, h, refl) set
+  set_then : (call : PortCall) (a b : QuotaPortsView P) → Meters port_transition a call b → IsSet a → IsSet b
+  set_then call a b h set side = ⊎_elim
+      (λ (t : SetsTimers call (timers a.ports) (timers b.ports)).
+      may_stall_then (timers b.ports).sockets.reading (own (timers a.ports) side) (own (timers b.ports) side)
+      (step_stall call (timers a.ports) (timers b.ports) t side) (set side))
+      (λ (e : b.ports ≡ a.ports). subst (λ (p : P). MayStall (own (timers p) side)) (sym e) (set side))
+      (made_or_spent idle stall port_transition timers keeps call a b h)
+
+  set_by : (calls : List PortCall) (a b : QuotaPortsView P) → EvolvesBy (Meters port_transition) a calls b → IsSet a → IsSet b
+  set_by [] a b h set = λ side. subst (λ (m : QuotaPortsView P). MayStall (own (timers m.ports) side)) (sym h) (set side)
+  set_by (call ∷ calls) a b h set = set_by calls h.0 b h.2 (set_then call a h.0 h.1 set)
 
   overdue_left : (calls : List PortCall) (a b : QuotaPortsView P) (h : EvolvesBy (Meters port_transition) a calls b) →
-      ClockGoesOn port_transition timers idle stall calls a b h → HasTimeouts idle stall (timers a.ports) →
+      ClockGoesOn port_transition timers idle stall calls a b h → IsSet a →
       overdue_turns port_transition timers calls a b h + left b ≤ left a + deliveries calls
   overdue_left [] a b h clock set = let same = ap left h in omega (arith, same)
   overdue_left (TurnBegins ∷ calls) a b h clock set =
       let first = begins_left a h.0 h.1 set clock.0 in
-      let rest = overdue_left calls h.0 b h.2 clock.1 (later_timeouts TurnBegins a h.0 h.1 set) in
+      let rest = overdue_left calls h.0 b h.2 clock.1 (set_then TurnBegins a h.0 h.1 set) in
       omega (arith, first, rest)
   overdue_left (Clock im_timer_expired ∷ calls) a b h clock set =
       let first = other_left (Clock im_timer_expired) 0 a h.0 h.1
       (λ (t : SetsTimers (Clock im_timer_expired) (timers a.ports) (timers h.0.ports)).
       let least = clock_left im_timer_expired (timers a.ports) (timers h.0.ports) t in omega (arith, least)) in
-      let rest = overdue_left calls h.0 b h.2 clock (later_timeouts (Clock im_timer_expired) a h.0 h.1 set) in
+      let rest = overdue_left calls h.0 b h.2 clock (set_then (Clock im_timer_expired) a h.0 h.1 set) in
       omega (arith, first, rest)
   overdue_left (Pulled side room pull bytes ∷ calls) a b h clock set =
       let first = other_left (Pulled side room pull bytes) (one_if (is_got pull)) a h.0 h.1
       (pulled_left side room pull bytes (timers a.ports) (timers h.0.ports)) in
-      let rest = overdue_left calls h.0 b h.2 clock (later_timeouts (Pulled side room pull bytes) a h.0 h.1 set) in
+      let rest = overdue_left calls h.0 b h.2 clock (set_then (Pulled side room pull bytes) a h.0 h.1 set) in
       omega (arith, first, rest)
   overdue_left (Offered side bytes put ∷ calls) a b h clock set =
       let first = other_left (Offered side bytes put) 0 a h.0 h.1
       (λ (t : SetsTimers (Offered side bytes put) (timers a.ports) (timers h.0.ports)).
       let least = offered_left side bytes put (timers a.ports) (timers h.0.ports) t in omega (arith, least)) in
-      let rest = overdue_left calls h.0 b h.2 clock (later_timeouts (Offered side bytes put) a h.0 h.1 set) in
+      let rest = overdue_left calls h.0 b h.2 clock (set_then (Offered side bytes put) a h.0 h.1 set) in
       omega (arith, first, rest)
 
 pub deadlines_pass_seldom : {P S : Type 0} (port_transition : P → PortCall → P → Type 0) (timers : P → SessionTimers S) →
     PortsSetTimers port_transition timers → DeadlinesPassSeldom port_transition timers
 deadlines_pass_seldom port_transition timers keeps =
-    λ settings answers mid late place idle stall from begins clock. (
+    λ settings answers mid late place idle stall start times from begins clock. (
       overdue_left port_transition timers keeps idle stall late mid place.1 from.since clock
-          (history_timeouts idle stall port_transition timers keeps from.early (fresh from.session.ports settings.turns) mid
-          from.before (begins_set idle stall (timers from.session.ports) begins)),
+          (set_by port_transition timers keeps idle stall from.early (fresh from.session.ports settings.turns) mid from.before
+          (begins_stall start times (timers from.session.ports) begins)),
       at_most_five (timers mid.ports),
     )

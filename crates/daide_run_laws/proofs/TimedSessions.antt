@@ -182,7 +182,7 @@ module _ {S : Type 0} (idle stall : Duration) where
   no_stall session h Bot = h.begins.stalls_at.0
   no_stall session h Server = h.begins.stalls_at.1
 
-  pub begins_set : (session : SessionTimers S) → BeginsTimed idle stall session → HasTimeouts idle stall session
+  begins_set : (session : SessionTimers S) → BeginsTimed idle stall session → HasTimeouts idle stall session
   begins_set session h = record {
     idle_time = h.begins.idle_time;
     idle_lasts = h.idle_lasts;
@@ -308,14 +308,3 @@ module _ {S : Type 0} (idle stall : Duration) where
         timed_step (Offered side bytes put) (timers a.ports) (timers h.0.ports) t k
         (same_later (timers a.ports) (timers h.0.ports) k t.0.reading))
         (λ (e : h.0.ports ≡ a.ports). spent_timed a h.0 e k) (made_or_spent (Offered side bytes put) a h.0 h.1))
-
-    -- both timeouts stay, whatever the clock
-    pub history_timeouts : (calls : List PortCall) (a b : QuotaPortsView P) → EvolvesBy (Meters port_transition) a calls b →
-        HasTimeouts idle stall (timers a.ports) → HasTimeouts idle stall (timers b.ports)
-    history_timeouts [] a b h k = subst (λ (m : QuotaPortsView P). HasTimeouts idle stall (timers m.ports)) (sym h) k
-    history_timeouts (call ∷ calls) a b h k =
-        history_timeouts calls h.0 b h.2
-        (⊎_elim (λ (t : SetsTimers call (timers a.ports) (timers h.0.ports)).
-        step_timeouts idle stall call (timers a.ports) (timers h.0.ports) t k)
-        (λ (e : h.0.ports ≡ a.ports). subst (λ (p : P). HasTimeouts idle stall (timers p)) (sym e) k)
-        (made_or_spent call a h.0 h.1))

@@ -202,8 +202,9 @@ module _ {P S : Type 0} (transition : P → PortCall → P → Type 0) (timers :
   -- timeouts that are left, and each pull that returns bytes gives back at most one.
   abbrev pub DeadlinesPassSeldom : Type 0
   DeadlinesPassSeldom = (settings : Settings) (answers : List (SystemCall P)) (mid : QuotaPortsView P) (late : List PortCall)
-      (place : SessionView × QuotaPortsView P) (idle stall : Duration) → (from : CameFrom settings answers mid late place) →
-      BeginsTimed idle stall (timers from.session.ports) → ClockGoesOn idle stall late mid place.1 from.since →
+      (place : SessionView × QuotaPortsView P) (idle stall : Duration) (start : Option Instant)
+      (times : Option Duration × Option Duration) → (from : CameFrom settings answers mid late place) →
+      BeginsAt start times (timers from.session.ports) → ClockGoesOn idle stall late mid place.1 from.since →
       (overdue_turns late mid place.1 from.since + timeouts_left (timers place.1.ports)
       ≤ timeouts_left (timers mid.ports) + deliveries late)
       × (timeouts_left (timers mid.ports) ≤ 5)

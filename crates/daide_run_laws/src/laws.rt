@@ -74,7 +74,7 @@ pub fn timeouts_stay_beside_records<S: Duplex + Drop, W: Sink + Drop>()
 /// at or past the deadline that it had: one for the initial message, one for the silence of each peer, and one for the
 /// stall of each. Each such turn uses up one of these timeouts, and a pull that returns bytes gives back at most one
 /// (`timeouts_left`). So, with `no_session_waits_for_ever`, a session whose peers send nothing waits for at most five
-/// deadlines, and leaves its place.
+/// deadlines, and leaves its place. It holds of each session, whichever of its timeouts are set.
 ///
 /// Not said: how long a peer may go on that takes a byte before each stall timeout is over.
 pub fn deadlines_pass_seldom<S: Duplex + Drop>()

@@ -23,7 +23,7 @@ loop-i-preserved g c =
       subst (λ (ports : g.row.P.Denot). g.S.System.transition c.loop-i.system (Shows ports (status_of session)) c.show.new.self)
           c.ports.ensures
           (subst (λ (status : SessionStatus). g.S.System.transition c.loop-i.system (Shows c.ports.result.now status) c.show.new.self)
-          c.session_status.ensures c.show.ensures),
+          c.session_status-status.ensures c.show.ensures),
       refl,
     ))
 
