@@ -45,7 +45,11 @@ fn check_acceptor<'w>(
     holds(acceptor.accept(poller).is_some(), "the bot that came")?;
     poller.table.unwatch();
     acceptor.watch(&mut poller.table);
-    same(&poller.table.watched(), &(false, None), &"the pause is over")
+    same(
+        &poller.table.watched(),
+        &(false, None),
+        &"the pause is over",
+    )
 }
 
 /// The same for a listener, in the only row of a table.
