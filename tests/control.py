@@ -283,7 +283,8 @@ def stop_gives_up_after_its_timeout(program):
 
 
 def stop_now_ends_each_session(program):
-    """Each bot and the server receive FM, each record ends, and both commands have status 0 within two seconds."""
+    """The server receives an FM for each session, each bot's connection ends, each record is complete, and both commands
+    have status 0 within two seconds."""
     words = ("--verbose", "--record", "records")
     with Match(program, f"max_sessions = {SESSIONS}\nsessions = {SESSIONS}\nendless = true", words) as match:
         ends = [match.opens() for _ in range(SESSIONS)]
@@ -292,7 +293,7 @@ def stop_now_ends_each_session(program):
                                     stderr=subprocess.PIPE)
         try:
             for bot, server in ends:
-                same((rest(bot), rest(server)), (FM, FM), "received by both sides")
+                same((rest(bot), rest(server)), (b"", FM), "received by both sides")
                 bot.close()
                 server.close()
             printed, told = stopping.communicate(timeout=SECONDS)
@@ -445,7 +446,7 @@ def script_stops_a_run_by_the_protocol(program):
             with Match([str(script)], "sessions = 4\nendless = true") as match:
                 bot, server = match.opens()
                 match.process.send_signal(number)
-                same((rest(bot), rest(server)), (FM, FM), "received by both sides")
+                same((rest(bot), rest(server)), (b"", FM), "received by both sides")
                 bot.close()
                 server.close()
                 same(match.ended()[0], 0, "status of the script")
