@@ -1,6 +1,8 @@
 -- The arrivals are checked one by one.
 use Rattle.std.proofs.Common.{◌≡◌, ℕ, suc, ◌+◌, ◌<◌, List, [], ◌∷◌, ◌++◌, length, refl, sym, ap, ◌∙◌, arith}
 use Rattle.std.proofs.Common.{append_assoc, append-nil}
+use Rattle.std.proofs.Common.{get_or}
+use Rattle.std.specs.Prelude.{remove}
 use Rattle.std.proofs.lemmas.List.{length-append}
 use Rattle.daide_sockets.specs.Pairing.{Arriving, StaysPending, AllStayPending, ChecksArrivals, TakesOut}
 
@@ -98,3 +100,10 @@ module _ {S : Type 0} where
       let other = length-append h.rest h.moved in
       let same = pending_len h.seen h.moved h.goes in
       omega (arith, before, after, one, other, same)
+
+  -- the first of some is removed
+  pub first_removed : (old new : List (Arriving S)) (first : Arriving S) → 0 < length old → first ≡ get_or old 0 first →
+      new ≡ remove old 0 → old ≡ first ∷ new
+  first_removed [] new first some value items = absurd (omega (arith, some))
+  first_removed (arrival ∷ others) new first some value items =
+      ap (λ (a : Arriving S). a ∷ others) (sym value) ∙ ap (λ (l : List (Arriving S)). first ∷ l) (sym items)
