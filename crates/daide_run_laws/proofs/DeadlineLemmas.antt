@@ -27,7 +27,7 @@ use Rattle.daide_event_loop.specs.Waiting.{MakesNoProgress, IsOfTurn, IsIdleSess
 use Rattle.daide_event_loop.proofs.WaitingLemmas.{idle_run}
 use Rattle.daide_sockets.specs.declared.socket.Socket.{Socket}
 use Rattle.daide_sockets.specs.Sockets.{has_socket_work, is_some_byte}
-use Rattle.daide_sockets.specs.Table.{Table, IsNoTime, IsWaitTime, is_reported_at}
+use Rattle.daide_sockets.specs.Table.{Table, IsNoTime, is_reported_at}
 use Rattle.daide_sockets.specs.Timers.{SessionTimers}
 use Rattle.daide_sockets.specs.Wakeups.{SessionSockets, Wakes, may_go_on, session_due}
 use Rattle.daide_run_laws.specs.FreedPlaces.{IsTimed, HasDeadline, NoSessionWaitsForEver}
@@ -190,23 +190,21 @@ module _ {P S : Type 0} (port_transition : P → PortCall → P → Type 0) (tim
       let watched = transits_split (Wakes network view) idle.early (watches places) last.0 old
       (subst (λ (l : List (SystemCall P)). TransitsBy (Wakes network view) last.0 l old) idle.watched last.2) in
       let going = all_open (round ++ Waits ∷ []) mid run waits in
-      let calms : SessionView × QuotaPortsView P → Type 0 = λ place. IsCalm old.1 old.1.reading rests.time (view place.1.ports) in
+      let time = rests.1.time in
+      let calms : SessionView × QuotaPortsView P → Type 0 = λ place. IsCalm old.1 old.1.reading time (view place.1.ports) in
       record {
-        rests = rests;
-        deadlines = ⊎_elim
-            (λ (lasts : IsWaitTime old.1 rests.time).
-            ⊎_elim (λ (none : IsNoTime rests.time). inl none)
-            (λ (calm : All (λ (place : SessionView × QuotaPortsView P). IsCalm old.1 old.1.reading rests.time (view place.1.ports)) places).
+        others = rests.0;
+        rests = rests.1;
+        deadlines = ⊎_elim (λ (none : IsNoTime time). inl none)
+            (λ (calm : All (λ (place : SessionView × QuotaPortsView P). IsCalm old.1 old.1.reading time (view place.1.ports)) places).
             inr (All-weaker (Contains places)
             (λ (place : SessionView × QuotaPortsView P). (one other : Duration) →
             IsTimed port_transition timers settings answers one other place →
-            HasDeadline one other old.1 rests.time (timers place.1.ports))
-            (λ place there one other timed. one_deadline settings answers idle.early place old.1 rests.time
+            HasDeadline one other old.1 time (timers place.1.ports))
+            (λ place there one other timed. one_deadline settings answers idle.early place old.1 time
             (All-contains (IsIdleAtWait port_transition idle.early) places place idle.sessions there)
             (All-contains calms places place calm there)
             (not_true (is_closed place.0) (All-contains (λ (p : SessionView × QuotaPortsView P). not (is_closed p.0) ≡ true) places place going there))
             one other timed) places (All-contains_itself places)))
-            (watched_calm network view places watched.0 old rests.time watched.2 lasts))
-            (λ (none : IsNoTime rests.time). inl none)
-            rests.lasts;
+            (watched_calm network view places watched.0 old rests.0 time watched.2 rests.1.lasts);
       }

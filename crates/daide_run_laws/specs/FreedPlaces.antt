@@ -146,10 +146,12 @@ module _ {P S : Type 0} (transition : P → PortCall → P → Type 0) (timers :
 
   -- ---- a wait
 
-  -- The network is polled once. For no time, or else each session that is timed has a deadline.
+  -- The network is polled once, for the time of a wait that watches others beside the sessions. For no time, or else each
+  -- session that is timed has a deadline.
   pub record WaitsByDeadlines {N C : Type 0} (network : N → NetworkCall C → N → Type 0) (settings : Settings)
       (answers : List (SystemCall P)) (places : List (SessionView × QuotaPortsView P)) (old new : N × Table) : Type 0 where
-    pub rests : RestsOnce network old.0 old.1 new.0 new.1
+    pub others : List (Bool × Option Instant)
+    pub rests : RestsOnce network others old.0 old.1 new.0 new.1
     pub deadlines : IsNoTime rests.time ⊎ All (λ place. (idle stall : Duration) → IsTimed settings answers idle stall place →
         HasDeadline idle stall old.1 rests.time (timers place.1.ports)) places
 
