@@ -169,7 +169,9 @@ def status_is_a_table(program):
         waiting.sendall(IM)
         same(received(other, len(IM)), IM, "received by the server")
         lines = match.status().splitlines()
-        same(re.sub(r"up \d+ s", "up", lines[0]), "2 open, 0 connecting, 0 served, 0 unreached, up", "the first line")
+        # With all places taken, a bot may wait or not: the listener was not asked since.
+        first = re.sub(r"up \d+ s", "up", lines[0]).removesuffix("; bots wait for a place")
+        same(first, "2 open, 0 connecting, 0 served, 0 unreached, up", "the first line")
         wanted = [
             f"      1  open 0        4      1      0       0         0         *           * {address(bot)}",
             f"      2  wait RM       1      0      0       0         0         *           - {address(waiting)}",
@@ -356,7 +358,7 @@ def silent_client_is_closed(program):
     """A client that sends nothing gets the end of its stream within a few seconds."""
     with Match(program, "sessions = 4") as match, match.client() as client:
         begun = time.monotonic()
-        same(rest(client), b"unknown request\n", "answer to nothing")
+        same(rest(client), b"", "answer to nothing")
         if not 1.5 < time.monotonic() - begun < 6:
             raise Wrong(f"the client was closed after {time.monotonic() - begun:.1f} s")
 
