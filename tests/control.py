@@ -33,6 +33,11 @@ HOSTILE = 300
 COLUMNS = "session  phase   relayed    PRN    HUH  to bot to server  bot idle server idle bot"
 
 
+def hears_interrupts():
+    """A shell that runs the tests in the background has them ignore SIGINT, and a script can't trap what is ignored."""
+    signal.signal(signal.SIGINT, signal.SIG_DFL)
+
+
 class Match:
     """A run with a control socket, and a server, in a folder that only this user may enter."""
 
@@ -54,7 +59,8 @@ class Match:
     def __enter__(self):
         self.process = subprocess.Popen(
             [*self.program, "run", *self.words, str(self.settings)], stdin=subprocess.DEVNULL, cwd=self.room,
-            stdout=subprocess.PIPE, stderr=subprocess.PIPE, bufsize=0,
+            stdout=subprocess.PIPE, stderr=subprocess.PIPE, bufsize=0, start_new_session=True,
+            preexec_fn=hears_interrupts,
         )
         same(self.process.stdout.read(len(b"listening\n")), b"listening\n", "printed by the run")
         return self
@@ -62,8 +68,9 @@ class Match:
     def __exit__(self, *fault):
         for stream in (*self.bots, *self.servers, self.listener):
             stream.close()
-        if self.process.poll() is None:
-            self.process.kill()
+        # The script at the top may have left the program behind, which is in its process group.
+        with contextlib.suppress(ProcessLookupError):
+            os.killpg(self.process.pid, signal.SIGKILL)
         self.process.communicate()
         shutil.rmtree(self.room, ignore_errors=True)
 
