@@ -9,13 +9,13 @@ ghost use Rattle.daide_words.specs.Words.{words_of};
 use crate::arguments::RunOrder;
 use crate::faults::{CLEAN, FAULT, tell};
 use crate::folder::{Folder, SessionFile};
-use crate::gateway::{GatewayFault, bind, log_beginning, serve_on};
+use crate::gateway::{GatewayFault, bind, serve_on};
 use crate::recorded::RecordedSockets;
 use crate::text::{SettingsTextFault, read_text};
 use daide_event_loop::ServeFault;
 use daide_io::duplex::Duplex;
 use daide_io::{Network, Ports, System};
-use daide_log::{Sink, TimedRecording};
+use daide_log::{Recording, Sink};
 use daide_settings::{Settings, SettingsError, read_settings};
 use daide_sockets::bound_sockets::{BoundSockets, sockets_on};
 use daide_sockets::connection::Connection;
@@ -169,7 +169,7 @@ fn serve_sockets<
           bot = ports.ports.bot.stream;
           server = ports.ports.server.stream;
         })
-        ⟦<TimedRecording<SocketPorts<'static, Connection>, SessionFile<F::File>> as Ports>⟧.transition settings.now
+        ⟦<Recording<SocketPorts<'static, Connection>, SessionFile<F::File>> as Ports>⟧.transition settings.now
         (HasFailed O.Fails) (O.contents output.old) (O.contents output.new) result) }
 {
     let BoundSockets {
@@ -179,9 +179,6 @@ fn serve_sockets<
         pool,
     } = bind(rt, settings).map_err(RunFault::Gateway)?;
     let _file = control_file(rt, settings);
-    if reports.is_verbose {
-        log_beginning(settings, errors);
-    }
     let ground = (network, servers.as_slice(), table, &pool);
     let Some(mut sockets) = sockets_on(rt.alloc(), settings, ground, errors) else {
         return Err(RunFault::Memory);
@@ -190,7 +187,7 @@ fn serve_sockets<
     match reports.folder {
         None => run_on(rt.alloc(), settings, &mut sockets, output),
         Some(folder) => {
-            let mut system = RecordedSockets::new(sockets, folder, rt);
+            let mut system = RecordedSockets { sockets, folder };
             run_on(rt.alloc(), settings, &mut system, output)
         }
     }
@@ -249,7 +246,7 @@ fn run_recorded<'r, R: AllocGlobal + Files + Clock + Net, O: Sink, E: Write>(
           bot = ports.ports.bot.stream;
           server = ports.ports.server.stream;
         })
-        ⟦<TimedRecording<SocketPorts<'static, Connection>, SessionFile<R::File>> as Ports>⟧.transition
+        ⟦<Recording<SocketPorts<'static, Connection>, SessionFile<R::File>> as Ports>⟧.transition
         (HasFailed O.Fails) (O.contents output.old) (O.contents output.new) result }
 {
     let settings = settings_at(rt, order.settings)?;
