@@ -142,8 +142,53 @@ fn control_file<'a, R: Files>(rt: &'a R, settings: &'a Settings) -> Option<Contr
     }
 }
 
-/// Serves over sockets at the addresses of the settings: binds, opens the sockets, serves on them, and finishes closing.
-/// If there is a folder, the system is one around the sockets, which keeps a record of each session there.
+/// Serves over sockets that are bound, with these settings: opens the sockets, serves on them, and finishes closing. If
+/// there is a folder, the system is one around the sockets, which keeps a record of each session there.
+fn serve_bound<'r, R: AllocGlobal + Clock + Net, F: AllocGlobal + Files, O: Sink, E: Write + Drop>(
+    alloc: Global,
+    settings: &Settings,
+    reports: SessionReports<'r, F>,
+    bound: BoundSockets<'r, R>,
+    output: &mut O,
+    errors: E,
+) -> Result<(), RunFault>
+    ensures plain { reports.entry.folder ≡ None →
+        RunEnds ⟦<Connection as Duplex>⟧.to_give ⟦<Connection as Duplex>⟧.taken ⟦<Connection as Duplex>⟧.calls
+        (λ ports. record { number = ports.number; bot = ports.bot.stream; server = ports.server.stream })
+        ⟦<SocketPorts<'static, Connection> as Ports>⟧.transition settings.now (HasFailed O.Fails)
+        (O.contents output.old) (O.contents output.new) result }
+    ensures recorded { IfSome reports.entry.folder (λ folder.
+        RunEnds ⟦<Connection as Duplex>⟧.to_give ⟦<Connection as Duplex>⟧.taken ⟦<Connection as Duplex>⟧.calls
+        (λ ports. record {
+          number = ports.ports.number;
+          bot = ports.ports.bot.stream;
+          server = ports.ports.server.stream;
+        })
+        ⟦<Recording<SocketPorts<'static, Connection>, SessionFile<F::File>> as Ports>⟧.transition settings.now
+        (HasFailed O.Fails) (O.contents output.old) (O.contents output.new) result) }
+{
+    let BoundSockets {
+        network,
+        servers,
+        table,
+        pool,
+    } = bound;
+    let ground = (network, servers.as_slice(), table, &pool);
+    let Some(mut sockets) = sockets_on(alloc, settings, ground, errors) else {
+        return Err(RunFault::Memory);
+    };
+    sockets.set_verbose(reports.is_verbose);
+    match reports.folder {
+        None => run_on(alloc, settings, &mut sockets, output),
+        Some(folder) => {
+            let mut system = RecordedSockets { sockets, folder };
+            run_on(alloc, settings, &mut system, output)
+        }
+    }
+}
+
+/// Serves over sockets at the addresses of the settings: binds, and serves on what is bound (`serve_bound`). The file of
+/// the control socket is removed at the end, if there is one.
 fn serve_sockets<
     'r,
     R: AllocGlobal + Files + Clock + Net,
@@ -172,25 +217,9 @@ fn serve_sockets<
         ⟦<Recording<SocketPorts<'static, Connection>, SessionFile<F::File>> as Ports>⟧.transition settings.now
         (HasFailed O.Fails) (O.contents output.old) (O.contents output.new) result) }
 {
-    let BoundSockets {
-        network,
-        servers,
-        table,
-        pool,
-    } = bind(rt, settings).map_err(RunFault::Gateway)?;
+    let bound = bind(rt, settings).map_err(RunFault::Gateway)?;
     let _file = control_file(rt, settings);
-    let ground = (network, servers.as_slice(), table, &pool);
-    let Some(mut sockets) = sockets_on(rt.alloc(), settings, ground, errors) else {
-        return Err(RunFault::Memory);
-    };
-    sockets.set_verbose(reports.is_verbose);
-    match reports.folder {
-        None => run_on(rt.alloc(), settings, &mut sockets, output),
-        Some(folder) => {
-            let mut system = RecordedSockets { sockets, folder };
-            run_on(rt.alloc(), settings, &mut system, output)
-        }
-    }
+    serve_bound(rt.alloc(), settings, reports, bound, output, errors)
 }
 
 /// Serves with the settings of a text: binds, opens the sockets, serves on them (`serve_on`), and finishes closing. If
