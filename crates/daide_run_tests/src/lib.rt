@@ -9,8 +9,6 @@ mod addresses;
 #[cfg(test)]
 mod admission;
 #[cfg(test)]
-mod control;
-#[cfg(test)]
 mod doors;
 #[cfg(test)]
 mod frames;
