@@ -112,9 +112,8 @@ def lines_of(number, port="50000"):
 # The number of the first session whose lines find no room.
 FIRST_HELD = next(number for number in range(1, MANY) if sum(len(lines_of(n + 1)) for n in range(number)) > PIPE)
 
-# What happens if nobody reads standard error is not promised; this is what happens now. The run is held up in the first
-# line without room: it accepts no further bot, and uses no processor time. It goes on once the lines are read, and none
-# is lost.
+# If nobody reads standard error, the run is held up in the first line without room, as docs/OPERATING.md says: it accepts
+# no further bot, and uses no processor time. It goes on once the lines are read, and none is lost.
 NOBODY_READS = [
     *(act for number in range(MANY) for act in (Comes(), Says(Bot(number), IM_FM))),
     *(FinishesConnect() for _ in range(FIRST_HELD)),

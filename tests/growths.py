@@ -35,6 +35,7 @@ stall_seconds = 9
 endless = false
 allow = ["127.0.0.0/8", "::1"]
 max_per_address = 10
+control = "c"
 words = [
     { name = "XYZ", code = 0x4A40, slot = "press", level = 20, operand = "power" },
     { name = "XYY", code = 0x4A41, slot = "press", level = 30, operand = "provinces" },
@@ -55,7 +56,7 @@ RUNS = [
     (["run", "settings"], SETTINGS + "depth = 5\n", (b"", b"daide-gate: unknown key\n", 1)),
     (
         ["settings", "settings"], SETTINGS + "depth = 5\n",
-        (b"line 19: unknown key: depth\n", b"", 1),
+        (b"line 20: unknown key: depth\n", b"", 1),
     ),
     (["run", "settings"], SETTINGS + "depth =\n", (b"", b"daide-gate: settings are not TOML\n", 1)),
     (["run", "settings"], SETTINGS.replace("0x4A41", "0x4A40"), (b"", b"daide-gate: words out of range\n", 1)),

@@ -1,6 +1,7 @@
 pub mod AwaitedLemmas
 pub mod DroppedLemmas
 pub mod FrontLemmas
+pub mod QueuedLemmas
 pub mod FrontsKept
 pub mod GoneLemmas
 pub mod HeadLemmas

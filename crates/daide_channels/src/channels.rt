@@ -5,7 +5,7 @@
 //! frames: one answer to each side and one final frame.
 
 ghost use Rattle.std.specs.Prelude.{◌≡◌, ◌*◌, ◌/◌, ◌+◌, ◌<◌, ◌≤◌, ◌⊎◌, [], ◌++◌, length, take, drop, Some, None};
-ghost use Rattle.std.specs.Prelude.{false, IfOk, OnErr};
+ghost use Rattle.std.specs.Prelude.{false, IfOk, OnErr, sum_by};
 ghost use Rattle.daide_frame.specs.Frames.{fed, fed_items, items_of_step, IsFault, HoldsFrame, head_in, missing};
 ghost use Rattle.daide_frame.specs.Frames.{announced};
 ghost use Rattle.daide_frame.specs.declared.side.Side.{Side};
@@ -18,6 +18,7 @@ ghost use Rattle.daide_protocol.specs.Weight.{tokens_held};
 ghost use Rattle.daide_protocol.specs.Wires.{IsFrontOf, first_len, without, sent_bytes, is_awaited, steps_of};
 ghost use Rattle.daide_protocol.specs.Wires.{next_part, parts_after};
 ghost use Rattle.daide_protocol.specs.Bounds.{greatest_depth, longest_body};
+ghost use Rattle.daide_reader.specs.Bounds.{longest_message};
 ghost use Rattle.daide_reader.specs.Reading.{IsRaised};
 ghost use Rattle.daide_words.specs.Word.{grammar_words};
 ghost use Rattle.daide_words.specs.Words.{words_of};
@@ -26,7 +27,7 @@ ghost use Rattle.daide_channels.specs.Receiver.{tokens_ended};
 ghost use Rattle.daide_channels.specs.SendQueue.{most_queued};
 ghost use Rattle.daide_channels.specs.Channels.{pending, noted, side_holding, IsQuiet, Keeps, IsGrown, IsStarted};
 ghost use Rattle.daide_channels.specs.Channels.{IsAnswered, IsCleared, ReleasesFrames, posted, has_final_frame, final_frame_to};
-ghost use Rattle.daide_channels.specs.Channels.{answer_at, answered_by, drop_sent, ending_of, others, size_of_first};
+ghost use Rattle.daide_channels.specs.Channels.{answer_at, answered_by, drop_sent, ending_of, others, queued_bytes, size_of_first};
 ghost use Rattle.daide_channels.specs.Channels.{IsReleased};
 ghost use Rattle.daide_channels.specs.Fronts.{KeepsFronts, AreFresh};
 
@@ -84,15 +85,37 @@ fn rest_of(bytes: &[u8], gone: usize) -> &[u8]
     &[]
 }
 
+/// Returns the length in bytes of a queued frame, with the bytes already sent.
+fn frame_len<A: Allocator>(frame: QueuedFrame, receivers: &PerSide<Receiver<A>>) -> usize
+    ensures value { result ≡ length (queued_bytes (answer_at receivers.now) frame) }
+    ensures short { result ≤ 4 + longest_message }
+{
+    match frame {
+        QueuedFrame::Answer(side) => receivers.at(side).answer_len(),
+        QueuedFrame::Fm => FM.len(),
+        QueuedFrame::Em(code) => em_frame(code).len(),
+    }
+}
+
+/// Returns the length in bytes of queued frames together, with the bytes already sent.
+fn frames_len<A: Allocator>(frames: &[QueuedFrame], receivers: &PerSide<Receiver<A>>) -> usize
+    requires { length frames.now ≤ most_queued }
+    ensures { result ≡ sum_by (λ frame. length (queued_bytes (answer_at receivers.now) frame)) frames.now }
+{
+    let mut total = 0;
+    for frame in frames {
+        total += frame_len(*frame, receivers);
+    }
+    total
+}
+
 /// Returns the length in bytes of the first frame queued for a wire, with the bytes already sent; 0 if none is queued.
 fn first_frame_len<A: Allocator>(wire: &SendQueue, receivers: &PerSide<Receiver<A>>) -> usize
     ensures { result ≡ size_of_first (answer_at receivers.now) wire.now.items }
 {
     match wire.first() {
         None => 0,
-        Some(QueuedFrame::Answer(side)) => receivers.at(side).answer_len(),
-        Some(QueuedFrame::Fm) => FM.len(),
-        Some(QueuedFrame::Em(code)) => em_frame(code).len(),
+        Some(frame) => frame_len(frame, receivers),
     }
 }
 
@@ -329,6 +352,14 @@ impl<A: Allocator> Channels<A> {
     {
         let wire = self.wires.at(to);
         first_frame_len(wire, &self.receivers) - wire.written()
+    }
+
+    /// Returns how many bytes are queued for a wire: the unsent bytes of all its frames.
+    pub fn queued_len(&self, to: Side) -> usize
+        ensures { result ≡ length (sent_bytes (at self.now.queued to)) }
+    {
+        let wire = self.wires.at(to);
+        frames_len(wire.frames(), &self.receivers) - wire.written()
     }
 
     /// Advances the first frame of a wire by `n` bytes, which are fewer than it has left.

@@ -18,6 +18,7 @@ ghost use Rattle.daide_protocol.specs.Machine.{IsCorrectVerdict, question_of, is
 ghost use Rattle.daide_protocol.specs.Weight.{tokens_held};
 ghost use Rattle.daide_protocol.specs.Wires.{is_dm_head};
 ghost use Rattle.daide_protocol.specs.Bounds.{greatest_depth, longest_body};
+ghost use Rattle.daide_reader.specs.Bounds.{longest_message};
 ghost use Rattle.daide_reader.specs.Reading.{IsRaised};
 ghost use Rattle.daide_words.specs.Word.{grammar_words};
 ghost use Rattle.daide_words.specs.Words.{words_of};
@@ -273,9 +274,10 @@ impl<A: Allocator> Receiver<A> {
 
     /// Returns the length of the answer in bytes, with its header; 0 if there is no answer.
     pub fn answer_len(&self) -> usize
-        ensures { result ≡ length (whole_answer self.now) }
+        ensures value { result ≡ length (whole_answer self.now) }
+        ensures short { result ≤ 4 + longest_message }
     {
-        let body = self.cutter.body();
+        let body = self.body();
         match self.verdict {
             None => 0,
             Some(Verdict::Relay) => self.header.len() + body.len(),

@@ -64,6 +64,14 @@ impl SendQueue {
         self.queued.len()
     }
 
+    /// Returns the queued frames, in order.
+    pub fn frames(&self) -> &[QueuedFrame]
+        ensures value { result.now ≡ self.now.items }
+        ensures at_most_three { length result.now ≤ most_queued }
+    {
+        self.queued.as_slice()
+    }
+
     /// Returns the first queued frame.
     pub fn first(&self) -> Option<QueuedFrame>
         ensures { result ≡ first_of self.now.items }

@@ -113,6 +113,11 @@ const LINES: &[Row] = &[
     ("max_per_address = 257", "max_per_address out of range"),
     ("max_per_address = true", "wrong type for max_per_address"),
     ("max_per_address = 257\nallow = []", "allow out of range"),
+    ("control = \"c\"", ""),
+    ("control = \"\"", "control out of range"),
+    ("control = 1", "wrong type for control"),
+    ("control = [ \"c\" ]", "wrong type for control"),
+    ("control = \"\"\nmax_per_address = 257", "max_per_address out of range"),
     ("top_level = 0x3C", ""),
     ("max_depth = 6_2", ""),
     ("turns = -1", "turns out of range"),
@@ -292,6 +297,7 @@ fn two_addresses_give_the_defaults(rt: HostRuntime) -> Result<(), Fail> {
     let addresses = ("127.0.0.1:16713", "127.0.0.1:16714");
     let run = (16, 1, 1_000_000_000, 0, 60, false, 0);
     assert_settings(&settings, addresses, (DEFAULTS, 30), run, 0)?;
+    same(&settings.control.is_none(), &true, &"no control")?;
     let everyone = [in_range(Host::V4(0), 0), in_range(Host::V6(0), 0)];
     same(
         &settings.allow.as_slice(),
@@ -307,7 +313,7 @@ fn in_range(host: Host, prefix: u8) -> AddressRange {
 
 /// Each key with a value of its own, in reverse order.
 const EACH_KEY: &str =
-    "max_per_address = 10\nallow = [ \"127.0.0.0/8\", \"::1\" ]\nendless = true\nstall_seconds = 9\nwords = [ { name = \"XYZ\", code = 0x4A40, slot = \"press\", level = 20, operand = \"power\" } ]\n\
+    "control = \"c\"\nmax_per_address = 10\nallow = [ \"127.0.0.0/8\", \"::1\" ]\nendless = true\nstall_seconds = 9\nwords = [ { name = \"XYZ\", code = 0x4A40, slot = \"press\", level = 20, operand = \"power\" } ]\n\
     idle_seconds = 8\nturns = 7\nsessions = 6\nmax_sessions = 5\nim_seconds = 4\nmax_depth = 13\nmax_body = 1024\n\
     top_level = 20\nserver = \"s\"\nlisten = \"l\"\n";
 
@@ -323,6 +329,8 @@ fn each_key_sets_its_own_field(rt: HostRuntime) -> Result<(), Fail> {
     let settings = read_settings(rt.alloc(), EACH_KEY)?;
     let run = (5, 6, 7, 8, 9, true, 10);
     assert_settings(&settings, ("l", "s"), (OWN_LIMITS, 4), run, 1)?;
+    let control = settings.control.as_ref().map(|path| path.as_str());
+    same(&control, &Some("c"), &"control")?;
     let word = Word {
         name: *b"XYZ",
         code: Token::from_code(0x4A40),

@@ -4,6 +4,7 @@ mod Reading
 mod StreamLemmas
 mod AcceptedLemmas
 mod CommandLemmas
+pub mod Listed
 mod RunLemmas
 mod JudgingLemmas
 mod CommandFacts

@@ -1,9 +1,10 @@
 -- The definition of the command line, in the terms of clap's contracts, and the order that arguments give. (own)
-use Rattle.std.specs.Prelude.{◌≡◌, ◌⊎◌, ◌&&◌, ◌==◌, Bool, true, false, if◌then◌else◌, codes}
+use Rattle.std.specs.Prelude.{◌≡◌, ◌≤◌, ◌⊎◌, ◌&&◌, ◌==◌, ℕ, SomeIff, Bool, true, false, if◌then◌else◌, codes}
 use Rattle.std.specs.Prelude.{List, [], ◌∷◌, Option, Some, None, Result, Ok, Err, option_map, unwrap_or, map}
 use Rattle.std.specs.List.{list_any}
 use Rattle.std.specs.Option.{option_map_or}
 use Rattle.std.specs.Str.{bytes_eq}
+use Rattle.std.specs.Str.Parse.{IsNumeral, digits_value, without_leading_plus}
 use Rattle.clap.specs.Words.{App, Row, Rule, Text, all_of, first_of, new_rule, shape_of, fault_of, subcommand_of, subcommand_rows_of, kind_of}
 use Rattle.clap.specs.Kinds.{IsAmong}
 use Rattle.clap.specs.declared.error.Error.{Error}
@@ -21,11 +22,16 @@ use Rattle.daide_grammar.specs.declared.level.Level.{Level}
 use Rattle.daide_grammar.specs.declared.level.Level.TheVariants.{L0, L10, L20, L30, L40, L50, L60}
 use Rattle.daide_commands.specs.declared.arguments.Order.{Order}
 use Rattle.daide_commands.specs.declared.arguments.Order.TheVariants.{Show, Check, Frame, Settings, Run, BadSide, BadLevel}
+use Rattle.daide_commands.specs.declared.arguments.Order.TheVariants.{Status, Stop, BadFormat, BadTimeout}
 use Rattle.daide_commands.specs.declared.arguments.ShowOrder.{ShowOrder}
 use Rattle.daide_commands.specs.declared.arguments.CheckOrder.{CheckOrder}
 use Rattle.daide_commands.specs.declared.arguments.FrameOrder.{FrameOrder}
 use Rattle.daide_commands.specs.declared.arguments.SettingsOrder.{SettingsOrder}
 use Rattle.daide_commands.specs.declared.arguments.RunOrder.{RunOrder}
+use Rattle.daide_commands.specs.declared.arguments.StatusOrder.{StatusOrder}
+use Rattle.daide_commands.specs.declared.arguments.StopOrder.{StopOrder}
+use Rattle.daide_status.specs.declared.request.Format.{Format}
+use Rattle.daide_status.specs.declared.request.Format.TheVariants.{Table, Json, Prometheus}
 
 -- ---- the command line
 
@@ -68,11 +74,18 @@ abbrev pub run_app : App
 run_app = with_rules (codes "run")
     (flag_rule (codes "verbose") ∷ option_rule (codes "record") ∷ word_rule (codes "SETTINGS") true ∷ [])
 
+abbrev pub status_app : App
+status_app = with_rules (codes "status") (option_rule (codes "format") ∷ word_rule (codes "SETTINGS") true ∷ [])
+
+abbrev pub stop_app : App
+stop_app = with_rules (codes "stop")
+    (flag_rule (codes "now") ∷ option_rule (codes "timeout") ∷ word_rule (codes "SETTINGS") true ∷ [])
+
 -- the whole command line, if no argument begins as a negative number
 abbrev pub gate_app : App
 gate_app = record {
   top = record (new_shape (codes "daide-gate")) { is_leaf = false; has_version = true };
-  subs = show_app.top ∷ check_app.top ∷ frame_app.top ∷ settings_app.top ∷ run_app.top ∷ [];
+  subs = show_app.top ∷ check_app.top ∷ frame_app.top ∷ settings_app.top ∷ run_app.top ∷ status_app.top ∷ stop_app.top ∷ [];
 }
 
 -- the subcommands, in the order of the help; `frame` may take negative numbers
@@ -104,6 +117,21 @@ level_named word =
     else if bytes_eq word (codes "50") then Some L50
     else if bytes_eq word (codes "60") then Some L60
     else None
+
+-- the form of a status with this name
+abbrev pub format_named : Text → Option Format
+format_named word =
+    if bytes_eq word (codes "table") then Some Table
+    else if bytes_eq word (codes "json") then Some Json
+    else if bytes_eq word (codes "prometheus") then Some Prometheus
+    else None
+
+-- the seconds of a timeout: 1 to 86,400, in decimal digits as std reads them
+abbrev pub IsTimeout : Text → Option ℕ → Type 0
+IsTimeout word timeout =
+    let digits = without_leading_plus word in
+    let seconds = digits_value 10 digits in
+    SomeIff timeout (IsNumeral 10 digits × (1 ≤ seconds) × (seconds ≤ 86400)) seconds
 
 -- a flag was given
 abbrev pub is_set : Text → List Row → Bool
@@ -142,12 +170,35 @@ IsShowOrder (Some side) (Some level) rows order = (show : ShowOrder) × (order �
     × (option_map (λ text. text.now) show.words ≡ first_of (codes "words") rows)
     × (option_map (λ typed. map (λ word. word.now) typed.now) show.typed ≡ all_of (codes "HEX") rows)
 
+-- the order of `status`, by the named form
+abbrev pub IsStatusOrder : Option Format → List Row → Order → Type 0
+IsStatusOrder None rows order = order ≡ BadFormat
+IsStatusOrder (Some format) rows order = (status : StatusOrder) × (order ≡ Status status) × (status.format ≡ format)
+    × (status.settings.now ≡ unwrap_or (first_of (codes "SETTINGS") rows) [])
+
+-- the order of `stop`, with a timeout or without one
+abbrev pub IsStopWithin : Option ℕ → List Row → Order → Type 0
+IsStopWithin timeout rows order = (stop : StopOrder) × (order ≡ Stop stop) × (stop.timeout ≡ timeout)
+    × (stop.settings.now ≡ unwrap_or (first_of (codes "SETTINGS") rows) [])
+    × (stop.is_now ≡ is_set (codes "now") rows)
+
+abbrev pub IsStopIn : Option ℕ → List Row → Order → Type 0
+IsStopIn None rows order = order ≡ BadTimeout
+IsStopIn (Some seconds) rows order = IsStopWithin (Some seconds) rows order
+
+-- the order of `stop`, by the word of its timeout; without one it has no timeout
+abbrev pub IsStopOrder : Option Text → List Row → Order → Type 0
+IsStopOrder None rows order = IsStopWithin None rows order
+IsStopOrder (Some word) rows order = (timeout : Option ℕ) × IsTimeout word timeout × IsStopIn timeout rows order
+
 -- the subcommands; any other name is `show`
 pub data Subcommand : Type 0 where
   ForRun : Subcommand
   ForCheck : Subcommand
   ForFrame : Subcommand
   ForSettings : Subcommand
+  ForStatus : Subcommand
+  ForStop : Subcommand
   ForShow : Subcommand
 
 abbrev pub subcommand_named : Text → Subcommand
@@ -156,6 +207,8 @@ subcommand_named name =
     else if bytes_eq name (codes "check") then ForCheck
     else if bytes_eq name (codes "frame") then ForFrame
     else if bytes_eq name (codes "settings") then ForSettings
+    else if bytes_eq name (codes "status") then ForStatus
+    else if bytes_eq name (codes "stop") then ForStop
     else ForShow
 
 -- the order of a command with these values
@@ -164,6 +217,9 @@ IsOrderFor ForRun rows order = (run : RunOrder) × (order ≡ Run run) × IsRunO
 IsOrderFor ForCheck rows order = (check : CheckOrder) × (order ≡ Check check) × IsCheckOrder rows check
 IsOrderFor ForFrame rows order = (frame : FrameOrder) × (order ≡ Frame frame) × IsFrameOrder rows frame
 IsOrderFor ForSettings rows order = (settings : SettingsOrder) × (order ≡ Settings settings) × IsSettingsOrder rows settings
+IsOrderFor ForStatus rows order =
+    IsStatusOrder (format_named (unwrap_or (first_of (codes "format") rows) (codes "table"))) rows order
+IsOrderFor ForStop rows order = IsStopOrder (first_of (codes "timeout") rows) rows order
 IsOrderFor ForShow rows order =
     IsShowOrder (side_named (unwrap_or (first_of (codes "side") rows) (codes "bot")))
     (level_named (unwrap_or (first_of (codes "level") rows) (codes "0"))) rows order

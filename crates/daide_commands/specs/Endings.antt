@@ -27,6 +27,7 @@ use Rattle.daide_text.specs.declared.frames.TextFault.{TextFault}
 use Rattle.daide_commands.specs.Gateway.{Announces}
 use Rattle.daide_commands.specs.declared.arguments.Order.{Order}
 use Rattle.daide_commands.specs.declared.arguments.Order.TheVariants.{Show, Check, Frame, Settings, Run, BadSide, BadLevel}
+use Rattle.daide_commands.specs.declared.arguments.Order.TheVariants.{Status, Stop, BadFormat, BadTimeout}
 use Rattle.daide_commands.specs.declared.arguments.ShowOrder.{ShowOrder}
 use Rattle.daide_commands.specs.declared.arguments.CheckOrder.{CheckOrder}
 use Rattle.daide_commands.specs.declared.arguments.FrameOrder.{FrameOrder}
@@ -160,6 +161,10 @@ OrderEnds failed (Settings order) known rest old new status = SettingsRuns order
 OrderEnds failed (Run order) known rest old new status = (status ≤ 1) × (status ≡ 0 → Announces failed old new)
 OrderEnds failed BadSide known rest old new status = (status ≡ 2) × (new ≡ old)
 OrderEnds failed BadLevel known rest old new status = (status ≡ 2) × (new ≡ old)
+OrderEnds failed (Status order) known rest old new status = status ≤ 1
+OrderEnds failed (Stop order) known rest old new status = (status ≤ 1) × (new ≡ old)
+OrderEnds failed BadFormat known rest old new status = (status ≡ 2) × (new ≡ old)
+OrderEnds failed BadTimeout known rest old new status = (status ≡ 2) × (new ≡ old)
 
 -- ---- arguments that give no order
 

@@ -1,10 +1,11 @@
 //! The arguments of the command line, and the order that they give.
 
-ghost use Rattle.std.specs.Prelude.{◌≡◌, IfOk, map, option_map, unwrap_or, codes, false};
+ghost use Rattle.std.specs.Prelude.{◌≡◌, IfOk, map, option_map, unwrap_or, codes, false, true};
 ghost use Rattle.std.specs.List.{list_any};
 ghost use Rattle.clap.specs.Words.{app_of, rule_of, rows_of, found_of, subcommand_rows_of, first_of, all_of};
 ghost use Rattle.clap.specs.declared.builder.command.Command.TheViews.{out-Command};
 ghost use Rattle.daide_commands.specs.CommandLine.{AreCommands, option_rule, flag_rule, words_rule, gate_app, frame_app, show_app, check_app, settings_app, run_app};
+ghost use Rattle.daide_commands.specs.CommandLine.{status_app, stop_app, word_rule, format_named, IsTimeout, IsStatusOrder, IsStopWithin, IsStopOrder};
 ghost use Rattle.daide_commands.specs.CommandLine.{begins_negative, side_named, level_named, is_set};
 ghost use Rattle.daide_commands.specs.CommandLine.{IsRunOrder, IsCheckOrder, IsFrameOrder, IsSettingsOrder, IsShowOrder, IsOrderFor, IsOrderOf, subcommand_named, ParsesTo, parsed_by};
 
@@ -12,8 +13,12 @@ use clap::error::Error;
 use clap::{Arg, ArgAction, ArgMatches, Command};
 use daide_frame::side::Side;
 use daide_grammar::level::Level;
+use daide_status::Format;
 use std::alloc::{AllocError, Global};
 use std::convert::AsStr;
+
+/// The version of the program.
+pub const VERSION: &str = "1.0.0";
 
 /// The order that the arguments give. The slices of arguments are borrowed for `'m`, their texts for `'a`.
 #[derive(Clone, Copy)]
@@ -28,10 +33,18 @@ pub(crate) enum Order<'m, 'a> {
     Settings(SettingsOrder<'a>),
     /// Serve.
     Run(RunOrder<'a>),
+    /// Print the status of a run.
+    Status(StatusOrder<'a>),
+    /// Stop a run.
+    Stop(StopOrder<'a>),
     /// The value of `--side` is not a side.
     BadSide,
     /// The value of `--level` is not a level.
     BadLevel,
+    /// The value of `--format` is not a form of a status.
+    BadFormat,
+    /// The value of `--timeout` is not a number of seconds.
+    BadTimeout,
 }
 
 /// The order to show a frame.
@@ -85,6 +98,26 @@ pub(crate) struct RunOrder<'a> {
     pub record: Option<&'a str>,
 }
 
+/// The order to print the status of a run.
+#[derive(Clone, Copy)]
+pub(crate) struct StatusOrder<'a> {
+    /// The path of the settings of the run.
+    pub settings: &'a str,
+    /// The form of the status.
+    pub format: Format,
+}
+
+/// The order to stop a run.
+#[derive(Clone, Copy)]
+pub(crate) struct StopOrder<'a> {
+    /// The path of the settings of the run.
+    pub settings: &'a str,
+    /// Whether the sessions are ended at once.
+    pub is_now: bool,
+    /// The seconds after which the command gives up waiting; `None` if it waits until the run is over.
+    pub timeout: Option<u32>,
+}
+
 /// The help on the default command, and the exit statuses.
 const NOTES: &str = "\
 Without a command it does what 'show' does with its defaults. The options of 'show':
@@ -95,9 +128,9 @@ Without a command it does what 'show' does with its defaults. The options of 'sh
 
 Exit status:
   0  the frame would be relayed; the log has no PRN, HUH or fault; all messages have frames; the settings have no
-     fault; all bots were served; help and version
-  1  a fault of the input, the output, the settings, the folder of records, the address to listen on, or memory, told in
-     one line on standard error
+     fault; all bots were served; the status was printed; the run is over; help and version
+  1  a fault of the input, the output, the settings, the folder of records, the address to listen on, the control
+     socket, or memory, told in one line on standard error; a run that goes on after the timeout of 'stop'
   2  words that are not understood
   3  the frame is shown, and would not be relayed; the log is reported, and has a PRN, HUH or fault";
 
@@ -153,6 +186,29 @@ The exit status is 0 once all bots were served, and 1 if no bot can be.
 Examples:
   daide-gate run examples/settings.toml
   daide-gate run --verbose --record . examples/tournament.toml";
+
+/// The help on the output of `status`, with examples and exit statuses.
+const STATUS_NOTES: &str = "\
+It asks the run of these settings over the socket at the path of their key 'control', and prints the answer: first the
+run, then each open session with its number, its bot, its phase and level, its frames by what was done with them, the
+bytes that wait for each side, and the seconds since each side's last byte. docs/FORMATS.md has the three forms.
+The exit status is 0 if the status was printed, and else 1.
+
+Examples:
+  daide-gate status tournament.toml
+  daide-gate status --format json tournament.toml";
+
+/// The help on `stop`, with examples and exit statuses.
+const STOP_NOTES: &str = "\
+The run accepts no further bot. Without '--now' its open sessions go on, and it ends when the last one is over; with
+'--now' each session ends as if its bot had left: the server gets an FM, and the bot's connection ends. The command
+returns when the run is over.
+The exit status is 0 if the run is over, and 1 if it goes on after the timeout, or if nobody listens at the path of the
+settings' key 'control'.
+
+Examples:
+  daide-gate stop tournament.toml
+  daide-gate stop --now --timeout 30 tournament.toml";
 
 /// Returns an option that takes any value, so that the program reports a wrong one itself.
 fn option<'a>(alloc: Global, name: &'a str, value: &'a str, help: &'a str) -> Arg<'a>
@@ -285,6 +341,49 @@ fn run_command<'a>(alloc: Global) -> Result<Command<'a>, AllocError>
         .args(words_taken)
 }
 
+/// Returns the argument that is the file of a run's settings.
+fn settings_of_run<'a>(alloc: Global) -> Arg<'a>
+    ensures rule { rule_of result ≡ word_rule (codes "SETTINGS") true }
+    ensures local { result.global ≡ false }
+{
+    Arg::new(alloc, "SETTINGS")
+        .required(true)
+        .action(ArgAction::Set)
+        .help("The file of settings of the run, with the key 'control'")
+}
+
+/// Returns the command `status`.
+fn status_command<'a>(alloc: Global) -> Result<Command<'a>, AllocError>
+    ensures app { IfOk result (λ command. app_of command ≡ status_app) }
+    ensures local { IfOk result (λ command. (out-Command command).has_globals ≡ false) }
+{
+    let format = "The form: table, json or prometheus [default: table]";
+    let mut words_taken = Vec::new(alloc);
+    words_taken.push(option(alloc, "format", "FORM", format))?;
+    words_taken.push(settings_of_run(alloc))?;
+    Command::new(alloc, "status")
+        .about("Prints the status of a run and of its open sessions")
+        .after_help(STATUS_NOTES)
+        .args(words_taken)
+}
+
+/// Returns the command `stop`.
+fn stop_command<'a>(alloc: Global) -> Result<Command<'a>, AllocError>
+    ensures app { IfOk result (λ command. app_of command ≡ stop_app) }
+    ensures local { IfOk result (λ command. (out-Command command).has_globals ≡ false) }
+{
+    let now = "End the open sessions by the protocol";
+    let timeout = "Give up after this time, 1 to 86400 [default: never]";
+    let mut words_taken = Vec::new(alloc);
+    words_taken.push(flag(alloc, "now", now))?;
+    words_taken.push(option(alloc, "timeout", "SECONDS", timeout))?;
+    words_taken.push(settings_of_run(alloc))?;
+    Command::new(alloc, "stop")
+        .about("Stops a run, and returns when it is over")
+        .after_help(STOP_NOTES)
+        .args(words_taken)
+}
+
 /// Returns the commands, in the order of the help.
 fn subcommands<'a>(alloc: Global, takes_negative: bool) -> Result<Vec<Command<'a>>, AllocError>
     ensures { IfOk result (λ commands. AreCommands takes_negative commands.items) }
@@ -295,6 +394,8 @@ fn subcommands<'a>(alloc: Global, takes_negative: bool) -> Result<Vec<Command<'a
     commands.push(frame_command(alloc, takes_negative)?)?;
     commands.push(settings_command(alloc)?)?;
     commands.push(run_command(alloc)?)?;
+    commands.push(status_command(alloc)?)?;
+    commands.push(stop_command(alloc)?)?;
     Ok(commands)
 }
 
@@ -306,7 +407,7 @@ pub(crate) fn command<'a>(alloc: Global, takes_negative: bool) -> Result<Command
     let subcommands = subcommands(alloc, takes_negative)?;
     Command::new(alloc, "daide-gate")
         .bin_name("daide-gate")?
-        .version("1.0.0")
+        .version(VERSION)
         .about("A gateway between one bot and a DAIDE server")
         .after_help(NOTES)
         .subcommands(subcommands)
@@ -335,6 +436,28 @@ fn level_named(word: &str) -> Option<Level>
         "40" => Some(Level::L40),
         "50" => Some(Level::L50),
         "60" => Some(Level::L60),
+        _ => None,
+    }
+}
+
+/// Returns the form of a status with this name.
+fn format_named(word: &str) -> Option<Format>
+    ensures { result ≡ format_named word.now }
+{
+    match word {
+        "table" => Some(Format::Table),
+        "json" => Some(Format::Json),
+        "prometheus" => Some(Format::Prometheus),
+        _ => None,
+    }
+}
+
+/// Returns the seconds of a timeout: 1 to 86,400, in decimal digits.
+fn seconds_named(word: &str) -> Option<u32>
+    ensures { IsTimeout word.now result }
+{
+    match word.parse::<u32>() {
+        Ok(seconds) if 1 <= seconds && seconds <= 86_400 => Some(seconds),
         _ => None,
     }
 }
@@ -435,6 +558,44 @@ fn settings_order<'a>(settings: &ArgMatches<'a>) -> SettingsOrder<'a>
     }
 }
 
+/// Returns the order of `status`.
+fn status_order<'m, 'a>(status: &ArgMatches<'a>) -> Order<'m, 'a>
+    ensures { IsStatusOrder (format_named (unwrap_or (first_of (codes "format") (rows_of (found_of status.now))) (codes "table")))
+        (rows_of (found_of status.now)) result }
+{
+    let Some(format) = format_named(value_of(status, "format").unwrap_or("table")) else {
+        return Order::BadFormat;
+    };
+    Order::Status(StatusOrder {
+        settings: value_of(status, "SETTINGS").unwrap_or(""),
+        format,
+    })
+}
+
+/// Returns the order of `stop` with this timeout.
+fn stop_within<'m, 'a>(stop: &ArgMatches<'a>, timeout: Option<u32>) -> Order<'m, 'a>
+    ensures { IsStopWithin timeout (rows_of (found_of stop.now)) result }
+{
+    Order::Stop(StopOrder {
+        settings: value_of(stop, "SETTINGS").unwrap_or(""),
+        is_now: is_given(stop, "now"),
+        timeout,
+    })
+}
+
+/// Returns the order of `stop`.
+fn stop_order<'m, 'a>(stop: &ArgMatches<'a>) -> Order<'m, 'a>
+    ensures { IsStopOrder (first_of (codes "timeout") (rows_of (found_of stop.now))) (rows_of (found_of stop.now)) result }
+{
+    let Some(word) = value_of(stop, "timeout") else {
+        return stop_within(stop, None);
+    };
+    match seconds_named(word) {
+        Some(seconds) => stop_within(stop, Some(seconds)),
+        None => Order::BadTimeout,
+    }
+}
+
 /// Returns the order of `show`. A bad side is refused before a bad level.
 fn show_order<'m, 'a>(show: &'m ArgMatches<'a>) -> Order<'m, 'a>
     ensures { IsShowOrder (side_named (unwrap_or (first_of (codes "side") (rows_of (found_of show.now))) (codes "bot")))
@@ -465,6 +626,8 @@ fn order_for<'m, 'a>(name: &str, given: &'m ArgMatches<'a>) -> Order<'m, 'a>
         "check" => Order::Check(check_order(given)),
         "frame" => Order::Frame(frame_order(given)),
         "settings" => Order::Settings(settings_order(given)),
+        "status" => status_order(given),
+        "stop" => stop_order(given),
         _ => show_order(given),
     }
 }

@@ -13,14 +13,17 @@ use daide_io::{Ports, System};
 use daide_log::Sink;
 use daide_settings::Settings;
 use daide_sockets::bound_sockets::{BindError, BoundSockets, bind_sockets};
+use daide_sockets::control_listener::bind_control;
+use std::io::Write;
 use std::net::Net;
-use std::rt::Clock;
+use std::rt::{Clock, Files};
 use thiserror::Error;
 
 /// Why a gateway does not begin, or ends early.
 #[derive(Clone, Copy, Debug, PartialEq, Eq, Error)]
 pub enum GatewayFault {
-    /// The address cannot be bound, or the system has no descriptor for the table of sockets.
+    /// The address or the path of the control socket cannot be bound, or the system has no descriptor for the table of
+    /// sockets.
     #[error("cannot listen")]
     Listen,
     /// The allocator refused the server's addresses or the table of sockets.
@@ -42,14 +45,25 @@ fn fault_of(fault: BindError) -> GatewayFault
     }
 }
 
-/// Binds the address of the settings, resolves the server's, and creates the table of sockets. Serves no bot yet.
-pub fn bind<'r, R: AllocGlobal + Clock + Net>(
+/// Binds the address of the settings, resolves the server's, and creates the table of sockets. Then binds the control
+/// socket, if the settings have one. Serves no bot yet.
+pub fn bind<'r, R: AllocGlobal + Files + Clock + Net>(
     rt: &'r R,
     settings: &Settings,
 ) -> Result<BoundSockets<'r, R>, GatewayFault>
     ensures { IfErr result IsBeforeServing }
 {
-    bind_sockets(rt, settings).map_err(fault_of)
+    let mut bound = match bind_sockets(rt, settings) {
+        Ok(bound) => bound,
+        Err(fault) => return Err(fault_of(fault)),
+    };
+    if let Some(path) = &settings.control {
+        match bind_control(rt, path.as_str()) {
+            Ok(listener) => bound.network.set_control(listener),
+            Err(_) => return Err(GatewayFault::Listen),
+        }
+    }
+    Ok(bound)
 }
 
 /// Prints `listening`. The run goes on if it cannot be written.

@@ -10,6 +10,7 @@
 
 mod arguments;
 mod checking;
+mod controlling;
 pub mod faults;
 mod folder;
 mod framing;

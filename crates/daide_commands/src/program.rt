@@ -8,6 +8,7 @@ ghost use Rattle.daide_commands.specs.Endings.{OrderEnds, UsageEnds};
 
 use crate::arguments::{Order, order_of, parse};
 use crate::checking::run_check;
+use crate::controlling::{run_status, run_stop};
 use crate::faults::{CLEAN, FAULT, NOT_RELAYED, USAGE, tell};
 use crate::framing::run_frame;
 use crate::hints::{suggest, usage_hint};
@@ -66,6 +67,10 @@ fn carry_out<R: AllocGlobal + Files + Clock + Net, I: Read, O: Sink, E: Write>(
         Order::Run(order) => run(rt, order, output, errors),
         Order::BadSide => tell(errors, "bad side", USAGE),
         Order::BadLevel => tell(errors, "bad level", USAGE),
+        Order::Status(order) => run_status(rt, order, output, errors),
+        Order::Stop(order) => run_stop(rt, order, errors),
+        Order::BadFormat => tell(errors, "bad format", USAGE),
+        Order::BadTimeout => tell(errors, "bad timeout", USAGE),
     }
 }
 

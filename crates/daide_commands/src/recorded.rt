@@ -8,7 +8,7 @@ ghost use Rattle.daide_sockets.specs.Wakeups.{Wakes};
 
 use crate::folder::{Folder, SessionFile, end, tell_if_ended};
 use crate::running::Finish;
-use daide_io::{Connect, Network, Notice, SessionEnd, System};
+use daide_io::{Connect, Network, Notice, Orders, SessionEnd, SessionStatus, System};
 use daide_log::Recording;
 use daide_sockets::ports::SocketPorts;
 use daide_sockets::system::Sockets;
@@ -61,8 +61,16 @@ impl<'w, N: Network, R: AllocGlobal + Files, E: Write + Drop> System<
         }) (old.sockets.poller.network, old.sockets.poller.table) answer
         (new.sockets.poller.network, new.sockets.poller.table) };
 
-    fn begin_round(&mut self) {
-        self.sockets.begin_round();
+    fn begin_round(&mut self) -> Orders {
+        self.sockets.begin_round()
+    }
+
+    fn show(
+        &mut self,
+        ports: &Recording<SocketPorts<'w, N::Connection>, SessionFile<R::File>>,
+        status: SessionStatus,
+    ) {
+        self.sockets.show(ports.ports(), status);
     }
 
     /// A record that has just ended is news too, so that the next turn begins at once and logs it.

@@ -19,6 +19,7 @@ use daide_log::{Recording, Sink};
 use daide_settings::{Settings, SettingsError, read_settings};
 use daide_sockets::bound_sockets::{BoundSockets, sockets_on};
 use daide_sockets::connection::Connection;
+use daide_sockets::control_listener::ControlFile;
 use daide_sockets::ports::SocketPorts;
 use daide_sockets::system::Sockets;
 use daide_words::Words;
@@ -133,14 +134,23 @@ struct SessionReports<'f, F: Files> {
     folder: Option<&'f Folder<'f, F>>,
 }
 
-/// Serves over sockets at the addresses of the settings: binds, opens the sockets, serves on them, and finishes closing.
-/// If there is a folder, the system is one around the sockets, which keeps a record of each session there.
-fn serve_sockets<'r, R: AllocGlobal + Clock + Net, F: AllocGlobal + Files, O: Sink, E: Write>(
-    rt: &'r R,
+/// Returns the file of the control socket that was bound, if the settings have one.
+fn control_file<'a, R: Files>(rt: &'a R, settings: &'a Settings) -> Option<ControlFile<'a, R>> {
+    match &settings.control {
+        Some(path) => Some(ControlFile::at(rt, path.as_str())),
+        None => None,
+    }
+}
+
+/// Serves over sockets that are bound, with these settings: opens the sockets, serves on them, and finishes closing. If
+/// there is a folder, the system is one around the sockets, which keeps a record of each session there.
+fn serve_bound<'r, R: AllocGlobal + Clock + Net, F: AllocGlobal + Files, O: Sink, E: Write + Drop>(
+    alloc: Global,
     settings: &Settings,
     reports: SessionReports<'r, F>,
+    bound: BoundSockets<'r, R>,
     output: &mut O,
-    errors: &mut E,
+    errors: E,
 ) -> Result<(), RunFault>
     ensures plain { reports.entry.folder ≡ None →
         RunEnds ⟦<Connection as Duplex>⟧.to_give ⟦<Connection as Duplex>⟧.taken ⟦<Connection as Duplex>⟧.calls
@@ -162,19 +172,54 @@ fn serve_sockets<'r, R: AllocGlobal + Clock + Net, F: AllocGlobal + Files, O: Si
         servers,
         table,
         pool,
-    } = bind(rt, settings).map_err(RunFault::Gateway)?;
+    } = bound;
     let ground = (network, servers.as_slice(), table, &pool);
-    let Some(mut sockets) = sockets_on(rt.alloc(), settings, ground, errors) else {
+    let Some(mut sockets) = sockets_on(alloc, settings, ground, errors) else {
         return Err(RunFault::Memory);
     };
     sockets.set_verbose(reports.is_verbose);
     match reports.folder {
-        None => run_on(rt.alloc(), settings, &mut sockets, output),
+        None => run_on(alloc, settings, &mut sockets, output),
         Some(folder) => {
             let mut system = RecordedSockets { sockets, folder };
-            run_on(rt.alloc(), settings, &mut system, output)
+            run_on(alloc, settings, &mut system, output)
         }
     }
+}
+
+/// Serves over sockets at the addresses of the settings: binds, and serves on what is bound (`serve_bound`). The file of
+/// the control socket is removed at the end, if there is one.
+fn serve_sockets<
+    'r,
+    R: AllocGlobal + Files + Clock + Net,
+    F: AllocGlobal + Files,
+    O: Sink,
+    E: Write,
+>(
+    rt: &'r R,
+    settings: &Settings,
+    reports: SessionReports<'r, F>,
+    output: &mut O,
+    errors: &mut E,
+) -> Result<(), RunFault>
+    ensures plain { reports.entry.folder ≡ None →
+        RunEnds ⟦<Connection as Duplex>⟧.to_give ⟦<Connection as Duplex>⟧.taken ⟦<Connection as Duplex>⟧.calls
+        (λ ports. record { number = ports.number; bot = ports.bot.stream; server = ports.server.stream })
+        ⟦<SocketPorts<'static, Connection> as Ports>⟧.transition settings.now (HasFailed O.Fails)
+        (O.contents output.old) (O.contents output.new) result }
+    ensures recorded { IfSome reports.entry.folder (λ folder.
+        RunEnds ⟦<Connection as Duplex>⟧.to_give ⟦<Connection as Duplex>⟧.taken ⟦<Connection as Duplex>⟧.calls
+        (λ ports. record {
+          number = ports.ports.number;
+          bot = ports.ports.bot.stream;
+          server = ports.ports.server.stream;
+        })
+        ⟦<Recording<SocketPorts<'static, Connection>, SessionFile<F::File>> as Ports>⟧.transition settings.now
+        (HasFailed O.Fails) (O.contents output.old) (O.contents output.new) result) }
+{
+    let bound = bind(rt, settings).map_err(RunFault::Gateway)?;
+    let _file = control_file(rt, settings);
+    serve_bound(rt.alloc(), settings, reports, bound, output, errors)
 }
 
 /// Serves with the settings of a text: binds, opens the sockets, serves on them (`serve_on`), and finishes closing. If
@@ -190,7 +235,7 @@ fn serve_sockets<'r, R: AllocGlobal + Clock + Net, F: AllocGlobal + Files, O: Si
 /// Not said: which sockets and calls they are, since the run opens its sockets itself. Two causes depend on the
 /// operating system: that the address can't be listened on if `Listen` is returned, and that memory was refused if
 /// `Memory` is.
-pub fn run_text<R: AllocGlobal + Clock + Net, O: Sink, E: Write>(
+pub fn run_text<R: AllocGlobal + Files + Clock + Net, O: Sink, E: Write>(
     rt: &R,
     text: &str,
     is_verbose: bool,

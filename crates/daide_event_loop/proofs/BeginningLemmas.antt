@@ -8,11 +8,14 @@ use Rattle.std.proofs.lemmas.List.{length-set}
 use Rattle.std.proofs.lemmas.List.Elements.{All-nil, All-cons}
 use Rattle.daide_protocol.specs.Wires.{SessionView}
 use Rattle.daide_io.specs.Ports.{PortCall, TurnBegins}
-use Rattle.daide_io.specs.System.{SystemCall, Begins, ReportsNews, BeginsTurn, Watches, Accepts, Connects, Retires}
-use Rattle.daide_io.specs.System.{Notifies, Waits, TransitsBy}
+use Rattle.daide_io.specs.System.{SystemCall, Begins, Shows, ReportsNews, BeginsTurn, Watches, Accepts, Connects}
+use Rattle.daide_io.specs.System.{Retires, Notifies, Waits, TransitsBy, status_of}
+use Rattle.daide_io.specs.declared.system.Orders.{Orders}
+use Rattle.daide_io.specs.declared.system.SessionStatus.{SessionStatus}
 use Rattle.daide_driver.specs.Hub.{HubView, with_ports, with_ports_at, Changes, IsTurned}
 use Rattle.daide_event_loop.specs.QuotaPorts.{QuotaPortsView, Meters, beginning, beginning_where}
 use Rattle.daide_event_loop.specs.Serving.{IsDueBy, OpensTurn, TurnsIf, VisitsPlace, TurnsBelow, watches}
+use Rattle.daide_event_loop.specs.Serving.{shows, shows_where, opening}
 use Rattle.daide_event_loop.specs.Served.{sum_over_calls}
 use Rattle.daide_event_loop.proofs.TransitLemmas.{transits_then}
 
@@ -25,7 +28,8 @@ module _ {P : Type 0} where
   OnlyTurns (ReportsNews ports news ∷ answers) = OnlyTurns answers
   OnlyTurns (BeginsTurn before after ∷ answers) = OnlyTurns answers
   OnlyTurns (Watches ports ∷ answers) = OnlyTurns answers
-  OnlyTurns (Begins ∷ answers) = ⊥
+  OnlyTurns (Begins orders ∷ answers) = ⊥
+  OnlyTurns (Shows ports status ∷ answers) = ⊥
   OnlyTurns (Accepts came ∷ answers) = ⊥
   OnlyTurns (Connects connect ∷ answers) = ⊥
   OnlyTurns (Retires ports end ∷ answers) = ⊥
@@ -37,7 +41,8 @@ module _ {P : Type 0} where
   only_append (ReportsNews ports news ∷ xs) ys h k = only_append xs ys h k
   only_append (BeginsTurn before after ∷ xs) ys h k = only_append xs ys h k
   only_append (Watches ports ∷ xs) ys h k = only_append xs ys h k
-  only_append (Begins ∷ xs) ys h k = absurd h
+  only_append (Begins orders ∷ xs) ys h k = absurd h
+  only_append (Shows ports status ∷ xs) ys h k = absurd h
   only_append (Accepts came ∷ xs) ys h k = absurd h
   only_append (Connects connect ∷ xs) ys h k = absurd h
   only_append (Retires ports end ∷ xs) ys h k = absurd h
@@ -62,7 +67,8 @@ module _ {P : Type 0} where
       let one = over ports in
       let rest = none_counted count xs silent none over h in
       omega (arith, one, rest)
-  none_counted count (Begins ∷ xs) silent none over h = absurd h
+  none_counted count (Begins orders ∷ xs) silent none over h = absurd h
+  none_counted count (Shows ports status ∷ xs) silent none over h = absurd h
   none_counted count (Accepts came ∷ xs) silent none over h = absurd h
   none_counted count (Connects connect ∷ xs) silent none over h = absurd h
   none_counted count (Retires ports end ∷ xs) silent none over h = absurd h
@@ -79,12 +85,40 @@ module _ {P : Type 0} where
       All-cons Q (BeginsTurn before after) xs (each before after) (all_turns Q xs silent each over h)
   all_turns Q (Watches ports ∷ xs) silent each over h =
       All-cons Q (Watches ports) xs (over ports) (all_turns Q xs silent each over h)
-  all_turns Q (Begins ∷ xs) silent each over h = absurd h
+  all_turns Q (Begins orders ∷ xs) silent each over h = absurd h
+  all_turns Q (Shows ports status ∷ xs) silent each over h = absurd h
   all_turns Q (Accepts came ∷ xs) silent each over h = absurd h
   all_turns Q (Connects connect ∷ xs) silent each over h = absurd h
   all_turns Q (Retires ports end ∷ xs) silent each over h = absurd h
   all_turns Q (Notifies notice ∷ xs) silent each over h = absurd h
   all_turns Q (Waits ∷ xs) silent each over h = absurd h
+
+  -- sessions that are shown add nothing to any count but that of shown ones
+  pub none_shown : (count : SystemCall P → ℕ) (shown : Bool) (places : List (SessionView × QuotaPortsView P)) →
+      ((ports : P) (status : SessionStatus) → count (Shows ports status) ≡ 0) →
+      sum_over_calls count (shows_where shown places) ≡ 0
+  none_shown count false places silent = refl
+  none_shown count true [] silent = refl
+  none_shown count true (place ∷ places) silent =
+      let one = silent place.1.ports (status_of place.0) in
+      let rest = none_shown count true places silent in
+      omega (arith, one, rest)
+
+  -- and neither does the beginning of the round
+  pub opening_none : (count : SystemCall P → ℕ) (orders : Orders) (places : List (SessionView × QuotaPortsView P)) →
+      count (Begins orders) ≡ 0 → ((ports : P) (status : SessionStatus) → count (Shows ports status) ≡ 0) →
+      sum_over_calls count (opening orders places) ≡ 0
+  opening_none count orders places begins silent =
+      let shown = none_shown count orders.shows_sessions places silent in
+      omega (arith, begins, shown)
+
+  pub all_shown : (Q : SystemCall P → Type 0) (shown : Bool) (places : List (SessionView × QuotaPortsView P)) →
+      ((ports : P) (status : SessionStatus) → Q (Shows ports status)) → All Q (shows_where shown places)
+  all_shown Q false places each = All-nil Q
+  all_shown Q true [] each = All-nil Q
+  all_shown Q true (place ∷ places) each =
+      All-cons Q (Shows place.1.ports (status_of place.0)) (shows places) (each place.1.ports (status_of place.0))
+      (all_shown Q true places each)
 
   one_begins : (left : Option ℕ) (before after : P) → OnlyTurns (beginning_where left before after)
   one_begins None before after = tt

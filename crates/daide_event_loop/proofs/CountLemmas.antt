@@ -1,7 +1,7 @@
 -- The bots accepted, the connects under way, and the fate of the others.
-use Rattle.std.proofs.Common.{◌≡◌, ℕ, zero, suc, ◌+◌, Bool, true, false, List, [], ◌∷◌, ◌++◌, refl, sym, ◌∙◌}
+use Rattle.std.proofs.Common.{◌≡◌, ℕ, zero, suc, ◌+◌, Bool, true, false, List, [], ◌∷◌, ◌++◌, refl, sym}
 use Rattle.std.proofs.Common.{subst, arith}
-use Rattle.std.specs.Prelude.{◌==◌, is_none}
+use Rattle.std.specs.Prelude.{◌==◌, is_none, if◌then◌else◌}
 use Rattle.daide_protocol.specs.Wires.{SessionView, is_closed}
 use Rattle.daide_driver.specs.Hub.{HubView}
 use Rattle.daide_io.specs.declared.system.Connect.{Connect}
@@ -9,11 +9,12 @@ use Rattle.daide_io.specs.declared.system.Connect.TheVariants.{Ready, Failed, Pe
 use Rattle.daide_io.specs.declared.system.Notice.TheVariants.{CannotReach}
 use Rattle.daide_event_loop.specs.declared.admission_counters.AdmissionCounters.{AdmissionCounters}
 use Rattle.daide_event_loop.specs.QuotaPorts.{QuotaPortsView}
-use Rattle.daide_io.specs.System.{SystemCall, Begins, Watches, Accepts, Connects, Retires, Notifies, Waits}
-use Rattle.daide_event_loop.specs.Serving.{arrived, come, AdmitsWhere, MeetsWhere, MeetsBy, last_words, retirement_where}
+use Rattle.daide_io.specs.System.{SystemCall, Watches, Accepts, Connects, Retires, Notifies, Waits}
+use Rattle.daide_io.specs.declared.system.Orders.{Orders}
+use Rattle.daide_event_loop.specs.Serving.{arrived, come, closed, heeding, opening, AdmitsWhere, MeetsWhere, MeetsBy, last_words, retirement_where}
 use Rattle.daide_event_loop.specs.Serving.{end_of, retirement, retirements, watches, wait_where}
 use Rattle.daide_event_loop.specs.Served.{comes, connects, unreached, sum_over_calls}
-use Rattle.daide_event_loop.proofs.BeginningLemmas.{OnlyTurns, none_counted}
+use Rattle.daide_event_loop.proofs.BeginningLemmas.{OnlyTurns, none_counted, opening_none}
 
 -- a number that is not zero is a successor
 one_fewer : (n : ℕ) → (n == 0) ≡ false → (m : ℕ) × (n ≡ suc m)
@@ -34,7 +35,6 @@ module _ {P : Type 0} where
     pub came : old.accepted + sum_over_calls comes answers ≡ new.accepted
     pub connected : old.connecting + sum_over_calls comes answers
         ≡ new.connecting + sum_over_calls connects answers + sum_over_calls unreached answers
-    pub sessions : new.sessions ≡ old.sessions
 
   pub counts_then : (xs ys : List (SystemCall P)) (a b c : AdmissionCounters) → Counts xs a b → Counts ys b c →
       Counts (xs ++ ys) a c
@@ -47,7 +47,6 @@ module _ {P : Type 0} where
         came = rw (counted_append comes xs ys) (omega (arith, one, two));
         connected = rw (counted_append comes xs ys, counted_append connects xs ys, counted_append unreached xs ys)
             (omega (arith, first, second));
-        sessions = k.sessions ∙ h.sessions;
       }
 
   -- none of these calls accepts a bot or concerns a connect
@@ -70,14 +69,27 @@ module _ {P : Type 0} where
   silent_counts answers counters h = record {
     came = rw h.came (omega arith);
     connected = rw (h.came, h.joined, h.failed) (omega arith);
-    sessions = refl;
   }
 
   -- ---- the steps of a round
 
-  pub beginning_counts : (counters : AdmissionCounters) → Counts (Begins ∷ []) counters counters
-  beginning_counts counters =
-      silent_counts (Begins ∷ []) counters (record { came = refl; joined = refl; failed = refl })
+  -- an order to stop accepting changes neither count
+  heeded_counts : (stops : Bool) (answers : List (SystemCall P)) (counters : AdmissionCounters) → Silent answers →
+      Counts answers counters (if stops then closed counters else counters)
+  heeded_counts true answers counters h = record {
+    came = rw h.came (omega arith);
+    connected = rw (h.came, h.joined, h.failed) (omega arith);
+  }
+  heeded_counts false answers counters h = silent_counts answers counters h
+
+  pub opening_counts : (orders : Orders) (places : List (SessionView × QuotaPortsView P)) (counters : AdmissionCounters) →
+      Counts (opening orders places) counters (heeding orders counters)
+  opening_counts orders places counters =
+      heeded_counts orders.stops_accepting (opening orders places) counters (record {
+        came = opening_none comes orders places refl (λ ports status. refl);
+        joined = opening_none connects orders places refl (λ ports status. refl);
+        failed = opening_none unreached orders places refl (λ ports status. refl);
+      })
 
   -- reporting news and beginning turns accepts no bot
   pub turns_count : (answers : List (SystemCall P)) (counters : AdmissionCounters) → OnlyTurns answers → Counts answers counters counters
@@ -95,8 +107,8 @@ module _ {P : Type 0} where
       (subst (λ (t : AdmissionCounters). Counts (Accepts h.0 ∷ []) old t) (sym h.2) (of h.0))
     where
       of : (came : Bool) → Counts (Accepts came ∷ []) old (come came old)
-      of true = record { came = refl; connected = omega arith; sessions = refl }
-      of false = record { came = omega arith; connected = omega arith; sessions = refl }
+      of true = record { came = refl; connected = omega arith }
+      of false = record { came = omega arith; connected = omega arith }
   admission_counts false old answers new h =
       subst (λ (l : List (SystemCall P)). Counts l old new) (sym h.0)
       (subst (λ (t : AdmissionCounters). Counts [] old t) (sym h.1) (silent_counts [] old nothing_said))
@@ -111,7 +123,6 @@ module _ {P : Type 0} where
       record {
         came = rw none (omega arith);
         connected = rw none (omega (arith, is, one));
-        sessions = refl;
       }
 
   pub meeting_counts : (b : Bool) (old : HubView (QuotaPortsView P)) (counters : AdmissionCounters) (answers : List (SystemCall P))

@@ -8,16 +8,18 @@ use Rattle.daide_frame.specs.declared.side.Side.TheVariants.{Bot, Server}
 use Rattle.daide_protocol.specs.Wires.{SessionView, room_of}
 use Rattle.daide_io.specs.declared.ports.Pull.TheVariants.{Got, Idle, Ended}
 use Rattle.daide_io.specs.declared.ports.Put.TheVariants.{Took, Failed}
+use Rattle.daide_io.specs.declared.system.Orders.{Orders}
 use Rattle.daide_io.specs.declared.system.SessionEnd.{SessionEnd}
+use Rattle.daide_io.specs.declared.system.SessionStatus.{SessionStatus}
 use Rattle.daide_io.specs.Ports.{PortCall, TurnBegins, Clock, Pulled, Offered, EvolvesBy, taken}
-use Rattle.daide_io.specs.System.{SystemCall, Watches, Accepts, Waits}
+use Rattle.daide_io.specs.System.{SystemCall, Begins, Shows, Watches, Accepts, Waits, no_orders}
 use Rattle.daide_settings.specs.declared.settings.Settings.{Settings}
 use Rattle.daide_driver.specs.Hub.{IsBegun, IsTurned}
 use Rattle.daide_event_loop.specs.QuotaPorts.{QuotaPortsView, Meters, progress_by, is_gain, is_loss}
-use Rattle.daide_event_loop.specs.Served.{SessionsAreServed, MovesAreAnswered, TurnsAreCounted}
+use Rattle.daide_event_loop.specs.Served.{SessionsAreServed, OrdersAreHeeded, MovesAreAnswered, TurnsAreCounted}
 use Rattle.daide_event_loop.specs.Served.{comes, sum_over_calls, retires, unreached}
 use Rattle.daide_event_loop.specs.Served.{run_limits, IsServed, IsEndOf}
-use Rattle.daide_event_loop.specs.Serving.{ServiceView, may_accept, watches, Round, Rounds, fresh, initial_service, is_done}
+use Rattle.daide_event_loop.specs.Serving.{ServiceView, may_accept, watches, Round, Rounds, fresh, initial_service, is_done, bots_in_all}
 use Rattle.daide_event_loop.specs.Independence.{SessionsAreIndependent, HaveSameRules, results_of, Received, Handed}
 use Rattle.daide_event_loop.specs.Waiting.{RunsAreIdleAtWaits, IsIdleAtWait, MakesNoProgress}
 
@@ -50,6 +52,44 @@ module _ {P : Type 0} (port_transition : P → PortCall → P → Type 0) where
       let joined = served.2 in
       let came = served.4 in
       (served.3, omega (arith, joined, came, none, empty))
+
+  -- ---- orders
+
+  -- the orders of an operator who stops the run, and who has its sessions shown
+  abbrev stop : Orders
+  stop = record { stops_accepting = true; shows_sessions = false }
+
+  abbrev show : Orders
+  show = record { stops_accepting = false; shows_sessions = true }
+
+  -- a run that is told to stop in its first round is done after it, if nothing came before
+  stopped_at_once : OrdersAreHeeded port_transition → (settings : Settings) (run : ServiceView P) →
+      Rounds port_transition 1 (initial_service settings) (Begins stop ∷ []) run → run.counters.connecting ≡ 0 →
+      length run.hub.places ≡ 0 → is_done run ≡ true
+  stopped_at_once law settings run rounds none empty =
+      (law settings 1 (Begins stop ∷ []) run rounds).ends (omega arith) ∙ rw (none, empty) refl
+
+  -- no run calls accept after it
+  no_bot_after_a_stop : OrdersAreHeeded port_transition → (settings : Settings) (n : ℕ) (run : ServiceView P) →
+      Rounds port_transition n (initial_service settings) (Begins stop ∷ Waits ∷ Begins no_orders ∷ Accepts false ∷ []) run → ⊥
+  no_bot_after_a_stop law settings n run rounds =
+      let none = (law settings n (Begins stop ∷ Waits ∷ Begins no_orders ∷ Accepts false ∷ []) run rounds).stops.0 (omega arith) in
+      absurd (omega (arith, none))
+
+  -- an order to show sessions does not stop the run
+  goes_on_after_a_show : OrdersAreHeeded port_transition → (settings : Settings) (n : ℕ) (run : ServiceView P) →
+      Rounds port_transition n (initial_service settings) (Begins show ∷ Accepts false ∷ Waits ∷ []) run →
+      run.counters.sessions ≡ bots_in_all settings
+  goes_on_after_a_show law settings n run rounds =
+      (law settings n (Begins show ∷ Accepts false ∷ Waits ∷ []) run rounds).goes_on refl
+
+  -- no run shows a session without an order
+  not_shown_unasked : OrdersAreHeeded port_transition → (settings : Settings) (n : ℕ) (run : ServiceView P) (ports : P)
+      (status : SessionStatus) →
+      Rounds port_transition n (initial_service settings) (Begins no_orders ∷ Shows ports status ∷ Waits ∷ []) run → ⊥
+  not_shown_unasked law settings n run ports status rounds =
+      let none = (law settings n (Begins no_orders ∷ Shows ports status ∷ Waits ∷ []) run rounds).shows refl in
+      absurd (omega (arith, none))
 
 -- ---- a wait
 

@@ -1,6 +1,6 @@
 -- The progress of a turn, the cause of an ending, and the order of retirements. The expected values are independent of
 -- the definitions, so a result in place of its neighbour does not check.
-use Rattle.std.proofs.Common.{◌≡◌, ℕ, ◌+◌, true, false, List, [], ◌∷◌, map, replicate, Some, None, Option, refl}
+use Rattle.std.proofs.Common.{◌≡◌, ℕ, ◌+◌, true, false, List, [], ◌∷◌, map, take, replicate, Some, None, Option, refl}
 use Rattle.std.specs.List.{range_with_len}
 use Rattle.daide_frame.specs.declared.side.Side.{Side}
 use Rattle.daide_frame.specs.declared.side.Side.TheVariants.{Bot, Server}
@@ -9,9 +9,10 @@ use Rattle.daide_frame.specs.PerSide.{both}
 use Rattle.daide_protocol.specs.declared.ending.Ending.{Ending}
 use Rattle.daide_protocol.specs.declared.ending.Ending.TheVariants.{Ended, Lost, Final, Fault}
 use Rattle.daide_protocol.specs.declared.summary.Summary.{Summary}
+use Rattle.daide_protocol.specs.declared.phase.Phase.TheVariants as Phases
 use Rattle.daide_protocol.specs.declared.phase.SessionPhase.{SessionPhase}
-use Rattle.daide_protocol.specs.declared.phase.SessionPhase.TheVariants.{Open, Over}
-use Rattle.daide_protocol.specs.Machine.{Limits, Sent, fm_bytes, initial_state}
+use Rattle.daide_protocol.specs.declared.phase.SessionPhase.TheVariants.{WaitIm, Open, Over}
+use Rattle.daide_protocol.specs.Machine.{Limits, Sent, fm_bytes, initial_state, level_in}
 use Rattle.daide_protocol.specs.Wires.{SessionView, sent_bytes}
 use Rattle.daide_io.specs.declared.ports.Pull.TheVariants.{Got, Idle, Ended}
 use Rattle.daide_io.specs.declared.ports.Put.TheVariants.{Took, Failed}
@@ -24,8 +25,8 @@ use Rattle.daide_event_loop.specs.Served.{turns_in, while_left}
 use Rattle.daide_settings.specs.declared.settings.Settings.{Settings}
 use Rattle.daide_event_loop.specs.declared.admission_counters.AdmissionCounters.{AdmissionCounters}
 use Rattle.daide_event_loop.specs.Serving.{may_accept, is_served, bots_in_all}
-use Rattle.daide_event_loop.specs.Serving.{cause_by, retirements, remaining}
-use Rattle.daide_io.specs.System.{BeginsTurn, Retires, Notifies}
+use Rattle.daide_event_loop.specs.Serving.{cause_by, retirements, remaining, heeding, opening}
+use Rattle.daide_io.specs.System.{Begins, Shows, BeginsTurn, Retires, Notifies, no_orders}
 
 -- ---- progress
 
@@ -173,3 +174,33 @@ served_or_not : (settings : Settings) →
     × (may_accept (counted (record settings { endless = true; sessions = 7 }) 4294967295) 0 ≡ false)
     × (is_served (counted (record settings { endless = true; sessions = 7 }) 4294967295) 0 ≡ true)
 served_or_not settings = (refl, refl, refl, refl, refl, refl, refl)
+
+-- ---- a round begins
+
+-- the first three of these sessions, each with its own status: before the first message and after the end the level is
+-- the lowest, and an FM of four bytes is queued for the second bot
+shown_in_order : (limits : Limits) →
+    opening (record { stops_accepting = false; shows_sessions = true }) (take 3 (six limits))
+    ≡ Begins (record { stops_accepting = false; shows_sessions = true })
+    ∷ Shows 1 (record { phase = Phases.Over; level = level_in WaitIm; summary = counts 10; queued_to_bot = 0; queued_to_server = 0 })
+    ∷ Shows 2 (record { phase = Phases.Over; level = level_in WaitIm; summary = counts 20; queued_to_bot = 4; queued_to_server = 0 })
+    ∷ Shows 3 (record {
+      phase = Phases.Open;
+      level = limits.top_level;
+      summary = counts 30;
+      queued_to_bot = 0;
+      queued_to_server = 0;
+    }) ∷ []
+shown_in_order limits = refl
+
+-- without orders a round begins with this one call, and heeds nothing
+nothing_ordered : (limits : Limits) (counters : AdmissionCounters) →
+    (opening no_orders (six limits) ≡ Begins no_orders ∷ []) × (heeding no_orders counters ≡ counters)
+nothing_ordered limits counters = (refl, refl)
+
+-- told to stop with three of nine bots accepted, a run has three bots in all; its connects go on
+told_to_stop :
+    heeding (record { stops_accepting = true; shows_sessions = false })
+    (record { max_sessions = 16; sessions = 9; turns = 7; connecting = 2; accepted = 3 })
+    ≡ record { max_sessions = 16; sessions = 3; turns = 7; connecting = 2; accepted = 3 }
+told_to_stop = refl

@@ -1,7 +1,7 @@
 -- The sessions of a run, step by step.
 use Rattle.std.proofs.Common.{◌≡◌, ℕ, zero, suc, ◌<◌, ◌≤◌, Bool, true, false, List, [], ◌∷◌, ◌++◌, length, take, set}
 use Rattle.std.proofs.Common.{◌+◌, refl, sym, ap, ◌∙◌, subst, arith, append-nil, length-append}
-use Rattle.std.specs.Prelude.{◌==◌, ◌&&◌, ◌||◌, Option, Some, None, Contains, All, is_none, is_some, not, slice_get}
+use Rattle.std.specs.Prelude.{◌==◌, ◌&&◌, ◌||◌, Option, Some, None, Contains, All, is_none, is_some, not, slice_get, if◌then◌else◌}
 use Rattle.std.proofs.lemmas.Bool.{eqb-true}
 use Rattle.std.proofs.lemmas.List.{take_all, length-set}
 use Rattle.std.proofs.lemmas.List.Elements.{All-nil, All-cons, All-head, All-tail, All-same, All-append, All-set}
@@ -27,21 +27,23 @@ use Rattle.daide_settings.specs.declared.settings.Settings.{Settings}
 use Rattle.daide_io.specs.declared.system.Connect.{Connect}
 use Rattle.daide_io.specs.declared.system.Connect.TheVariants.{Ready, Failed, Pending}
 use Rattle.daide_io.specs.declared.system.Notice.TheVariants.{CannotReach, TurnsSpent}
+use Rattle.daide_io.specs.declared.system.Orders.{Orders}
 use Rattle.daide_event_loop.specs.declared.admission_counters.AdmissionCounters.{AdmissionCounters}
 use Rattle.daide_event_loop.specs.QuotaPorts.{QuotaPortsView, Meters, progress_by}
-use Rattle.daide_io.specs.System.{SystemCall, Begins, ReportsNews, BeginsTurn, Watches, Accepts, Connects, Retires}
-use Rattle.daide_io.specs.System.{Notifies, Waits}
+use Rattle.daide_io.specs.System.{SystemCall, Begins, Shows, ReportsNews, BeginsTurn, Watches, Accepts, Connects}
+use Rattle.daide_io.specs.System.{Retires, Notifies, Waits}
 use Rattle.daide_event_loop.specs.Serving.{ServiceView, fresh, initial_service, may_accept, come, AdmitsWhere, MeetsWhere, OpensTurn}
 use Rattle.daide_event_loop.specs.Serving.{IsDueBy, TurnsIf, VisitsPlace, TurnsBelow, TurnsAll, last_words, retirement, retirement_where}
-use Rattle.daide_event_loop.specs.Serving.{retirements, remaining, parting}
+use Rattle.daide_event_loop.specs.Serving.{retirements, remaining, parting, closed, heeding, shows_where, opening}
 use Rattle.daide_event_loop.specs.Serving.{cause_by, end_of}
 use Rattle.daide_event_loop.specs.Serving.{MeetsBy, watches, wait_where, any_progress, any_moved, Round, Rounds, is_done}
 use Rattle.daide_event_loop.specs.Served.{IsServedSession, run_limits, IsSessionOfRun, IsServed, IsEndOf, RetiresClosed, connects, retires, sum_over_calls}
 use Rattle.daide_event_loop.specs.Served.{IsWholeRun}
-use Rattle.daide_event_loop.proofs.BeginningLemmas.{OnlyTurns, none_counted, all_turns, turns_only, watches_only}
+use Rattle.daide_event_loop.proofs.BeginningLemmas.{OnlyTurns, none_counted, opening_none, all_turns, all_shown, turns_only, watches_only}
 use Rattle.daide_event_loop.proofs.CauseLemmas.{IsCut, cut_begins, cut_begun, cut_turn, cut_cause}
 use Rattle.daide_event_loop.proofs.CountLemmas.{counted_append, Counts, counts_then, admission_counts, meeting_counts}
-use Rattle.daide_event_loop.proofs.CountLemmas.{beginning_counts, turns_count, removal_counts, wait_counts}
+use Rattle.daide_event_loop.proofs.CountLemmas.{opening_counts, turns_count, removal_counts, wait_counts}
+use Rattle.daide_event_loop.proofs.OrderLemmas.{Limited, first_limit, limit_then}
 
 -- ---- progress
 
@@ -77,8 +79,11 @@ module _ {P : Type 0} where
   passes_as : (xs ys : List (SystemCall P)) (a b : ℕ) → xs ≡ ys → Passes ys a b → Passes xs a b
   passes_as xs ys a b e h = subst (λ (l : List (SystemCall P)). Passes l a b) (sym e) h
 
-  beginning_passes : Passes (Begins ∷ []) 0 0
-  beginning_passes = record { came = refl; went = refl }
+  opening_passes : (orders : Orders) (places : List (SessionView × QuotaPortsView P)) → Passes (opening orders places) 0 0
+  opening_passes orders places = record {
+    came = opening_none connects orders places refl (λ ports status. refl);
+    went = opening_none retires orders places refl (λ ports status. refl);
+  }
 
   turns_pass : (answers : List (SystemCall P)) → OnlyTurns answers → Passes answers 0 0
   turns_pass answers h = record {
@@ -192,7 +197,8 @@ module _ {P : Type 0} (port_transition : P → PortCall → P → Type 0) (setti
   gone_later : (xs ys : List (SystemCall P)) (answer : SystemCall P) → RetiresClosed port_transition settings xs answer →
       RetiresClosed port_transition settings (xs ++ ys) answer
   gone_later xs ys (Retires ports end) h = (h.0, h.1, h.2, (later IsServedSession xs ys h.0 h.3.0, h.3.1))
-  gone_later xs ys Begins h = tt
+  gone_later xs ys (Begins orders) h = tt
+  gone_later xs ys (Shows ports status) h = tt
   gone_later xs ys (ReportsNews ports news) h = tt
   gone_later xs ys (BeginsTurn before after) h = tt
   gone_later xs ys (Watches ports) h = tt
@@ -545,6 +551,12 @@ module _ {P : Type 0} (port_transition : P → PortCall → P → Type 0) (setti
 
   -- ---- rounds
 
+  -- an order changes no number of turns
+  heeded_turns : (stops : Bool) (counters : AdmissionCounters) →
+      (if stops then closed counters else counters).turns ≡ counters.turns
+  heeded_turns true counters = refl
+  heeded_turns false counters = refl
+
   -- the invariant between the rounds of a run
   pub record Keeps (answers : List (SystemCall P)) (run : ServiceView P) : Type 0 where
     pub limits : run.hub.limits ≡ run_limits settings
@@ -553,22 +565,26 @@ module _ {P : Type 0} (port_transition : P → PortCall → P → Type 0) (setti
     pub gone : All (RetiresClosed port_transition settings answers) answers
     pub balance : sum_over_calls connects answers ≡ length run.hub.places + sum_over_calls retires answers
     pub counts : Counts answers (initial_service {P = P} settings).counters run.counters
+    pub limit : Limited settings answers run.counters
 
   round_counts : (ys : List (SystemCall P)) (old new : ServiceView P) → Round port_transition old ys new →
       Counts ys old.counters new.counters
   round_counts ys old new r =
-      let made_progress = any_progress r.admission || any_progress r.meeting || any_moved r.turned.places || any_progress r.removal in
+      let opens = opening r.orders old.hub.places in
+      let heeded = heeding r.orders old.counters in
+      let made_progress = any_progress r.admission || any_progress r.meeting || any_moved r.turned.places || any_progress r.removal
+      || is_done new in
       let last = wait_where made_progress new.hub.places in
       let removes : Counts r.removal new.counters new.counters =
       subst (λ (l : List (SystemCall P)). Counts l new.counters new.counters) (sym r.removes.0)
       (removal_counts r.turned.places new.counters) in
       subst (λ (l : List (SystemCall P)). Counts l old.counters new.counters) (sym r.asked)
-      (counts_then (Begins ∷ r.admission ++ r.meeting ++ r.beginnings ++ r.removal) last old.counters new.counters new.counters
-      (counts_then (Begins ∷ r.admission ++ r.meeting ++ r.beginnings) r.removal old.counters new.counters new.counters
-      (counts_then (Begins ∷ r.admission ++ r.meeting) r.beginnings old.counters new.counters new.counters
-      (counts_then (Begins ∷ r.admission) r.meeting old.counters r.came new.counters
-      (counts_then (Begins ∷ []) r.admission old.counters old.counters r.came (beginning_counts old.counters)
-      (admission_counts (may_accept old.counters (length old.hub.places)) old.counters r.admission r.came r.admits))
+      (counts_then (opens ++ r.admission ++ r.meeting ++ r.beginnings ++ r.removal) last old.counters new.counters new.counters
+      (counts_then (opens ++ r.admission ++ r.meeting ++ r.beginnings) r.removal old.counters new.counters new.counters
+      (counts_then (opens ++ r.admission ++ r.meeting) r.beginnings old.counters new.counters new.counters
+      (counts_then (opens ++ r.admission) r.meeting old.counters r.came new.counters
+      (counts_then opens r.admission old.counters heeded r.came (opening_counts r.orders old.hub.places old.counters)
+      (admission_counts (may_accept heeded (length old.hub.places)) heeded r.admission r.came r.admits))
       (meeting_counts (r.came.connecting == 0) old.hub r.came r.meeting r.connected new.counters refl r.finishes))
       (turns_count r.beginnings new.counters (turns_only port_transition (length r.connected.places) r.connected r.beginnings r.turned r.turns)))
       removes)
@@ -578,38 +594,46 @@ module _ {P : Type 0} (port_transition : P → PortCall → P → Type 0) (setti
       Keeps (xs ++ ys) new
   round_serves xs ys old new h r =
       let all = xs ++ ys in
-      let made_progress = any_progress r.admission || any_progress r.meeting || any_moved r.turned.places || any_progress r.removal in
+      let opens = opening r.orders old.hub.places in
+      let heeded = heeding r.orders old.counters in
+      let made_progress = any_progress r.admission || any_progress r.meeting || any_moved r.turned.places || any_progress r.removal
+      || is_done new in
       let last = wait_where made_progress new.hub.places in
-      let come = admitted all (may_accept old.counters (length old.hub.places)) old.counters r.admission r.came r.admits in
+      let come = admitted all (may_accept heeded (length old.hub.places)) heeded r.admission r.came r.admits in
+      let kept = heeded_turns r.orders.stops_accepting old.counters in
       let still_held : All (IsRested all) old.hub.places =
       All-weaker (Served xs) (IsRested all) (λ now s. rested all now (later IsServedSession xs ys now s.0, s.1))
       old.hub.places h.held in
       let within : (ports : P) → Contains r.meeting (Connects (Ready ports)) → Contains all (Connects (Ready ports)) =
       λ ports c. Contains-append_right xs ys (Connects (Ready ports))
       (subst (λ (l : List (SystemCall P)). Contains l (Connects (Ready ports))) (sym r.asked)
-      (Contains-append_left (Begins ∷ r.admission ++ r.meeting ++ r.beginnings ++ r.removal) last (Connects (Ready ports))
-      (Contains-append_left (Begins ∷ r.admission ++ r.meeting ++ r.beginnings) r.removal (Connects (Ready ports))
-      (Contains-append_left (Begins ∷ r.admission ++ r.meeting) r.beginnings (Connects (Ready ports))
-      (Contains-append_right (Begins ∷ r.admission) r.meeting (Connects (Ready ports)) c))))) in
+      (Contains-append_left (opens ++ r.admission ++ r.meeting ++ r.beginnings ++ r.removal) last (Connects (Ready ports))
+      (Contains-append_left (opens ++ r.admission ++ r.meeting ++ r.beginnings) r.removal (Connects (Ready ports))
+      (Contains-append_left (opens ++ r.admission ++ r.meeting) r.beginnings (Connects (Ready ports))
+      (Contains-append_right (opens ++ r.admission) r.meeting (Connects (Ready ports)) c))))) in
+      let opened : All (Gone all) opens =
+      All-cons (Gone all) (Begins r.orders) (shows_where r.orders.shows_sessions old.hub.places) tt
+      (all_shown (Gone all) r.orders.shows_sessions old.hub.places (λ ports status. tt)) in
       let connected = connected all (r.came.connecting == 0) old.hub r.came r.meeting r.connected new.counters within h.limits
-      (come.1 ∙ h.turns) still_held r.finishes in
+      (come.1 ∙ kept ∙ h.turns) still_held r.finishes in
       let turned = all_turned all r.connected r.beginnings r.turned r.turns connected.held in
       let only = turns_only port_transition (length r.connected.places) r.connected r.beginnings r.turned r.turns in
       let hub = r.removes.1 in
       record {
         counts = counts_then xs ys (initial_service {P = P} settings).counters old.counters new.counters h.counts
             (round_counts ys old new r);
+        limit = limit_then port_transition settings xs ys old new h.limit r;
         limits = ap (λ (k : HubView (QuotaPortsView P)). k.limits) hub ∙ turned.1 ∙ connected.limits ∙ h.limits;
-        turns = connected.turns ∙ come.1 ∙ h.turns;
+        turns = connected.turns ∙ come.1 ∙ kept ∙ h.turns;
         held = subst (λ (k : HubView (QuotaPortsView P)). All (Served all) k.places) (sym hub)
             (All-filter (λ place. not (is_closed place.0)) (Served all) r.turned.places turned.0);
         gone = All-append (Gone all) xs ys
             (All-weaker (RetiresClosed port_transition settings xs) (Gone all) (gone_later xs ys) xs h.gone)
-            (All-same (Gone all) ys (Begins ∷ r.admission ++ r.meeting ++ r.beginnings ++ r.removal ++ last) r.asked
-            (All-append (Gone all) (Begins ∷ r.admission ++ r.meeting ++ r.beginnings ++ r.removal) last
-            (All-append (Gone all) (Begins ∷ r.admission ++ r.meeting ++ r.beginnings) r.removal
-            (All-append (Gone all) (Begins ∷ r.admission ++ r.meeting) r.beginnings
-            (All-append (Gone all) (Begins ∷ r.admission) r.meeting (All-cons (Gone all) Begins r.admission tt come.0)
+            (All-same (Gone all) ys (opens ++ r.admission ++ r.meeting ++ r.beginnings ++ r.removal ++ last) r.asked
+            (All-append (Gone all) (opens ++ r.admission ++ r.meeting ++ r.beginnings ++ r.removal) last
+            (All-append (Gone all) (opens ++ r.admission ++ r.meeting ++ r.beginnings) r.removal
+            (All-append (Gone all) (opens ++ r.admission ++ r.meeting) r.beginnings
+            (All-append (Gone all) (opens ++ r.admission) r.meeting (All-append (Gone all) opens r.admission opened come.0)
             connected.gone) (all_turns (Gone all) r.beginnings (λ ports news. tt) (λ before after. tt) (λ ports. tt) only))
             (All-same (Gone all) r.removal (retirements r.turned.places) r.removes.0
             (all_parted all r.turned.places turned.0)))
@@ -617,16 +641,16 @@ module _ {P : Type 0} (port_transition : P → PortCall → P → Type 0) (setti
         balance =
             let finishes = meeting_passes (r.came.connecting == 0) old.hub r.came r.meeting r.connected new.counters r.finishes in
             let leaves = removal_passes r.turned.places in
-            let passes = passes_as ys (Begins ∷ r.admission ++ r.meeting ++ r.beginnings ++ r.removal ++ last)
+            let passes = passes_as ys (opens ++ r.admission ++ r.meeting ++ r.beginnings ++ r.removal ++ last)
             (0 + finishes.0 + 0 + 0 + 0) (0 + 0 + 0 + leaves.0 + 0) r.asked
-            (passes_then (Begins ∷ r.admission ++ r.meeting ++ r.beginnings ++ r.removal) last (0 + finishes.0 + 0 + 0)
+            (passes_then (opens ++ r.admission ++ r.meeting ++ r.beginnings ++ r.removal) last (0 + finishes.0 + 0 + 0)
             (0 + 0 + 0 + leaves.0) 0 0
-            (passes_then (Begins ∷ r.admission ++ r.meeting ++ r.beginnings) r.removal (0 + finishes.0 + 0) (0 + 0 + 0) 0
+            (passes_then (opens ++ r.admission ++ r.meeting ++ r.beginnings) r.removal (0 + finishes.0 + 0) (0 + 0 + 0) 0
             leaves.0
-            (passes_then (Begins ∷ r.admission ++ r.meeting) r.beginnings (0 + finishes.0) (0 + 0) 0 0
-            (passes_then (Begins ∷ r.admission) r.meeting 0 0 finishes.0 0
-            (passes_then (Begins ∷ []) r.admission 0 0 0 0 beginning_passes
-            (admission_passes (may_accept old.counters (length old.hub.places)) old.counters r.admission r.came r.admits)) finishes.1)
+            (passes_then (opens ++ r.admission ++ r.meeting) r.beginnings (0 + finishes.0) (0 + 0) 0 0
+            (passes_then (opens ++ r.admission) r.meeting 0 0 finishes.0 0
+            (passes_then opens r.admission 0 0 0 0 (opening_passes r.orders old.hub.places)
+            (admission_passes (may_accept heeded (length old.hub.places)) heeded r.admission r.came r.admits)) finishes.1)
             (turns_pass r.beginnings only))
             (passes_as r.removal (retirements r.turned.places) 0 leaves.0 r.removes.0 leaves.1))
             (wait_passes made_progress new.hub.places)) in
@@ -652,7 +676,8 @@ module _ {P : Type 0} (port_transition : P → PortCall → P → Type 0) (setti
         held = All-nil (Served []);
         gone = All-nil (RetiresClosed port_transition settings []);
         balance = refl;
-        counts = record { came = refl; connected = refl; sessions = refl };
+        counts = record { came = refl; connected = refl };
+        limit = first_limit settings;
       }))
   rounds_serve (suc n) answers run h =
       subst (λ (l : List (SystemCall P)). Keeps l run) (sym h.3)
@@ -688,13 +713,16 @@ module _ {P : Type 0} (port_transition : P → PortCall → P → Type 0) (setti
       let balance = kept.balance in
       let came = kept.counts.came in
       let connected = kept.counts.connected in
-      let sessions = kept.counts.sessions in
+      let limit = kept.limit in
+      let few = limit.at_most in
       let all = there.0 in
       let none = there.1 in
       record {
         serves = (n, end, rounds, done);
         each = kept.gone;
         none_lost = omega (arith, balance, empty);
-        all_came = omega (arith, came, sessions, all);
+        all_came = λ none. (let sessions = limit.goes_on none in omega (arith, came, sessions, all));
+        at_most = omega (arith, came, few, all);
+        stops = limit.stops;
         all_served = omega (arith, balance, empty, connected, none);
       }

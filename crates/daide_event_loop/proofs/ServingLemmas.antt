@@ -8,11 +8,11 @@ use Rattle.daide_protocol.specs.Wires.{SessionView}
 use Rattle.daide_io.specs.Ports.{PortCall}
 use Rattle.daide_io.proofs.TraceLemmas.{or_assoc}
 use Rattle.daide_event_loop.specs.QuotaPorts.{QuotaPortsView}
-use Rattle.daide_io.specs.System.{SystemCall, Watches, Waits, TransitsBy}
+use Rattle.daide_io.specs.System.{SystemCall, Shows, Watches, Waits, TransitsBy, status_of}
 use Rattle.daide_settings.specs.declared.settings.Settings.{Settings}
 use Rattle.daide_event_loop.specs.declared.serving.ServeFault.{ServeFault}
 use Rattle.daide_event_loop.specs.declared.serving.ServeFault.TheVariants as Faults
-use Rattle.daide_event_loop.specs.Serving.{ServiceView, any_moved, watches, wait_where, Round, Rounds, is_done, initial_service}
+use Rattle.daide_event_loop.specs.Serving.{ServiceView, any_moved, shows, watches, wait_where, Round, Rounds, is_done, initial_service}
 use Rattle.daide_event_loop.specs.Serving.{BreaksOff, GivesUp}
 use Rattle.daide_event_loop.proofs.TransitLemmas.{transits_then}
 
@@ -37,9 +37,21 @@ any_more (x ∷ xs) (suc i) m lt h =
 
 -- ---- rounds
 
-pub waits_alike : {P : Type 0} (places : List (SessionView × QuotaPortsView P)) (a b c d p q r s : Bool) →
-    a ≡ p → b ≡ q → c ≡ r → d ≡ s → wait_where (a || b || c || d) places ≡ wait_where (p || q || r || s) places
-waits_alike places a b c d p q r s h i j k = rw (h, i, j, k) refl
+pub waits_alike : {P : Type 0} (places : List (SessionView × QuotaPortsView P)) (a b c d e p q r s t : Bool) →
+    a ≡ p → b ≡ q → c ≡ r → d ≡ s → e ≡ t →
+    wait_where (a || b || c || d || e) places ≡ wait_where (p || q || r || s || t) places
+waits_alike places a b c d e p q r s t h i j k l = rw (h, i, j, k, l) refl
+
+-- one more session is shown
+pub show_more : {P : Type 0} (xs : List (SessionView × QuotaPortsView P)) (i : ℕ) (m : QuotaPortsView P)
+    (session : SessionView) → i < length xs → IfSome (slice_get xs i) (λ place. m ≡ place.1) →
+    IfSome (slice_get xs i) (λ place. session ≡ place.0) →
+    shows (take (suc i) xs) ≡ shows (take i xs) ++ Shows m.ports (status_of session) ∷ []
+show_more {P = P} [] i m session lt h k = absurd (omega (arith, lt))
+show_more {P = P} (x ∷ xs) zero m session lt h k = rw (h, k) refl
+show_more {P = P} (x ∷ xs) (suc i) m session lt h k =
+    ap (λ (calls : List (SystemCall P)). Shows x.1.ports (status_of x.0) ∷ calls)
+    (show_more xs i m session (omega (arith, lt)) h k)
 
 -- one more session is watched
 pub watch_more : {P : Type 0} (xs : List (SessionView × QuotaPortsView P)) (i : ℕ) (m : QuotaPortsView P) → i < length xs →

@@ -14,19 +14,19 @@ use Rattle.daide_protocol.specs.Wires.{SessionView, is_closed}
 use Rattle.daide_io.specs.Ports.{PortCall, TurnBegins, events_of}
 use Rattle.daide_io.specs.declared.system.Connect.{Connect}
 use Rattle.daide_io.specs.declared.system.Connect.TheVariants.{Ready, Failed, Pending}
-use Rattle.daide_io.specs.System.{SystemCall, Begins, ReportsNews, BeginsTurn, Watches, Accepts, Connects, Retires}
-use Rattle.daide_io.specs.System.{Notifies, Waits}
+use Rattle.daide_io.specs.System.{SystemCall, Begins, Shows, ReportsNews, BeginsTurn, Watches, Accepts, Connects}
+use Rattle.daide_io.specs.System.{Retires, Notifies, Waits}
 use Rattle.daide_driver.specs.Hub.{HubView, Changes, IsBegun, IsTurned}
 use Rattle.daide_settings.specs.declared.settings.Settings.{Settings}
 use Rattle.daide_event_loop.specs.declared.admission_counters.AdmissionCounters.{AdmissionCounters}
 use Rattle.daide_event_loop.specs.QuotaPorts.{QuotaPortsView, Meters, beginning, beginning_where}
 use Rattle.daide_event_loop.specs.Serving.{ServiceView, fresh, initial_service, may_accept, AdmitsWhere, MeetsWhere, MeetsBy}
 use Rattle.daide_event_loop.specs.Serving.{OpensTurn, IsDueBy, TurnsIf, VisitsPlace, TurnsBelow, any_moved}
-use Rattle.daide_event_loop.specs.Serving.{last_words, retirement_where, retirements, remaining, end_of}
+use Rattle.daide_event_loop.specs.Serving.{last_words, retirement_where, retirements, remaining, end_of, heeding, opening}
 use Rattle.daide_event_loop.specs.Serving.{retirement, come, is_progress, any_progress, watches, wait_where, Round, Rounds, is_done}
 use Rattle.daide_event_loop.specs.Served.{run_limits, sum_over_calls}
 use Rattle.daide_event_loop.specs.Waiting.{IsIdleSession, IsIdleAtWait, IsIdleRun}
-use Rattle.daide_event_loop.proofs.BeginningLemmas.{none_counted, turns_only, watches_only, slice_some, get_set}
+use Rattle.daide_event_loop.proofs.BeginningLemmas.{none_counted, none_shown, turns_only, watches_only, slice_some, get_set}
 use Rattle.daide_event_loop.proofs.CountLemmas.{counted_append}
 use Rattle.daide_event_loop.proofs.TurnCounts.{turn_begins_none}
 use Rattle.daide_event_loop.proofs.ServedLemmas.{Served, rounds_serve, turn_moved}
@@ -368,7 +368,8 @@ module _ {P : Type 0} (port_transition : P → PortCall → P → Type 0) where
 
 module _ {P : Type 0} where
   abbrev waits : SystemCall P → ℕ
-  waits Begins = 0
+  waits (Begins orders) = 0
+  waits (Shows ports status) = 0
   waits (ReportsNews ports news) = 0
   waits (BeginsTurn before after) = 0
   waits (Watches ports) = 0
@@ -446,19 +447,22 @@ watched_before false places round early e same =
     append_cancel_right round (early ++ watches places) (Waits ∷ [])
     (same ∙ sym (append_assoc early (watches places) (Waits ∷ [])))
 
--- none of the four parts of a round made progress
-record NoProgress (a b c d : Bool) : Type 0 where
+-- none of the four parts of a round made progress, and the run is not done
+record NoProgress (a b c d done : Bool) : Type 0 where
   came : a ≡ false
   met : b ≡ false
   moved : c ≡ false
   removed : d ≡ false
+  ongoing : done ≡ false
 
-all_false : (a b c d : Bool) → (a || b || c || d) ≡ false → NoProgress a b c d
-all_false false false false false e = record { came = refl; met = refl; moved = refl; removed = refl }
-all_false true b c d e = absurd (cc)
-all_false false true c d e = absurd (cc)
-all_false false false true d e = absurd (cc)
-all_false false false false true e = absurd (cc)
+all_false : (a b c d done : Bool) → (a || b || c || d || done) ≡ false → NoProgress a b c d done
+all_false false false false false false e =
+    record { came = refl; met = refl; moved = refl; removed = refl; ongoing = refl }
+all_false true b c d done e = absurd (cc)
+all_false false true c d done e = absurd (cc)
+all_false false false true d done e = absurd (cc)
+all_false false false false true done e = absurd (cc)
+all_false false false false false true e = absurd (cc)
 
 first_false : (a b : Bool) → (a || b) ≡ false → a ≡ false
 first_false false b e = refl
@@ -547,23 +551,30 @@ module _ {P : Type 0} where
     no_progress : (round : List (SystemCall P)) (old new : ServiceView P)
         (r : Round port_transition old (round ++ Waits ∷ []) new) →
         NoProgress (any_progress r.admission) (any_progress r.meeting) (any_moved r.turned.places) (any_progress r.removal)
+        (is_done new)
     no_progress round old new r =
-        let progressed = any_progress r.admission || any_progress r.meeting || any_moved r.turned.places || any_progress r.removal in
+        let opens = opening r.orders old.hub.places in
+        let heeded = heeding r.orders old.counters in
+        let progressed = any_progress r.admission || any_progress r.meeting || any_moved r.turned.places || any_progress r.removal
+        || is_done new in
         let last = wait_where progressed new.hub.places in
         let all = ap (sum_over_calls waits) r.asked in
         let ends = some_wait round in
-        let a = admission_waits (may_accept old.counters (length old.hub.places)) old.counters r.admission r.came r.admits in
+        let shown = none_shown waits r.orders.shows_sessions old.hub.places (λ ports status. refl) in
+        let a = admission_waits (may_accept heeded (length old.hub.places)) heeded r.admission r.came r.admits in
         let b = meeting_waits (r.came.connecting == 0) old.hub r.came r.meeting r.connected new.counters r.finishes in
         let c = none_counted waits r.beginnings (λ ports news. refl) (λ before after. refl) (λ ports. refl)
         (turns_only port_transition (length r.connected.places) r.connected r.beginnings r.turned r.turns) in
         let d = ap (sum_over_calls waits) r.removes.0 ∙ removal_waits r.turned.places in
-        let one = counted_append waits (Begins ∷ r.admission ++ r.meeting ++ r.beginnings ++ r.removal) last in
-        let two = counted_append waits (Begins ∷ r.admission ++ r.meeting ++ r.beginnings) r.removal in
-        let three = counted_append waits (Begins ∷ r.admission ++ r.meeting) r.beginnings in
-        let four = counted_append waits (Begins ∷ r.admission) r.meeting in
+        let one = counted_append waits (opens ++ r.admission ++ r.meeting ++ r.beginnings ++ r.removal) last in
+        let two = counted_append waits (opens ++ r.admission ++ r.meeting ++ r.beginnings) r.removal in
+        let three = counted_append waits (opens ++ r.admission ++ r.meeting) r.beginnings in
+        let four = counted_append waits (opens ++ r.admission) r.meeting in
+        let five = counted_append waits opens r.admission in
         let most = one_at_most progressed new.hub.places in
-        let still = no_wait progressed new.hub.places (omega (arith, all, ends, a, b, c, d, one, two, three, four, most)) in
-        all_false (any_progress r.admission) (any_progress r.meeting) (any_moved r.turned.places) (any_progress r.removal) still
+        let still = no_wait progressed new.hub.places (omega (arith, all, ends, shown, a, b, c, d, one, two, three, four, five, most)) in
+        all_false (any_progress r.admission) (any_progress r.meeting) (any_moved r.turned.places) (any_progress r.removal)
+        (is_done new) still
 
     -- so it left no place that did
     still_places : (round : List (SystemCall P)) (old new : ServiceView P) →
@@ -578,7 +589,7 @@ module _ {P : Type 0} where
     -- the calls of a round before those that have ports watched
     abbrev early : (round : List (SystemCall P)) (old new : ServiceView P) → Round port_transition old round new →
         List (SystemCall P)
-    early round old new r = Begins ∷ r.admission ++ r.meeting ++ r.beginnings ++ r.removal
+    early round old new r = opening r.orders old.hub.places ++ r.admission ++ r.meeting ++ r.beginnings ++ r.removal
 
     -- a round that ends with a wait watches the ports of each session that is left
     all_watched : (round : List (SystemCall P)) (old new : ServiceView P)
@@ -586,8 +597,9 @@ module _ {P : Type 0} where
         round ≡ early (round ++ Waits ∷ []) old new r ++ watches new.hub.places
     all_watched round old new r =
         let still = no_progress round old new r in
-        let progressed = any_progress r.admission || any_progress r.meeting || any_moved r.turned.places || any_progress r.removal in
-        let none : progressed ≡ false = rw (still.came, still.met, still.moved, still.removed) refl in
+        let progressed = any_progress r.admission || any_progress r.meeting || any_moved r.turned.places || any_progress r.removal
+        || is_done new in
+        let none : progressed ≡ false = rw (still.came, still.met, still.moved, still.removed, still.ongoing) refl in
         watched_before progressed new.hub.places round (early (round ++ Waits ∷ []) old new r) none r.asked
 
     sessions_idle : (settings : Settings) (n : ℕ) (before round : List (SystemCall P)) (mid run : ServiceView P) →
@@ -616,19 +628,20 @@ module _ {P : Type 0} where
       where
         within : (x : SystemCall P) → Contains r.beginnings x → Contains (early (round ++ Waits ∷ []) mid run r) x
         within x c =
-            Contains-append_left (Begins ∷ r.admission ++ r.meeting ++ r.beginnings) r.removal x
-            (Contains-append_right (Begins ∷ r.admission ++ r.meeting) r.beginnings x c)
+            let opens = opening r.orders mid.hub.places in
+            Contains-append_left (opens ++ r.admission ++ r.meeting ++ r.beginnings) r.removal x
+            (Contains-append_right (opens ++ r.admission ++ r.meeting) r.beginnings x c)
 
-    -- the calls of the parts of a round
+    -- the calls of the first parts of a round
     in_round : (round : List (SystemCall P)) (old new : ServiceView P)
         (r : Round port_transition old (round ++ Waits ∷ []) new) (x : SystemCall P) →
-        Contains (r.admission ++ r.meeting) x → Contains round x
+        Contains (opening r.orders old.hub.places ++ r.admission ++ r.meeting) x → Contains round x
     in_round round old new r x c =
+        let opens = opening r.orders old.hub.places in
         subst (λ (l : List (SystemCall P)). Contains l x) (sym (all_watched round old new r))
-        (Contains-append_left (Begins ∷ r.admission ++ r.meeting ++ r.beginnings ++ r.removal) (watches new.hub.places) x
-        (Contains-append_left (Begins ∷ r.admission ++ r.meeting ++ r.beginnings) r.removal x
-        (Contains-append_left (Begins ∷ r.admission ++ r.meeting) r.beginnings x
-        (Contains-append_right (Begins ∷ []) (r.admission ++ r.meeting) x c))))
+        (Contains-append_left (opens ++ r.admission ++ r.meeting ++ r.beginnings ++ r.removal) (watches new.hub.places) x
+        (Contains-append_left (opens ++ r.admission ++ r.meeting ++ r.beginnings) r.removal x
+        (Contains-append_left (opens ++ r.admission ++ r.meeting) r.beginnings x c)))
 
     -- nothing changed in the round but the ports that had a turn
     pub idle_run : (settings : Settings) (n : ℕ) (before round : List (SystemCall P)) (mid run : ServiceView P) →
@@ -636,8 +649,9 @@ module _ {P : Type 0} where
         Round port_transition mid (round ++ Waits ∷ []) run → IsIdleRun port_transition round run
     idle_run settings n before round mid run rounds ongoing r =
         let still = no_progress round mid run r in
-        let came = none_came (may_accept mid.counters (length mid.hub.places)) mid.counters r.admission r.came r.admits
-        still.came in
+        let opens = opening r.orders mid.hub.places in
+        let heeded = heeding r.orders mid.counters in
+        let came = none_came (may_accept heeded (length mid.hub.places)) heeded r.admission r.came r.admits still.came in
         let met = none_met (r.came.connecting == 0) mid.hub r.came r.meeting r.connected run.counters r.finishes still.met in
         let kept = none_left r.turned.places (ap any_progress (sym r.removes.0) ∙ still.removed) in
         let places : run.hub.places ≡ r.turned.places =
@@ -646,17 +660,19 @@ module _ {P : Type 0} where
         ap length places
         ∙ below_count port_transition (length r.connected.places) r.connected r.beginnings r.turned r.turns
         ∙ ap (λ (k : HubView (QuotaPortsView P)). length k.places) met.0 in
-        let counters : run.counters ≡ mid.counters = met.1 ∙ came.0 in
-        let same : may_accept mid.counters (length mid.hub.places) ≡ may_accept run.counters (length run.hub.places) =
+        let counters : run.counters ≡ heeded = met.1 ∙ came.0 in
+        let same : may_accept heeded (length mid.hub.places) ≡ may_accept run.counters (length run.hub.places) =
         ap (λ (c : AdmissionCounters). may_accept c (length mid.hub.places)) (sym counters)
         ∙ ap (λ (m : ℕ). may_accept run.counters m) (sym count) in
         record {
           early = early (round ++ Waits ∷ []) mid run r;
+          ongoing = still.ongoing;
           watched = all_watched round mid run r;
           sessions = sessions_idle settings n before round mid run rounds ongoing r;
           bots = λ may. in_round round mid run r (Accepts false)
-              (Contains-append_left r.admission r.meeting (Accepts false) (came.1 (same ∙ may)));
+              (Contains-append_left (opens ++ r.admission) r.meeting (Accepts false)
+              (Contains-append_right opens r.admission (Accepts false) (came.1 (same ∙ may))));
           connects = λ some. in_round round mid run r (Connects Pending)
-              (Contains-append_right r.admission r.meeting (Connects Pending)
+              (Contains-append_right (opens ++ r.admission) r.meeting (Connects Pending)
               (met.2 (ap (λ (c : AdmissionCounters). c.connecting == 0) (sym met.1) ∙ some)));
         }

@@ -1,6 +1,6 @@
 -- The effect of a run on each of its sessions: those that it has, and those that it retired.
-use Rattle.std.specs.Prelude.{◌≡◌, ℕ, zero, suc, ◌+◌, nat_lt, true, false, List, [], ◌∷◌, length}
-use Rattle.std.specs.Prelude.{Option, Some, None, is_none, Contains, All}
+use Rattle.std.specs.Prelude.{◌≡◌, ℕ, zero, suc, ◌+◌, ◌<◌, ◌≤◌, nat_lt, Bool, true, false, ◌&&◌, ◌==◌, List, [], ◌∷◌, length}
+use Rattle.std.specs.Prelude.{Option, Some, None, is_none, Contains, All, if◌then◌else◌}
 use Rattle.daide_protocol.specs.declared.ending.Ending.{Ending}
 use Rattle.daide_protocol.specs.Machine.{Limits, SessionState, Effect, Runs, ending_in}
 use Rattle.daide_protocol.specs.Wires.{SessionView, is_closed}
@@ -12,13 +12,14 @@ use Rattle.daide_driver.specs.Totals.{HasTotals}
 use Rattle.daide_driver.specs.Hub.{IsBegun, IsTurned}
 use Rattle.daide_settings.specs.declared.settings.Settings.{Settings}
 use Rattle.daide_io.specs.declared.system.Connect.TheVariants.{Ready, Failed, Pending}
+use Rattle.daide_io.specs.declared.system.Orders.{Orders}
 use Rattle.daide_io.specs.declared.system.Cause.{Cause}
 use Rattle.daide_io.specs.declared.system.Cause.TheVariants as Causes
 use Rattle.daide_io.specs.declared.system.SessionEnd.{SessionEnd}
 use Rattle.daide_event_loop.specs.QuotaPorts.{QuotaPortsView, Meters, progress_by}
-use Rattle.daide_io.specs.System.{SystemCall, Begins, ReportsNews, BeginsTurn, Watches, Accepts, Connects, Retires}
-use Rattle.daide_io.specs.System.{Notifies, Waits}
-use Rattle.daide_event_loop.specs.Serving.{ServiceView, fresh, initial_service, bots_in_all, Rounds, Serves}
+use Rattle.daide_io.specs.System.{SystemCall, Begins, Shows, ReportsNews, BeginsTurn, Watches, Accepts, Connects}
+use Rattle.daide_io.specs.System.{Retires, Notifies, Waits}
+use Rattle.daide_event_loop.specs.Serving.{ServiceView, fresh, initial_service, is_done, bots_in_all, Rounds, Serves}
 
 -- the limits of a run's sessions
 abbrev pub run_limits : Settings → Limits
@@ -73,7 +74,8 @@ RetiresClosed {P} transition settings answers (Retires ports end) =
     (now : SessionView × QuotaPortsView P) × (now.1.ports ≡ ports) × (is_closed now.0 ≡ true)
     × ((served : IsServed transition settings answers now)
     × IsEndOf (run_limits settings) settings.turns served.history now.0 end)
-RetiresClosed transition settings answers Begins = Unit {0}
+RetiresClosed transition settings answers (Begins orders) = Unit {0}
+RetiresClosed transition settings answers (Shows ports status) = Unit {0}
 RetiresClosed transition settings answers (ReportsNews ports news) = Unit {0}
 RetiresClosed transition settings answers (BeginsTurn before after) = Unit {0}
 RetiresClosed transition settings answers (Watches ports) = Unit {0}
@@ -87,7 +89,8 @@ abbrev pub connects : {P : Type 0} → SystemCall P → ℕ
 connects (Connects (Ready ports)) = 1
 connects (Connects Failed) = 0
 connects (Connects Pending) = 0
-connects Begins = 0
+connects (Begins orders) = 0
+connects (Shows ports status) = 0
 connects (ReportsNews ports news) = 0
 connects (BeginsTurn before after) = 0
 connects (Watches ports) = 0
@@ -98,7 +101,8 @@ connects Waits = 0
 
 abbrev pub retires : {P : Type 0} → SystemCall P → ℕ
 retires (Retires ports end) = 1
-retires Begins = 0
+retires (Begins orders) = 0
+retires (Shows ports status) = 0
 retires (ReportsNews ports news) = 0
 retires (BeginsTurn before after) = 0
 retires (Watches ports) = 0
@@ -111,7 +115,8 @@ retires Waits = 0
 abbrev pub comes : {P : Type 0} → SystemCall P → ℕ
 comes (Accepts true) = 1
 comes (Accepts false) = 0
-comes Begins = 0
+comes (Begins orders) = 0
+comes (Shows ports status) = 0
 comes (ReportsNews ports news) = 0
 comes (BeginsTurn before after) = 0
 comes (Watches ports) = 0
@@ -124,7 +129,8 @@ abbrev pub unreached : {P : Type 0} → SystemCall P → ℕ
 unreached (Connects Failed) = 1
 unreached (Connects (Ready ports)) = 0
 unreached (Connects Pending) = 0
-unreached Begins = 0
+unreached (Begins orders) = 0
+unreached (Shows ports status) = 0
 unreached (ReportsNews ports news) = 0
 unreached (BeginsTurn before after) = 0
 unreached (Watches ports) = 0
@@ -137,6 +143,74 @@ abbrev pub sum_over_calls : {P : Type 0} → (SystemCall P → ℕ) → List (Sy
 sum_over_calls count [] = 0
 sum_over_calls count (answer ∷ answers) = count answer + sum_over_calls count answers
 
+-- ---- the operator's orders
+
+-- 1 if the call accepts a bot or finds none; 1 if it shows the status of a session
+abbrev pub accept_calls : {P : Type 0} → SystemCall P → ℕ
+accept_calls (Accepts came) = 1
+accept_calls (Begins orders) = 0
+accept_calls (Shows ports status) = 0
+accept_calls (ReportsNews ports news) = 0
+accept_calls (BeginsTurn before after) = 0
+accept_calls (Watches ports) = 0
+accept_calls (Connects connect) = 0
+accept_calls (Retires ports end) = 0
+accept_calls (Notifies notice) = 0
+accept_calls Waits = 0
+
+abbrev pub show_calls : {P : Type 0} → SystemCall P → ℕ
+show_calls (Shows ports status) = 1
+show_calls (Begins orders) = 0
+show_calls (ReportsNews ports news) = 0
+show_calls (BeginsTurn before after) = 0
+show_calls (Watches ports) = 0
+show_calls (Accepts came) = 0
+show_calls (Connects connect) = 0
+show_calls (Retires ports end) = 0
+show_calls (Notifies notice) = 0
+show_calls Waits = 0
+
+-- 1 if the call returns orders with this property
+abbrev pub orders_with : {P : Type 0} → (Orders → Bool) → SystemCall P → ℕ
+orders_with Has (Begins orders) = if Has orders then 1 else 0
+orders_with Has (Shows ports status) = 0
+orders_with Has (ReportsNews ports news) = 0
+orders_with Has (BeginsTurn before after) = 0
+orders_with Has (Watches ports) = 0
+orders_with Has (Accepts came) = 0
+orders_with Has (Connects connect) = 0
+orders_with Has (Retires ports end) = 0
+orders_with Has (Notifies notice) = 0
+orders_with Has Waits = 0
+
+-- how many orders to stop accepting, and to show the sessions, there were in a trace
+abbrev pub stop_orders : {P : Type 0} → List (SystemCall P) → ℕ
+stop_orders answers = sum_over_calls (orders_with (λ orders. orders.stops_accepting)) answers
+
+abbrev pub show_orders : {P : Type 0} → List (SystemCall P) → ℕ
+show_orders answers = sum_over_calls (orders_with (λ orders. orders.shows_sessions)) answers
+
+-- after each order to stop accepting, accept is not called any more
+abbrev pub HeedsStops : {P : Type 0} → List (SystemCall P) → Type 0
+HeedsStops [] = Unit {0}
+HeedsStops (answer ∷ answers) =
+    (0 < orders_with (λ orders. orders.stops_accepting) answer → sum_over_calls accept_calls answers ≡ 0) × HeedsStops answers
+
+-- After any rounds of a run. After an order to stop accepting, accept is not called any more, and the run is done as soon
+-- as no connect is under way and no session is left. Without such an order, the run is done when all bots of its settings
+-- came and were served. Without an order to show the sessions, none is shown.
+pub record HeedsOrders {P : Type 0} (settings : Settings) (answers : List (SystemCall P)) (run : ServiceView P) : Type 0 where
+  pub stops : HeedsStops answers
+  pub ends : 0 < stop_orders answers → is_done run ≡ ((run.counters.connecting == 0) && (length run.hub.places == 0))
+  pub goes_on : stop_orders answers ≡ 0 → run.counters.sessions ≡ bots_in_all settings
+  pub shows : show_orders answers ≡ 0 → sum_over_calls show_calls answers ≡ 0
+
+abbrev pub OrdersAreHeeded : {P : Type 0} → (P → PortCall → P → Type 0) → Type 0
+OrdersAreHeeded {P} transition = (settings : Settings) (n : ℕ) (answers : List (SystemCall P)) (run : ServiceView P) →
+    Rounds transition n (initial_service settings) answers run → HeedsOrders settings answers run
+
+-- ---- a whole run
+
 -- After any rounds of a run: each session that it has is served, and so is each that it retired. Of the ports delivered
 -- it has all that it did not retire. It counts each bot that it accepted. Each of these bots has a connect under way,
 -- got a session, or could not reach the server.
@@ -148,16 +222,18 @@ SessionsAreServed {P} transition = (settings : Settings) (n : ℕ) (answers : Li
     × (run.counters.accepted ≡ sum_over_calls comes answers)
     × (sum_over_calls comes answers ≡ run.counters.connecting + sum_over_calls connects answers + sum_over_calls unreached answers)
 
--- A whole run of settings: rounds until all bots were served and no session is left. So each
--- completed connect was a session, which was served, and retired as a closed one. By all its port calls it is bounded
--- and exact, and none is lost. As many bots were accepted as the settings say (`bots_in_all`); for each, ports were
--- retired or the server was unreachable.
+-- A whole run of settings: rounds until all bots were served and no session is left. So each completed connect was a
+-- session, which was served, and retired as a closed one. By all its port calls it is bounded and exact, and none is
+-- lost. As many bots were accepted as the settings say (`bots_in_all`), or at most so many if there was an order to stop
+-- accepting, after which none was accepted. For each, ports were retired or the server was unreachable.
 pub record IsWholeRun {P : Type 0} (transition : P → PortCall → P → Type 0) (settings : Settings)
     (answers : List (SystemCall P)) : Type 0 where
   pub serves : Serves transition settings answers
   pub each : All (RetiresClosed transition settings answers) answers
   pub none_lost : sum_over_calls connects answers ≡ sum_over_calls retires answers
-  pub all_came : sum_over_calls comes answers ≡ bots_in_all settings
+  pub all_came : stop_orders answers ≡ 0 → sum_over_calls comes answers ≡ bots_in_all settings
+  pub at_most : sum_over_calls comes answers ≤ bots_in_all settings
+  pub stops : HeedsStops answers
   pub all_served : sum_over_calls comes answers ≡ sum_over_calls retires answers + sum_over_calls unreached answers
 
 -- Whether a turn made progress, which decides if a round waits, follows from the port calls of the turn.

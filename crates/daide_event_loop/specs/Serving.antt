@@ -22,10 +22,11 @@ use Rattle.daide_io.specs.declared.system.Connect.TheVariants.{Ready, Failed, Pe
 use Rattle.daide_io.specs.declared.system.Notice.TheVariants.{CannotReach, TurnsSpent}
 use Rattle.daide_io.specs.declared.system.Cause.{Cause}
 use Rattle.daide_io.specs.declared.system.Cause.TheVariants as Causes
+use Rattle.daide_io.specs.declared.system.Orders.{Orders}
 use Rattle.daide_io.specs.declared.system.SessionEnd.{SessionEnd}
 use Rattle.daide_event_loop.specs.QuotaPorts.{QuotaPortsView, Meters, beginning}
-use Rattle.daide_io.specs.System.{SystemCall, Begins, ReportsNews, BeginsTurn, Watches, Accepts, Connects, Retires}
-use Rattle.daide_io.specs.System.{Notifies, Waits}
+use Rattle.daide_io.specs.System.{SystemCall, Begins, Shows, ReportsNews, BeginsTurn, Watches, Accepts, Connects}
+use Rattle.daide_io.specs.System.{Retires, Notifies, Waits, status_of}
 use Rattle.daide_protocol.specs.Machine.{ending_in}
 
 -- the state of a run: the sessions, and the counters
@@ -57,6 +58,16 @@ counting counters connecting accepted = record {
   accepted = accepted;
 }
 
+-- no more bots are accepted: those accepted so far are all
+abbrev pub closed : AdmissionCounters → AdmissionCounters
+closed counters = record {
+  max_sessions = counters.max_sessions;
+  sessions = counters.accepted;
+  turns = counters.turns;
+  connecting = counters.connecting;
+  accepted = counters.accepted;
+}
+
 -- a bot that was accepted has a connect under way
 abbrev pub come : Bool → AdmissionCounters → AdmissionCounters
 come true counters = counting counters (counters.connecting + 1) (counters.accepted + 1)
@@ -66,11 +77,34 @@ come false counters = counters
 abbrev pub arrived : AdmissionCounters → AdmissionCounters
 arrived counters = counting counters (counters.connecting - 1) counters.accepted
 
+-- whether all bots were served, and no session is left
+abbrev pub is_done : {P : Type 0} → ServiceView P → Bool
+is_done run = is_served run.counters (length run.hub.places)
+
 -- no more sessions and connects than the limit at once, and no more bots accepted than the limit in all
 pub record IsWithinQuotas {P : Type 0} (hub : HubView (QuotaPortsView P)) (counters : AdmissionCounters) : Type 0 where
   pub same_max : hub.max ≡ counters.max_sessions
   pub held : length hub.places + counters.connecting ≤ counters.max_sessions
   pub accepted : counters.accepted ≤ counters.sessions
+
+-- ---- a round begins
+
+-- the counters after the orders of a round: an order to stop accepting closes them for good
+abbrev pub heeding : Orders → AdmissionCounters → AdmissionCounters
+heeding orders counters = if orders.stops_accepting then closed counters else counters
+
+-- the status of each session is shown, in order of place
+abbrev pub shows : {P : Type 0} → List (SessionView × QuotaPortsView P) → List (SystemCall P)
+shows [] = []
+shows (place ∷ places) = Shows place.1.ports (status_of place.0) ∷ shows places
+
+abbrev pub shows_where : {P : Type 0} → Bool → List (SessionView × QuotaPortsView P) → List (SystemCall P)
+shows_where true places = shows places
+shows_where false places = []
+
+-- the round begins with these orders, and the status of each session is shown once if they require it
+abbrev pub opening : {P : Type 0} → Orders → List (SessionView × QuotaPortsView P) → List (SystemCall P)
+opening orders places = Begins orders ∷ shows_where orders.shows_sessions places
 
 -- ---- bots are accepted
 
@@ -218,7 +252,8 @@ RemovesClosed old answers new = (answers ≡ retirements old.places) × (new ≡
 
 -- whether a call is progress: an accepted bot, a completed or failed connect, a retirement, or a notice
 abbrev pub is_progress : {P : Type 0} → SystemCall P → Bool
-is_progress Begins = false
+is_progress (Begins orders) = false
+is_progress (Shows ports status) = false
 is_progress (ReportsNews ports news) = false
 is_progress (BeginsTurn before after) = false
 is_progress (Watches ports) = false
@@ -243,11 +278,13 @@ abbrev pub wait_where : {P : Type 0} → Bool → List (SessionView × QuotaPort
 wait_where true places = []
 wait_where false places = watches places ++ Waits ∷ []
 
--- The system begins a round. At most one bot is accepted, and at most one connect completes or fails. Each session that
--- is due a turn has one, which the system begins. Closed sessions are removed. There is one wait, exactly if no progress
--- was made. It watches the ports of each session that is left.
+-- The system begins a round with orders, by which the status of each session may be shown, and no bot may be accepted
+-- any more. At most one bot is accepted, and at most one connect completes or fails. Each session that is due a turn has
+-- one, which the system begins. Closed sessions are removed. There is one wait, exactly if no progress was made and the
+-- run is not done. It watches the ports of each session that is left.
 pub record Round {P : Type 0} (transition : P → PortCall → P → Type 0) (old : ServiceView P)
     (answers : List (SystemCall P)) (new : ServiceView P) : Type 0 where
+  pub orders : Orders
   pub admission : List (SystemCall P)
   pub meeting : List (SystemCall P)
   pub beginnings : List (SystemCall P)
@@ -255,20 +292,17 @@ pub record Round {P : Type 0} (transition : P → PortCall → P → Type 0) (ol
   pub came : AdmissionCounters
   pub connected : HubView (QuotaPortsView P)
   pub turned : HubView (QuotaPortsView P)
-  pub admits : Admits (length old.hub.places) old.counters admission came
+  pub admits : Admits (length old.hub.places) (heeding orders old.counters) admission came
   pub finishes : FinishesConnect old.hub came meeting connected new.counters
   pub turns : TurnsAll transition connected beginnings turned
   pub removes : RemovesClosed turned removal new.hub
   -- in any case no more sessions and connects than the limit at once, and no more bots than the limit in all
   pub within : IsWithinQuotas new.hub new.counters
-  pub asked : answers ≡ Begins ∷ admission ++ meeting ++ beginnings ++ removal ++ wait_where
-      (any_progress admission || any_progress meeting || any_moved turned.places || any_progress removal) new.hub.places
+  pub asked : answers ≡ opening orders old.hub.places ++ admission ++ meeting ++ beginnings ++ removal ++ wait_where
+      (any_progress admission || any_progress meeting || any_moved turned.places || any_progress removal || is_done new)
+      new.hub.places
 
 -- ---- a run
-
--- whether all bots were served, and no session is left
-abbrev pub is_done : {P : Type 0} → ServiceView P → Bool
-is_done run = is_served run.counters (length run.hub.places)
 
 -- n rounds, each of a run that is not done
 abbrev pub Rounds : {P : Type 0} → (P → PortCall → P → Type 0) → ℕ → ServiceView P → List (SystemCall P) →
@@ -303,17 +337,19 @@ Serves {P} transition settings answers =
 
 -- ---- a run that is broken off
 
--- A round whose new session was refused its memory. It began, and accepted at most one bot, as any round; a connect was
--- under way and completed, and then the round ends. The ports are dropped; no session had a turn, and none is removed.
+-- A round whose new session was refused its memory. It began with orders, and accepted at most one bot, as any round; a
+-- connect was under way and completed, and then the round ends. The ports are dropped; no session had a turn, and none is
+-- removed.
 -- `Refuses` is the allocator's relation of that name.
 pub record BreaksOff {P : Type 0} (Refuses : ℕ → Type 0) (old : ServiceView P) (answers : List (SystemCall P))
     (new : ServiceView P) : Type 0 where
+  pub orders : Orders
   pub admission : List (SystemCall P)
   pub came : AdmissionCounters
   pub ports : P
-  pub admits : Admits (length old.hub.places) old.counters admission came
+  pub admits : Admits (length old.hub.places) (heeding orders old.counters) admission came
   pub under_way : (came.connecting == 0) ≡ false
-  pub asked : answers ≡ Begins ∷ admission ++ Connects (Ready ports) ∷ []
+  pub asked : answers ≡ opening orders old.hub.places ++ admission ++ Connects (Ready ports) ∷ []
   -- the memory of a body of the longest length
   pub refused : Refuses old.hub.limits.cap
   pub leaves : new ≡ record { hub = old.hub; counters = arrived came }

@@ -9,7 +9,7 @@ use Rattle.daide_io.specs.declared.ports.Pull.TheVariants.{Got, Idle}
 use Rattle.daide_io.specs.declared.ports.Put.TheVariants.{Took}
 use Rattle.daide_io.specs.Ports.{PortCall, TurnBegins, Clock, Pulled, Offered, EvolvesBy}
 use Rattle.daide_io.specs.declared.system.Connect.TheVariants.{Pending}
-use Rattle.daide_io.specs.System.{SystemCall, ReportsNews, BeginsTurn, Watches, Accepts, Connects, Waits}
+use Rattle.daide_io.specs.System.{SystemCall, ReportsNews, BeginsTurn, Accepts, Connects, Waits}
 use Rattle.daide_driver.specs.Turn.{Turn, most_pulled}
 use Rattle.daide_settings.specs.declared.settings.Settings.{Settings}
 use Rattle.daide_event_loop.specs.QuotaPorts.{QuotaPortsView}
@@ -69,12 +69,13 @@ pub record IsIdleAtWait {P : Type 0} (transition : P → PortCall → P → Type
   pub idle : IsIdleSession transition place
   pub asked : Contains round (BeginsTurn idle.ports idle.begun) ⊎ Contains round (ReportsNews place.1.ports false)
 
--- A run at a wait, after this round: each session is idle. If one more bot may be accepted, the system was asked for one
--- in the round, and none came. If connects are under way, it was asked for a result, and none had one. The last calls
--- of the round had the system watch the ports of each session.
+-- A run at a wait, after this round: it is not done, and each session is idle. If one more bot may be accepted, the
+-- system was asked for one in the round, and none came. If connects are under way, it was asked for a result, and none
+-- had one. The last calls of the round had the system watch the ports of each session.
 pub record IsIdleRun {P : Type 0} (transition : P → PortCall → P → Type 0) (round : List (SystemCall P))
     (run : ServiceView P) : Type 0 where
   pub early : List (SystemCall P)
+  pub ongoing : is_done run ≡ false
   pub watched : round ≡ early ++ watches run.hub.places
   pub sessions : All (IsIdleAtWait transition early) run.hub.places
   pub bots : may_accept run.counters (length run.hub.places) ≡ true → Contains round (Accepts false)

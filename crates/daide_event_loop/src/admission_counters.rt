@@ -1,7 +1,9 @@
 //! Counters of the bots of a run, and their limits.
 
 ghost use Rattle.std.specs.Prelude.{◌≡◌, ◌+◌, ◌≤◌};
-ghost use Rattle.daide_event_loop.specs.Serving.{may_accept, is_served};
+ghost use Rattle.daide_event_loop.specs.Serving.{heeding, may_accept, is_served};
+
+use daide_io::system::Orders;
 
 /// The limits of a run: sessions at once, bots in all (`sessions`), turns a session. Its counts: bots with a connect to
 /// the server under way, and bots accepted. The count of bots never exceeds its limit, so it does not wrap.
@@ -15,6 +17,15 @@ pub struct AdmissionCounters {
 }
 
 impl AdmissionCounters {
+    /// Heeds the operator's orders: an order to stop accepting makes the bots accepted so far all bots of the run.
+    pub fn heed(&mut self, orders: Orders)
+        ensures { self.new ≡ heeding orders self.old }
+    {
+        if orders.stops_accepting {
+            self.sessions = self.accepted;
+        }
+    }
+
     /// Returns true if the run may accept one more bot while it has `count` sessions.
     pub fn accepts(&self, count: usize) -> bool
         requires { count + self.now.connecting ≤ self.now.max_sessions }

@@ -1,6 +1,6 @@
 //! Laws of runs: functions with no parameters and an empty body, whose contracts are the laws.
 
-ghost use Rattle.daide_event_loop.specs.Served.{SessionsAreServed, MovesAreAnswered, TurnsAreCounted};
+ghost use Rattle.daide_event_loop.specs.Served.{SessionsAreServed, OrdersAreHeeded, MovesAreAnswered, TurnsAreCounted};
 ghost use Rattle.daide_event_loop.specs.Independence.{SessionsAreIndependent};
 ghost use Rattle.daide_event_loop.specs.Waiting.{RunsAreIdleAtWaits};
 
@@ -14,6 +14,14 @@ use daide_io::ports::Ports;
 /// A session whose quota is spent goes by what `QuotaPorts` returns then.
 pub fn sessions_are_served<P: Ports>()
     ensures { SessionsAreServed P.transition }
+{}
+
+/// The orders of the operator are heeded (`HeedsOrders`). After an order to stop accepting, accept is not called any more,
+/// and the run is done as soon as no connect is under way and no session is left. Without orders, a run is what it is
+/// without an operator: it accepts as many bots as its settings say, and shows no session. Which session is shown, and
+/// with which status, a round says (`shows`). No order is in the premises of `sessions_are_independent`.
+pub fn orders_are_heeded<P: Ports>()
+    ensures { OrdersAreHeeded P.transition }
 {}
 
 /// What a turn's calls returned decides whether anything moved in it, and so whether a round waits.
@@ -38,11 +46,12 @@ pub fn sessions_are_independent<P: Ports, Q: Ports>()
     ensures { SessionsAreIndependent P.transition Q.transition }
 {}
 
-/// At each wait a run is idle (`IsIdleRun`). The last turn of each session made no progress: the IM timer had not
+/// At each wait a run is idle, and not done (`IsIdleRun`). The last turn of each session made no progress: the IM timer had not
 /// expired, each side for whose bytes it has room returned none, and each wire for which bytes are queued took none
-/// (`IsIdleSession`). The system ended that turn with the ports as they are now, and in the round that waits it did
-/// that or reported no news for these ports (`IsIdleAtWait`). If one more bot may be accepted, none came; if connects
-/// are under way, none has a result. So if the system reports all news, and waits for the rest, no wake-up is lost.
+/// (`IsIdleSession`). By that turn its ports came to their present value. In the round that waits the system began the
+/// turn, or reported no news for these ports (`IsIdleAtWait`). If one more bot may be accepted, none came; if connects
+/// are under way, none has a result. Right before the wait the system was to watch the ports of each session. So if the
+/// system reports all news, and waits for the rest, no wake-up is lost.
 ///
 /// Not said: that the system reports all news. Two sessions may have equal ports; then the clauses on calls speak of
 /// both.

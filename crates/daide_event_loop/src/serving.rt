@@ -6,6 +6,7 @@
 ghost use Rattle.std.specs.Prelude.{◌≡◌, ◌+◌, ◌<◌, ◌≤◌, ◌==◌, false, List, [], ◌∷◌, length, Some};
 ghost use Rattle.std.specs.Prelude.{OnOk, OnErr, IfOk, IfErr, IfSome, slice_get};
 ghost use Rattle.daide_io.specs.System.{SystemCall, Connects, TransitsBy};
+ghost use Rattle.daide_event_loop.specs.Serving.{shows, shows_where};
 ghost use Rattle.daide_event_loop.specs.Serving.{IsWithinQuotas, Admits, FinishesConnect, IsDueBy, TakesTurn, VisitsPlace};
 ghost use Rattle.daide_event_loop.specs.Serving.{TurnsAll, any_moved};
 ghost use Rattle.daide_event_loop.specs.Serving.{RemovesClosed, parting};
@@ -17,9 +18,10 @@ ghost use Rattle.daide_event_loop.specs.Serving.{IsServeCause, BreaksOff, GivesU
 use crate::admission_counters::AdmissionCounters;
 use crate::quota_ports::QuotaPorts;
 use daide_driver::hub::{AddFault, Hub, Removed};
+use daide_driver::status::session_status;
 use daide_frame::memory::Memory;
 use daide_io::ports::Ports;
-use daide_io::system::{Cause, Connect, Notice, SessionEnd, System};
+use daide_io::system::{Cause, Connect, Notice, Orders, SessionEnd, System};
 use daide_protocol::ending::Ending;
 use daide_settings::settings::Settings;
 use std::alloc::{AllocError, Allocator, Global};
@@ -52,6 +54,33 @@ impl<P: Ports, A: Allocator> Model for Service<P, A> {
     ghost view = { λ s. record { hub = s.hub; counters = s.counters } };
 
     ghost invariant = { λ s. IsWithinQuotas s.hub s.counters };
+}
+
+/// Shows the operator the status of each session, in order of place.
+fn show_all<P: Ports, A: Allocator + Copy, S: System<P>>(
+    hub: &Hub<QuotaPorts<P>, A>,
+    system: &mut S,
+)
+    ensures { TransitsBy S.transition system.old (shows hub.now.places) system.new }
+{
+    for i in 0..hub.count() {
+        let ports = hub.ports(i);
+        let status = session_status(hub.session(i));
+        system.show(ports.ports(), status);
+    }
+}
+
+/// Shows the operator the status of each session, if the orders require it.
+fn show_sessions<P: Ports, A: Allocator + Copy, S: System<P>>(
+    orders: Orders,
+    hub: &Hub<QuotaPorts<P>, A>,
+    system: &mut S,
+)
+    ensures { TransitsBy S.transition system.old (shows_where orders.shows_sessions hub.now.places) system.new }
+{
+    if orders.shows_sessions {
+        show_all(hub, system);
+    }
 }
 
 /// Accepts a bot if there is a place for it and the limit is not reached. Returns true if a bot was accepted.
@@ -318,15 +347,18 @@ impl<P: Ports, A: Memory + Copy> Service<P, A> {
         self.counters.is_served(self.hub.count())
     }
 
-    /// Makes one round. It calls the system to begin the round, accepts at most one bot, and takes up at most one
-    /// connect. Each session that is due a turn then has one, in order of place. Closed sessions are taken out, from the
-    /// last place to the first. If nothing moved in all this, it waits once.
+    /// Makes one round. It calls the system to begin the round, heeds its orders, accepts at most one bot, and takes up
+    /// at most one connect. Each session that is due a turn then has one, in order of place. Closed sessions are taken
+    /// out, from the last place to the first. If nothing moved in all this and the run is not done, it waits once.
     ///
-    /// `round`: a bot is accepted only below two limits: of sessions and pending connects at once, and of bots in all.
+    /// `round`: if the orders require it, the status of each session is shown once before any other call, in order of
+    /// place (`shows`). If they stop accepting, the bots accepted so far are all bots of the run, in this round and from
+    /// then on (`closed`). Sessions and pending connects go on. A bot is accepted only below two limits: of sessions and
+    /// pending connects at once, and of bots in all.
     /// A session is due a turn if its last turn made progress, if it is new, or else if the system has news for its
     /// ports (`VisitsPlace`). The system begins each turn with the session's ports (`begin_turn`), and the turn is made by
     /// the clauses of `turn` (`TakesTurn`). Exactly the sessions that are over and for which nothing waits are taken out.
-    /// It waits if and only if nothing moved, and then watches the ports of each session (`watch`).
+    /// It waits if and only if nothing moved and the run is not done. Then it watches the ports of each session (`watch`).
     ///
     /// `refused`: its only fault is no memory for a session.
     ///
@@ -341,14 +373,16 @@ impl<P: Ports, A: Memory + Copy> Service<P, A> {
         ensures broken_off { OnErr result ((answers : List (SystemCall P))
             × TransitsBy S.transition system.old answers system.new × BreaksOff A.Refuses self.old answers self.new) }
     {
-        system.begin_round();
+        let orders = system.begin_round();
+        self.counters.heed(orders);
+        show_sessions(orders, &self.hub, system);
         let came = admit::<P, S>(self.hub.count(), &mut self.counters, system);
         let connected = finish_connect(&mut self.hub, &mut self.counters, system)?;
         turn_all(&mut self.hub, system);
         let made_progress = has_moved(&self.hub);
         let removed = remove_closed(&mut self.hub, system);
         rest(
-            came | connected | made_progress | removed,
+            came | connected | made_progress | removed | self.is_done(),
             &self.hub,
             system,
         );
@@ -357,9 +391,10 @@ impl<P: Ports, A: Memory + Copy> Service<P, A> {
 }
 
 /// Serves as many bots as the settings say, in rounds (`Round`), and returns when all were served and no session is
-/// held. An endless run (`endless`) serves until the process is stopped: it would return after 2^32 - 1 bots, the
-/// greatest number of a session. A run waits for its peers, so no bound on its time is known. Each clause is about the
-/// calls that took the system from its old to its new value (`TransitsBy`). So a body that makes no call meets none.
+/// held. An endless run (`endless`) would return after 2^32 - 1 bots, the greatest number of a session. After an order
+/// to stop accepting, the bots accepted so far are all, and it returns when they were served. A run waits for its peers,
+/// so no bound on its time is known. Each clause is about the calls that took the system from its old to its new value
+/// (`TransitsBy`). So a body that makes no call meets none.
 ///
 /// `served` (`each`): if it returns `Ok`, the calls are those of a whole run (`IsWholeRun`). Each session that it
 /// served is bounded and exact by all that its ports returned, as `sessions_are_served` says. With a session's ports
@@ -368,7 +403,8 @@ impl<P: Ports, A: Memory + Copy> Service<P, A> {
 /// session was open until then.
 ///
 /// `served` (`none_lost`): no ports are lost. As many bots came as the settings say, or 2^32 - 1 if the run is endless
-/// (`all_came`). For each one the ports were handed back or the server could not be reached (`all_served`).
+/// (`all_came`). If there was an order to stop accepting, at most as many came, and accept was not called after it
+/// (`HeedsStops`). For each one the ports were handed back or the server could not be reached (`all_served`).
 ///
 /// `given_up`: else the calls are those of a run that was given up for its fault (`GivesUp`). No memory for the places
 /// is returned before any call. After no memory for a session, the round is broken off. The other fault is that

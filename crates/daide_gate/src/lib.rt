@@ -25,7 +25,10 @@ pub use daide_reader::{Reader, Verdict};
 pub use daide_driver::{
     AddFault, Hub, HubError, RelayEnd, Removed, hub, relay, relaying, turn, turn_io,
 };
-pub use daide_io::{Cause, Connect, Notice, Ports, Pull, Put, SessionEnd, System, ports, system};
+pub use daide_io::{
+    Cause, Connect, Notice, Orders, Ports, Pull, Put, SessionEnd, SessionStatus, System, ports,
+    system,
+};
 pub use daide_protocol::{Config, ConfigError, Deed, Ending, Note, Phase, SessionLimits, Summary};
 pub use daide_session::{Session, SessionError};
 

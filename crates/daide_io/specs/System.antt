@@ -1,15 +1,35 @@
 -- The calls of the loop over sessions on its system, and their effect on the system.
-use Rattle.std.specs.Prelude.{◌≡◌, Bool, List, [], ◌∷◌}
+use Rattle.std.specs.Prelude.{◌≡◌, Bool, false, List, [], ◌∷◌, length}
+use Rattle.daide_frame.specs.declared.side.Side.TheVariants.{Bot, Server}
+use Rattle.daide_protocol.specs.Machine.{level_in, plain_phase}
+use Rattle.daide_protocol.specs.Wires.{SessionView, queued, sent_bytes}
 use Rattle.daide_io.specs.declared.system.Connect.{Connect}
 use Rattle.daide_io.specs.declared.system.Notice.{Notice}
+use Rattle.daide_io.specs.declared.system.Orders.{Orders}
 use Rattle.daide_io.specs.declared.system.SessionEnd.{SessionEnd}
+use Rattle.daide_io.specs.declared.system.SessionStatus.{SessionStatus}
 
--- One call with its result: the beginning of a round; whether there is news for the ports of a session; the beginning
--- of a turn, with the ports of its session before and after; the ports of a session that the next wait is to watch;
--- whether a bot arrived; the result of a connect; ports that were retired, with how their session ended; a line that was
--- logged; and a wait that ended.
+-- no orders: the run goes on as before
+abbrev pub no_orders : Orders
+no_orders = record { stops_accepting = false; shows_sessions = false }
+
+-- the status of a session: its phase, its level, its counts, and how many bytes are queued for each side
+abbrev pub status_of : SessionView → SessionStatus
+status_of session = record {
+  phase = plain_phase session.state.phase;
+  level = level_in session.state.phase;
+  summary = session.summary;
+  queued_to_bot = length (sent_bytes (queued session Bot));
+  queued_to_server = length (sent_bytes (queued session Server));
+}
+
+-- One call with its result: the beginning of a round, with the operator's orders; the ports of a session whose status is
+-- shown; whether there is news for the ports of a session; the beginning of a turn, with the ports of its session before
+-- and after; the ports of a session that the next wait is to watch; whether a bot arrived; the result of a connect; ports
+-- that were retired, with how their session ended; a line that was logged; and a wait that ended.
 pub data SystemCall (P : Type 0) : Type 0 where
-  Begins : SystemCall P
+  Begins : (orders : Orders) → SystemCall P
+  Shows : (ports : P) → (status : SessionStatus) → SystemCall P
   ReportsNews : (ports : P) → (news : Bool) → SystemCall P
   BeginsTurn : (before after : P) → SystemCall P
   Watches : (ports : P) → SystemCall P

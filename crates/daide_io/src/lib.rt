@@ -18,4 +18,4 @@ pub use duplex::Duplex;
 pub use network::{ConnectStatus, Network, SocketEvent};
 pub use outcome::IoResult;
 pub use ports::{Ports, Pull, Put};
-pub use system::{Cause, Connect, Notice, SessionEnd, System};
+pub use system::{Cause, Connect, Notice, Orders, SessionEnd, SessionStatus, System};

@@ -1,11 +1,11 @@
 //! What a process asks of the operating system for its sockets, beside the reads and writes of a connection (`Duplex`).
 //!
-//! A network has one listener. Each socket that it follows has a key, by which a poll names it. No call but `poll`
+//! A network has a listener for bots, and may have one for the connections by which an operator controls the run. Each socket that it follows has a key, by which a poll names it. No call but `poll`
 //! blocks, and none decides anything: what is asked, and when, is the caller's choice.
 
 ghost use Rattle.std.specs.Prelude.{◌≡◌};
 ghost use Rattle.daide_io.specs.Network.{NetworkCall, ReadsClock, Polls, Listens, AcceptsConnection, BeginsConnect};
-ghost use Rattle.daide_io.specs.Network.{Follows, AsksConnect};
+ghost use Rattle.daide_io.specs.Network.{StopsListening, ListensForControl, AcceptsControl, Follows, AsksConnect};
 
 use crate::duplex::Duplex;
 use std::io;
@@ -65,6 +65,21 @@ pub trait Network: Drop {
     /// Fails with `WouldBlock` if there is none, or with the system's own error.
     fn accept(&mut self) -> io::Result<(Self::Connection, SocketAddr)>
         ensures { transition self.old (AcceptsConnection result) self.new };
+
+    /// Closes the listener for bots: the system accepts no further connection for it. An accept then returns none.
+    fn stop_listening(&mut self)
+        ensures { transition self.old StopsListening self.new };
+
+    /// Follows the listener for control connections under this key. Returns whether the system accepts that; `None` if
+    /// the network has no such listener.
+    fn listen_for_control(&mut self, key: usize) -> Option<bool>
+        ensures { transition self.old (ListensForControl key result) self.new };
+
+    /// Accepts a control connection, if a further descriptor is left for a connect.
+    ///
+    /// Fails with `WouldBlock` if there is none, or with the system's own error.
+    fn accept_control(&mut self) -> io::Result<Self::Connection>
+        ensures { transition self.old (AcceptsControl result) self.new };
 
     /// Begins a connect to this address. Its result comes later (`connect_status`).
     ///

@@ -1,6 +1,7 @@
-//! The interface of the loop over sessions to the system. Its calls begin a round, report whether there is news for a
-//! session, begin a turn of it, accept a bot, and return the result of a connect to the server. They also retire the
-//! ports of a closed session, with how it ended, log a line for the operator, watch the ports of a session, and wait.
+//! The interface of the loop over sessions to the system. Its calls begin a round and return the operator's orders, show
+//! the status of a session, report whether there is news for one, begin a turn of it, accept a bot, and return the result
+//! of a connect to the server. They also retire the ports of a closed session, with how it ended, log a line for the
+//! operator, watch the ports of a session, and wait.
 //!
 //! ```text
 //! accept --true--> pending connect --Ready--> a session's ports --over--> retire
@@ -8,11 +9,13 @@
 //! ```
 
 ghost use Rattle.daide_io.specs.Ports.{TurnBegins};
-ghost use Rattle.daide_io.specs.System.{SystemCall, Begins, ReportsNews, BeginsTurn, Watches, Accepts, Connects};
+ghost use Rattle.daide_io.specs.System.{SystemCall, Begins, Shows, ReportsNews, BeginsTurn, Watches, Accepts, Connects};
 ghost use Rattle.daide_io.specs.System.{Retires, Notifies, Waits};
 
 use crate::ports::Ports;
+use daide_grammar::level::Level;
 use daide_protocol::ending::Ending;
+use daide_protocol::phase::Phase;
 use daide_protocol::summary::Summary;
 use thiserror::Error;
 
@@ -56,6 +59,37 @@ pub struct SessionEnd {
     pub summary: Summary,
 }
 
+/// The operator's orders to a run when a round begins.
+#[derive(Clone, Copy, Debug, PartialEq, Eq)]
+pub struct Orders {
+    /// Whether the run stops accepting: from this round on it accepts no more bots.
+    pub stops_accepting: bool,
+    /// Whether the run shows the status of each session in this round.
+    pub shows_sessions: bool,
+}
+
+impl Orders {
+    /// No orders: the run goes on as before.
+    pub const NONE: Orders = Orders {
+        stops_accepting: false,
+        shows_sessions: false,
+    };
+}
+
+/// The status of a session, except for what its ports know.
+#[derive(Clone, Copy, Debug, PartialEq, Eq)]
+pub struct SessionStatus {
+    pub phase: Phase,
+    /// The press level of an open session; level 0 in every other phase.
+    pub level: Level,
+    /// The counts of its effects so far, modulo 2^64.
+    pub summary: Summary,
+    /// The bytes that are queued for the bot.
+    pub queued_to_bot: usize,
+    /// The bytes that are queued for the server.
+    pub queued_to_server: usize,
+}
+
 /// The environment of a run. Only `wait` blocks.
 ///
 /// Contracts of a caller speak of the calls with their results. Each implementor defines the effect of a call on
@@ -65,10 +99,16 @@ pub trait System<P: Ports> {
     /// The effect of a call with its result on the system.
     ghost transition: { Self → SystemCall P → Self → Type 0 };
 
-    /// Begins a round, whether or not the round before it ended with a wait. The system continues its own work, such as
-    /// closing sockets, and may collect new events.
-    fn begin_round(&mut self)
-        ensures { transition self.old Begins self.new };
+    /// Begins a round, whether or not the round before it ended with a wait, and returns the operator's orders for it.
+    /// The system continues its own work, such as closing sockets, and may collect new events.
+    fn begin_round(&mut self) -> Orders
+        ensures { transition self.old (Begins result) self.new };
+
+    /// Shows the operator the status of the session with these ports. If the orders of a round require it, this is
+    /// called once for each session, before any other call of the round. It changes no port, and calls none. A wait may
+    /// follow in the same round, so the system itself sees to it that the operator receives what is shown.
+    fn show(&mut self, ports: &P, status: SessionStatus)
+        ensures { transition self.old (Shows ports.now status) self.new };
 
     /// Returns whether a turn of the session with these ports may do something: whether, since its last turn began, an
     /// event came for one of its wires, or one of its deadlines expired. It is called for sessions whose last turn made

@@ -17,7 +17,7 @@ use Rattle.daide_event_loop.proofs.WaitingLemmas.{idle_run}
 use Rattle.daide_sockets.specs.declared.socket.Socket.{Socket}
 use Rattle.daide_sockets.specs.Lingering.{IsWriting}
 use Rattle.daide_sockets.specs.Sockets.{has_socket_work, is_some_byte}
-use Rattle.daide_sockets.specs.Table.{Table, IsNoTime, IsWaitTime, is_reported_at}
+use Rattle.daide_sockets.specs.Table.{Table, IsNoTime, is_reported_at}
 use Rattle.daide_sockets.specs.Wakeups.{SessionSockets, Wakes, may_go_on, may_session_go_on}
 use Rattle.daide_run_laws.specs.NoLostWakeups.{socket_at, Sleeps, WaitsAsleep, NoWakeupIsLost}
 use Rattle.daide_run_laws.proofs.TurnSettled.{PortsSettle, quiet_found, full_found}
@@ -112,15 +112,12 @@ no_wakeup_lost {P = P} port_transition view transition settles =
     let last = transits_split (Wakes transition view) before round first old trace in
     let watched = transits_split (Wakes transition view) idle.early (watches places) last.0 old
     (subst (λ (l : List (SystemCall P)). TransitsBy (Wakes transition view) last.0 l old) idle.watched last.2) in
-    let sleeps : SessionView × QuotaPortsView P → Type 0 = λ place. Sleeps old.1 rests.time place.0 (view place.1.ports) in
+    let time = rests.1.time in
     record {
-      rests = rests;
-      asleep = ⊎_elim
-          (λ (lasts : IsWaitTime old.1 rests.time).
-          ⊎_elim (λ (none : IsNoTime rests.time). inl none)
-          (λ (calm : All (λ (place : SessionView × QuotaPortsView P). IsCalm old.1 old.1.reading rests.time (view place.1.ports)) places).
-          inr (all_sleep port_transition view settles idle.early places old.1 rests.time idle.sessions calm))
-          (watched_calm transition view places watched.0 old rests.time watched.2 lasts))
-          (λ (none : IsNoTime rests.time). inl none)
-          rests.lasts;
+      others = rests.0;
+      rests = rests.1;
+      asleep = ⊎_elim (λ (none : IsNoTime time). inl none)
+          (λ (calm : All (λ (place : SessionView × QuotaPortsView P). IsCalm old.1 old.1.reading time (view place.1.ports)) places).
+          inr (all_sleep port_transition view settles idle.early places old.1 time idle.sessions calm))
+          (watched_calm transition view places watched.0 old rests.0 time watched.2 rests.1.lasts);
     }

@@ -1,9 +1,9 @@
--- Ports with a record settle as the ports inside do.
-use Rattle.std.proofs.Common.{ℕ, ◌<◌, arith}
-use Rattle.std.specs.Prelude.{min}
+-- Ports with a record settle, and keep time, as the ports inside do.
+use Rattle.std.proofs.Common.{arith}
 use Rattle.daide_io.specs.Ports.{PortCall, TurnBegins, Clock, Pulled, Offered}
 use Rattle.daide_log.specs.Recording.{asked_within}
 use Rattle.daide_sockets.specs.declared.socket.Socket.{Socket}
+use Rattle.daide_sockets.specs.Timers.{SessionTimers, SetsTimers}
 use Rattle.daide_sockets.specs.Wakeups.{Settles}
 
 -- a pull with room has room also for a piece of a record's line
@@ -21,3 +21,11 @@ settles_within (Pulled side room pull bytes) old new h = (
   h.1,
 )
 settles_within (Offered side bytes put) old new h = h
+
+-- and the timers are the same
+pub times_within : {S : Type 0} (call : PortCall) (old new : SessionTimers S) →
+    SetsTimers (asked_within call) old new → SetsTimers call old new
+times_within TurnBegins old new h = h
+times_within (Clock im_timer_expired) old new h = h
+times_within (Pulled side room pull bytes) old new h = h
+times_within (Offered side bytes put) old new h = h

@@ -14,7 +14,7 @@ use Rattle.daide_event_loop.specs.Serving.{watches}
 use Rattle.daide_sockets.specs.InTime.{IsAtMost, IsInTimeFor, watching_all}
 use Rattle.daide_sockets.specs.Table.{Table, IsNoTime, IsWaitTime, watching}
 use Rattle.daide_sockets.specs.Wakeups.{SessionSockets, Wakes, may_session_go_on, session_due}
-use Rattle.daide_sockets.proofs.InTimeLemmas.{same_rows, same_reading, sessions_in_time}
+use Rattle.daide_sockets.proofs.InTimeLemmas.{same_rows, same_reading, sessions_in_time_beside}
 
 -- ---- two parts of a trace
 
@@ -114,15 +114,17 @@ module _ {P S N C : Type 0} (transition : N → NetworkCall C → N → Type 0) 
       (all_calm table reading time places ws a.2 (All-tail in_time w ws h)))
       (one_calm table reading time place w a.0 a.1 (All-head in_time w ws h))
 
-  -- the poll takes no time, or each session is calm, by the table at the poll
-  pub watched_calm : (places : List Place) (old new : N × Table) (time : Option Duration) →
-      TransitsBy (Wakes transition view) old (watches places) new → IsWaitTime new.1 time →
+  -- The poll takes no time, or each session is calm, by the table at the wait. Others may be watched after the sessions.
+  pub watched_calm : (places : List Place) (old new : N × Table) (others : List (Bool × Option Instant))
+      (time : Option Duration) → TransitsBy (Wakes transition view) old (watches places) new →
+      IsWaitTime (watching_all new.1 others) time →
       IsNoTime time ⊎ All (λ (place : Place). IsCalm new.1 new.1.reading time (sockets place)) places
-  watched_calm places old new time h lasts =
+  watched_calm places old new others time h lasts =
       let w = all_watched old.1 places old new refl h in
       let rows : new.1.rows ≡ old.1.rows = ap (λ (t : Table). t.rows) w.1 ∙ same_rows old.1 w.0 in
       let reading : new.1.reading ≡ old.1.reading = ap (λ (t : Table). t.reading) w.1 ∙ same_reading old.1 w.0 in
-      let own = sessions_in_time old.1 w.0 time (subst (λ (t : Table). IsWaitTime t time) w.1 lasts) in
+      let own = sessions_in_time_beside old.1 w.0 others time
+      (subst (λ (t : Table). IsWaitTime (watching_all t others) time) w.1 lasts) in
       let calm = all_calm old.1 old.1.reading time places w.0 w.2 own in
       let by_reading = subst
       (λ (r : Option Instant). IsNoTime time ⊎ All (λ (place : Place). IsCalm old.1 r time (sockets place)) places)

@@ -1,1 +1,2 @@
 pub mod NoLostWakeups
+pub mod FreedPlaces

@@ -37,10 +37,12 @@ pub record Sleeps {S : Type 0} (table : Table) (time : Option Duration) (session
   pub in_time : (now due : Instant) → table.reading ≡ Some now → session_due sockets ≡ Some due →
       IsAtMost time (instant_nanos due - instant_nanos now)
 
--- The network is polled once. For no time, or else each session sleeps.
+-- The network is polled once, for the time of a wait that watches others beside the sessions. For no time, or else each
+-- session sleeps.
 pub record WaitsAsleep {P S N C : Type 0} (transition : N → NetworkCall C → N → Type 0) (view : P → SessionSockets S)
     (places : List (SessionView × QuotaPortsView P)) (old new : N × Table) : Type 0 where
-  pub rests : RestsOnce transition old.0 old.1 new.0 new.1
+  pub others : List (Bool × Option Instant)
+  pub rests : RestsOnce transition others old.0 old.1 new.0 new.1
   pub asleep : IsNoTime rests.time ⊎ All (λ place. Sleeps old.1 rests.time place.0 (view place.1.ports)) places
 
 -- In each round of a run over sockets that ends with a wait, the run waits asleep; `view` is the content of ports.

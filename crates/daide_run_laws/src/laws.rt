@@ -1,5 +1,7 @@
 //! Laws of runs over sockets: functions with no parameters and an empty body, whose contracts are the laws.
 
+ghost use Rattle.daide_sockets.specs.Timers.{timers_of};
+ghost use Rattle.daide_run_laws.specs.FreedPlaces.{NoSessionWaitsForEver, TimeoutsStay, DeadlinesPassSeldom};
 ghost use Rattle.daide_run_laws.specs.NoLostWakeups.{NoWakeupIsLost};
 
 use daide_io::duplex::Duplex;
@@ -36,4 +38,51 @@ pub fn no_wakeup_is_lost_beside_records<S: Duplex + Drop, N: Network, W: Sink + 
       reading = ports.ports.idle.reading;
       im_due = ports.ports.im_due;
     }) N.transition }
+{}
+
+/// No session waits for ever. Take a session of a run over sockets that began with an idle timeout and a stall timeout
+/// (`BeginsTimed`), and a clock that goes on: each turn of the session begins at a reading that is not before the one of
+/// the turn before (`ClockGoesOn`). At each wait of the run that is not for no time at all, the session has a nearest
+/// deadline. It is at most the longer of its two timeouts after the reading of its last turn, and the poll ends by it
+/// (`HasDeadline`). What its peers do is in no premise.
+///
+/// Not said: that a connect returns ports that begin so. That is by `PendingConnection::join`, from the settings. That a
+/// session has a turn once its deadline is past is by `Sockets::has_news`.
+pub fn no_session_waits_for_ever<S: Duplex + Drop, N: Network>()
+    ensures { NoSessionWaitsForEver ⟦<SocketPorts<'static, S> as Ports>⟧.transition timers_of N.transition }
+{}
+
+/// The same of a run that records its sessions.
+pub fn no_session_waits_for_ever_beside_records<S: Duplex + Drop, N: Network, W: Sink + Drop>()
+    ensures { NoSessionWaitsForEver ⟦<Recording<SocketPorts<'static, S>, W> as Ports>⟧.transition
+        (λ ports. timers_of ports.ports) N.transition }
+{}
+
+/// The timeouts of a session stay while no byte moves. Take any calls of a session's ports in a run by which no byte comes
+/// from the peer of a side or goes to it (`IsQuietFor`). However many turns they are, and whatever the other side does, the
+/// silence of the peer is over at the same moment as before, and so is a stall timeout that runs, unless the wire fails.
+pub fn timeouts_stay<S: Duplex + Drop>()
+    ensures { TimeoutsStay ⟦<SocketPorts<'static, S> as Ports>⟧.transition timers_of }
+{}
+
+/// The same of a run that records its sessions.
+pub fn timeouts_stay_beside_records<S: Duplex + Drop, W: Sink + Drop>()
+    ensures { TimeoutsStay ⟦<Recording<SocketPorts<'static, S>, W> as Ports>⟧.transition (λ ports. timers_of ports.ports) }
+{}
+
+/// The deadlines of a session pass seldom. Of its turns between two pulls that return bytes of a peer, at most five begin
+/// at or past the deadline that it had: one for the initial message, one for the silence of each peer, and one for the
+/// stall of each. Each such turn uses up one of these timeouts, and a pull that returns bytes gives back at most one
+/// (`timeouts_left`). So, with `no_session_waits_for_ever`, a session whose peers send nothing waits for at most five
+/// deadlines, and leaves its place. It holds of each session, whichever of its timeouts are set.
+///
+/// Not said: how long a peer may go on that takes a byte before each stall timeout is over.
+pub fn deadlines_pass_seldom<S: Duplex + Drop>()
+    ensures { DeadlinesPassSeldom ⟦<SocketPorts<'static, S> as Ports>⟧.transition timers_of }
+{}
+
+/// The same of a run that records its sessions.
+pub fn deadlines_pass_seldom_beside_records<S: Duplex + Drop, W: Sink + Drop>()
+    ensures { DeadlinesPassSeldom ⟦<Recording<SocketPorts<'static, S>, W> as Ports>⟧.transition
+        (λ ports. timers_of ports.ports) }
 {}

@@ -5,11 +5,12 @@ use crate::doors::any_port;
 use crate::frames::{FM, IM};
 use daide_commands::running::run_text;
 use daide_test_support::rows::holds;
-use std::alloc::Global;
+use std::alloc::{Allocator, Global};
+use std::fs::{Metadata, OpenOptions};
 use std::io;
 use std::io::{Read, Write};
 use std::net::{Net, SocketAddr, TcpListener, TcpStream};
-use std::rt::Clock;
+use std::rt::{Clock, Files};
 use std::test::Fail;
 use std::time::Duration;
 
@@ -58,6 +59,52 @@ impl Net for Named<'_> {
     }
 }
 
+impl Files for Named<'_> {
+    type File = <HostRuntime as Files>::File;
+
+    type Dir = <HostRuntime as Files>::Dir;
+
+    fn open_file(&self, how: &OpenOptions, path: &str) -> io::Result<Self::File> {
+        self.rt.open_file(how, path)
+    }
+
+    fn open_dir(&self, path: &str) -> io::Result<Self::Dir> {
+        self.rt.open_dir(path)
+    }
+
+    fn metadata(&self, path: &str) -> io::Result<Metadata> {
+        self.rt.metadata(path)
+    }
+
+    fn symlink_metadata(&self, path: &str) -> io::Result<Metadata> {
+        self.rt.symlink_metadata(path)
+    }
+
+    fn copy(&self, from: &str, to: &str) -> io::Result<u64> {
+        self.rt.copy(from, to)
+    }
+
+    fn rename(&self, from: &str, to: &str) -> io::Result<()> {
+        self.rt.rename(from, to)
+    }
+
+    fn remove_file(&self, path: &str) -> io::Result<()> {
+        self.rt.remove_file(path)
+    }
+
+    fn create_dir(&self, path: &str) -> io::Result<()> {
+        self.rt.create_dir(path)
+    }
+
+    fn remove_dir(&self, path: &str) -> io::Result<()> {
+        self.rt.remove_dir(path)
+    }
+
+    fn remove_dir_all<B: Allocator>(&self, alloc: B, path: &str) -> io::Result<()> {
+        self.rt.remove_dir_all(alloc, path)
+    }
+}
+
 /// The initial message and the final message.
 const IM_FM: &[u8] = b"\x00\x00\x00\x04\x00\x01\xda\x10\x03\x00\x00\x00";
 
@@ -87,7 +134,7 @@ impl<R: Net> Write for Announced<'_, R> {
 }
 
 /// Runs with a bot that connects once the run listens. Checks that one line is printed, and nothing is logged.
-fn serves_one<R: AllocGlobal + Clock + Net>(
+fn serves_one<R: AllocGlobal + Files + Clock + Net>(
     rt: &R,
     (listen, at): (&str, &str),
     to: &str,

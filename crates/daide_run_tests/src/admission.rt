@@ -13,7 +13,7 @@ use daide_sockets::poller::{EVENTS, Poller};
 use daide_sockets::ports::SocketPorts;
 use daide_sockets::system::Sockets;
 use daide_sockets::table::SocketTable;
-use daide_test_support::rows::holds;
+use daide_test_support::rows::{holds, same};
 use std::alloc::Global;
 use std::io::ErrorKind;
 use std::net::{SocketAddr, TcpListener, TcpStream};
@@ -39,12 +39,17 @@ fn check_acceptor<'w>(
 ) -> Result<(), Fail> {
     poller.wait();
     acceptor.pause(poller.table.after(Duration::ZERO), ErrorKind::Other);
-    let resumes_at = poller.table.after(Duration::from_millis(100));
-    poller.table.set_due(0, resumes_at);
     holds(acceptor.accept(poller).is_none(), "none is made")?;
+    acceptor.watch(&mut poller.table);
     poller.wait();
     holds(acceptor.accept(poller).is_some(), "the bot that came")?;
-    holds(poller.table.due(0).is_none(), "the pause is over")
+    poller.table.unwatch();
+    acceptor.watch(&mut poller.table);
+    same(
+        &poller.table.watched(),
+        &(false, None),
+        &"the pause is over",
+    )
 }
 
 /// The same for a listener, in the only row of a table.
@@ -135,14 +140,18 @@ fn plain_settings(alloc: Global) -> Result<Settings, Fail> {
     Ok(read_settings(alloc, "listen = 'a'\nserver = 'b'")?)
 }
 
+/// Returns whether a connection sends small writes without delay.
+fn is_undelayed(connection: &Connection) -> bool {
+    match connection {
+        Connection::Tcp(stream) => matches!(stream.nodelay(), Ok(true)),
+        Connection::Control(_) => false,
+    }
+}
+
 /// Returns whether both sockets of a session send small writes without delay.
 fn are_undelayed(ports: SocketPorts<'_, Connection>) -> bool {
     let (bot, server) = ports.into_sockets();
-    let both = (
-        bot.connection().0.nodelay(),
-        server.connection().0.nodelay(),
-    );
-    matches!(both, (Ok(true), Ok(true)))
+    is_undelayed(bot.connection()) && is_undelayed(server.connection())
 }
 
 /// The same for the first bot, and whether the third row then has no deadline.

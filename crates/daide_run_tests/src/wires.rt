@@ -482,6 +482,16 @@ impl Network for Still {
         Err(ErrorKind::WouldBlock.into())
     }
 
+    fn stop_listening(&mut self) {}
+
+    fn listen_for_control(&mut self, _key: usize) -> Option<bool> {
+        None
+    }
+
+    fn accept_control(&mut self) -> io::Result<Wire> {
+        Err(ErrorKind::WouldBlock.into())
+    }
+
     fn connect(&mut self, _address: SocketAddr) -> io::Result<Wire> {
         Err(ErrorKind::ConnectionRefused.into())
     }

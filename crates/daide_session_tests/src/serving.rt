@@ -10,9 +10,10 @@ use daide_frame::code::Code;
 use daide_frame::side::Side::{Bot, Server};
 use daide_gate::serving::{ServeFault, Service, serve};
 use daide_gate::settings::{Settings, read_settings};
-use daide_gate::system::{Cause, Connect, Notice, SessionEnd, System};
+use daide_gate::system::{Cause, Connect, Notice, Orders, SessionEnd, SessionStatus, System};
+use daide_gate::{Level, Phase, Summary};
 use daide_protocol::ending::Ending;
-use daide_test_support::memory_ports::{Acceptance, MemoryPorts, Script, ScriptedRead};
+use daide_test_support::memory_ports::{Acceptance, Call, MemoryPorts, Script, ScriptedRead};
 use daide_test_support::rows::{holds, same};
 use linked_list_allocator::LocalHeap;
 use std::alloc::Global;
@@ -31,6 +32,7 @@ enum Fate {
 #[derive(Clone, Copy, PartialEq, Eq)]
 enum Event {
     Begun,
+    Shown,
     News,
     NoNews,
     TurnBegun,
@@ -46,12 +48,13 @@ enum Event {
 }
 
 /// The script of a run. After the last accept each further one returns a bot; after the last fate each connect
-/// succeeds; after the last report there is news each time.
+/// succeeds; after the last report there is news each time; after the last orders there are none.
 #[derive(Clone, Copy)]
 struct Scene {
     accepts: &'static [bool],
     fates: &'static [Fate],
     news: &'static [bool],
+    orders: &'static [Orders],
     bot: Script<'static>,
 }
 
@@ -63,6 +66,7 @@ struct Harness {
     accepts: usize,
     fates: usize,
     news: usize,
+    orders: usize,
     /// The number of bots that are connected, and the greatest number of them so far.
     held: usize,
     most: usize,
@@ -70,6 +74,8 @@ struct Harness {
     retired: Vec<MemoryPorts<'static>>,
     /// The ends of the sessions, in the order of their retirement.
     ends: Vec<SessionEnd>,
+    /// Each status that was shown, and how many turns were begun with its ports.
+    shown: Vec<(usize, SessionStatus)>,
 }
 
 impl Harness {
@@ -81,11 +87,13 @@ impl Harness {
             accepts: 0,
             fates: 0,
             news: 0,
+            orders: 0,
             held: 0,
             most: 0,
             events: Vec::new(alloc),
             retired: Vec::new(alloc),
             ends: Vec::new(alloc),
+            shown: Vec::new(alloc),
         }
     }
 
@@ -97,11 +105,30 @@ impl Harness {
     }
 }
 
+/// Returns how many turns were begun with these ports.
+fn turns_begun(ports: &MemoryPorts<'static>) -> usize {
+    let mut turns = 0_usize;
+    for call in ports.calls().unwrap_or(&[]) {
+        if matches!(call, Call::TurnBegins) {
+            turns = turns.saturating_add(1);
+        }
+    }
+    turns
+}
+
 impl System<MemoryPorts<'static>> for Harness {
     ghost transition = { λ old answer new. KeepsRetired old.retired.items answer new.retired.items };
 
-    fn begin_round(&mut self) {
+    fn begin_round(&mut self) -> Orders {
         self.note(Event::Begun);
+        let orders = self.scene.orders.get(self.orders);
+        self.orders = self.orders.saturating_add(1);
+        orders.copied().unwrap_or(Orders::NONE)
+    }
+
+    fn show(&mut self, ports: &MemoryPorts<'static>, status: SessionStatus) {
+        self.note(Event::Shown);
+        let _ = self.shown.push((turns_begun(ports), status));
     }
 
     fn has_news(&mut self, _ports: &MemoryPorts<'static>) -> bool {
@@ -196,6 +223,7 @@ const ENDING: Scene = Scene {
     accepts: &[],
     fates: &[],
     news: &[],
+    orders: &[],
     bot: ENDS,
 };
 
@@ -220,6 +248,7 @@ const RUNS: &[(Scene, Limits, &[Event])] = &[
             accepts: &[false],
             fates: &[Fate::Pending, Fate::Pending],
             news: &[],
+            orders: &[],
             bot: ENDS,
         },
         (16, 1, 9),
@@ -245,6 +274,7 @@ const RUNS: &[(Scene, Limits, &[Event])] = &[
             accepts: &[],
             fates: &[Fate::Failed],
             news: &[],
+            orders: &[],
             bot: ENDS,
         },
         (1, 1, 9),
@@ -261,6 +291,7 @@ const RUNS: &[(Scene, Limits, &[Event])] = &[
             accepts: &[],
             fates: &[],
             news: &[],
+            orders: &[],
             bot: ENDS_LATER,
         },
         (1, 2, 9),
@@ -289,6 +320,7 @@ const RUNS: &[(Scene, Limits, &[Event])] = &[
             accepts: &[],
             fates: &[Fate::Pending, Fate::Pending, Fate::Failed],
             news: &[],
+            orders: &[],
             bot: ENDS,
         },
         (1, 2, 9),
@@ -315,6 +347,7 @@ const RUNS: &[(Scene, Limits, &[Event])] = &[
             accepts: &[],
             fates: &[Fate::Pending],
             news: &[],
+            orders: &[],
             bot: ENDS_LATER,
         },
         (2, 2, 9),
@@ -344,6 +377,7 @@ const RUNS: &[(Scene, Limits, &[Event])] = &[
             accepts: &[],
             fates: &[],
             news: &[],
+            orders: &[],
             bot: QUIET,
         },
         (1, 1, 3),
@@ -374,6 +408,7 @@ const RUNS: &[(Scene, Limits, &[Event])] = &[
             accepts: &[],
             fates: &[],
             news: &[false, false],
+            orders: &[],
             bot: QUIET,
         },
         (1, 1, 2),
@@ -407,6 +442,7 @@ const RUNS: &[(Scene, Limits, &[Event])] = &[
             accepts: &[],
             fates: &[],
             news: &[false, false],
+            orders: &[],
             bot: ENDS_LATER,
         },
         (2, 2, 9),
@@ -433,6 +469,129 @@ const RUNS: &[(Scene, Limits, &[Event])] = &[
     ),
 ];
 
+/// A bot that sends nothing in its first three turns, and ends in its fourth.
+const ENDS_IN_ITS_FOURTH_TURN: Script<'static> = Script {
+    pulls: &[
+        ScriptedRead::Idle,
+        ScriptedRead::Idle,
+        ScriptedRead::Idle,
+        ScriptedRead::End,
+    ],
+    puts: &[],
+};
+
+const STOP: Orders = Orders {
+    stops_accepting: true,
+    shows_sessions: false,
+};
+
+const SHOW: Orders = Orders {
+    stops_accepting: false,
+    shows_sessions: true,
+};
+
+/// A scene with orders | its limits | the calls of the system.
+const ORDERED_RUNS: &[(Scene, Limits, &[Event])] = &[
+    // an order to stop before the first bot: the run is over, and does not wait
+    (
+        Scene {
+            accepts: &[],
+            fates: &[],
+            news: &[],
+            orders: &[STOP],
+            bot: ENDS,
+        },
+        (16, 9, 9),
+        &[Event::Begun],
+    ),
+    // with one session open and one connect pending: both go on to their ends, and no bot is accepted
+    (
+        Scene {
+            accepts: &[],
+            fates: &[Fate::Ready, Fate::Pending, Fate::Ready],
+            news: &[],
+            orders: &[Orders::NONE, Orders::NONE, STOP],
+            bot: ENDS_IN_ITS_FOURTH_TURN,
+        },
+        (16, 9, 9),
+        &[
+            Event::Begun,
+            Event::Came,
+            Event::Ready,
+            Event::TurnBegun,
+            Event::Begun,
+            Event::Came,
+            Event::Pending,
+            Event::News,
+            Event::TurnBegun,
+            Event::Begun,
+            Event::Ready,
+            Event::News,
+            Event::TurnBegun,
+            Event::TurnBegun,
+            Event::Begun,
+            Event::News,
+            Event::TurnBegun,
+            Event::News,
+            Event::TurnBegun,
+            Event::Retired,
+            Event::Begun,
+            Event::News,
+            Event::TurnBegun,
+            Event::Watched,
+            Event::Waited,
+            Event::Begun,
+            Event::News,
+            Event::TurnBegun,
+            Event::Retired,
+        ],
+    ),
+    // with one connect pending, which fails: until then the run waits
+    (
+        Scene {
+            accepts: &[],
+            fates: &[Fate::Pending, Fate::Pending, Fate::Failed],
+            news: &[],
+            orders: &[Orders::NONE, STOP],
+            bot: ENDS,
+        },
+        (16, 9, 9),
+        &[
+            Event::Begun,
+            Event::Came,
+            Event::Pending,
+            Event::Begun,
+            Event::Pending,
+            Event::Waited,
+            Event::Begun,
+            Event::Failed,
+            Event::ParsedEvent(Notice::CannotReach),
+        ],
+    ),
+    // an order to show without a session, and with one
+    (
+        Scene {
+            accepts: &[],
+            fates: &[],
+            news: &[],
+            orders: &[SHOW, SHOW],
+            bot: ENDS_LATER,
+        },
+        (1, 1, 9),
+        &[
+            Event::Begun,
+            Event::Came,
+            Event::Ready,
+            Event::TurnBegun,
+            Event::Begun,
+            Event::Shown,
+            Event::News,
+            Event::TurnBegun,
+            Event::Retired,
+        ],
+    ),
+];
+
 /// Returns the system after a whole run of a scene with these limits.
 fn stage_after(alloc: Global, scene: Scene, limits: Limits) -> Result<Harness, Fail> {
     let settings = settings(alloc, limits)?;
@@ -451,6 +610,69 @@ fn assert_run(alloc: Global, scene: Scene, limits: Limits, want: &[Event]) -> Re
 fn system_is_asked_round_by_round(rt: HostRuntime) -> Result<(), Fail> {
     for (scene, limits, want) in RUNS {
         assert_run(rt.alloc(), *scene, *limits, want)?;
+    }
+    Ok(())
+}
+
+#[test]
+fn orders_are_heeded_round_by_round(rt: HostRuntime) -> Result<(), Fail> {
+    for (scene, limits, want) in ORDERED_RUNS {
+        assert_run(rt.alloc(), *scene, *limits, want)?;
+    }
+    Ok(())
+}
+
+/// Three bots that send their IM, header and body in a turn each. A round accepts one of them, and the fourth and the
+/// fifth round show all.
+const SHOWN: Scene = Scene {
+    orders: &[Orders::NONE, Orders::NONE, Orders::NONE, SHOW, SHOW],
+    bot: OPENS_ALONE,
+    ..ENDING
+};
+
+/// Turns begun | the phase | relayed frames | bytes queued for the server. An IM is relayed once its second part is
+/// read, and the server takes a part a turn.
+const STATUSES: &[(usize, Phase, u64, usize)] = &[
+    (3, Phase::WaitRm, 1, 4),
+    (2, Phase::WaitRm, 1, 8),
+    (1, Phase::WaitIm, 0, 0),
+    (4, Phase::WaitRm, 1, 0),
+    (3, Phase::WaitRm, 1, 4),
+    (2, Phase::WaitRm, 1, 8),
+];
+
+/// Checks a status that was shown, of a session without a level, a refusal and bytes for its bot.
+fn assert_status(
+    shown: &(usize, SessionStatus),
+    want: &(usize, Phase, u64, usize),
+) -> Result<(), Fail> {
+    let (turns, phase, relayed, queued_to_server) = *want;
+    let status = SessionStatus {
+        phase,
+        level: Level::L0,
+        summary: Summary {
+            relayed,
+            prn: 0,
+            huh: 0,
+            faults: 0,
+        },
+        queued_to_bot: 0,
+        queued_to_server,
+    };
+    holds(*shown == (turns, status), "the status")
+}
+
+#[test]
+fn each_session_is_shown_in_order(rt: HostRuntime) -> Result<(), Fail> {
+    let settings = settings(rt.alloc(), (3, 3, 9))?;
+    let mut stage = Harness::new(rt.alloc(), SHOWN);
+    let mut service = Service::<MemoryPorts<'static>, Global>::new(rt.alloc(), &settings)?;
+    for _round in 0..5 {
+        service.round(&mut stage)?;
+    }
+    same(&stage.shown.len(), &STATUSES.len(), &"shown")?;
+    for (shown, want) in stage.shown.iter().zip(STATUSES) {
+        assert_status(shown, want)?;
     }
     Ok(())
 }
@@ -563,6 +785,7 @@ const HUNDRED: Scene = Scene {
     accepts: &[true, false, true, false],
     fates: &[Fate::Failed, Fate::Pending, Fate::Failed],
     news: &[],
+    orders: &[],
     bot: QUIET,
 };
 

@@ -3,7 +3,8 @@
 use crate::relays::{NEVER, QUIET};
 use daide_frame::side::Side;
 use daide_gate::{
-    Config, Connect, Notice, Ports, Pull, Record, RecordEnd, SessionEnd, System, Words, check_log,
+    Config, Connect, Notice, Orders, Ports, Pull, Record, RecordEnd, SessionEnd, SessionStatus,
+    System, Words, check_log,
 };
 use daide_log::{Comment, Moment, TimedRecording};
 use daide_test_support::memory_ports::{MemoryPorts, Script, ScriptedRead};
@@ -64,7 +65,11 @@ struct Turns;
 impl System<MemoryPorts<'static>> for Turns {
     ghost transition = { λ old answer new. Unit {0} };
 
-    fn begin_round(&mut self) {}
+    fn begin_round(&mut self) -> Orders {
+        Orders::NONE
+    }
+
+    fn show(&mut self, _ports: &MemoryPorts<'static>, _status: SessionStatus) {}
 
     fn has_news(&mut self, _ports: &MemoryPorts<'static>) -> bool {
         true

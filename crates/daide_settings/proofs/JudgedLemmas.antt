@@ -6,11 +6,11 @@ use Rattle.toml.specs.Data.{Members, get_member}
 use Rattle.daide_words.specs.declared.word.Word.{Word}
 use Rattle.daide_settings.specs.declared.settings.key.Key.TheVariants.{Listen, Server, TopLevel, MaxBody, MaxDepth}
 use Rattle.daide_settings.specs.declared.settings.key.Key.TheVariants.{ImSeconds, MaxSessions, Sessions, Turns, IdleSeconds}
-use Rattle.daide_settings.specs.declared.settings.key.Key.TheVariants.{Words, StallSeconds, Endless, Allow, MaxPerAddress}
+use Rattle.daide_settings.specs.declared.settings.key.Key.TheVariants.{Words, StallSeconds, Endless, Allow, MaxPerAddress, Control}
 use Rattle.daide_settings.specs.declared.settings.ranges.AddressRange.{AddressRange}
 use Rattle.daide_settings.specs.declared.settings.SettingsError.{SettingsError}
 use Rattle.daide_settings.specs.declared.settings.SettingsError.TheVariants.{Unknown}
-use Rattle.daide_settings.specs.Settings.{Given, key_text, address_of, read_number, read_flag, then_with, keys_judged}
+use Rattle.daide_settings.specs.Settings.{Given, key_text, address_of, read_number, read_flag, read_text, then_with, keys_judged}
 use Rattle.daide_settings.specs.Settings.{judged_members, judged_settings, has_only_known}
 use Rattle.daide_settings.specs.WordSettings.{words_judged}
 use Rattle.daide_settings.specs.Ranges.{allow_judged}
@@ -25,8 +25,8 @@ chain :
     (d : Result ℕ SettingsError) (e : Result ℕ SettingsError) (f : Result ℕ SettingsError) (g : Result ℕ SettingsError)
     (h : Result ℕ SettingsError) (i : Result ℕ SettingsError) (j : Result ℕ SettingsError) (k : Result (List Word) SettingsError)
     (l : Result ℕ SettingsError) (m : Result Bool SettingsError) (n : Result (List AddressRange) SettingsError)
-    (o : Result ℕ SettingsError) →
-    (right a && (right b && (right c && (right d && (right e && (right f && (right g && (right h && (right i && (right j && (right k && (right l && (right m && (right n && (right o && true)))))))))))))))
+    (o : Result ℕ SettingsError) (p : Result (Option (List ℕ)) SettingsError) →
+    (right a && (right b && (right c && (right d && (right e && (right f && (right g && (right h && (right i && (right j && (right k && (right l && (right m && (right n && (right o && (right p && true))))))))))))))))
     ≡ is_ok {T = Given} (
     then_with a (λ listen.
     then_with b (λ server.
@@ -43,6 +43,7 @@ chain :
     then_with m (λ endless.
     then_with n (λ allow.
     then_with o (λ max_per_address.
+    then_with p (λ control.
     Ok (record {
       listen = listen;
       server = server;
@@ -59,23 +60,25 @@ chain :
       endless = endless;
       allow = allow;
       max_per_address = max_per_address;
-    })))))))))))))))))
-chain (Err fault) _ _ _ _ _ _ _ _ _ _ _ _ _ _ = refl
-chain (Ok a) (Err fault) _ _ _ _ _ _ _ _ _ _ _ _ _ = refl
-chain (Ok a) (Ok b) (Err fault) _ _ _ _ _ _ _ _ _ _ _ _ = refl
-chain (Ok a) (Ok b) (Ok c) (Err fault) _ _ _ _ _ _ _ _ _ _ _ = refl
-chain (Ok a) (Ok b) (Ok c) (Ok d) (Err fault) _ _ _ _ _ _ _ _ _ _ = refl
-chain (Ok a) (Ok b) (Ok c) (Ok d) (Ok e) (Err fault) _ _ _ _ _ _ _ _ _ = refl
-chain (Ok a) (Ok b) (Ok c) (Ok d) (Ok e) (Ok f) (Err fault) _ _ _ _ _ _ _ _ = refl
-chain (Ok a) (Ok b) (Ok c) (Ok d) (Ok e) (Ok f) (Ok g) (Err fault) _ _ _ _ _ _ _ = refl
-chain (Ok a) (Ok b) (Ok c) (Ok d) (Ok e) (Ok f) (Ok g) (Ok h) (Err fault) _ _ _ _ _ _ = refl
-chain (Ok a) (Ok b) (Ok c) (Ok d) (Ok e) (Ok f) (Ok g) (Ok h) (Ok i) (Err fault) _ _ _ _ _ = refl
-chain (Ok a) (Ok b) (Ok c) (Ok d) (Ok e) (Ok f) (Ok g) (Ok h) (Ok i) (Ok j) (Err fault) _ _ _ _ = refl
-chain (Ok a) (Ok b) (Ok c) (Ok d) (Ok e) (Ok f) (Ok g) (Ok h) (Ok i) (Ok j) (Ok k) (Err fault) _ _ _ = refl
-chain (Ok a) (Ok b) (Ok c) (Ok d) (Ok e) (Ok f) (Ok g) (Ok h) (Ok i) (Ok j) (Ok k) (Ok l) (Err fault) _ _ = refl
-chain (Ok a) (Ok b) (Ok c) (Ok d) (Ok e) (Ok f) (Ok g) (Ok h) (Ok i) (Ok j) (Ok k) (Ok l) (Ok m) (Err fault) _ = refl
-chain (Ok a) (Ok b) (Ok c) (Ok d) (Ok e) (Ok f) (Ok g) (Ok h) (Ok i) (Ok j) (Ok k) (Ok l) (Ok m) (Ok n) (Err fault) = refl
-chain (Ok a) (Ok b) (Ok c) (Ok d) (Ok e) (Ok f) (Ok g) (Ok h) (Ok i) (Ok j) (Ok k) (Ok l) (Ok m) (Ok n) (Ok o) = refl
+      control = control;
+    }))))))))))))))))))
+chain (Err fault) _ _ _ _ _ _ _ _ _ _ _ _ _ _ _ = refl
+chain (Ok a) (Err fault) _ _ _ _ _ _ _ _ _ _ _ _ _ _ = refl
+chain (Ok a) (Ok b) (Err fault) _ _ _ _ _ _ _ _ _ _ _ _ _ = refl
+chain (Ok a) (Ok b) (Ok c) (Err fault) _ _ _ _ _ _ _ _ _ _ _ _ = refl
+chain (Ok a) (Ok b) (Ok c) (Ok d) (Err fault) _ _ _ _ _ _ _ _ _ _ _ = refl
+chain (Ok a) (Ok b) (Ok c) (Ok d) (Ok e) (Err fault) _ _ _ _ _ _ _ _ _ _ = refl
+chain (Ok a) (Ok b) (Ok c) (Ok d) (Ok e) (Ok f) (Err fault) _ _ _ _ _ _ _ _ _ = refl
+chain (Ok a) (Ok b) (Ok c) (Ok d) (Ok e) (Ok f) (Ok g) (Err fault) _ _ _ _ _ _ _ _ = refl
+chain (Ok a) (Ok b) (Ok c) (Ok d) (Ok e) (Ok f) (Ok g) (Ok h) (Err fault) _ _ _ _ _ _ _ = refl
+chain (Ok a) (Ok b) (Ok c) (Ok d) (Ok e) (Ok f) (Ok g) (Ok h) (Ok i) (Err fault) _ _ _ _ _ _ = refl
+chain (Ok a) (Ok b) (Ok c) (Ok d) (Ok e) (Ok f) (Ok g) (Ok h) (Ok i) (Ok j) (Err fault) _ _ _ _ _ = refl
+chain (Ok a) (Ok b) (Ok c) (Ok d) (Ok e) (Ok f) (Ok g) (Ok h) (Ok i) (Ok j) (Ok k) (Err fault) _ _ _ _ = refl
+chain (Ok a) (Ok b) (Ok c) (Ok d) (Ok e) (Ok f) (Ok g) (Ok h) (Ok i) (Ok j) (Ok k) (Ok l) (Err fault) _ _ _ = refl
+chain (Ok a) (Ok b) (Ok c) (Ok d) (Ok e) (Ok f) (Ok g) (Ok h) (Ok i) (Ok j) (Ok k) (Ok l) (Ok m) (Err fault) _ _ = refl
+chain (Ok a) (Ok b) (Ok c) (Ok d) (Ok e) (Ok f) (Ok g) (Ok h) (Ok i) (Ok j) (Ok k) (Ok l) (Ok m) (Ok n) (Err fault) _ = refl
+chain (Ok a) (Ok b) (Ok c) (Ok d) (Ok e) (Ok f) (Ok g) (Ok h) (Ok i) (Ok j) (Ok k) (Ok l) (Ok m) (Ok n) (Ok o) (Err fault) = refl
+chain (Ok a) (Ok b) (Ok c) (Ok d) (Ok e) (Ok f) (Ok g) (Ok h) (Ok i) (Ok j) (Ok k) (Ok l) (Ok m) (Ok n) (Ok o) (Ok p) = refl
 
 keys_right : (members : Members) → keys_are_right members ≡ is_ok (keys_judged members)
 keys_right members =
@@ -95,6 +98,7 @@ keys_right members =
     (read_flag Endless (get_member (key_text Endless) members))
     (allow_judged (get_member (key_text Allow) members))
     (read_number MaxPerAddress (get_member (key_text MaxPerAddress) members))
+    (read_text Control (get_member (key_text Control) members))
 
 pub members_right : (members : Members) → is_right members ≡ is_ok (judged_members members)
 unfolding judged_members

@@ -8,7 +8,7 @@ use Rattle.toml.specs.Parse.{parse_document}
 use Rattle.toml.proofs.OnLiterals.{toml_on_literals}
 use Rattle.daide_settings.specs.declared.settings.key.Key.TheVariants.{Listen, Server, TopLevel, MaxBody, MaxDepth}
 use Rattle.daide_settings.specs.declared.settings.key.Key.TheVariants.{ImSeconds, MaxSessions, Sessions, Turns, IdleSeconds}
-use Rattle.daide_settings.specs.declared.settings.key.Key.TheVariants.{Words, StallSeconds, Endless, Allow, MaxPerAddress}
+use Rattle.daide_settings.specs.declared.settings.key.Key.TheVariants.{Words, StallSeconds, Endless, Allow, MaxPerAddress, Control}
 use Rattle.daide_settings.specs.Ranges.{everyone}
 use Rattle.daide_settings.specs.declared.settings.key.TheConstants.Key.{ALL}
 use Rattle.daide_settings.specs.declared.settings.SettingsError.TheVariants.{NotToml, Unknown, Missing}
@@ -28,7 +28,7 @@ use Rattle.daide_settings.specs.declared.settings.SettingsError.{SettingsError}
 
 -- each key once, in the order of the checks
 all_keys : ALL ≡ Listen ∷ Server ∷ TopLevel ∷ MaxBody ∷ MaxDepth ∷ ImSeconds ∷ MaxSessions ∷ Sessions ∷ Turns
-    ∷ IdleSeconds ∷ Words ∷ StallSeconds ∷ Endless ∷ Allow ∷ MaxPerAddress ∷ []
+    ∷ IdleSeconds ∷ Words ∷ StallSeconds ∷ Endless ∷ Allow ∷ MaxPerAddress ∷ Control ∷ []
 all_keys = refl
 
 -- ---- ranges, at both ends
@@ -159,6 +159,15 @@ as_many_as_sessions = refl
 more_than_sessions : is_in_range MaxPerAddress 257 ≡ false
 more_than_sessions = refl
 
+path_of_no_bytes : is_in_range Control 0 ≡ false
+path_of_no_bytes = refl
+
+longest_path : is_in_range Control 100 ≡ true
+longest_path = refl
+
+longer_path : is_in_range Control 101 ≡ false
+longer_path = refl
+
 -- ---- whole documents; the members are in the order of their keys' bytes
 
 abbrev both : Members → Members
@@ -184,6 +193,7 @@ defaults : judged_members two_addresses ≡ Ok (record {
   endless = false;
   allow = everyone;
   max_per_address = 0;
+  control = None;
 })
 unfolding judged_members
 defaults = refl

@@ -20,4 +20,5 @@ given_of settings = record {
   endless = settings.endless;
   allow = settings.allow.items;
   max_per_address = settings.max_per_address;
+  control = settings.control;
 }

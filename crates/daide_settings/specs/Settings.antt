@@ -10,7 +10,7 @@ use Rattle.daide_protocol.specs.Config.{is_level, is_body, is_depth}
 use Rattle.daide_settings.specs.declared.settings.key.Key.{Key}
 use Rattle.daide_settings.specs.declared.settings.key.Key.TheVariants.{Listen, Server, TopLevel, MaxBody, MaxDepth}
 use Rattle.daide_settings.specs.declared.settings.key.Key.TheVariants.{ImSeconds, MaxSessions, Sessions, Turns, IdleSeconds}
-use Rattle.daide_settings.specs.declared.settings.key.Key.TheVariants.{Words, StallSeconds, Endless, Allow, MaxPerAddress}
+use Rattle.daide_settings.specs.declared.settings.key.Key.TheVariants.{Words, StallSeconds, Endless, Allow, MaxPerAddress, Control}
 use Rattle.daide_settings.specs.declared.settings.SettingsError.{SettingsError}
 use Rattle.daide_settings.specs.declared.settings.SettingsError.TheVariants.{NotToml, Unknown, Missing}
 use Rattle.daide_settings.specs.declared.settings.SettingsError.TheVariants.{WrongType, Range}
@@ -38,6 +38,7 @@ key_text StallSeconds = codes "stall_seconds"
 key_text Endless = codes "endless"
 key_text Allow = codes "allow"
 key_text MaxPerAddress = codes "max_per_address"
+key_text Control = codes "control"
 
 abbrev pub is_within : ℕ → ℕ → ℕ → Bool
 is_within low high n = nat_le low n && nat_le n high
@@ -46,8 +47,8 @@ is_within low high n = nat_le low n && nat_le n high
 abbrev pub longest_timeout : ℕ
 longest_timeout = 86400
 
--- the range of a key's number; for an address, the number of its bytes, and for words or ranges, the number of them; a
--- flag has no number
+-- the range of a key's number; for an address or a path, the number of its bytes, and for words or ranges, the number of
+-- them; a flag has no number
 abbrev pub is_in_range : Key → ℕ → Bool
 is_in_range Listen n = is_within 1 255 n
 is_in_range Server n = is_within 1 255 n
@@ -64,9 +65,10 @@ is_in_range StallSeconds n = is_within 0 longest_timeout n
 is_in_range Endless n = false
 is_in_range Allow n = is_within 1 most_ranges n
 is_in_range MaxPerAddress n = is_within 0 most_sessions n
+is_in_range Control n = is_within 1 100 n
 
 -- the number of a key that is missing in a document; the two addresses are required and have none, and neither have
--- words, ranges and a flag
+-- words, ranges, a flag and a path
 abbrev pub default_of : Key → Option ℕ
 default_of Listen = None
 default_of Server = None
@@ -83,6 +85,7 @@ default_of StallSeconds = Some 60
 default_of Endless = None
 default_of Allow = None
 default_of MaxPerAddress = Some 0
+default_of Control = None
 
 -- whether a document may have this key
 abbrev pub is_known : List ℕ → Bool
@@ -92,7 +95,7 @@ is_known text =
     || bytes_eq text (key_text MaxSessions) || bytes_eq text (key_text Sessions) || bytes_eq text (key_text Turns)
     || bytes_eq text (key_text IdleSeconds) || bytes_eq text (key_text Words)
     || bytes_eq text (key_text StallSeconds) || bytes_eq text (key_text Endless) || bytes_eq text (key_text Allow)
-    || bytes_eq text (key_text MaxPerAddress)
+    || bytes_eq text (key_text MaxPerAddress) || bytes_eq text (key_text Control)
 
 abbrev pub has_only_known : Members → Bool
 has_only_known members = has_only is_known members
@@ -132,6 +135,15 @@ abbrev pub read_flag : Key → Option Data → Result Bool SettingsError
 read_flag key None = Ok false
 read_flag key (Some value) = flag_judged key (as_bool value)
 
+abbrev pub found_text : Result (List ℕ) SettingsError → Result (Option (List ℕ)) SettingsError
+found_text (Ok text) = Ok (Some text)
+found_text (Err fault) = Err fault
+
+-- a missing text is none; otherwise the value must be a text, and in range, in this order
+abbrev pub read_text : Key → Option Data → Result (Option (List ℕ)) SettingsError
+read_text key None = Ok None
+read_text key (Some value) = found_text (text_judged key (as_str value))
+
 -- ---- the document
 
 -- the content of the settings in a document
@@ -151,6 +163,7 @@ pub record Given : Type 0 where
   pub endless : Bool
   pub allow : List AddressRange
   pub max_per_address : ℕ
+  pub control : Option (List ℕ)
 
 -- the next check, if the one before it passed
 abbrev pub then_with : {A B : Type 0} → Result A SettingsError → (A → Result B SettingsError) → Result B SettingsError
@@ -175,6 +188,7 @@ keys_judged members =
     then_with (read_flag Endless (get_member (key_text Endless) members)) (λ endless.
     then_with (allow_judged (get_member (key_text Allow) members)) (λ allow.
     then_with (read_number MaxPerAddress (get_member (key_text MaxPerAddress) members)) (λ max_per_address.
+    then_with (read_text Control (get_member (key_text Control) members)) (λ control.
     Ok (record {
       listen = listen;
       server = server;
@@ -191,7 +205,8 @@ keys_judged members =
       endless = endless;
       allow = allow;
       max_per_address = max_per_address;
-    }))))))))))))))))
+      control = control;
+    })))))))))))))))))
 
 -- an unknown key is reported before any key is checked
 unfoldable pub judged_members : Members → Result Given SettingsError

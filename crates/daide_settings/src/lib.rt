@@ -6,6 +6,6 @@
 pub mod settings;
 
 pub use settings::{
-    Address, AddressRange, Host, JudgeFault, Key, Settings, SettingsError, judge_settings,
-    may_come, read_settings,
+    Address, AddressRange, ControlPath, Host, JudgeFault, Key, Settings, SettingsError,
+    judge_settings, may_come, read_settings,
 };

@@ -5,6 +5,7 @@
 
 mod address;
 mod allow;
+mod control_path;
 mod judged;
 mod key;
 mod ranges;
@@ -18,6 +19,7 @@ ghost use Rattle.daide_protocol.specs.Config.{config_fault};
 
 pub use address::Address;
 use arrayvec::ArrayVec;
+pub use control_path::ControlPath;
 use daide_protocol::config::{Config, SessionLimits};
 use daide_words::Words;
 pub use judged::{JudgeFault, judge_settings};
@@ -81,6 +83,8 @@ pub struct Settings {
     pub allow: ArrayVec<AddressRange, MAX_RANGES>,
     /// The greatest number of sessions at once with bots from one address; 0 for no limit.
     pub max_per_address: u16,
+    /// The path of the socket on which the run takes an operator's requests; `None` if it takes none.
+    pub control: Option<ControlPath>,
     pub ghost right: { config_fault config ≡ Ok tt },
     pub ghost some: { IsSessionCount max_sessions },
 }

@@ -150,29 +150,40 @@ by_due table time now due read lasts h = by (has_pending table) lasts
         until_by now due table.reading (nearest table.watched_due table.rows) time k read
         (nearest_keeps table.watched_due table.rows due h)
 
-pub sessions_in_time : (table : Table) (watched : List (Bool × Option Instant)) (time : Option Duration) →
-    IsWaitTime (watching_all table watched) time →
+-- a wait that watches these, and then others
+pub sessions_in_time_beside : (table : Table) (watched others : List (Bool × Option Instant)) (time : Option Duration) →
+    IsWaitTime (watching_all (watching_all table watched) others) time →
     All (λ (session : Bool × Option Instant). IsInTimeFor table.reading time session.0 session.1) watched
-sessions_in_time table [] time lasts =
+sessions_in_time_beside table [] others time lasts =
     All-nil (λ (session : Bool × Option Instant). IsInTimeFor table.reading time session.0 session.1)
-sessions_in_time table (session ∷ watched) time lasts =
+sessions_in_time_beside table (session ∷ watched) others time lasts =
     All-cons (λ (other : Bool × Option Instant). IsInTimeFor table.reading time other.0 other.1) session watched own
-    (sessions_in_time next watched time lasts)
+    (sessions_in_time_beside next watched others time lasts)
   where
     next : Table
     next = watching table session.0 session.1
 
+    all : Table
+    all = watching_all next watched
+
     last : Table
-    last = watching_all next watched
+    last = watching_all all others
 
     own : IsInTimeFor table.reading time session.0 session.1
     own = record {
-      deadline = λ now due read e. by_due last time now due (same_reading next watched ∙ read) lasts
-          (due_keeps next watched due (earlier_right table.watched_due session.1 due
-          (subst (λ (m : Option Instant). IsBy m due) (sym e) (omega arith))));
+      deadline = λ now due read e.
+          by_due last time now due (same_reading all others ∙ same_reading next watched ∙ read) lasts
+          (due_keeps all others due (due_keeps next watched due (earlier_right table.watched_due session.1 due
+          (subst (λ (m : Option Instant). IsBy m due) (sym e) (omega arith)))));
       work = λ e. at_once last time lasts
-          (work_stays next watched (ap (λ (b : Bool). table.watched_work || b) e ∙ or_true table.watched_work));
+          (work_stays all others
+          (work_stays next watched (ap (λ (b : Bool). table.watched_work || b) e ∙ or_true table.watched_work)));
     }
+
+pub sessions_in_time : (table : Table) (watched : List (Bool × Option Instant)) (time : Option Duration) →
+    IsWaitTime (watching_all table watched) time →
+    All (λ (session : Bool × Option Instant). IsInTimeFor table.reading time session.0 session.1) watched
+sessions_in_time table watched time lasts = sessions_in_time_beside table watched [] time lasts
 
 pub waits_in_time : WaitsAreInTime
 waits_in_time = record { sessions = sessions_in_time; sockets = rows_in_time }

@@ -1,19 +1,30 @@
 -- The laws of `laws`, each used once. A fact takes only its law, so that a weaker law does not check.
-use Rattle.std.proofs.Common.{◌≡◌, ℕ, ◌+◌, ◌≤◌, Bool, true, false, List, [], ◌∷◌, Option, Some, None, refl, ap, arith}
-use Rattle.std.specs.Prelude.{slice_get}
-use Rattle.std.proofs.lemmas.List.Elements.{All-contains}
+use Rattle.std.proofs.Common.{◌≡◌, ℕ, ◌+◌, ◌≤◌, Bool, true, false, List, [], ◌∷◌, Option, Some, None, length, refl, ap, ◌∙◌, subst, arith}
+use Rattle.std.specs.Prelude.{slice_get, ◌||◌}
+use Rattle.std.proofs.lemmas.List.Elements.{All-contains, All-head, All-tail}
 use Rattle.std.specs.Duration.{as_nanos}
 use Rattle.std.specs.Time.{instant_nanos}
 use Rattle.std.specs.declared.time.Duration.{Duration}
 use Rattle.std.specs.declared.time.Instant.{Instant}
-use Rattle.daide_io.specs.System.{Connects, TransitsBy}
-use Rattle.daide_io.specs.declared.system.Connect.TheVariants.{Ready}
+use Rattle.daide_io.specs.System.{Accepts, Connects, TransitsBy}
+use Rattle.daide_io.specs.declared.system.Connect.TheVariants.{Ready, Failed}
 use Rattle.daide_io.specs.Streams.{StreamCall}
-use Rattle.daide_sockets.specs.Pairing.{Paired, RunSockets, Transits}
+use Rattle.daide_sockets.specs.Pairing.{Arriving, Paired, RunSockets, Transits}
+use Rattle.daide_sockets.specs.Lingering.{ClosingStream}
+use Rattle.daide_sockets.specs.Beside.{WaitsAreInTimeBeside, may_close_on, closing_due, may_connect, others_watched}
+use Rattle.daide_sockets.specs.Accounted.{SocketsAreAccounted}
 use Rattle.daide_sockets.specs.PairedOnce.{SessionsComeOnce, is_same}
 use Rattle.daide_sockets.specs.declared.table.Row.{Row}
 use Rattle.daide_sockets.specs.Table.{Table, IsWaitTime}
 use Rattle.daide_sockets.specs.InTime.{WaitsAreInTime, IsInTimeFor, watching_all}
+use Rattle.daide_sockets.specs.Control.{has_work_at}
+use Rattle.daide_sockets.specs.ControlInTime.{IsPlaceInTime, ControlWaitsAreInTime}
+use Rattle.daide_sockets.specs.ControlSlots.{is_place_free, has_free, watching_control}
+use Rattle.daide_sockets.specs.declared.control.Control.{Control}
+use Rattle.daide_sockets.specs.declared.control.ControlListener.{ControlListener}
+use Rattle.daide_sockets.specs.declared.control_connection.ControlConnection.{ControlConnection}
+use Rattle.daide_sockets.specs.declared.control_connection.Stage.{Stage}
+use Rattle.daide_sockets.specs.declared.control_connection.Stage.TheVariants.{Reads}
 
 -- no two connects deliver ports of session 5
 never_twice : {P S : Type 0} (to_give taken : S → Option (List ℕ)) (calls : S → Option (List StreamCall)) →
@@ -74,3 +85,56 @@ watched_not_for_ever law table now due reading lasts =
     let watched = (false, Some due) ∷ [] in
     (All-contains (λ (s : Bool × Option Instant). IsInTimeFor table.reading None s.0 s.1) watched (false, Some due)
     (law.sessions table watched None lasts) (0, omega arith, refl)).deadline now due reading refl
+
+-- while a byte is buffered for a closing stream that is writable, a wait takes no time
+closing_goes_out : {S : Type 0} → WaitsAreInTimeBeside S → (table : Table) (time : Duration) (closing : ClosingStream S) →
+    closing.stream.has_failed ≡ false → closing.stream.write_buffer ≡ 7 ∷ [] → closing.known.may_write ≡ true →
+    IsWaitTime (watching_all table (others_watched {S = S} table (false, None) [] (closing ∷ []))) (Some time) →
+    as_nanos time ≡ 0
+closing_goes_out {S} law table time closing failed held may lasts =
+    let goes : may_close_on table closing ≡ true = rw (failed, held, may) refl in
+    (All-head (λ (c : ClosingStream S). IsInTimeFor table.reading (Some time) (may_close_on table c) (closing_due c)) closing
+    [] (law table (Some time) (false, None) [] (closing ∷ []) lasts).closes).work goes
+
+-- the deadline of a connect seven nanoseconds after the reading ends a wait within them
+connect_within_seven : {S : Type 0} → WaitsAreInTimeBeside S → (table : Table) (time : Duration) (arrival : Arriving S)
+    (now due : Instant) → table.reading ≡ Some now → arrival.gives_up ≡ Some due →
+    instant_nanos due ≡ instant_nanos now + 7 →
+    IsWaitTime (watching_all table (others_watched table (false, None) (arrival ∷ []) [])) (Some time) → as_nanos time ≤ 7
+connect_within_seven {S} law table time arrival now due reading deadline seven lasts =
+    let most = (All-head (λ (a : Arriving S). IsInTimeFor table.reading (Some time) (may_connect table a.row) a.gives_up)
+    arrival [] (law table (Some time) (false, None) (arrival ∷ []) [] lasts).connects).deadline now due reading deadline in
+    omega (arith, most, seven)
+
+-- of the only bot, which was given up, at most one socket closes
+given_up_closes_one : {P S : Type 0} (to_give taken : S → Option (List ℕ)) (calls : S → Option (List StreamCall)) →
+    SocketsAreAccounted P to_give taken calls → (pair : P → Paired S) (old new : RunSockets S) → old.came ≡ 0 →
+    old.arrivals ≡ [] → old.closing.streams ≡ [] →
+    TransitsBy (Transits to_give taken calls pair) old (Accepts true ∷ Connects Failed ∷ []) new →
+    length new.closing.streams ≤ 1
+given_up_closes_one to_give taken calls law pair old new none no_arrivals no_closing goes =
+    let few = (law pair old new (Accepts true ∷ Connects Failed ∷ []) none no_arrivals no_closing goes).closing in
+    omega (arith, few)
+
+-- while the second control connection may be read, a wait takes no time
+control_is_read : (S : Type 0) → ControlWaitsAreInTime S → (table : Table) (control : Control S)
+    (connection : ControlConnection S) (time : Duration) → control.slots.second ≡ Some connection →
+    connection.stage ≡ Reads → connection.readiness.may_read ≡ true →
+    IsWaitTime (watching_control table control) (Some time) → as_nanos time ≡ 0
+control_is_read S law table control connection time second reads ready lasts =
+    let InTime : Option (ControlConnection S) → Type 0 = IsPlaceInTime table.reading (Some time) in
+    let rest = control.slots.third ∷ control.slots.fourth ∷ [] in
+    let own : InTime control.slots.second =
+    All-head InTime control.slots.second rest
+    (All-tail InTime control.slots.first (control.slots.second ∷ rest) (law table control [] (Some time) lasts).connections) in
+    let there : InTime (Some connection) = subst InTime second own in
+    there.work (ap (λ (s : Stage). has_work_at s connection.readiness) reads ∙ ready)
+
+-- while the first place is free, and the listener may give a connection, a wait takes no time
+control_is_accepted : (S : Type 0) → ControlWaitsAreInTime S → (table : Table) (control : Control S)
+    (listener : ControlListener) (time : Duration) → control.slots.first ≡ None → control.listener ≡ Some listener →
+    listener.readiness.may_read ≡ true → IsWaitTime (watching_control table control) (Some time) → as_nanos time ≡ 0
+control_is_accepted S law table control listener time free there ready lasts =
+    ((law table control [] (Some time) lasts).listener listener (ap (λ (p : Option (ControlConnection S)).
+    is_place_free p || has_free (control.slots.second ∷ control.slots.third ∷ control.slots.fourth ∷ [])) free) there).work
+    ready

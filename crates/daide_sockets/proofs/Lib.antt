@@ -3,4 +3,9 @@ mod OnceLemmas
 mod LingeringLemmas
 mod TableLemmas
 pub mod InTimeLemmas
+mod BesideLemmas
+mod FinishingLemmas
+mod AccountedLemmas
+mod AcceptLemmas
+pub mod ControlInTimeLemmas
 mod LawFacts

@@ -18,7 +18,7 @@ use Rattle.daide_sockets.specs.Pairing.{with_room}
 use Rattle.daide_sockets.specs.Times.{StallsNext, has_stalled, is_time_over}
 use Rattle.daide_sockets.specs.Lingering.{ClosingStream, ClosingList, Discards, Lingers, Leaves, IsLookedAt, LooksAtOne}
 use Rattle.daide_sockets.specs.Lingering.{LooksAtEach, LooksAlong, IsWriting, IsWritingOver, ClosingsGoOn, GoOnFor, is_released}
-use Rattle.daide_sockets.specs.Lingering.{TriesWriting, LooksAround}
+use Rattle.daide_sockets.specs.Lingering.{TriesWriting, LooksAround, LeavesNow}
 
 -- ---- lists
 
@@ -219,21 +219,21 @@ module _ {S : Type 0} (to_give taken : S → Option (List ℕ)) (calls : S → O
     -- a stream whose last piece was dropped leaves
     pub last_leaves : (old new : ClosingStream S) (result : Bool) →
         ((pull : Pull) × Discards to_give taken calls pull old new × (result ≡ is_released now pull new)) →
-        not result ≡ false → IsWritingOver old.stream → Leaves to_give taken calls now old
+        not result ≡ false → IsWritingOver old.stream → LeavesNow to_give taken calls now old
     last_leaves old new true h e over = (new, h.0, over, h.1, sym h.2)
     last_leaves old new false h e over = absurd (cc)
 
     -- a piece was dropped
-    pub piece_dropped : (old new was : ClosingStream S) (bytes : List ℕ) (pull : Pull) (known still : Readiness)
+    pub piece_dropped : (old new was : ClosingStream S) (bytes : List ℕ) (pull : Pull)
         (last late result : Bool) → was ≡ old → was.quota ≡ new.quota + length bytes →
         Passes to_give taken was.stream bytes [] new.stream → WritesNothing taken was.stream new.stream →
         new.stream.has_failed ≡ was.stream.has_failed → new.released_at ≡ was.released_at →
-        IsBufferedPull calls (min was.quota 4096) known was.stream pull still new.stream →
+        new.key ≡ was.key → IsBufferedPull calls (min was.quota 4096) was.known was.stream pull new.known new.stream →
         (0 < length was.stream.read_buffer →
         pull ≡ Got (min (length was.stream.read_buffer) (min was.quota 4096))) →
         last ≡ is_last_piece pull new.quota → late ≡ is_time_over now new.released_at → result ≡ (last || late) →
         (pull : Pull) × Discards to_give taken calls pull old new × (result ≡ is_released now pull new)
-    piece_dropped old new was bytes pull known still last late result e quota passes unwritten failed stays pulled ahead is_last
+    piece_dropped old new was bytes pull last late result e quota passes unwritten failed stays key pulled ahead is_last
         is_late either =
         subst (λ (o : ClosingStream S). (p : Pull) × Discards to_give taken calls p o new
         × (result ≡ is_released now p new)) e (
@@ -244,8 +244,7 @@ module _ {S : Type 0} (to_give taken : S → Option (List ℕ)) (calls : S → O
             unwritten = unwritten;
             failed = failed;
             quota = quota;
-            known = known;
-            still = still;
+            key = key;
             pulled = pulled;
             ahead = ahead;
             released_at = stays;
@@ -267,25 +266,35 @@ module _ {S : Type 0} (to_give taken : S → Option (List ℕ)) (calls : S → O
     not_both b h k = let none = ap length (k h.0) in let some = h.1 in omega (arith, none, some)
 
     -- a peer is given up if it is stalled, and then what is held is written once
-    pub tried_writing : (old new was : ClosingStream S) (mid : Buffer S) (time : Option Duration) (moment : Option Instant) →
+    pub tried_writing : (old new was : ClosingStream S) (mid : Buffer S) (time : Option Duration) (moment : Option Instant)
+        (known : Readiness) →
         was ≡ old → (has_stalled was.stall_time now was.stalls_at ≡ true → mid ≡ record was.stream { has_failed = true }) →
         (has_stalled was.stall_time now was.stalls_at ≡ false → mid ≡ was.stream) →
         (has_stalled was.stall_time now was.stalls_at ≡ false → moment ≡ was.stalls_at) → time ≡ was.stall_time →
-        (IsWriting mid → (known : Readiness) × (still : Readiness) × IsFlushed calls known mid still new.stream) →
-        (IsWritingOver mid → new.stream ≡ mid) →
+        known ≡ was.known → new.key ≡ was.key →
+        (IsWriting mid → IsFlushed calls known mid new.known new.stream) →
+        (IsWritingOver mid → new.stream ≡ mid) → (IsWritingOver mid → new.known ≡ known) →
         (IsWriting mid → IsWriting new.stream → StallsNext time now moment
         (nat_lt (length new.stream.write_buffer) (length mid.write_buffer)) new.stalls_at) →
         new.stall_time ≡ time → TriesWriting calls now old new
-    tried_writing old new was mid time moment e gives_up stays same_moment same_time written nothing waits new_time =
+    tried_writing old new was mid time moment known e gives_up stays same_moment same_time same_known key written nothing
+        unasked waits new_time =
         subst (λ (o : ClosingStream S). TriesWriting calls now o new) e
         (record {
-          gives_up = λ h. nothing (failed_over (gives_up h)) ∙ gives_up h;
-          written = λ h k. subst (λ (m : Buffer S). (known : Readiness) × (still : Readiness)
-              × IsFlushed calls known m still new.stream) (stays h)
-              (written (subst (λ (m : Buffer S). IsWriting m) (sym (stays h)) k));
-          nothing = λ h k. nothing (subst (λ (m : Buffer S). IsWritingOver m) (sym (stays h)) k) ∙ stays h;
+          gives_up = λ h. (
+            nothing (failed_over (gives_up h)) ∙ gives_up h,
+            unasked (failed_over (gives_up h)) ∙ same_known,
+          );
+          written = λ h k. subst (λ (r : Readiness). IsFlushed calls r was.stream new.known new.stream) same_known
+              (subst (λ (m : Buffer S). IsFlushed calls known m new.known new.stream) (stays h)
+              (written (subst (λ (m : Buffer S). IsWriting m) (sym (stays h)) k)));
+          nothing = λ h k. (
+            nothing (subst (λ (m : Buffer S). IsWritingOver m) (sym (stays h)) k) ∙ stays h,
+            unasked (subst (λ (m : Buffer S). IsWritingOver m) (sym (stays h)) k) ∙ same_known,
+          );
           waits = waits_by (has_stalled was.stall_time now was.stalls_at) refl;
           stall_time = new_time ∙ same_time;
+          key = key;
         })
       where
         failed_over : mid ≡ record was.stream { has_failed = true } → IsWritingOver mid

@@ -1,8 +1,8 @@
 -- Each session number is given once.
-use Rattle.std.proofs.Common.{◌≡◌, ◌≤◌, ℕ, ◌+◌, Bool, true, false, List, [], ◌∷◌, ◌++◌, Option, ap, ◌∙◌, arith}
+use Rattle.std.proofs.Common.{◌≡◌, ◌≤◌, ℕ, ◌+◌, Bool, true, false, List, [], ◌∷◌, ◌++◌, length, Option, ap, ◌∙◌, arith}
 use Rattle.std.specs.Prelude.{nat_lt, if◌then◌else◌}
-use Rattle.daide_io.specs.System.{SystemCall, Begins, ReportsNews, BeginsTurn, Watches, Accepts, Connects, Retires}
-use Rattle.daide_io.specs.System.{Notifies, Waits, TransitsBy}
+use Rattle.daide_io.specs.System.{SystemCall, Begins, Shows, ReportsNews, BeginsTurn, Watches, Accepts, Connects}
+use Rattle.daide_io.specs.System.{Retires, Notifies, Waits, TransitsBy}
 use Rattle.daide_io.specs.declared.system.Connect.TheVariants.{Ready, Failed, Pending}
 use Rattle.daide_io.specs.Streams.{StreamCall}
 use Rattle.daide_sockets.specs.Pairing.{Arriving, Paired, RunSockets, AllStayPending, ChecksArrivals, TakesOut, Transits}
@@ -74,7 +74,8 @@ module _ {S : Type 0} (n : ℕ) where
 
     one : (answer : SystemCall P) (old new : RunSockets S) → Transits to_give taken calls pair old answer new →
         handed pair n (answer ∷ []) + left new ≤ left old
-    one Begins old new h = let e = kept old new h.0 h.1 in omega (arith, e)
+    one (Begins orders) old new h = let e = kept old new h.0 h.1 in omega (arith, e)
+    one (Shows ports status) old new h = let e : left new ≡ left old = ap left h in omega (arith, e)
     one (ReportsNews ports news) old new h = let e : left new ≡ left old = ap left h in omega (arith, e)
     one (BeginsTurn before after) old new h = let e : left new ≡ left old = ap left h in omega (arith, e)
     one (Watches ports) old new h = let e : left new ≡ left old = ap left h in omega (arith, e)
@@ -97,8 +98,8 @@ module _ {S : Type 0} (n : ℕ) where
         let c : to_come n new.came ≡ to_come n old.came = ap (to_come n) h.3 in
         omega (arith, a, c)
     one (Connects Pending) old new h =
-        let a = looked old.arrivals new.arrivals h.0 h.1 in
-        let c : to_come n new.came ≡ to_come n old.came = ap (to_come n) h.2 in
+        let a = looked old.arrivals new.arrivals (length old.arrivals) h.0 in
+        let c : to_come n new.came ≡ to_come n old.came = ap (to_come n) h.1 in
         omega (arith, a, c)
     one (Retires ports end) old new h = let e = kept old new h.1 h.2 in omega (arith, e)
     one (Notifies notice) old new h = let e : left new ≡ left old = ap left h in omega (arith, e)
@@ -106,7 +107,8 @@ module _ {S : Type 0} (n : ℕ) where
 
     handed_first : (answer : SystemCall P) (answers : List (SystemCall P)) →
         handed pair n (answer ∷ answers) ≡ handed pair n (answer ∷ []) + handed pair n answers
-    handed_first Begins answers = omega (arith)
+    handed_first (Begins orders) answers = omega (arith)
+    handed_first (Shows ports status) answers = omega (arith)
     handed_first (ReportsNews ports news) answers = omega (arith)
     handed_first (BeginsTurn before after) answers = omega (arith)
     handed_first (Watches ports) answers = omega (arith)

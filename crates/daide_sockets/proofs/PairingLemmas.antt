@@ -1,6 +1,9 @@
 -- The arrivals are checked one by one.
 use Rattle.std.proofs.Common.{◌≡◌, ℕ, suc, ◌+◌, ◌<◌, List, [], ◌∷◌, ◌++◌, length, refl, sym, ap, ◌∙◌, arith}
 use Rattle.std.proofs.Common.{append_assoc, append-nil}
+use Rattle.std.proofs.Common.{get_or}
+use Rattle.std.specs.Prelude.{remove}
+use Rattle.std.proofs.lemmas.List.{length-append}
 use Rattle.daide_sockets.specs.Pairing.{Arriving, StaysPending, AllStayPending, ChecksArrivals, TakesOut}
 
 module _ {S : Type 0} where
@@ -83,3 +86,24 @@ module _ {S : Type 0} where
         goes = go_on_snoc out.seen out.moved first moved out.goes k;
         len = omega (arith, longer, had);
       }
+
+  pub pending_len : (old new : List (Arriving S)) → AllStayPending old new → length new ≡ length old
+  pending_len [] new h = ap length h
+  pending_len (arrival ∷ old) new h = ap length h.2 ∙ ap suc (pending_len old h.1 h.4)
+
+  -- a check keeps their number
+  pub checked_len : (n : ℕ) (old new : List (Arriving S)) → ChecksArrivals n old new → length new ≡ length old
+  checked_len n old new h =
+      let before : length old ≡ length (h.seen ++ h.rest) = ap length h.split in
+      let after : length new ≡ length (h.rest ++ h.moved) = ap length h.now in
+      let one = length-append h.seen h.rest in
+      let other = length-append h.rest h.moved in
+      let same = pending_len h.seen h.moved h.goes in
+      omega (arith, before, after, one, other, same)
+
+  -- the first of some is removed
+  pub first_removed : (old new : List (Arriving S)) (first : Arriving S) → 0 < length old → first ≡ get_or old 0 first →
+      new ≡ remove old 0 → old ≡ first ∷ new
+  first_removed [] new first some value items = absurd (omega (arith, some))
+  first_removed (arrival ∷ others) new first some value items =
+      ap (λ (a : Arriving S). a ∷ others) (sym value) ∙ ap (λ (l : List (Arriving S)). first ∷ l) (sym items)

@@ -10,12 +10,15 @@ use Rattle.daide_buffered_io.specs.declared.readiness.Readiness.{Readiness}
 use Rattle.daide_buffered_io.specs.Buffers.{Buffer, Passes, ReadsNothing, WritesNothing, IsBufferedPull, IsFlushed}
 use Rattle.daide_buffered_io.specs.Calls.{is_last_piece}
 use Rattle.daide_io.specs.Streams.{StreamCall}
+use Rattle.daide_sockets.specs.Table.{merged}
 use Rattle.daide_sockets.specs.Times.{IsAfter, StallsNext, has_stalled, is_time_over}
 
--- a closing stream: its peer's stall timeout, and when that expires; how many more bytes may be dropped; and the
--- deadline of its release, none before its writing is over
+-- a closing stream: the key of its row; what is known of it without a call; its peer's stall timeout, and when that
+-- expires; how many more bytes may be dropped; and the deadline of its release, none before its writing is over
 pub record ClosingStream (S : Type 0) : Type 0 where
   pub stream : Buffer S
+  pub key : ℕ
+  pub known : Readiness
   pub stall_time : Option Duration
   pub stalls_at : Option Instant
   pub quota : ℕ
@@ -42,9 +45,20 @@ abbrev pub end_time : ℕ
 end_time = 1000000000
 
 -- a stream whose closing begins: its peer's stall timeout starts again
-abbrev pub begins_closing : {S : Type 0} → Option Duration → Buffer S → ClosingStream S
-begins_closing time stream =
-    record { stream = stream; stall_time = time; stalls_at = None; quota = drop_quota; released_at = None }
+abbrev pub begins_closing : {S : Type 0} → Option Duration → ℕ → Readiness → Buffer S → ClosingStream S
+begins_closing time key known stream = record {
+  stream = stream;
+  key = key;
+  known = known;
+  stall_time = time;
+  stalls_at = None;
+  quota = drop_quota;
+  released_at = None;
+}
+
+-- a stream that took a report of its row
+abbrev pub with_report : {S : Type 0} → Readiness → ClosingStream S → ClosingStream S
+with_report report closing = record closing { known = merged closing.known report }
 
 -- ---- one step
 
@@ -65,14 +79,15 @@ Flushes to_give taken old new = Passes to_give taken old [] [] new × ReadsNothi
 pub record TriesWriting {S : Type 0} (calls : S → Option (List StreamCall)) (now : Option Instant)
     (old new : ClosingStream S) : Type 0 where
   pub gives_up : has_stalled old.stall_time now old.stalls_at ≡ true →
-      new.stream ≡ record old.stream { has_failed = true }
+      (new.stream ≡ record old.stream { has_failed = true }) × (new.known ≡ old.known)
   pub written : has_stalled old.stall_time now old.stalls_at ≡ false → IsWriting old.stream →
-      (known still : Readiness) × IsFlushed calls known old.stream still new.stream
+      IsFlushed calls old.known old.stream new.known new.stream
   pub nothing : has_stalled old.stall_time now old.stalls_at ≡ false → IsWritingOver old.stream →
-      new.stream ≡ old.stream
+      (new.stream ≡ old.stream) × (new.known ≡ old.known)
   pub waits : IsWriting new.stream → StallsNext old.stall_time now old.stalls_at
       (nat_lt (length new.stream.write_buffer) (length old.stream.write_buffer)) new.stalls_at
   pub stall_time : new.stall_time ≡ old.stall_time
+  pub key : new.key ≡ old.key
 
 -- Buffered bytes are written. Once all are, or a write failed or counts as failed, the last second begins at this
 -- reading of the clock.
@@ -82,6 +97,8 @@ pub record WritesOut {S : Type 0} (to_give taken : S → Option (List ℕ)) (cal
   pub tries : TriesWriting calls now old tried
   pub write_buffer : new.stream.write_buffer ≡ tried.stream.write_buffer
   pub failed : new.stream.has_failed ≡ tried.stream.has_failed
+  pub key : new.key ≡ tried.key
+  pub known : new.known ≡ tried.known
   pub stall_time : new.stall_time ≡ tried.stall_time
   pub stalls_at : new.stalls_at ≡ tried.stalls_at
   pub flushes : Flushes to_give taken old.stream new.stream
@@ -98,9 +115,8 @@ pub record Discards {S : Type 0} (to_give taken : S → Option (List ℕ)) (call
   pub unwritten : WritesNothing taken old.stream new.stream
   pub failed : new.stream.has_failed ≡ old.stream.has_failed
   pub quota : old.quota ≡ new.quota + length bytes
-  pub known : Readiness
-  pub still : Readiness
-  pub pulled : IsBufferedPull calls (min old.quota 4096) known old.stream pull still new.stream
+  pub key : new.key ≡ old.key
+  pub pulled : IsBufferedPull calls (min old.quota 4096) old.known old.stream pull new.known new.stream
   pub ahead : 0 < length old.stream.read_buffer →
       pull ≡ Got (min (length old.stream.read_buffer) (min old.quota 4096))
   pub released_at : new.released_at ≡ old.released_at
@@ -110,17 +126,28 @@ abbrev pub is_released : {S : Type 0} → Option Instant → Pull → ClosingStr
 is_released now pull stream = is_last_piece pull stream.quota || is_time_over now stream.released_at
 
 -- One step of a stream that stays: while bytes are buffered, they are written, and then the bytes received are dropped.
-abbrev pub Lingers : {S : Type 0} → (S → Option (List ℕ)) → (S → Option (List ℕ)) → (S → Option (List StreamCall)) →
+abbrev pub LingersOn : {S : Type 0} → (S → Option (List ℕ)) → (S → Option (List ℕ)) → (S → Option (List StreamCall)) →
     Option Instant → ClosingStream S → ClosingStream S → Type 0
-Lingers to_give taken calls now old new = (IsWriting old.stream × WritesOut to_give taken calls now old new)
+LingersOn to_give taken calls now old new = (IsWriting old.stream × WritesOut to_give taken calls now old new)
     ⊎ ((pull : Pull) × IsWritingOver old.stream × Discards to_give taken calls pull old new
     × (is_released now pull new ≡ false))
 
 -- The last step of a stream that is released: not before its writing is over.
+abbrev pub LeavesNow : {S : Type 0} → (S → Option (List ℕ)) → (S → Option (List ℕ)) → (S → Option (List StreamCall)) →
+    Option Instant → ClosingStream S → Type 0
+LeavesNow {S} to_give taken calls now old = (last : ClosingStream S) × (pull : Pull) × IsWritingOver old.stream
+    × Discards to_give taken calls pull old last × (is_released now pull last ≡ true)
+
+-- a stream takes a report of its row, and then makes a step and stays
+abbrev pub Lingers : {S : Type 0} → (S → Option (List ℕ)) → (S → Option (List ℕ)) → (S → Option (List StreamCall)) →
+    Option Instant → ClosingStream S → ClosingStream S → Type 0
+Lingers to_give taken calls now old new =
+    (report : Readiness) × LingersOn to_give taken calls now (with_report report old) new
+
+-- a stream takes a report of its row, and then makes its last step
 abbrev pub Leaves : {S : Type 0} → (S → Option (List ℕ)) → (S → Option (List ℕ)) → (S → Option (List StreamCall)) →
     Option Instant → ClosingStream S → Type 0
-Leaves {S} to_give taken calls now old = (last : ClosingStream S) × (pull : Pull) × IsWritingOver old.stream
-    × Discards to_give taken calls pull old last × (is_released now pull last ≡ true)
+Leaves to_give taken calls now old = (report : Readiness) × LeavesNow to_give taken calls now (with_report report old)
 
 -- ---- one round
 

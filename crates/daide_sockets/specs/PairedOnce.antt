@@ -1,7 +1,7 @@
 -- Each session gets its ports once. (own)
 use Rattle.std.specs.Prelude.{◌≡◌, ◌≤◌, ℕ, ◌+◌, nat_eq, List, [], ◌∷◌, Option, if◌then◌else◌}
-use Rattle.daide_io.specs.System.{SystemCall, Begins, ReportsNews, BeginsTurn, Watches, Accepts, Connects, Retires}
-use Rattle.daide_io.specs.System.{Notifies, Waits, TransitsBy}
+use Rattle.daide_io.specs.System.{SystemCall, Begins, Shows, ReportsNews, BeginsTurn, Watches, Accepts, Connects}
+use Rattle.daide_io.specs.System.{Retires, Notifies, Waits, TransitsBy}
 use Rattle.daide_io.specs.declared.system.Connect.TheVariants.{Ready, Failed, Pending}
 use Rattle.daide_io.specs.Streams.{StreamCall}
 use Rattle.daide_sockets.specs.Pairing.{Paired, RunSockets, Transits}
@@ -16,7 +16,8 @@ handed pair n [] = 0
 handed pair n (Connects (Ready ports) ∷ answers) = is_same (pair ports).number n + handed pair n answers
 handed pair n (Connects Failed ∷ answers) = handed pair n answers
 handed pair n (Connects Pending ∷ answers) = handed pair n answers
-handed pair n (Begins ∷ answers) = handed pair n answers
+handed pair n (Begins orders ∷ answers) = handed pair n answers
+handed pair n (Shows ports status ∷ answers) = handed pair n answers
 handed pair n (ReportsNews ports news ∷ answers) = handed pair n answers
 handed pair n (BeginsTurn before after ∷ answers) = handed pair n answers
 handed pair n (Watches ports ∷ answers) = handed pair n answers

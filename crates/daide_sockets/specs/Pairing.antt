@@ -1,11 +1,14 @@
 -- The sockets of a run beside those of its sessions, and the effect of each system call on them. (own)
 use Rattle.std.specs.Prelude.{◌≡◌, ◌⊎◌, ℕ, ◌+◌, ◌-◌, nat_lt, true, false, List, [], ◌∷◌, ◌++◌, length, remove}
-use Rattle.std.specs.Prelude.{Option, Some, None, if◌then◌else◌}
-use Rattle.daide_io.specs.System.{SystemCall, Begins, ReportsNews, BeginsTurn, Watches, Accepts, Connects, Retires}
-use Rattle.daide_io.specs.System.{Notifies, Waits}
+use Rattle.std.specs.Prelude.{Option, Some, None, Ok, slice_get, if◌then◌else◌}
+use Rattle.std.specs.declared.net.socket_addr.SocketAddr.{SocketAddr}
+use Rattle.daide_io.specs.Network.{NetworkCall, BeginsConnect, Follows}
+use Rattle.daide_io.specs.System.{SystemCall, Begins, Shows, ReportsNews, BeginsTurn, Watches, Accepts, Connects}
+use Rattle.daide_io.specs.System.{Retires, Notifies, Waits}
 use Rattle.daide_io.specs.declared.system.Connect.{Connect}
 use Rattle.daide_io.specs.declared.system.Connect.TheVariants.{Ready, Failed, Pending}
 use Rattle.daide_buffered_io.specs.Buffers.{Buffer}
+use Rattle.daide_buffered_io.specs.declared.readiness.Readiness.{Readiness}
 use Rattle.daide_io.specs.Streams.{StreamCall}
 use Rattle.std.specs.declared.time.Instant.{Instant}
 use Rattle.daide_sockets.specs.Times.{IsAfter}
@@ -13,12 +16,19 @@ use Rattle.daide_sockets.specs.Lingering.{ClosingStream, ClosingList, begins_clo
 
 -- ---- values
 
+-- the row of a connect: its key, and what is known of the connect without a call
+pub record ConnectRow : Type 0 where
+  pub key : ℕ
+  pub known : Readiness
+
 -- a bot whose connect to the server is pending: its session's number, its stream, that of the connect, if there is one,
--- and the deadline of its initial message
+-- and its row; the deadline of the connect, and that of its initial message
 pub record Arriving (S : Type 0) : Type 0 where
   pub number : ℕ
   pub bot : Buffer S
   pub server : Option (Buffer S)
+  pub row : Option ConnectRow
+  pub gives_up : Option Instant
   pub im_due : Option Instant
 
 -- the number of a session, and the streams of its bot and of the server
@@ -55,6 +65,7 @@ pub record StaysPending {S : Type 0} (old new : Arriving S) : Type 0 where
   pub number : new.number ≡ old.number
   pub bot : new.bot ≡ old.bot
   pub server : (new.server ≡ old.server) ⊎ IsFreshConnect new.server
+  pub gives_up : new.gives_up ≡ old.gives_up
   pub im_due : new.im_due ≡ old.im_due
 
 -- each of them stays pending
@@ -82,6 +93,19 @@ pub record TakesOut {S : Type 0} (old : List (Arriving S)) (arrival : Arriving S
   pub now : new ≡ rest ++ moved
   pub goes : AllStayPending seen moved
 
+-- The last two calls on the network were a connect to one of these addresses, which began, and one by which its
+-- connection is followed under this key.
+pub record ConnectsTo {N C : Type 0} (transition : N → NetworkCall C → N → Type 0) (addresses : List SocketAddr)
+    (connection : C) (key : ℕ) (new : N) : Type 0 where
+  pub place : ℕ
+  pub address : SocketAddr
+  pub listed : slice_get addresses place ≡ Some address
+  pub begun : C
+  pub before : N
+  pub mid : N
+  pub begins : transition before (BeginsConnect address (Ok begun)) mid
+  pub follows : transition mid (Follows begun key true connection) new
+
 -- ---- streams that close
 
 -- at most 256 close at once: a further one closes the oldest
@@ -93,8 +117,10 @@ with_room closing = if nat_lt (length closing.streams) 256 then closing
 -- except for those that it took.
 pub record ClosesAt {S : Type 0} (to_give taken : S → Option (List ℕ)) (calls : S → Option (List StreamCall))
     (reading : Option Instant) (old : ClosingList S) (stream : Buffer S) (new : ClosingList S) : Type 0 where
+  pub key : ℕ
+  pub known : Readiness
   pub last : ClosingStream S
-  pub writes : WritesOut to_give taken calls reading (begins_closing old.stall_time stream) last
+  pub writes : WritesOut to_give taken calls reading (begins_closing old.stall_time key known stream) last
   pub now : new ≡ record (with_room old) { streams = (with_room old).streams ++ last ∷ [] }
 
 -- the same at some reading
@@ -143,18 +169,19 @@ pub record Comes {S : Type 0} (old new : RunSockets S) : Type 0 where
   pub server : IsFreshConnect arrival.server
   pub closing : new.closing ≡ old.closing
 
--- one more bot, whose IM timer runs for this time from this reading of the clock on
-abbrev pub ComesWith : {S : Type 0} → List (Arriving S) → Option Instant → ℕ → List (Arriving S) → Type 0
-ComesWith {S} old reading im_time new =
-    (arrival : Arriving S) × (new ≡ old ++ arrival ∷ []) × IsAfter reading im_time arrival.im_due
+-- one more bot, whose IM timer and whose connect run for these times from this reading of the clock on
+abbrev pub ComesWith : {S : Type 0} → List (Arriving S) → Option Instant → ℕ → ℕ → List (Arriving S) → Type 0
+ComesWith {S} old reading im_time connect_time new = (arrival : Arriving S) × (new ≡ old ++ arrival ∷ [])
+    × IsAfter reading im_time arrival.im_due × IsAfter reading connect_time arrival.gives_up
 
 -- The effect of a system call on the sockets; `pair` is the content of ports. At the beginning of a round closing
--- streams advance. A report of news changes nothing. A turn begins and ends with the streams of one session, and leaves
--- these here unchanged.
+-- streams advance. A status that is shown, or a report of news, changes nothing. A turn begins with the streams of one
+-- session, and leaves these here unchanged.
 abbrev pub Transits : {P S : Type 0} → (S → Option (List ℕ)) → (S → Option (List ℕ)) →
     (S → Option (List StreamCall)) → (P → Paired S) → RunSockets S → SystemCall P → RunSockets S → Type 0
-Transits to_give taken calls pair old Begins new = (new.came ≡ old.came) × (new.arrivals ≡ old.arrivals)
+Transits to_give taken calls pair old (Begins orders) new = (new.came ≡ old.came) × (new.arrivals ≡ old.arrivals)
     × ClosingsGoOn to_give taken calls old.closing new.closing
+Transits to_give taken calls pair old (Shows ports status) new = new ≡ old
 Transits to_give taken calls pair old (ReportsNews ports news) new = new ≡ old
 Transits to_give taken calls pair old (BeginsTurn before after) new = new ≡ old
 Transits to_give taken calls pair old (Watches ports) new = new ≡ old
@@ -167,7 +194,7 @@ Transits {S = S} to_give taken calls pair old (Connects Failed) new = (arrival :
     × TakesOut old.arrivals arrival new.arrivals × Closes to_give taken calls old.closing arrival.bot new.closing
     × (new.came ≡ old.came)
 Transits to_give taken calls pair old (Connects Pending) new =
-    (count : ℕ) × ChecksArrivals count old.arrivals new.arrivals × (new.came ≡ old.came) × (new.closing ≡ old.closing)
+    ChecksArrivals (length old.arrivals) old.arrivals new.arrivals × (new.came ≡ old.came) × (new.closing ≡ old.closing)
 Transits to_give taken calls pair old (Retires ports end) new = ClosesBoth to_give taken calls old.closing (pair ports) new.closing
     × (new.came ≡ old.came) × (new.arrivals ≡ old.arrivals)
 Transits to_give taken calls pair old (Notifies notice) new = new ≡ old

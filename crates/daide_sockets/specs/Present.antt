@@ -4,6 +4,7 @@ use Rattle.std.specs.Net.Socket.{socket_ip}
 use Rattle.daide_settings.specs.Ranges.{host_of, may_come}
 use Rattle.daide_settings.specs.declared.settings.ranges.AddressRange.{AddressRange}
 use Rattle.daide_settings.specs.declared.settings.ranges.Host.{Host}
+use Rattle.daide_sockets.specs.declared.present.Present.{Present}
 use Rattle.daide_sockets.specs.declared.session_notice.SessionNotice.{SessionNotice}
 use Rattle.daide_sockets.specs.declared.session_notice.SessionNotice.TheVariants.{Began}
 
@@ -21,8 +22,10 @@ abbrev pub IsAllowed : List AddressRange → ℕ → List Host → SessionNotice
 IsAllowed allow most present (Began number bot) = may_come allow most present (host_of (socket_ip bot)) ≡ true
 IsAllowed allow most present _ = ⊥
 
--- The bot of a session that began is the last of those present, with its number and its host.
-abbrev pub IsPresentWith : List ℕ → List Host → SessionNotice → List ℕ → List Host → Type 0
-IsPresentWith numbers hosts (Began number bot) new_numbers new_hosts =
-    (new_numbers ≡ numbers ++ number ∷ []) × (new_hosts ≡ hosts ++ host_of (socket_ip bot) ∷ [])
-IsPresentWith numbers hosts _ new_numbers new_hosts = ⊥
+-- The bot of a session that began is the last of those present, with its number, its host and its address.
+abbrev pub IsPresentWith : Present → SessionNotice → Present → Type 0
+IsPresentWith old (Began number bot) new =
+    (new.numbers.items ≡ old.numbers.items ++ number ∷ [])
+    × (new.hosts.items ≡ old.hosts.items ++ host_of (socket_ip bot) ∷ [])
+    × (new.addresses.items ≡ old.addresses.items ++ bot ∷ [])
+IsPresentWith old _ new = ⊥

@@ -1,5 +1,5 @@
 -- The table of a run: what polls reported of its sockets, their nearest deadlines, and the time of a wait. (own)
-use Rattle.std.specs.Prelude.{◌≡◌, ℕ, ◌-◌, nat_le, if◌then◌else◌, Bool, true, false, ◌||◌, List, [], ◌∷◌}
+use Rattle.std.specs.Prelude.{◌≡◌, ℕ, ◌+◌, ◌-◌, nat_le, if◌then◌else◌, Bool, true, false, ◌||◌, List, [], ◌∷◌}
 use Rattle.std.specs.Prelude.{Option, Some, None, slice_get, slice_set}
 use Rattle.std.specs.Duration.{as_nanos}
 use Rattle.std.specs.Time.{instant_nanos}
@@ -77,6 +77,24 @@ abbrev pub is_reported_at : Table → ℕ → Bool
 is_reported_at table key = has_report (report_at table key)
 
 -- ---- changes of a row
+
+-- the row of a socket of which nothing is known
+abbrev pub taken_row : Row
+taken_row = record free_row { is_taken = true }
+
+-- the key of the first free row: the number of rows if all are taken
+abbrev pub first_free : List Row → ℕ
+first_free [] = 0
+first_free (row ∷ rows) = if row.is_taken then 1 + first_free rows else 0
+
+-- the rows after the first free one is taken
+abbrev pub with_taken : List Row → List Row
+with_taken [] = taken_row ∷ []
+with_taken (row ∷ rows) = if row.is_taken then row ∷ with_taken rows else taken_row ∷ rows
+
+-- the first free row was taken, under its key, and no other changed
+abbrev pub TakesRow : Table → ℕ → Table → Type 0
+TakesRow old key new = (key ≡ first_free old.rows) × (new ≡ record old { rows = with_taken old.rows })
 
 -- a row is freed
 abbrev pub freed : Table → ℕ → Table

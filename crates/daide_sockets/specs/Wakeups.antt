@@ -9,13 +9,14 @@ use Rattle.daide_io.specs.declared.ports.Put.{Put}
 use Rattle.daide_io.specs.declared.ports.Put.TheVariants.{Took}
 use Rattle.daide_io.specs.Ports.{PortCall, TurnBegins, Clock, Pulled, Offered}
 use Rattle.daide_io.specs.Network.{NetworkCall}
-use Rattle.daide_io.specs.System.{SystemCall, Begins, ReportsNews, BeginsTurn, Watches, Accepts, Connects, Retires}
-use Rattle.daide_io.specs.System.{Notifies, Waits}
+use Rattle.daide_io.specs.System.{SystemCall, Begins, Shows, ReportsNews, BeginsTurn, Watches, Accepts, Connects}
+use Rattle.daide_io.specs.System.{Retires, Notifies, Waits}
 use Rattle.daide_buffered_io.specs.Streams.{stream_of}
 use Rattle.daide_sockets.specs.declared.socket.Socket.{Socket}
 use Rattle.daide_sockets.specs.Sockets.{has_socket_work, next_deadline}
 use Rattle.daide_sockets.specs.Times.{is_past}
-use Rattle.daide_sockets.specs.Table.{Table, earlier, is_reported_at, watching, PollsOnce, IsNoTime, IsWaitTime}
+use Rattle.daide_sockets.specs.InTime.{watching_all}
+use Rattle.daide_sockets.specs.Table.{Table, earlier, is_reported_at, watching, unwatched, PollsOnce, IsWaitTime}
 
 -- Nothing was read from a socket. What is known of reads is unchanged. A socket that is not writable stays so, and what
 -- must be tried again stays so until the next turn.
@@ -82,24 +83,27 @@ session_due session =
 abbrev pub has_session_news : {S : Type 0} → Table → SessionSockets S → Bool
 has_session_news table session = may_session_go_on table session || is_past table.reading (session_due session)
 
--- A poll for the time of a wait, or for no time. All that it reported is in the rows.
-pub record RestsOnce {N C : Type 0} (transition : N → NetworkCall C → N → Type 0) (old : N) (before : Table) (new : N)
-    (after : Table) : Type 0 where
+-- A poll for the time of a wait that watches these too, each with work or without it, and with its nearest deadline. All
+-- that the poll reported is in the rows. After it nothing is watched.
+pub record RestsOnce {N C : Type 0} (transition : N → NetworkCall C → N → Type 0) (others : List (Bool × Option Instant))
+    (old : N) (before : Table) (new : N) (after : Table) : Type 0 where
   pub time : Option Duration
   pub polled : Table
-  pub lasts : IsWaitTime before time ⊎ IsNoTime time
-  pub polls : PollsOnce transition time old before new polled
-  pub rows : after.rows ≡ polled.rows
+  pub lasts : IsWaitTime (watching_all before others) time
+  pub polls : PollsOnce transition time old (watching_all before others) new polled
+  pub table : after ≡ unwatched (record polled { has_news = false })
 
 -- The effect of a system call on the network and the table, as far as a wait needs it; `view` is the content of ports.
 -- A wait watches each session that it was to watch: whether something may be done at once, by the ports or for another
--- reason, and its nearest deadline.
+-- reason, and its nearest deadline. It watches others too, which the call itself names (`Beside`).
 abbrev pub Wakes : {P S N C : Type 0} → (N → NetworkCall C → N → Type 0) → (P → SessionSockets S) → N × Table →
     SystemCall P → N × Table → Type 0
 Wakes transition view old (Watches ports) new =
     (other : Bool) × (new ≡ (old.0, watching old.1 (may_session_go_on old.1 (view ports) || other) (session_due (view ports))))
-Wakes transition view old Waits new = RestsOnce transition old.0 old.1 new.0 new.1
-Wakes transition view old Begins new = Unit {0}
+Wakes transition view old Waits new =
+    (others : List (Bool × Option Instant)) × RestsOnce transition others old.0 old.1 new.0 new.1
+Wakes transition view old (Begins orders) new = Unit {0}
+Wakes transition view old (Shows ports status) new = Unit {0}
 Wakes transition view old (ReportsNews ports news) new = Unit {0}
 Wakes transition view old (BeginsTurn before after) new = Unit {0}
 Wakes transition view old (Accepts came) new = Unit {0}

@@ -3,11 +3,18 @@
 //! Neither an accept nor a connect blocks. The server's name is resolved at the start. If it has several addresses,
 //! they are tried one after the other, within one deadline for all.
 
-ghost use Rattle.std.specs.Prelude.{◌≡◌, ◌≢◌, ◌+◌, ◌<◌, ◌++◌, ◌∷◌, [], Some, None, Err, true, false, IfOk, IfErr, IfSome, IfNone, IsSome};
-ghost use Rattle.daide_sockets.specs.Table.{left_with};
-ghost use Rattle.daide_sockets.specs.Accepting.{is_accept_made, is_accept_due, ReportsAccept, MakesAccept, Pauses};
+ghost use Rattle.std.specs.Prelude.{◌≡◌, ◌≢◌, ◌⊎◌, ◌+◌, ◌<◌, ◌++◌, ◌∷◌, [], Some, None, Err, true, false, IfOk, IfErr, IfSome, IsSome};
+ghost use Rattle.std.specs.Option.{is_none};
+ghost use Rattle.daide_buffered_io.specs.Buffers.{Buffer};
+ghost use Rattle.daide_io.specs.Network.{AsksConnect, StopsListening};
+ghost use Rattle.daide_sockets.specs.Beside.{may_connect, arrivals_watched};
+ghost use Rattle.daide_sockets.specs.InTime.{watching_all};
+ghost use Rattle.daide_sockets.specs.Pairing.{ConnectsTo};
+ghost use Rattle.daide_sockets.specs.Table.{watching, no_report, report_at};
+ghost use Rattle.daide_sockets.specs.Accepting.{is_accept_made, is_accept_due, accept_pause, ReportsAccept, MakesAccept, Pauses};
 ghost use Rattle.std.specs.Duration.{as_nanos};
-ghost use Rattle.daide_sockets.specs.Times.{IsAfter, IsStallEnd};
+ghost use Rattle.daide_sockets.specs.Timers.{BeginsAt, timers_of};
+ghost use Rattle.daide_sockets.specs.Times.{IsAfter, IsStallEnd, is_past};
 ghost use Rattle.std.specs.Net.Socket.{socket_ip};
 ghost use Rattle.daide_settings.specs.Ranges.{host_of, may_come};
 ghost use Rattle.daide_sockets.specs.Pairing.{StaysPending, IsFreshConnect, IsFresh, IsJoined};
@@ -28,7 +35,7 @@ use std::net::SocketAddr;
 use std::time::{Duration, Instant};
 
 /// The pause after a failed accept, for example for lack of descriptors, in milliseconds.
-const ACCEPT_PAUSE: u64 = 100;
+pub(crate) const ACCEPT_PAUSE: u64 = 100;
 
 /// Why no bot was accepted.
 #[derive(Clone, Copy, Debug, PartialEq, Eq)]
@@ -48,6 +55,8 @@ pub struct Acceptor {
     readiness: Readiness,
     /// The end of the pause after a failed accept; `None` if there is no pause.
     resumes_at: Option<Instant>,
+    /// Whether the listener is to be asked again at once: more may wait behind a bot that may not come.
+    looks_again: bool,
     /// The number of bots accepted.
     came: u32,
 }
@@ -55,47 +64,62 @@ pub struct Acceptor {
 impl Acceptor {
     /// Has the listener followed. Returns `None` if the table has no free row, or the system refuses.
     pub fn new<N: Network>(poller: &mut Poller<N>) -> Option<Acceptor>
-        ensures { IfSome result (λ acceptor. (acceptor.came ≡ 0) × (acceptor.resumes_at ≡ None)) }
+        ensures { IfSome result (λ acceptor. (acceptor.came ≡ 0) × (acceptor.resumes_at ≡ None)
+            × (acceptor.looks_again ≡ false)) }
     {
         let key = poller.listen()?;
         Some(Acceptor {
             key,
             readiness: Readiness::UNKNOWN,
             resumes_at: None,
+            looks_again: false,
             came: 0,
         })
     }
 
-    /// Ends the pause after a failed accept, if its time is over.
-    pub(crate) fn reopen(&mut self, table: &mut SocketTable)
+    /// Ends the pause after a failed accept, if its time is over at this reading of the clock.
+    pub(crate) fn reopen(&mut self, now: Option<Instant>)
+        ensures over { is_past now self.old.resumes_at ≡ true →
+            (self.new.resumes_at ≡ None) × (self.new.readiness.may_read ≡ true) }
+        ensures goes_on { is_past now self.old.resumes_at ≡ false → self.new ≡ self.old }
         ensures came { self.new.came ≡ self.old.came }
-        ensures clock { table.new.reading ≡ table.old.reading }
     {
-        if is_past(table.now(), self.resumes_at) {
+        if is_past(now, self.resumes_at) {
             self.resumes_at = None;
-            table.set_due(self.key, None);
             self.readiness.may_read = true;
         }
     }
 
-    /// Ends the pause, if there is one, so that no wait is for a bot any more.
-    pub(crate) fn stop(&mut self, table: &mut SocketTable)
-        ensures { self.new.came ≡ self.old.came }
+    /// Has the next wait watch the listener: it does not block if the listener is to be asked again, and lasts at most
+    /// until the end of the pause.
+    pub fn watch(&self, table: &mut SocketTable)
+        ensures { table.new ≡ watching table.old self.now.looks_again self.now.resumes_at }
     {
-        self.resumes_at = None;
-        table.leave(self.key, false, None);
+        table.watch(self.looks_again, self.resumes_at);
     }
 
-    /// Leaves work for the listener, so that the next wait does not block: more may wait behind a bot that may not come.
-    fn look_again(&mut self, table: &mut SocketTable)
-        ensures same { self.new ≡ self.old }
-        ensures table { table.new ≡ left_with table.old self.old.key true self.old.resumes_at }
+    /// Closes the listener: no bot is accepted any more, and no wait is for one.
+    pub(crate) fn close<N: Network>(&mut self, poller: &mut Poller<N>)
+        ensures came { self.new.came ≡ self.old.came }
+        ensures none { (self.new.looks_again ≡ false) × (self.new.resumes_at ≡ None) }
+        ensures table { poller.new.table ≡ poller.old.table }
+        ensures closes { N.transition poller.old.network StopsListening poller.new.network }
     {
-        table.leave(self.key, true, self.resumes_at);
+        self.readiness.may_read = false;
+        self.looks_again = false;
+        self.resumes_at = None;
+        poller.network.stop_listening();
+    }
+
+    /// Returns the number of bots accepted.
+    pub(crate) fn came(&self) -> u32
+        ensures { result ≡ self.now.came }
+    {
+        self.came
     }
 
     /// Returns whether an accept is made now: the listener is ready by the table, and no pause is under way.
-    fn is_due(&self, table: &SocketTable) -> bool
+    pub(crate) fn is_due(&self, table: &SocketTable) -> bool
         ensures { result ≡ is_accept_due table.now self.now.key self.now.readiness self.now.resumes_at }
     {
         match self.resumes_at {
@@ -106,6 +130,8 @@ impl Acceptor {
 
     /// Accepts a connection, and returns it with its address. Returns `None` if there is none. Makes no system call
     /// during the pause after a failed accept.
+    ///
+    /// `left`: if it returns none, no accept is due any more at this reading of the clock.
     pub fn accept<N: Network>(
         &mut self,
         poller: &mut Poller<N>,
@@ -116,6 +142,8 @@ impl Acceptor {
             MakesAccept N.transition poller.old.network }
         ensures not_made { is_accept_due poller.old.table self.old.key self.old.readiness self.old.resumes_at ≡ false →
             (result ≡ None) × (poller.new.network ≡ poller.old.network) }
+        ensures left { result ≡ None →
+            is_accept_due poller.new.table self.new.key self.new.readiness self.new.resumes_at ≡ false }
     {
         // Most rounds of a run end here.
         if !self.is_due(&poller.table) {
@@ -123,8 +151,8 @@ impl Acceptor {
         }
         let report = poller.table.take_report(self.key);
         self.readiness = merged(self.readiness, report);
+        self.looks_again = false;
         let accepted = self.accept_at(&mut poller.network, poller.table.now());
-        poller.table.leave(self.key, false, self.resumes_at);
         match accepted {
             Ok(came) => Some(came),
             Err(_) => None,
@@ -139,6 +167,8 @@ impl Acceptor {
     ///
     /// `failed`: one that would have blocked begins no pause, and any other failure begins one of 100 ms. After either
     /// the listener counts as not ready.
+    ///
+    /// `left`: then no accept is due any more at this reading.
     fn accept_at<N: Network>(
         &mut self,
         network: &mut N,
@@ -153,6 +183,8 @@ impl Acceptor {
         ensures accepted { IfOk result (λ _. (self.new.resumes_at ≡ None) × (self.new.readiness.may_read ≡ true)) }
         ensures failed { (kind : ErrorKind) → result ≡ Err (Declined.Failed kind) →
             Pauses now kind self.new.resumes_at × (self.new.readiness.may_read ≡ false) }
+        ensures left { IfErr result (λ _. is_accept_made now self.new.readiness.may_read self.new.resumes_at ≡ false) }
+        ensures key { self.new.key ≡ self.old.key }
         ensures came { self.new.came ≡ self.old.came }
     {
         let is_made = match self.resumes_at {
@@ -179,6 +211,7 @@ impl Acceptor {
     /// Starts the pause after an accept that failed for this reason; `WouldBlock` is not a failure.
     pub fn pause(&mut self, now: Option<Instant>, why: ErrorKind)
         ensures pauses { Pauses now why self.new.resumes_at }
+        ensures later { (self.new.resumes_at ≡ None) ⊎ IsAfter now accept_pause self.new.resumes_at }
         ensures rest { self.new ≡ record self.old { resumes_at = self.new.resumes_at } }
     {
         self.resumes_at = match why {
@@ -187,13 +220,14 @@ impl Acceptor {
         };
     }
 
-    /// Starts the pause after a refusal.
-    fn pause_after_refusal(&mut self, table: &mut SocketTable)
-        ensures came { self.new.came ≡ self.old.came }
-        ensures clock { table.new.reading ≡ table.old.reading }
+    /// Starts the pause after a refusal. Without a clock there is no pause, and the listener is asked again at once.
+    fn pause_after_refusal(&mut self, now: Option<Instant>)
+        ensures pauses { Pauses now ErrorKind.Other self.new.resumes_at }
+        ensures again { self.new.looks_again ≡ is_none self.new.resumes_at }
+        ensures rest { self.new ≡ record self.old { resumes_at = self.new.resumes_at; looks_again = self.new.looks_again } }
     {
-        self.pause(table.now(), ErrorKind::Other);
-        table.set_due(self.key, self.resumes_at);
+        self.pause(now, ErrorKind::Other);
+        self.looks_again = self.resumes_at.is_none();
     }
 
     /// Returns the next bot that came: its session's number, its socket and its address. It is added to those present.
@@ -206,6 +240,8 @@ impl Acceptor {
     /// `one`: exactly one bot was accepted, is followed, and is counted.
     ///
     /// `none`: no bot is counted.
+    ///
+    /// `left`: if none came, no accept is due any more at this reading of the clock, or the listener is to be asked again.
     ///
     /// Not said: that the system refused to follow a connection that was accepted and closed.
     pub(crate) fn next_bot<'w, N: Network>(
@@ -224,8 +260,11 @@ impl Acceptor {
         ensures allowed { IfOk result (λ bot. may_come rules.entry.0.now rules.entry.1 present.old.hosts.items
             (host_of (socket_ip bot.2)) ≡ true) }
         ensures added { IfOk result (λ bot. (present.new.numbers.items ≡ present.old.numbers.items ++ bot.0 ∷ [])
-            × (present.new.hosts.items ≡ present.old.hosts.items ++ host_of (socket_ip bot.2) ∷ [])) }
+            × (present.new.hosts.items ≡ present.old.hosts.items ++ host_of (socket_ip bot.2) ∷ [])
+            × (present.new.addresses.items ≡ present.old.addresses.items ++ bot.2 ∷ [])) }
         ensures same { IfErr result (λ _. present.new ≡ present.old) }
+        ensures left { IfErr result (λ _. self.old.came < u32.MAX → self.new.looks_again ≡ false →
+            is_accept_due poller.new.table self.new.key self.new.readiness self.new.resumes_at ≡ false) }
         ensures declined { (address : SocketAddr) → result ≡ Err (Some address) →
             may_come rules.entry.0.now rules.entry.1 present.old.hosts.items (host_of (socket_ip address)) ≡ false }
     {
@@ -238,17 +277,17 @@ impl Acceptor {
         let host = Host::of(address.ip());
         let (allow, most) = rules;
         if !may_come(allow, most, present.hosts(), host) {
-            self.look_again(&mut poller.table);
+            self.looks_again = true;
             return Err(Some(address));
         }
         let Some(bot) = Socket::new(poller, pool, stream) else {
-            self.pause_after_refusal(&mut poller.table);
+            self.pause_after_refusal(poller.table.now());
             return Err(None);
         };
         // The list has room for each bot of a run.
-        if !present.add(number, host) {
+        if !present.add(number, host, address) {
             poller.table.release(bot.key);
-            self.pause_after_refusal(&mut poller.table);
+            self.pause_after_refusal(poller.table.now());
             return Err(None);
         }
         self.came = number;
@@ -281,6 +320,8 @@ impl<'w, S: Drop> Model for PendingConnection<'w, S> {
       number = a.number;
       bot = a.bot.stream;
       server = option_map (λ socket. socket.stream) a.server;
+      row = option_map (λ socket. record { key = socket.key; known = socket.readiness }) a.server;
+      gives_up = a.gives_up;
       im_due = a.im_due;
     } };
 
@@ -295,22 +336,27 @@ pub(crate) struct Unreached<'w, S: Drop> {
     pub bot: Socket<'w, S>,
 }
 
-/// Starts a connect to the next address that permits one, and returns its connection with the key of its row, which has
-/// the deadline `gives_up`. Returns `None` if no address is left.
+/// Starts a connect to the next address that permits one, and returns its connection with the key of its row. Returns
+/// `None` if no address is left.
+///
+/// `connects`: the last calls on the network began the connect, to one of the server's addresses, and followed its
+/// connection under this key.
 fn begun<N: Network>(
     poller: &mut Poller<N>,
     servers: &[SocketAddr],
     tried: &mut usize,
-    gives_up: Option<Instant>,
-) -> Option<(N::Connection, usize)> {
-    for address in servers.iter().skip(*tried) {
-        *tried = tried.saturating_add(1);
+) -> Option<(N::Connection, usize)>
+    ensures connects { IfSome result (λ begun. ConnectsTo N.transition servers.now begun.0 begun.1 poller.new.network) }
+    ensures unknown { IfSome result (λ begun. report_at poller.new.table begun.1 ≡ no_report) }
+    ensures clock { poller.new.table.reading ≡ poller.old.table.reading }
+{
+    while let Some(address) = servers.get(*tried) {
+        *tried += 1;
         let Ok(stream) = poller.network.connect(*address) else {
             continue;
         };
         let mut stream = stream;
         if let Some(key) = poller.follow(&mut stream) {
-            poller.table.set_due(key, gives_up);
             return Some((stream, key));
         }
     }
@@ -343,13 +389,14 @@ impl<'w, S: Duplex + Drop> PendingConnection<'w, S> {
         ensures bot { result.bot ≡ came.entry.1.stream }
         ensures server { IsFreshConnect result.server }
         ensures im_due { IsAfter poller.old.table.reading (as_nanos times.0) result.im_due }
+        ensures gives_up { IsAfter poller.old.table.reading (as_nanos times.1) result.gives_up }
     {
         let (number, bot) = came;
         let (im_time, connect_time) = times;
         let gives_up = poller.table.after(connect_time);
         let im_due = poller.table.after(im_time);
         let mut tried = 0;
-        let begun = begun(poller, servers, &mut tried, gives_up);
+        let begun = begun(poller, servers, &mut tried);
         let server = connecting(begun, bot.pool, number);
         PendingConnection {
             number,
@@ -361,9 +408,22 @@ impl<'w, S: Duplex + Drop> PendingConnection<'w, S> {
         }
     }
 
-    /// Returns the state of the connect to the present address.
+    /// Returns the state of the connect to the present address. Asks the network if a poll reported something of it.
+    ///
+    /// `quiet`: without a report it is pending, and no call is made.
+    ///
+    /// `asked`: with one the result is the network's.
+    ///
+    /// `still`: if it is pending, the connect has no result until the next report.
     fn progress<N: Network<Connection = S>>(&mut self, poller: &mut Poller<N>) -> ConnectStatus
-        ensures { self.new ≡ self.old }
+        ensures quiet { may_connect poller.old.table self.old.row ≡ false →
+            (result ≡ ConnectStatus.Pending) × (poller.new.network ≡ poller.old.network) }
+        ensures asked { may_connect poller.old.table self.old.row ≡ true → (server : Buffer S) →
+            self.old.server ≡ Some server →
+            N.transition poller.old.network (AsksConnect server.stream result) poller.new.network }
+        ensures still { result ≡ ConnectStatus.Pending → may_connect poller.new.table self.new.row ≡ false }
+        ensures rest { self.new ≡ record self.old { row = self.new.row } }
+        ensures clock { poller.new.table.reading ≡ poller.old.table.reading }
     {
         let Some(server) = &mut self.server else {
             return ConnectStatus::Failed;
@@ -381,7 +441,8 @@ impl<'w, S: Duplex + Drop> PendingConnection<'w, S> {
 
     /// Closes the connect, and frees its row for the next one.
     fn drop_connect(&mut self, table: &mut SocketTable)
-        ensures { self.new ≡ record self.old { server = None } }
+        ensures connect { self.new ≡ record self.old { server = None; row = None } }
+        ensures clock { table.new.reading ≡ table.old.reading }
     {
         if let Some(server) = self.server.take() {
             table.release(server.key);
@@ -390,19 +451,26 @@ impl<'w, S: Duplex + Drop> PendingConnection<'w, S> {
 
     /// Advances the connect without blocking. Returns true if it is still under way; otherwise the server is connected,
     /// or no address is left, or the deadline is over.
+    ///
+    /// `late`: once its deadline is past at the reading of the clock, it is no longer under way.
+    ///
+    /// `early`: before its deadline it is given up only after a poll reported something of the connect.
     pub(crate) fn advances<N: Network<Connection = S>>(
         &mut self,
         poller: &mut Poller<N>,
         servers: &[SocketAddr],
     ) -> bool
         ensures goes_on { StaysPending self.old self.new }
-        ensures reached { result ≡ false → IsSome self.new.server → self.new ≡ self.old }
+        ensures reached { result ≡ false → IsSome self.new.server → self.new ≡ record self.old { row = self.new.row } }
+        ensures late { result ≡ true → is_past poller.old.table.reading self.old.gives_up ≡ false }
+        ensures early { result ≡ false → is_past poller.old.table.reading self.old.gives_up ≡ false →
+            may_connect poller.old.table self.old.row ≡ true }
     {
         match self.progress(poller) {
             ConnectStatus::Connected => return false,
             ConnectStatus::Failed => {
                 self.drop_connect(&mut poller.table);
-                let begun = begun(poller, servers, &mut self.tried, self.gives_up);
+                let begun = begun(poller, servers, &mut self.tried);
                 self.server = connecting(begun, self.bot.pool, self.number);
             }
             ConnectStatus::Pending => {}
@@ -413,13 +481,13 @@ impl<'w, S: Duplex + Drop> PendingConnection<'w, S> {
         self.server.is_some()
     }
 
-    /// Returns the ports of a bot whose server is connected. The first time is the idle timeout of both sides, the
-    /// second their stall timeout; `None` for no timeout.
+    /// Returns the ports of a bot whose server is connected, at this reading of the clock. The first time is the idle
+    /// timeout of both sides, the second their stall timeout; `None` for no timeout.
     ///
     /// Fails with the bot if the server was not reached.
     pub(crate) fn join(
         self,
-        table: &mut SocketTable,
+        now: Option<Instant>,
         times: (Option<Duration>, Option<Duration>),
     ) -> Result<SocketPorts<'w, S>, Unreached<'w, S>>
         ensures joined { IfOk result (λ ports. IsJoined self.entry (record {
@@ -428,8 +496,9 @@ impl<'w, S: Duplex + Drop> PendingConnection<'w, S> {
           server = ports.server.stream;
         })) }
         ensures im_due { IfOk result (λ ports. ports.im_due ≡ self.entry.im_due) }
-        ensures silent_from { IfOk result (λ ports. IsStallEnd table.old.reading times.0 ports.bot.silent_from
-            × IsStallEnd table.old.reading times.0 ports.server.silent_from) }
+        ensures silent_from { IfOk result (λ ports. IsStallEnd now times.0 ports.bot.silent_from
+            × IsStallEnd now times.0 ports.server.silent_from) }
+        ensures begins { IfOk result (λ ports. BeginsAt now times (timers_of ports)) }
         ensures unreached { IfErr result (λ left. (left.number ≡ self.entry.number)
             × (left.bot.stream ≡ self.entry.bot) × (self.entry.server ≡ None)) }
     {
@@ -444,13 +513,22 @@ impl<'w, S: Duplex + Drop> PendingConnection<'w, S> {
         let Some(server) = server else {
             return Err(Unreached { number, bot });
         };
-        // The deadlines of a session are its own: each wait watches them.
-        table.leave(bot.key, false, None);
-        table.leave(server.key, false, None);
-        Ok(SocketPorts::new(bot, server).of_session(number, table.now(), im_due, times))
+        Ok(SocketPorts::new(bot, server).of_session(number, now, im_due, times))
     }
 
-    /// The same of a bot whose connect is given up, wherever it stands.
+    /// Has the next wait watch the connect: it does not block if the connect may have a result, and lasts at most until
+    /// its deadline.
+    fn watch(&self, table: &mut SocketTable)
+        ensures { table.new ≡ watching table.old (may_connect table.old self.now.row) self.now.gives_up }
+    {
+        let may_end = match &self.server {
+            None => true,
+            Some(server) => merged(server.readiness, table.report(server.key)).may_write,
+        };
+        table.watch(may_end, self.gives_up);
+    }
+
+    /// Gives up the connect, and returns the bot.
     pub(crate) fn give_up(self, table: &mut SocketTable) -> Unreached<'w, S>
         ensures { (result.number ≡ self.entry.number) × (result.bot.stream ≡ self.entry.bot) }
     {
@@ -465,5 +543,17 @@ impl<'w, S: Duplex + Drop> PendingConnection<'w, S> {
             im_due: _,
         } = arrival;
         Unreached { number, bot }
+    }
+}
+
+/// Has the next wait watch each connect.
+pub(crate) fn watch_arrivals<S: Duplex + Drop>(
+    arrivals: &[PendingConnection<'_, S>],
+    table: &mut SocketTable,
+)
+    ensures { table.new ≡ watching_all table.old (arrivals_watched table.old arrivals.now) }
+{
+    for arrival in arrivals {
+        arrival.watch(table);
     }
 }

@@ -4,6 +4,7 @@ ghost use Rattle.std.specs.Prelude.{◌≡◌, ◌+◌, ◌*◌, ◌^◌, ◌<�
 ghost use Rattle.daide_sockets.specs.Lingering.{no_closing};
 ghost use Rattle.daide_sockets.specs.Times.{IsSeconds, IsIdleTime};
 
+use crate::control::MOST_CONTROLS;
 use crate::lingering_close::MOST_CLOSING;
 use crate::os_network::{NetworkError, OsNetwork};
 use crate::poller::EVENTS;
@@ -86,7 +87,7 @@ pub fn bind_sockets<'r, R: AllocGlobal + Clock + Net>(
     settings: &Settings,
 ) -> Result<BoundSockets<'r, R>, BindError>
     ensures rows { IfOk result (λ ground. settings.now.max_sessions < 2 ^ 62 →
-        ground.table.max_rows ≡ 2 * settings.now.max_sessions + MOST_CLOSING + 1) }
+        ground.table.max_rows ≡ 2 * settings.now.max_sessions + MOST_CLOSING + MOST_CONTROLS + 2) }
 {
     let Some(listener) = listener_at(rt, settings.listen.as_str()) else {
         return Err(BindError::Listen);

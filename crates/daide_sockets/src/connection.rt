@@ -1,14 +1,20 @@
 //! A connection of the operating system, as a full-duplex byte stream.
 
 use daide_io::duplex::Duplex;
-use mio::net::TcpStream;
+use mio::net::{TcpStream, UnixStream};
 use std::io;
 use std::io::{Read, Write};
 use std::net::Shutdown;
 
-/// A connection of the operating system. It records neither its bytes nor its calls.
+/// A connection of the operating system: of a bot or the server, or one by which an operator controls the run. It records
+/// neither its bytes nor its calls.
 #[derive(Drop)]
-pub struct Connection(pub TcpStream);
+pub enum Connection {
+    /// To a bot or to the server.
+    Tcp(TcpStream),
+    /// To a client of the control socket.
+    Control(UnixStream),
+}
 
 impl Duplex for Connection {
     ghost use Rattle.std.specs.Prelude.{None};
@@ -20,15 +26,24 @@ impl Duplex for Connection {
     ghost calls = { λ _. None };
 
     fn read(&mut self, buffer: &mut [u8]) -> io::Result<usize> {
-        self.0.read(buffer)
+        match self {
+            Connection::Tcp(stream) => stream.read(buffer),
+            Connection::Control(stream) => stream.read(buffer),
+        }
     }
 
     fn write(&mut self, bytes: &[u8]) -> io::Result<usize> {
-        self.0.write(bytes)
+        match self {
+            Connection::Tcp(stream) => stream.write(bytes),
+            Connection::Control(stream) => stream.write(bytes),
+        }
     }
 
     fn end_writing(&mut self) {
         // A connection that is gone already has no writing direction to shut down.
-        let _ = self.0.shutdown(Shutdown::Write);
+        let _ = match self {
+            Connection::Tcp(stream) => stream.shutdown(Shutdown::Write),
+            Connection::Control(stream) => stream.shutdown(Shutdown::Write),
+        };
     }
 }

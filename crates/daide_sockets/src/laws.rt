@@ -1,5 +1,8 @@
 //! Laws of the sockets of a run: functions with no parameters and an empty body, whose contracts are the laws.
 
+ghost use Rattle.daide_sockets.specs.Accounted.{SocketsAreAccounted};
+ghost use Rattle.daide_sockets.specs.Beside.{WaitsAreInTimeBeside};
+ghost use Rattle.daide_sockets.specs.ControlInTime.{ControlWaitsAreInTime};
 ghost use Rattle.daide_sockets.specs.InTime.{WaitsAreInTime};
 ghost use Rattle.daide_sockets.specs.PairedOnce.{SessionsComeOnce};
 
@@ -17,4 +20,30 @@ pub fn sessions_come_once<P: Ports, S: Duplex + Drop>()
 /// blocks.
 pub fn waits_are_in_time()
     ensures { WaitsAreInTime }
+{}
+
+/// A wait lasts at most until the deadline of each control connection, and takes no time while one of them may be read or
+/// written. The same holds of the listener of the control socket while a place is free.
+pub fn control_waits_are_in_time<S: Duplex + Drop>()
+    ensures { ControlWaitsAreInTime S }
+{}
+
+/// A wait leaves none behind of the sockets that are no session's. Each wait of a run watches the listener, each connect
+/// and each closing socket (`System::wait`: `polls`, `others_watched`). It takes no time if the listener is to be asked
+/// again, if a poll reported something of a connect, or if a closing socket may do something at once: it has buffered
+/// bytes and is writable, or its writing is over and it is readable. It ends by the end of the pause of accepts, by the
+/// deadline of each connect, and by the nearest deadline of each closing socket: of its stall timeout, or of its release.
+pub fn waits_are_in_time_beside<S: Duplex + Drop>()
+    ensures { WaitsAreInTimeBeside S }
+{}
+
+/// Over any calls of the sockets of a run, each bot that came waits for its connect, was joined to it, or was given up. At
+/// most 256 sockets close: of each bot that was given up its socket, and of each session that was retired its two. A socket
+/// that is none of these any more was closed. So beside the listener a run holds two sockets for each bot that waits, two
+/// for each session, and those that close.
+///
+/// Not said: that the rows of the table are as many. A row is taken only below the most rows of the table, which are two for
+/// each session, 256, and one (`take_row`: `few`; `most_sockets`).
+pub fn sockets_are_accounted<P: Ports, S: Duplex + Drop>()
+    ensures { SocketsAreAccounted P S.to_give S.taken S.calls }
 {}

@@ -3,7 +3,8 @@
 //! Only the loop's own wait blocks. The sockets are over any `Network`; `os_network` is that of the operating system,
 //! with `connection` as a full-duplex stream. `socket` is a connection with its readiness and its deadlines, and `ports`
 //! are the two of a session. `table` has what polls reported of each socket and its nearest deadline, and `poller` polls
-//! the network into it. `admission` accepts bots and connects them, `present` has the hosts of those that are there,
+//! the network into it. `admission` accepts bots and connects them, and `present` has the hosts and the addresses of those
+//! that are there. `control` is the control socket, with `control_connection`, `control_request` and `control_answer`.
 //! `lingering_close` closes in stages, `session_notice` has the log lines of a session, and `timed` the timeouts that it
 //! reports. `system` combines them for the loop, and `bound_sockets` creates the resources of a run.
 //!
@@ -14,6 +15,11 @@
 pub mod admission;
 pub mod bound_sockets;
 pub mod connection;
+pub mod control;
+mod control_answer;
+mod control_connection;
+pub mod control_listener;
+mod control_request;
 pub mod laws;
 pub mod lingering_close;
 pub mod os_network;
@@ -28,4 +34,4 @@ pub mod timed;
 
 // Only this crate depends on `mio`, so it exports the names that its callers need.
 pub use mio::Interest;
-pub use mio::net::{TcpListener, TcpStream};
+pub use mio::net::{TcpListener, TcpStream, UnixListener, UnixStream};

@@ -10,10 +10,13 @@ ghost use Rattle.daide_io.specs.declared.ports.Pull.{Pull};
 ghost use Rattle.daide_io.specs.Ports.{AppendsTo};
 ghost use Rattle.daide_buffered_io.specs.Buffers.{Passes, ReadsNothing, WritesNothing};
 ghost use Rattle.daide_io.specs.Streams.{StreamCall, WritingEnded};
+ghost use Rattle.daide_sockets.specs.Beside.{may_close_on, closing_due, closings_watched};
+ghost use Rattle.daide_sockets.specs.Finishing.{FinishesAll};
+ghost use Rattle.daide_sockets.specs.InTime.{watching_all};
 ghost use Rattle.daide_sockets.specs.Lingering.{ClosingStream, ClosingList, begins_closing, no_closing, TriesWriting, WritesOut};
-ghost use Rattle.daide_sockets.specs.Lingering.{Discards, is_released, Lingers, Leaves, LooksAtOne, LooksAlong, in_pass};
-ghost use Rattle.daide_sockets.specs.Lingering.{LooksAround, GoOnFor};
-ghost use Rattle.daide_sockets.specs.Table.{WaitsOnce};
+ghost use Rattle.daide_sockets.specs.Lingering.{Discards, is_released, LingersOn, LeavesNow, with_report, LooksAtOne, LooksAlong};
+ghost use Rattle.daide_sockets.specs.Lingering.{in_pass, LooksAround, GoOnFor};
+ghost use Rattle.daide_sockets.specs.Table.{report_at, watching};
 ghost use Rattle.daide_sockets.specs.Wakeups.{RestsOnce};
 ghost use Rattle.daide_sockets.specs.Pairing.{ClosesAt, ClosesBothAt, with_room};
 
@@ -58,6 +61,8 @@ impl<'w, S: Duplex + Drop> Model for LingeringClose<'w, S> {
 
     ghost view = { λ c. record {
       stream = c.socket.stream;
+      key = c.socket.key;
+      known = c.socket.readiness;
       stall_time = c.socket.stall_time;
       stalls_at = c.socket.stalls_at;
       quota = c.rest;
@@ -68,7 +73,7 @@ impl<'w, S: Duplex + Drop> Model for LingeringClose<'w, S> {
 impl<'w, S: Duplex + Drop> LingeringClose<'w, S> {
     /// Begins with a socket that no session reads any more. Its peer has this time to take bytes; `None` for ever.
     fn new(socket: Socket<'w, S>, stall_time: Option<Duration>) -> LingeringClose<'w, S>
-        ensures { result ≡ begins_closing stall_time socket.entry.stream }
+        ensures { result ≡ begins_closing stall_time socket.entry.key socket.entry.readiness socket.entry.stream }
     {
         let mut socket = socket;
         // Until the buffered bytes are written, the stall timeout is the only deadline.
@@ -88,6 +93,7 @@ impl<'w, S: Duplex + Drop> LingeringClose<'w, S> {
         ensures failed { self.new.stream.has_failed ≡ self.old.stream.has_failed }
         ensures stays { (self.new.quota ≡ self.old.quota) × (self.new.released_at ≡ self.old.released_at) }
         ensures stalls { (self.new.stall_time ≡ self.old.stall_time) × (self.new.stalls_at ≡ self.old.stalls_at) }
+        ensures known { (self.new.key ≡ self.old.key) × (self.new.known ≡ self.old.known) }
         ensures told { self.old.stream.write_buffer ≡ [] → AppendsTo (S.calls self.old.stream.stream) (WritingEnded ∷ [])
             (S.calls self.new.stream.stream) }
     {
@@ -157,10 +163,10 @@ impl<'w, S: Duplex + Drop> LingeringClose<'w, S> {
     /// `lingers`: while bytes are buffered for it, they are written. After that it drops a piece of the bytes received.
     ///
     /// `leaves`: it leaves only after its writing is over. Then it leaves at the stream's end, once 1 MiB was dropped,
-    /// or a second later by the reading of the clock. It leaves at once if the clock can't be read (`Leaves`).
+    /// or a second later by the reading of the clock. It leaves at once if the clock can't be read (`LeavesNow`).
     fn lingers(&mut self, now: Option<Instant>) -> bool
-        ensures lingers { result ≡ true → Lingers S.to_give S.taken S.calls now self.old self.new }
-        ensures leaves { result ≡ false → Leaves S.to_give S.taken S.calls now self.old }
+        ensures lingers { result ≡ true → LingersOn S.to_give S.taken S.calls now self.old self.new }
+        ensures leaves { result ≡ false → LeavesNow S.to_give S.taken S.calls now self.old }
     {
         if self.socket.stream.is_behind() {
             self.end_writing(now);
@@ -171,45 +177,53 @@ impl<'w, S: Duplex + Drop> LingeringClose<'w, S> {
 
     /// Takes the report of its row.
     fn take_report(&mut self, table: &mut SocketTable)
-        ensures same { self.new ≡ self.old }
+        ensures taken { self.new ≡ with_report (report_at table.old self.old.key) self.old }
         ensures clock { table.new.reading ≡ table.old.reading }
     {
         self.socket.take_report(table);
     }
 
-    /// Leaves its nearest deadline in its row.
-    fn note_deadline(&self, table: &mut SocketTable)
-        ensures { table.new.reading ≡ table.old.reading }
-    {
-        let due = earlier(self.socket.stalls_at(), self.released_at);
-        table.leave(self.socket.key, false, due);
-    }
-
-    /// Makes a step of closing a socket (`lingers`), with the report and the deadline of its row. Frees the row if it is
-    /// to be closed now.
+    /// Makes a step of closing a socket (`lingers`), with the report of its row. Frees the row if it is to be closed now.
     fn goes_on(&mut self, table: &mut SocketTable, now: Option<Instant>) -> bool
-        ensures lingers { result ≡ true → Lingers S.to_give S.taken S.calls now self.old self.new }
-        ensures leaves { result ≡ false → Leaves S.to_give S.taken S.calls now self.old }
+        ensures lingers { result ≡ true → LingersOn S.to_give S.taken S.calls now
+            (with_report (report_at table.old self.old.key) self.old) self.new }
+        ensures leaves { result ≡ false → LeavesNow S.to_give S.taken S.calls now
+            (with_report (report_at table.old self.old.key) self.old) }
         ensures clock { table.new.reading ≡ table.old.reading }
     {
         self.take_report(table);
         let stays = self.lingers(now);
-        if stays {
-            self.note_deadline(table);
-        } else {
+        if !stays {
             table.release(self.socket.key);
         }
         stays
     }
 
-    /// Returns whether a call may make progress.
-    fn is_ready(&self, table: &SocketTable) -> bool {
+    /// Returns whether a step may do something at once.
+    fn is_ready(&self, table: &SocketTable) -> bool
+        ensures { result ≡ may_close_on table.now self.now }
+    {
         let readiness = merged(self.socket.readiness, table.report(self.socket.key));
         if self.socket.stream.is_behind() {
             readiness.may_write
         } else {
             readiness.may_read || self.socket.stream.is_ahead()
         }
+    }
+
+    /// Returns its nearest deadline.
+    fn due(&self) -> Option<Instant>
+        ensures { result ≡ closing_due self.now }
+    {
+        earlier(self.socket.stalls_at(), self.released_at)
+    }
+
+    /// Has the next wait watch it.
+    fn watch(&self, table: &mut SocketTable)
+        ensures { table.new ≡ watching table.old (may_close_on table.old self.now) (closing_due self.now) }
+    {
+        let has_work = self.is_ready(table);
+        table.watch(has_work, self.due());
     }
 }
 
@@ -301,16 +315,13 @@ impl<'w, S: Duplex + Drop> ClosingSockets<'w, S> {
         at
     }
 
-    /// Leaves the nearest deadline of each in its row.
-    fn note_deadlines(&self, table: &mut SocketTable) {
+    /// Has the next wait watch each.
+    fn watch(&self, table: &mut SocketTable)
+        ensures { table.new ≡ watching_all table.old (closings_watched table.old self.now) }
+    {
         for closing in self.sockets.iter() {
-            closing.note_deadline(table);
+            closing.watch(table);
         }
-    }
-
-    /// Returns whether one of them may make progress.
-    fn is_ready(&self, table: &SocketTable) -> bool {
-        self.sockets.iter().any(|closing| closing.is_ready(table))
     }
 }
 
@@ -379,7 +390,6 @@ impl<'w, S: Duplex + Drop> Closings<'w, S> {
         self.make_room(table);
         let mut closing = LingeringClose::new(socket, self.stall_time);
         closing.end_writing(now);
-        closing.note_deadline(table);
         self.sockets.push(closing);
     }
 
@@ -429,13 +439,16 @@ impl<'w, S: Duplex + Drop> Closings<'w, S> {
 
     /// Makes the same rounds until no socket closes, or until 2^64 - 1 rounds were made, and waits between them
     /// (`GoOnFor`). So at the end of a run too no buffered byte is dropped before its writing is over.
+    ///
+    /// `readings`: each round is at the last reading of the clock, and the wait after it watches each socket.
     pub fn finish<N: Network>(&mut self, poller: &mut Poller<N>)
-        ensures { (rounds : ℕ) × GoOnFor S.to_give S.taken S.calls rounds self.old self.new
+        ensures rounds { (rounds : ℕ) × GoOnFor S.to_give S.taken S.calls rounds self.old self.new
             × ((self.new.streams ≡ []) ⊎ (rounds ≡ u64.MAX)) }
+        ensures readings { FinishesAll N.transition S.to_give S.taken S.calls u64.MAX poller.old.network
+            poller.old.table.reading self.old self.new }
     {
-        // Sessions that were broken off left deadlines, which no wait is for any more.
+        // A round that was broken off may have watched sessions, which no wait is for any more.
         poller.table.forget_turns();
-        self.sockets.note_deadlines(&mut poller.table);
         for _round in 0..u64::MAX {
             self.advance(&mut poller.table);
             if self.is_empty() {
@@ -445,17 +458,22 @@ impl<'w, S: Duplex + Drop> Closings<'w, S> {
         }
     }
 
-    /// Waits for events. If a socket may make progress at once, it only polls.
+    /// Waits, and watches each socket: it only polls if one may make progress at once, and waits at most until the
+    /// nearest deadline.
     pub fn rest<N: Network>(&self, poller: &mut Poller<N>)
-        ensures waits { self.now.streams ≡ [] → WaitsOnce N.transition poller.old.network poller.old.table
-            poller.new.network poller.new.table }
-        ensures polls { RestsOnce N.transition poller.old.network poller.old.table poller.new.network poller.new.table }
+        ensures { RestsOnce N.transition (closings_watched poller.old.table self.now.streams) poller.old.network
+            poller.old.table poller.new.network poller.new.table }
     {
-        if !self.is_empty() && self.is_ready(&poller.table) {
-            poller.look();
-        } else {
-            poller.wait();
-        }
+        self.watch(&mut poller.table);
+        poller.wait();
+        poller.table.unwatch();
+    }
+
+    /// Has the next wait watch each socket.
+    pub fn watch(&self, table: &mut SocketTable)
+        ensures { table.new ≡ watching_all table.old (closings_watched table.old self.now.streams) }
+    {
+        self.sockets.watch(table);
     }
 
     /// Returns whether there are none.
@@ -464,10 +482,5 @@ impl<'w, S: Duplex + Drop> Closings<'w, S> {
         ensures some { result ≡ false → 0 < length self.now.streams }
     {
         self.sockets.len() == 0
-    }
-
-    /// Returns whether one of them may make progress.
-    pub fn is_ready(&self, table: &SocketTable) -> bool {
-        self.sockets.is_ready(table)
     }
 }

@@ -6,19 +6,24 @@
 use crate::connection::Connection;
 use daide_io::network::{ConnectStatus, Network, SocketEvent};
 use mio::event::Event;
-use mio::net::{TcpListener, TcpStream};
+use mio::net::{TcpListener, TcpStream, UnixListener};
 use mio::{Events, Interest, Poll, Registry, Token};
 use std::alloc::{AllocError, Global};
 use std::io;
+use std::io::ErrorKind;
 use std::net::{Net, SocketAddr};
 use std::rt::Clock;
 use std::time::{Duration, Instant};
 
-/// The sockets and the clock of the operating system, with one listener.
+/// The sockets and the clock of the operating system, with a listener for bots, and one for control connections if there
+/// is a control socket.
 #[derive(Drop)]
 pub struct OsNetwork<'r, R: Clock + Net> {
     runtime: &'r R,
-    listener: TcpListener,
+    /// The listener for bots; `None` once it is closed.
+    listener: Option<TcpListener>,
+    /// The listener for control connections; `None` if the run has no control socket.
+    control: Option<UnixListener>,
     registry: Registry,
     poll: Poll,
     events: Events,
@@ -47,11 +52,11 @@ fn socket_event(event: &Event) -> SocketEvent {
 /// Turns off the delay of small writes. A connection that delays them is slower, but correct.
 fn undelayed(stream: TcpStream) -> Connection {
     let _ = stream.set_nodelay(true);
-    Connection(stream)
+    Connection::Tcp(stream)
 }
 
 impl<'r, R: Clock + Net> OsNetwork<'r, R> {
-    /// Creates a network with this listener. Allocates its descriptors and its memory at once: a poll reports at most
+    /// Creates a network with this listener for bots, and without a control socket. Allocates its descriptors and its memory at once: a poll reports at most
     /// `events`.
     ///
     /// Fails with `System`, then with `Memory`.
@@ -72,11 +77,17 @@ impl<'r, R: Clock + Net> OsNetwork<'r, R> {
         };
         Ok(OsNetwork {
             runtime,
-            listener,
+            listener: Some(listener),
+            control: None,
             registry,
             poll,
             events,
         })
+    }
+
+    /// Sets the listener of the control socket, before the sockets of a run are created over the network.
+    pub fn set_control(&mut self, listener: UnixListener) {
+        self.control = Some(listener);
     }
 }
 
@@ -100,16 +111,43 @@ impl<R: Clock + Net> Network for OsNetwork<'_, R> {
     }
 
     fn listen(&mut self, key: usize) -> bool {
-        let interest = Interest::READABLE;
-        self.registry
-            .register(&mut self.listener, Token(key), interest)
-            .is_ok()
+        match &mut self.listener {
+            Some(listener) => self
+                .registry
+                .register(listener, Token(key), Interest::READABLE)
+                .is_ok(),
+            None => false,
+        }
     }
 
     fn accept(&mut self) -> io::Result<(Connection, SocketAddr)> {
+        let Some(listener) = &self.listener else {
+            return Err(ErrorKind::WouldBlock.into());
+        };
         let _spare = self.registry.try_clone()?;
-        let (stream, address) = self.listener.accept()?;
+        let (stream, address) = listener.accept()?;
         Ok((undelayed(stream), address))
+    }
+
+    fn stop_listening(&mut self) {
+        self.listener = None;
+    }
+
+    fn listen_for_control(&mut self, key: usize) -> Option<bool> {
+        let listener = self.control.as_mut()?;
+        let followed = self
+            .registry
+            .register(listener, Token(key), Interest::READABLE);
+        Some(followed.is_ok())
+    }
+
+    fn accept_control(&mut self) -> io::Result<Connection> {
+        let Some(listener) = &self.control else {
+            return Err(ErrorKind::WouldBlock.into());
+        };
+        let _spare = self.registry.try_clone()?;
+        let (stream, _address) = listener.accept()?;
+        Ok(Connection::Control(stream))
     }
 
     fn connect(&mut self, address: SocketAddr) -> io::Result<Connection> {
@@ -119,13 +157,20 @@ impl<R: Clock + Net> Network for OsNetwork<'_, R> {
     fn follow(&mut self, connection: &mut Connection, key: usize) -> bool {
         // A read stops before an urgent byte, which is reported as a priority event.
         let interest = Interest::READABLE | Interest::WRITABLE | Interest::PRIORITY;
-        self.registry
-            .register(&mut connection.0, Token(key), interest)
-            .is_ok()
+        match connection {
+            Connection::Tcp(stream) => self.registry.register(stream, Token(key), interest).is_ok(),
+            Connection::Control(stream) => {
+                self.registry.register(stream, Token(key), interest).is_ok()
+            }
+        }
     }
 
     fn connect_status(&mut self, connection: &Connection) -> ConnectStatus {
-        match (connection.0.take_error(), connection.0.peer_addr()) {
+        let Connection::Tcp(stream) = connection else {
+            // Only connects to the server have a state.
+            return ConnectStatus::Failed;
+        };
+        match (stream.take_error(), stream.peer_addr()) {
             (Ok(None), Ok(_)) => ConnectStatus::Connected,
             (Ok(None), Err(_)) => ConnectStatus::Pending,
             _ => ConnectStatus::Failed,

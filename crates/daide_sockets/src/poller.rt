@@ -1,8 +1,9 @@
 //! The network of a run, polled into its table.
 
-ghost use Rattle.std.specs.Prelude.{◌≡◌, Option, false};
+ghost use Rattle.std.specs.Prelude.{◌≡◌, nat_le, Option, IfSome, true, false};
 ghost use Rattle.std.specs.declared.time.Duration.{Duration};
-ghost use Rattle.daide_sockets.specs.Table.{PollsOnce, IsNoTime, WaitsOnce};
+ghost use Rattle.daide_io.specs.Network.{Listens, Follows};
+ghost use Rattle.daide_sockets.specs.Table.{PollsOnce, IsNoTime, WaitsOnce, TakesRow};
 
 use crate::table::SocketTable;
 use daide_io::network::{Network, SocketEvent};
@@ -38,7 +39,10 @@ impl<N: Network> Poller<N> {
 
     /// Returns the key of a row under which the network follows its listener. Returns `None` if the table has no free
     /// row, or the system refuses.
-    pub(crate) fn listen(&mut self) -> Option<usize> {
+    pub(crate) fn listen(&mut self) -> Option<usize>
+        ensures followed { IfSome result (λ key. N.transition self.old.network (Listens key true) self.new.network) }
+        ensures row { IfSome result (λ key. TakesRow self.old.table key self.new.table) }
+    {
         let key = self.table.take_row()?;
         if !self.network.listen(key) {
             self.table.release(key);
@@ -50,6 +54,9 @@ impl<N: Network> Poller<N> {
     /// Returns the key of a row under which the network follows a connection. Returns `None` if the table has no free
     /// row, or the system refuses.
     pub(crate) fn follow(&mut self, connection: &mut N::Connection) -> Option<usize>
+        ensures followed { IfSome result (λ key.
+            N.transition self.old.network (Follows connection.old key true connection.new) self.new.network) }
+        ensures row { IfSome result (λ key. TakesRow self.old.table key self.new.table) }
         ensures clock { self.new.table.reading ≡ self.old.table.reading }
     {
         let key = self.table.take_row()?;
@@ -71,7 +78,11 @@ impl<N: Network> Poller<N> {
     }
 
     /// Polls for the present events if many turns began since the last poll.
-    pub fn look_by_turns(&mut self) {
+    pub fn look_by_turns(&mut self)
+        ensures looks { nat_le 32 self.old.table.turns ≡ true → (time : Option Duration) × IsNoTime time
+            × PollsOnce N.transition time self.old.network self.old.table self.new.network self.new.table }
+        ensures rests { nat_le 32 self.old.table.turns ≡ false → self.new ≡ self.old }
+    {
         if self.table.has_many_turns() {
             self.look();
         }
@@ -86,7 +97,7 @@ impl<N: Network> Poller<N> {
     }
 
     /// Blocks until a socket is ready, or until the next deadline. Does not block if a poll since the last wait
-    /// received events, since the system reports each of them only once, or if a turn left something that may be done.
+    /// received events, since the system reports each of them only once, or if something may be done at once.
     pub fn wait(&mut self)
         ensures { WaitsOnce N.transition self.old.network self.old.table self.new.network self.new.table }
     {

@@ -12,6 +12,7 @@ ghost use Rattle.daide_buffered_io.specs.Taking.{bytes_taken};
 ghost use Rattle.daide_sockets.specs.Lingering.{IsWriting};
 ghost use Rattle.daide_sockets.specs.Sockets.{read_if, due_after};
 ghost use Rattle.daide_sockets.specs.Table.{merged, report_at, without_report, watching};
+ghost use Rattle.daide_sockets.specs.Timers.{BeginsAt, PullsInTime, PutsInTime, FlushesInTime, BeginsInTime, SetsTimers, is_got, timers_of};
 ghost use Rattle.daide_sockets.specs.Times.{IsStallEnd, has_stalled, is_past};
 ghost use Rattle.daide_sockets.specs.Wakeups.{StaysUnread, IsPulled, IsOffered, Settles};
 ghost use Rattle.daide_sockets.specs.Wakeups.{may_session_go_on, session_due, has_session_news};
@@ -41,11 +42,33 @@ impl IdleTimeout {
         timeout_end(self.reading, self.time)
     }
 
+    /// Returns the moment at which the idle timeout of a socket expires after this pull, by the moment before it. It
+    /// starts again if the side sent something.
+    fn end_after(self, pull: Pull, before: Option<Instant>) -> Option<Instant>
+        ensures starts { is_got pull ≡ true → IsStallEnd self.reading self.time result }
+        ensures goes_on { is_got pull ≡ false → result ≡ before }
+    {
+        match pull {
+            Pull::Got(_) => self.end(),
+            Pull::Idle | Pull::Ended => before,
+        }
+    }
+
     /// Returns true if the idle timeout of a socket is over; never true without one.
     fn is_over(self, silent_from: Option<Instant>) -> bool
         ensures { result ≡ has_stalled self.time self.reading silent_from }
     {
         self.time.is_some() && is_past(self.reading, silent_from)
+    }
+}
+
+/// Returns the reading of the clock at which a peer last sent something, after this pull.
+fn heard_after(pull: Pull, now: Option<Instant>, before: Option<Instant>) -> Option<Instant>
+    ensures some { pulled_len pull ≢ 0 → result ≡ now }
+{
+    match pull {
+        Pull::Got(_) => now,
+        Pull::Idle | Pull::Ended => before,
     }
 }
 
@@ -64,6 +87,8 @@ impl IdleTimeout {
 /// finds nothing leaves it as it is.
 ///
 /// `written`: what is held for the other side is written once, if this side has nothing more.
+///
+/// `own_time`, `other_time`: a pull ends no stall timeout. That of the other side goes on while its peer takes no byte.
 fn pull_or_flush_peer<S: Duplex + Drop>(
     idle: IdleTimeout,
     own: &mut Socket<'_, S>,
@@ -91,6 +116,7 @@ fn pull_or_flush_peer<S: Duplex + Drop>(
     ensures late { has_stalled idle.time idle.reading own.old.silent_from ≡ true → result ≢ Pull.Idle }
     // the timeout starts again with what a side sends
     ensures starts { pulled_len result ≢ 0 → IsStallEnd idle.reading idle.time own.new.silent_from }
+    ensures heard { pulled_len result ≢ 0 → own.new.heard_at ≡ idle.reading }
     ensures goes_on { result ≡ Pull.Idle → own.new.silent_from ≡ own.old.silent_from }
     ensures stays { own.old.timed.is_silent ≡ true → own.new.timed.is_silent ≡ true }
     // a side counts as ended for a stall only if its writes fail for that
@@ -106,6 +132,9 @@ fn pull_or_flush_peer<S: Duplex + Drop>(
     // with room, nothing is left that may be read, but for a read that must be tried again
     ensures pulled { IsPulled (length buffer.old) result own.old own.new }
     ensures other_stays { StaysUnread other.old other.new }
+    // the timeouts of both
+    ensures own_time { PullsInTime idle.reading idle.time result own.old own.new }
+    ensures other_time { FlushesInTime idle.reading other.old other.new }
 {
     let is_late = idle.is_over(own.silent_from);
     if is_late {
@@ -113,7 +142,8 @@ fn pull_or_flush_peer<S: Duplex + Drop>(
     }
     let pull = own.pull(buffer);
     if pull != Pull::Idle {
-        own.silent_from = idle.end();
+        own.silent_from = idle.end_after(pull, own.silent_from);
+        own.heard_at = heard_after(pull, idle.reading, own.heard_at);
         return pull;
     }
     other.flush_gathered(idle.reading);
@@ -150,6 +180,8 @@ fn put_or_flush_peer<S: Duplex + Drop>(
         IsFlushed S.calls other.old.readiness other.old.stream other.new.readiness other.new.stream }
     ensures offered { IsOffered bytes.now result own.old own.new }
     ensures other_stays { StaysUnread other.old other.new }
+    ensures own_time { PutsInTime now bytes.now result own.old own.new }
+    ensures other_time { FlushesInTime now other.old other.new }
 {
     let put = own.put(now, bytes);
     if put != Put::Took(0) {
@@ -171,6 +203,11 @@ fn put_or_flush_peer<S: Duplex + Drop>(
 /// A put that nothing is taken of leaves it not writable, or it must be tried again (`transition`, `Settles`). What must be
 /// tried again, and what is held that may be written, is work, which each wait watches (`watch`).
 ///
+/// The timeouts start and expire by the reading of the turn (`transition`, `SetsTimers`). A peer whose stall timeout is over
+/// when a turn begins is given up: its writes fail. It starts when bytes wait for the peer, and starts again only if the peer
+/// takes a byte. The silence of a side starts again only with a pull that returns bytes. Once it is over, a pull that finds
+/// nothing is the side's end.
+///
 /// Not said: the bytes of the operating system's own connections (`Connection`), of which nothing is known but what its
 /// calls returned.
 #[derive(Drop)]
@@ -184,6 +221,8 @@ pub struct SocketPorts<'w, S: Drop> {
     im_due: Option<Instant>,
     /// Whether the deadline of the initial message passed at the beginning of the turn, for the first time.
     im_timer_expired: bool,
+    /// Whether an operator stopped the session: both sides count as ended.
+    is_stopped: bool,
     bot: Socket<'w, S>,
     server: Socket<'w, S>,
 }
@@ -196,6 +235,7 @@ impl<'w, S: Drop> SocketPorts<'w, S> {
         ensures number { result.number ≡ 0 }
         ensures patient { IsNone result.idle.time }
         ensures no_im { IsNone result.im_due }
+        ensures goes_on { result.is_stopped ≡ false }
         ensures timed { (result.bot.timed ≡ bot.entry.timed) × (result.server.timed ≡ server.entry.timed) }
     {
         SocketPorts {
@@ -208,6 +248,7 @@ impl<'w, S: Drop> SocketPorts<'w, S> {
             held_for_server: TurnsHeld::NONE,
             im_due: None,
             im_timer_expired: false,
+            is_stopped: false,
             bot,
             server,
         }
@@ -231,6 +272,8 @@ impl<'w, S: Drop> SocketPorts<'w, S> {
             × IsStallEnd now times.0 result.server.silent_from }
         ensures stall_time { (result.bot.stall_time ≡ times.1) × (result.server.stall_time ≡ times.1) }
         ensures timed { (result.bot.timed ≡ self.entry.bot.timed) × (result.server.timed ≡ self.entry.server.timed) }
+        ensures goes_on { result.is_stopped ≡ self.entry.is_stopped }
+        ensures begins { BeginsAt now times (timers_of result) }
     {
         let (time, stall_time) = times;
         let SocketPorts {
@@ -240,12 +283,13 @@ impl<'w, S: Drop> SocketPorts<'w, S> {
             held_for_server,
             im_due: _,
             im_timer_expired,
+            is_stopped,
             mut bot,
             mut server,
         } = self;
         let idle = IdleTimeout { reading: now, time };
-        bot.set_stall_time(stall_time);
-        server.set_stall_time(stall_time);
+        bot.restart_stall(stall_time);
+        server.restart_stall(stall_time);
         bot.silent_from = idle.end();
         server.silent_from = idle.end();
         SocketPorts {
@@ -255,6 +299,7 @@ impl<'w, S: Drop> SocketPorts<'w, S> {
             held_for_server,
             im_due,
             im_timer_expired,
+            is_stopped,
             bot,
             server,
         }
@@ -265,6 +310,38 @@ impl<'w, S: Drop> SocketPorts<'w, S> {
         ensures { result ≡ self.now.number }
     {
         self.number
+    }
+
+    /// Has both sides count as ended from now on: a pull returns the end, and nothing is read. No byte that was put is lost.
+    pub(crate) fn stop(&mut self)
+        ensures { self.new ≡ record self.old { is_stopped = true } }
+    {
+        self.is_stopped = true;
+    }
+
+    /// Returns whether an operator stopped the session.
+    pub(crate) fn is_stopped(&self) -> bool
+        ensures { result ≡ self.now.is_stopped }
+    {
+        self.is_stopped
+    }
+
+    /// Returns the number of bytes that are held for the bot, and for the server.
+    pub(crate) fn held(&self) -> (usize, usize)
+        ensures bot { result.0 ≡ length self.now.bot.stream.write_buffer }
+        ensures server { result.1 ≡ length self.now.server.stream.write_buffer }
+    {
+        (
+            self.bot.stream.behind_len(),
+            self.server.stream.behind_len(),
+        )
+    }
+
+    /// Returns the reading of the clock at which the bot last sent something, and the server; `None` if it has sent nothing.
+    pub(crate) fn heard_at(&self) -> (Option<Instant>, Option<Instant>)
+        ensures { result ≡ (self.now.bot.heard_at, self.now.server.heard_at) }
+    {
+        (self.bot.heard_at, self.server.heard_at)
     }
 
     /// Returns the expired timeouts of the bot's socket and of the server's.
@@ -294,6 +371,7 @@ impl<'w, S: Drop> SocketPorts<'w, S> {
             held_for_server: _,
             im_due: _,
             im_timer_expired: _,
+            is_stopped: _,
             bot,
             server,
         } = self;
@@ -365,6 +443,7 @@ impl<'w, S: Drop> SocketPorts<'w, S> {
         ensures number { self.new.number ≡ self.old.number }
         ensures idle { self.new.idle ≡ record self.old.idle { reading = now } }
         ensures im { self.new.im_due ≡ self.old.im_due }
+        ensures goes_on { self.new.is_stopped ≡ self.old.is_stopped }
     {
         self.idle = IdleTimeout {
             reading: now,
@@ -419,6 +498,9 @@ impl<S: Duplex + Drop> SocketPorts<'_, S> {
         ensures number { self.new.number ≡ self.old.number }
         ensures idle { self.new.idle ≡ self.old.idle }
         ensures im { self.new.im_due ≡ self.old.im_due }
+        ensures goes_on { self.new.is_stopped ≡ self.old.is_stopped }
+        ensures bot_time { BeginsInTime self.old.idle.reading self.old.bot self.new.bot }
+        ensures server_time { BeginsInTime self.old.idle.reading self.old.server self.new.server }
     {
         self.bot.begin_turn(self.idle.reading, self.held_for_bot);
         self.server
@@ -433,6 +515,7 @@ impl<S: Duplex + Drop> SocketPorts<'_, S> {
         ensures idle { self.new.idle ≡ self.old.idle }
         ensures expires { self.new.im_timer_expired ≡ is_past self.old.idle.reading self.old.im_due }
         ensures once { self.new.im_due ≡ due_after self.old.idle.reading self.old.im_due }
+        ensures goes_on { self.new.is_stopped ≡ self.old.is_stopped }
     {
         self.im_timer_expired = is_past(self.idle.reading, self.im_due);
         if self.im_timer_expired {
@@ -445,6 +528,8 @@ impl<S: Duplex + Drop> SocketPorts<'_, S> {
     /// yet. All is by the table's reading of the clock.
     ///
     /// `expires`: the IM timer expires exactly in the first turn that begins at its deadline or after it (`once`).
+    ///
+    /// `timers`: a peer is given up if its stall timeout is over at that reading. No silence begins with a turn.
     pub fn begin_turn(&mut self, table: &mut SocketTable)
         ensures begins { Transfers S.to_give S.taken (self.old.bot.stream, self.old.server.stream) TurnBegins
             (self.new.bot.stream, self.new.server.stream) }
@@ -457,7 +542,9 @@ impl<S: Duplex + Drop> SocketPorts<'_, S> {
         ensures idle { self.new.idle ≡ record self.old.idle { reading = table.old.reading } }
         ensures expires { self.new.im_timer_expired ≡ is_past table.old.reading self.old.im_due }
         ensures once { self.new.im_due ≡ due_after table.old.reading self.old.im_due }
+        ensures goes_on { self.new.is_stopped ≡ self.old.is_stopped }
         ensures clock { table.new.reading ≡ table.old.reading }
+        ensures timers { SetsTimers TurnBegins (timers_of self.old) (timers_of self.new) }
     {
         table.note_turn();
         self.count_turn(table.now());
@@ -469,7 +556,8 @@ impl<S: Duplex + Drop> SocketPorts<'_, S> {
 
 impl<S: Duplex + Drop> Ports for SocketPorts<'_, S> {
     ghost transition = { λ old answer new. Transfers S.to_give S.taken (old.bot.stream, old.server.stream) answer
-        (new.bot.stream, new.server.stream) × Settles answer (old.bot, old.server) (new.bot, new.server) };
+        (new.bot.stream, new.server.stream) × Settles answer (old.bot, old.server) (new.bot, new.server)
+        × SetsTimers answer (timers_of old) (timers_of new) };
 
     fn pull(&mut self, side: Side, buffer: &mut [u8]) -> Pull
         ensures within { IsPullWithin result (length buffer.old) }
@@ -477,8 +565,12 @@ impl<S: Duplex + Drop> Ports for SocketPorts<'_, S> {
             (Pulled side (length buffer.old) result (take (pulled_len result) buffer.new))
             (self.new.bot.stream, self.new.server.stream)
             × Settles (Pulled side (length buffer.old) result (take (pulled_len result) buffer.new))
-            (self.old.bot, self.old.server) (self.new.bot, self.new.server) }
-        ensures asked { (stream_of (self.new.bot, self.new.server) side).timed.is_silent ≡ false →
+            (self.old.bot, self.old.server) (self.new.bot, self.new.server)
+            × SetsTimers (Pulled side (length buffer.old) result (take (pulled_len result) buffer.new))
+            (timers_of self.old) (timers_of self.new) }
+        ensures stopped { self.old.is_stopped ≡ true → (result ≡ Pull.Ended) × (self.new ≡ self.old) }
+        ensures asked { self.old.is_stopped ≡ false →
+            (stream_of (self.new.bot, self.new.server) side).timed.is_silent ≡ false →
             (stream_of (self.new.bot, self.new.server) side).timed.ends_stalled ≡ false →
             IsBufferedPull S.calls (length buffer.old) (read_if (has_stalled self.old.idle.time self.old.idle.reading
             (stream_of (self.old.bot, self.old.server) side).silent_from) (stream_of (self.old.bot, self.old.server) side).readiness)
@@ -490,6 +582,9 @@ impl<S: Duplex + Drop> Ports for SocketPorts<'_, S> {
             IsFlushed S.calls (stream_of (self.old.server, self.old.bot) side).readiness (stream_of (self.old.server, self.old.bot) side).stream
             (stream_of (self.new.server, self.new.bot) side).readiness (stream_of (self.new.server, self.new.bot) side).stream }
     {
+        if self.is_stopped {
+            return Pull::Ended;
+        }
         match side {
             Side::Bot => pull_or_flush_peer(self.idle, &mut self.bot, &mut self.server, buffer),
             Side::Server => pull_or_flush_peer(self.idle, &mut self.server, &mut self.bot, buffer),
@@ -500,7 +595,8 @@ impl<S: Duplex + Drop> Ports for SocketPorts<'_, S> {
         ensures within { IsPutWithin result (length bytes.now) }
         ensures transition { Transfers S.to_give S.taken (self.old.bot.stream, self.old.server.stream)
             (Offered side bytes.now result) (self.new.bot.stream, self.new.server.stream)
-            × Settles (Offered side bytes.now result) (self.old.bot, self.old.server) (self.new.bot, self.new.server) }
+            × Settles (Offered side bytes.now result) (self.old.bot, self.old.server) (self.new.bot, self.new.server)
+            × SetsTimers (Offered side bytes.now result) (timers_of self.old) (timers_of self.new) }
         ensures written { result ≡ Put.Took 0 → ((stream_of (self.old.server, self.old.bot) side).is_gathering
             && (stream_of (self.old.server, self.old.bot) side).gave) ≡ false →
             IsWriting (stream_of (self.old.server, self.old.bot) side).stream →
@@ -523,7 +619,8 @@ impl<S: Duplex + Drop> Ports for SocketPorts<'_, S> {
     fn clock_popped(&mut self) -> bool
         ensures transition { Transfers S.to_give S.taken (self.old.bot.stream, self.old.server.stream) (Popped result)
             (self.new.bot.stream, self.new.server.stream)
-            × Settles (Popped result) (self.old.bot, self.old.server) (self.new.bot, self.new.server) }
+            × Settles (Popped result) (self.old.bot, self.old.server) (self.new.bot, self.new.server)
+            × SetsTimers (Popped result) (timers_of self.old) (timers_of self.new) }
         ensures answer { result ≡ self.old.im_timer_expired }
         ensures same { self.new ≡ self.old }
     {

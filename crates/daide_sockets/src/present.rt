@@ -1,17 +1,19 @@
-//! The hosts of the bots that are there, by which a further one is let in.
+//! The bots that are there, by whose hosts a further one is let in.
 
-ghost use Rattle.std.specs.Prelude.{◌≡◌, ◌++◌, ◌∷◌, [], true, false, ◌<◌, IfSome, length, vec_capacity};
+ghost use Rattle.std.specs.Prelude.{◌≡◌, ◌++◌, ◌∷◌, [], true, false, ◌<◌, IfSome, length, slice_get, vec_capacity};
 ghost use Rattle.daide_sockets.specs.Present.{position_of, without_at};
 
 use daide_settings::Host;
 use std::alloc::Global;
+use std::net::SocketAddr;
 
-/// The bots that are there, with a connect under way or in a session: the number and the host of each, in the order in
-/// which they came.
+/// The bots that are there, with a connect under way or in a session: the number, the host and the address of each, in
+/// the order in which they came.
 #[derive(Drop)]
 pub struct Present {
     numbers: Vec<u32>,
     hosts: Vec<Host>,
+    addresses: Vec<SocketAddr>,
 }
 
 /// Returns the position of a number; the length of the list if it is not there.
@@ -33,7 +35,8 @@ fn position_of(number: u32, numbers: &[u32]) -> usize
 impl Present {
     /// Creates the list of a run with at most this many bots at once. Returns `None` if memory is refused.
     pub fn new(alloc: Global, most: usize) -> Option<Present>
-        ensures { IfSome result (λ present. (present.numbers.items ≡ []) × (present.hosts.items ≡ [])) }
+        ensures { IfSome result (λ present. (present.numbers.items ≡ []) × (present.hosts.items ≡ [])
+            × (present.addresses.items ≡ [])) }
     {
         let Ok(numbers) = Vec::with_capacity(alloc, most) else {
             return None;
@@ -41,7 +44,14 @@ impl Present {
         let Ok(hosts) = Vec::with_capacity(alloc, most) else {
             return None;
         };
-        Some(Present { numbers, hosts })
+        let Ok(addresses) = Vec::with_capacity(alloc, most) else {
+            return None;
+        };
+        Some(Present {
+            numbers,
+            hosts,
+            addresses,
+        })
     }
 
     /// Returns the hosts.
@@ -51,21 +61,40 @@ impl Present {
         self.hosts.as_slice()
     }
 
-    /// Adds a bot. Returns false if there is no room for it, and changes nothing then.
-    pub(crate) fn add(&mut self, number: u32, host: Host) -> bool
+    /// Returns their number.
+    pub(crate) fn len(&self) -> usize
+        ensures { result ≡ length self.now.numbers.items }
+    {
+        self.numbers.len()
+    }
+
+    /// Returns the address of the bot with this number, if it is there.
+    pub(crate) fn address_of(&self, number: u32) -> Option<SocketAddr>
+        ensures { result ≡ slice_get self.now.addresses.items (position_of number self.now.numbers.items) }
+    {
+        let at = position_of(number, self.numbers.as_slice());
+        self.addresses.get(at).copied()
+    }
+
+    /// Adds a bot, with its host and its address. Returns false if there is no room for it, and changes nothing then.
+    pub(crate) fn add(&mut self, number: u32, host: Host, address: SocketAddr) -> bool
         ensures numbers { result ≡ true → self.new.numbers.items ≡ self.old.numbers.items ++ number ∷ [] }
         ensures hosts { result ≡ true → self.new.hosts.items ≡ self.old.hosts.items ++ host ∷ [] }
+        ensures addresses { result ≡ true → self.new.addresses.items ≡ self.old.addresses.items ++ address ∷ [] }
         ensures full { result ≡ false → self.new ≡ self.old }
         ensures room { length self.old.numbers.items < vec_capacity self.old.numbers →
-            length self.old.hosts.items < vec_capacity self.old.hosts → result ≡ true }
+            length self.old.hosts.items < vec_capacity self.old.hosts →
+            length self.old.addresses.items < vec_capacity self.old.addresses → result ≡ true }
     {
         if self.numbers.len() >= self.numbers.capacity()
             || self.hosts.len() >= self.hosts.capacity()
+            || self.addresses.len() >= self.addresses.capacity()
         {
             return false;
         }
         self.numbers.push_reserved(number);
         self.hosts.push_reserved(host);
+        self.addresses.push_reserved(address);
         true
     }
 
@@ -75,6 +104,8 @@ impl Present {
             ≡ without_at (position_of number self.old.numbers.items) self.old.numbers.items }
         ensures hosts { self.new.hosts.items
             ≡ without_at (position_of number self.old.numbers.items) self.old.hosts.items }
+        ensures addresses { self.new.addresses.items
+            ≡ without_at (position_of number self.old.numbers.items) self.old.addresses.items }
     {
         let at = position_of(number, self.numbers.as_slice());
         if at < self.numbers.len() {
@@ -82,6 +113,9 @@ impl Present {
         }
         if at < self.hosts.len() {
             self.hosts.remove(at);
+        }
+        if at < self.addresses.len() {
+            self.addresses.remove(at);
         }
     }
 }

@@ -12,6 +12,7 @@ ghost use Rattle.daide_sockets.specs.Lingering.{IsWriting, IsWritingOver};
 ghost use Rattle.daide_sockets.specs.Pairing.{IsFresh};
 ghost use Rattle.daide_sockets.specs.Sockets.{has_socket_work, next_deadline};
 ghost use Rattle.daide_sockets.specs.Table.{earlier, merged, report_at, without_report};
+ghost use Rattle.daide_sockets.specs.Timers.{FlushesInTime, BeginsInTime, PutsInTime};
 ghost use Rattle.daide_sockets.specs.Times.{StallsNext, has_stalled, is_past};
 ghost use Rattle.daide_sockets.specs.Wakeups.{StaysUnread, IsNothing, IsPulled, IsOffered, may_go_on};
 
@@ -47,6 +48,8 @@ pub struct Socket<'w, S: Drop> {
     pub(crate) stalls_at: Option<Instant>,
     /// The moment at which the idle timeout of its peer expires, unless it sends something before; `None` for never.
     pub(crate) silent_from: Option<Instant>,
+    /// The reading of the clock at which its peer last sent something; `None` if it has sent nothing.
+    pub(crate) heard_at: Option<Instant>,
     /// Its expired timeouts.
     pub(crate) timed: Timed,
     /// Whether it accepted bytes since its turn began, so that more may follow.
@@ -91,6 +94,7 @@ impl<'w, S: Drop> Socket<'w, S> {
             stall_time: None,
             stalls_at: None,
             silent_from: None,
+            heard_at: None,
             timed: Timed::NONE,
             is_gathering: false,
             gave: false,
@@ -107,13 +111,6 @@ impl<'w, S: Drop> Socket<'w, S> {
         let mut socket = self;
         socket.made_for = number;
         socket
-    }
-
-    /// Sets the stall timeout of its peer; `None` if there is none.
-    pub fn set_stall_time(&mut self, time: Option<Duration>)
-        ensures { self.new ≡ record self.old { stall_time = time } }
-    {
-        self.stall_time = time;
     }
 
     /// Starts the stall timeout of its peer again, with this time; `None` for never.
@@ -226,7 +223,10 @@ impl<S: Duplex + Drop> Socket<'_, S> {
         ensures waits { has_stalled self.old.stall_time now self.old.stalls_at ≡ false →
             (self.new.stream ≡ self.old.stream) × (self.new.stalls_at ≡ self.old.stalls_at)
             × (self.new.timed ≡ self.old.timed) }
+        ensures ends_once { has_stalled self.old.stall_time now self.old.stalls_at ≡ true → self.new.stalls_at ≡ None }
         ensures stall_time { self.new.stall_time ≡ self.old.stall_time }
+        ensures known { (self.new.key ≡ self.old.key) × (self.new.readiness ≡ self.old.readiness) }
+        ensures silent_from { self.new.silent_from ≡ self.old.silent_from }
         ensures patient { IsNone self.old.stall_time → self.new.timed ≡ self.old.timed }
         ensures silent { self.new.timed.is_silent ≡ self.old.timed.is_silent }
         ensures ends { self.new.timed.ends_stalled ≡ self.old.timed.ends_stalled }
@@ -257,6 +257,8 @@ impl<S: Duplex + Drop> Socket<'_, S> {
             result ≡ Pull.Got (min (length self.old.stream.read_buffer) (length buffer.old)) }
         ensures timed { self.new.timed ≡ self.old.timed }
         ensures times { (self.new.silent_from ≡ self.old.silent_from) × (self.new.stalls_at ≡ self.old.stalls_at) }
+        ensures stall_time { self.new.stall_time ≡ self.old.stall_time }
+        ensures has_failed { self.new.stream.has_failed ≡ self.old.stream.has_failed }
         ensures gathering { self.new.is_gathering ≡ self.old.is_gathering }
         ensures idle { result ≡ Pull.Idle → self.new.gave ≡ false }
         ensures pulled { IsPulled (length buffer.old) result self.old self.new }
@@ -287,6 +289,7 @@ impl<S: Duplex + Drop> Socket<'_, S> {
         ensures gathers { 0 < taken_len result → self.new.is_gathering ≡ true }
         ensures gathering { taken_len result ≡ 0 → self.new.is_gathering ≡ self.old.is_gathering }
         ensures offered { IsOffered bytes.now result self.old self.new }
+        ensures in_time { PutsInTime now bytes.now result self.old self.new }
     {
         let held = self.stream.behind_len();
         let put = self.stream.put(self.pool, &mut self.readiness, bytes);
@@ -317,6 +320,7 @@ impl<S: Duplex + Drop> Socket<'_, S> {
             IsFlushed S.calls self.old.readiness self.old.stream self.new.readiness self.new.stream }
         ensures nothing { IsWritingOver self.old.stream →
             (self.new.stream ≡ self.old.stream) × (self.new.stalls_at ≡ self.old.stalls_at) }
+        ensures unasked { IsWritingOver self.old.stream → self.new.readiness ≡ self.old.readiness }
         ensures waits { IsWriting self.old.stream → IsWriting self.new.stream →
             StallsNext self.old.stall_time now self.old.stalls_at
             (nat_lt (length self.new.stream.write_buffer) (length self.old.stream.write_buffer)) self.new.stalls_at }
@@ -324,6 +328,7 @@ impl<S: Duplex + Drop> Socket<'_, S> {
         ensures timed { self.new.timed ≡ self.old.timed }
         ensures gathering { self.new.is_gathering ≡ self.old.is_gathering }
         ensures stays { StaysUnread self.old self.new }
+        ensures in_time { FlushesInTime now self.old self.new }
     {
         if !self.stream.is_behind() {
             return;
@@ -346,6 +351,7 @@ impl<S: Duplex + Drop> Socket<'_, S> {
         ensures stays { StaysUnread self.old self.new }
         ensures written { (self.old.is_gathering && self.old.gave) ≡ false → IsWriting self.old.stream →
             IsFlushed S.calls self.old.readiness self.old.stream self.new.readiness self.new.stream }
+        ensures in_time { FlushesInTime now self.old self.new }
     {
         if self.is_gathering && self.gave {
             return;
@@ -398,6 +404,7 @@ impl<S: Duplex + Drop> Socket<'_, S> {
         ensures unread { ReadsNothing S.to_give self.old.stream self.new.stream }
         ensures timed { self.new.timed ≡ self.old.timed }
         ensures gathering { self.new.is_gathering ≡ self.old.is_gathering }
+        ensures in_time { FlushesInTime now self.old self.new }
     {
         if held.is_over() {
             self.flush_at(now);
@@ -413,6 +420,7 @@ impl<S: Duplex + Drop> Socket<'_, S> {
         ensures silent { self.new.timed.is_silent ≡ self.old.timed.is_silent }
         ensures ends { self.new.timed.ends_stalled ≡ self.old.timed.ends_stalled }
         ensures gathering { self.new.is_gathering ≡ false }
+        ensures in_time { BeginsInTime now self.old self.new }
     {
         self.is_gathering = false;
         self.tries_again = false;

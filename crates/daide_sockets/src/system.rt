@@ -1,20 +1,30 @@
 //! The environment of the event loop, `System`, over sockets.
 
 ghost use Rattle.std.specs.Duration.{as_nanos};
-ghost use Rattle.std.specs.Prelude.{◌≡◌, ◌⊎◌, ℕ, ◌+◌, ◌*◌, ◌^◌, ◌<◌, ◌||◌, IfSome, IfNone, None, true, false, [], length, vec_capacity};
+ghost use Rattle.std.specs.Prelude.{◌≡◌, ◌⊎◌, ℕ, ◌+◌, ◌-◌, ◌*◌, ◌^◌, ◌<◌, ◌||◌, ◌&&◌, nat_le, IfSome, IfNone, IsSome, IsNone, None, Some, true, false, [], length, slice_get, vec_capacity};
+ghost use Rattle.daide_io.specs.Network.{StopsListening};
 ghost use Rattle.daide_io.specs.Ports.{TurnBegins};
-ghost use Rattle.daide_io.specs.System.{ReportsNews, BeginsTurn, Watches, Retires};
+ghost use Rattle.daide_status.specs.declared.snapshot.RunStatus.{RunStatus};
+ghost use Rattle.daide_status.specs.declared.snapshot.SessionRow.{SessionRow};
+ghost use Rattle.daide_io.specs.System.{Begins, Shows, ReportsNews, BeginsTurn, Watches, Retires, Waits};
 ghost use Rattle.daide_buffered_io.specs.Streams.{Transfers};
 ghost use Rattle.daide_sockets.specs.Accepting.{is_accept_due, MakesAccept};
+ghost use Rattle.daide_sockets.specs.Beside.{others_watched};
+ghost use Rattle.daide_sockets.specs.declared.ports.SocketPorts.{SocketPorts as PortsOf};
+ghost use Rattle.daide_sockets.specs.ControlSlots.{BeginsRound, Each, PlaceShows, places, is_newly_stopped, watching_control};
+ghost use Rattle.daide_sockets.specs.Finishing.{FinishesAll};
+ghost use Rattle.daide_sockets.specs.Snapshot.{counted, seconds_between, or_zero, IsRunStatus, IsSessionRow};
 ghost use Rattle.daide_sockets.specs.Lingering.{LooksAround, in_pass, GoOnFor, no_closing};
 ghost use Rattle.daide_sockets.specs.Pairing.{FirstArrivalEvolves, Transits, Closes, ClosesBothAt, Comes, ComesWith};
 ghost use Rattle.daide_sockets.specs.Present.{IsAllowed, IsPresentWith, position_of, without_at};
 ghost use Rattle.daide_sockets.specs.Sockets.{due_after};
-ghost use Rattle.daide_sockets.specs.Table.{Table, WaitsOnce, watching, unwatched};
+ghost use Rattle.daide_sockets.specs.Table.{Table, watching};
+ghost use Rattle.daide_sockets.specs.Timers.{SetsTimers, timers_of};
 ghost use Rattle.daide_sockets.specs.Times.{IsSeconds, IsIdleTime, is_past};
 ghost use Rattle.daide_sockets.specs.Wakeups.{Settles, Wakes, RestsOnce, may_session_go_on, session_due, has_session_news};
 
-use crate::admission::{Acceptor, PendingConnection, Unreached};
+use crate::admission::{Acceptor, PendingConnection, Unreached, watch_arrivals};
+use crate::control::{Control, MOST_CONTROLS, seconds_between};
 use crate::lingering_close::{Closings, MOST_CLOSING};
 use crate::poller::Poller;
 use crate::ports::SocketPorts;
@@ -23,21 +33,24 @@ use crate::session_notice::SessionNotice;
 use crate::table::SocketTable;
 use daide_buffered_io::pool::Pool;
 use daide_io::network::Network;
-use daide_io::system::{Connect, Notice, SessionEnd, System};
+use daide_io::system::{Connect, Notice, Orders, SessionEnd, SessionStatus, System};
 use daide_settings::{AddressRange, Settings};
+use daide_status::{RunStatus, SessionRow};
 use std::alloc::Global;
 use std::io::Write;
 use std::net::SocketAddr;
 use std::time::Duration;
 
-/// Returns the most sockets of a run: the listener, two a session, and those that are closing.
+/// Returns the most sockets of a run: the listener, two a session, those that are closing, and those of control: its
+/// listener and its connections.
 pub fn most_sockets(max_sessions: usize) -> usize
-    ensures { max_sessions < 2 ^ 62 → result ≡ 2 * max_sessions + MOST_CLOSING + 1 }
+    ensures { max_sessions < 2 ^ 62 → result ≡ 2 * max_sessions + MOST_CLOSING + MOST_CONTROLS + 2 }
 {
     max_sessions
         .saturating_mul(2)
         .saturating_add(MOST_CLOSING)
-        .saturating_add(1)
+        .saturating_add(MOST_CONTROLS)
+        .saturating_add(2)
 }
 
 /// Converts a timeout from seconds; 0 is `None`, for never.
@@ -50,6 +63,13 @@ fn idle_time_of(seconds: u32) -> Option<Duration>
     Some(Duration::from_secs(u64::from(seconds)))
 }
 
+/// Returns a number of bots as 32 bits.
+fn counted(count: usize) -> u32
+    ensures { result ≡ counted count }
+{
+    u32::try_from(count).unwrap_or(u32::MAX)
+}
+
 /// The sockets of a run: its system. `Transits` says what each call does to the bots and to the sockets that close. An
 /// accept that returned true added one bot, with the next number and the connect that was begun for it. Ports that are
 /// ready have the two connections of one such bot: its own, and the one made for it. A bot whose server can't be
@@ -60,16 +80,21 @@ fn idle_time_of(seconds: u32) -> Option<Duration>
 /// them, or eight if there are more (`ClosingsGoOn`). They keep their order. If a turn begins, what was held for too long
 /// is written to that session's own sockets, and neither is read. There is news for a session exactly if something may be
 /// done at once for it, or its nearest deadline is past (`has_news`: `news`). A wait watches the sessions that it was to
-/// watch (`Wakes`). It polls once, for the time until the nearest deadline, unless something is pending or a closing
-/// socket may go on (`rest`: `waits`, `polls`). With room for one more, a bot is accepted if the listener is ready
-/// (`accept_next`: `made`). It is accepted only if it may come by the settings, beside the hosts of those that are there
-/// (`allowed`). A bot that comes is added to those, and the end of its session removes it (`retire` and `let_go`:
+/// watch (`Wakes`), the listener, each connect and each closing socket (`wait`: `polls`). It polls once, for the time
+/// until the nearest deadline, unless something is pending or may be done at once. With room for one more, a bot is
+/// accepted if the listener is ready (`accept_next`: `made`). If none comes, the listener is not ready any more, or is to
+/// be asked again (`left`). A bot is accepted only if it may come by the settings, beside the hosts of those that are
+/// there (`allowed`). A bot that comes is added to those, and the end of its session removes it (`retire` and `let_go`:
 /// `hosts`).
 ///
-/// Not said: that a wait ended because something came. Which eight of more sockets are looked at, and that a connect
-/// goes to the server's address, is read from the code. That held bytes are given up only after a failed write, or
-/// after `stall_seconds`, is read from `flush_at` and `give_up_stalled`. `SessionNotice::of_end` and `why_of` give the
-/// counts and the cause in a line of a session's end. Tests and `scripts/recorded` show that `--verbose` writes it.
+/// At the end of `begin_round` the control socket advances, and the next wait watches it (`take_orders`: `control`,
+/// `watched`). Once a stop is requested, the listener for bots is closed (`closes`). Once it is requested that sessions end
+/// now, a pending connect is given up (`look_at_first`: `given_up`). Each session has news until its next turn (`has_news`:
+/// `news`), and that turn stops it (`begin_turn`: `stops`).
+///
+/// Not said: that a wait ended because something came. That held bytes are given up only after a failed write, or after
+/// `stall_seconds`, is read from `flush_at` and `give_up_stalled`. `SessionNotice::of_end` and `why_of` give the counts
+/// and the cause in a line of a session's end. Tests and `scripts/recorded` show that `--verbose` writes it.
 #[derive(Drop)]
 pub struct Sockets<'w, N: Network, E: Write + Drop> {
     poller: Poller<N>,
@@ -91,8 +116,14 @@ pub struct Sockets<'w, N: Network, E: Write + Drop> {
     allow: &'w [AddressRange],
     /// The greatest number of sessions at once with bots from one address; 0 for no limit.
     max_per_address: u16,
+    /// The most sessions at once.
+    max_sessions: usize,
     /// The bots that are there.
     present: Present,
+    /// The number of bots whose server could not be reached.
+    unreached: u32,
+    /// The control socket.
+    control: Control<N::Connection>,
     /// The output for log lines.
     pub errors: E,
     /// Whether the beginning and the end of each session are logged.
@@ -119,14 +150,17 @@ impl<'w, N: Network, E: Write + Drop> Sockets<'w, N, E> {
         ensures connect_time { IfSome result (λ sockets. sockets.connect_time ≡ connect_time) }
         ensures rules { IfSome result (λ sockets. (sockets.allow.now ≡ settings.now.allow.items)
             × (sockets.max_per_address ≡ settings.now.max_per_address)) }
+        ensures no_orders { IfSome result (λ sockets. (sockets.control.stops_accepting ≡ false)
+            × (sockets.control.stops_now ≡ false)) }
         ensures none_present { IfSome result (λ sockets. (sockets.present.numbers.items ≡ [])
-            × (sockets.present.hosts.items ≡ [])) }
+            × (sockets.present.hosts.items ≡ []) × (sockets.present.addresses.items ≡ [])) }
     {
         let (network, servers, table, pool) = ground;
         let Ok(mut poller) = Poller::new(alloc, network, table) else {
             return None;
         };
         let acceptor = Acceptor::new(&mut poller)?;
+        let control = Control::new(alloc, &mut poller)?;
         let Ok(arrivals) = Vec::with_capacity(alloc, settings.max_sessions) else {
             return None;
         };
@@ -149,10 +183,21 @@ impl<'w, N: Network, E: Write + Drop> Sockets<'w, N, E> {
             closings,
             allow: settings.allow.as_slice(),
             max_per_address: settings.max_per_address,
+            max_sessions: settings.max_sessions,
             present,
+            unreached: 0,
+            control,
             errors,
             is_verbose: false,
         })
+    }
+
+    /// Returns the address of the bot with this number, if it is there.
+    pub fn address_of(&self, number: u32) -> Option<SocketAddr>
+        ensures { result ≡ slice_get self.now.present.addresses.items
+            (position_of number self.now.present.numbers.items) }
+    {
+        self.present.address_of(number)
     }
 
     /// Returns the table.
@@ -218,23 +263,35 @@ impl<'w, N: Network, E: Write + Drop> Sockets<'w, N, E> {
             ≡ without_at (position_of left.entry.number self.old.present.numbers.items) self.old.present.numbers.items }
         ensures hosts { self.new.present.hosts.items
             ≡ without_at (position_of left.entry.number self.old.present.numbers.items) self.old.present.hosts.items }
+        ensures addresses { self.new.present.addresses.items
+            ≡ without_at (position_of left.entry.number self.old.present.numbers.items) self.old.present.addresses.items }
     {
         self.present.remove(left.number);
+        self.unreached = self.unreached.saturating_add(1);
         self.tell_of_session(SessionNotice::of_no_server(left.number));
         self.closings.begin(&mut self.poller.table, left.bot);
     }
 
     /// Checks the first arrival. Returns its ports if its connect completed, and `Failed` if its session is over and
     /// its socket closes. Otherwise the connect is still under way, and the arrival moves to the end.
+    ///
+    /// `given_up`: after a request that sessions end now, the connect is given up.
     fn look_at_first(&mut self) -> Connect<SocketPorts<'w, N::Connection>>
         requires { 0 < length self.old.arrivals.items }
-        ensures { FirstArrivalEvolves N.Connection.to_give N.Connection.taken
+        ensures given_up { self.old.control.stops_now ≡ true → result ≡ Connect.Failed }
+        ensures evolves { FirstArrivalEvolves N.Connection.to_give N.Connection.taken
             N.Connection.calls
             (λ ports. record { number = ports.number; bot = ports.bot.stream; server = ports.server.stream })
             (record { came = self.old.acceptor.came; arrivals = self.old.arrivals.items; closing = self.old.closings })
             result (record { came = self.new.acceptor.came; arrivals = self.new.arrivals.items; closing = self.new.closings }) }
     {
         let mut arrival = self.arrivals.remove(0);
+        let is_given_up = self.control.stops_now();
+        if is_given_up {
+            let left = arrival.give_up(&mut self.poller.table);
+            self.let_go(left);
+            return Connect::Failed;
+        }
         if arrival.advances(&mut self.poller, self.servers) {
             return match self.arrivals.push(arrival) {
                 Ok(()) => Connect::Pending,
@@ -246,7 +303,8 @@ impl<'w, N: Network, E: Write + Drop> Sockets<'w, N, E> {
                 }
             };
         }
-        match arrival.join(&mut self.poller.table, (self.idle_time, self.stall_time)) {
+        let now = self.poller.table.now();
+        match arrival.join(now, (self.idle_time, self.stall_time)) {
             Ok(ports) => Connect::Ready(ports),
             Err(left) => {
                 self.let_go(left);
@@ -262,21 +320,127 @@ impl<'w, N: Network, E: Write + Drop> Sockets<'w, N, E> {
         ensures closing { LooksAround N.Connection.to_give N.Connection.taken N.Connection.calls
             self.old.poller.table.reading (in_pass self.old.closings) self.new.closings }
         ensures clock { self.new.poller.table.reading ≡ self.old.poller.table.reading }
+        ensures control { self.new.control ≡ self.old.control }
     {
-        self.acceptor.reopen(&mut self.poller.table);
+        self.acceptor.reopen(self.poller.table.now());
         self.closings.advance(&mut self.poller.table);
     }
 
+    /// Returns whether both sides of a session count as ended from its next turn on, and did not before.
+    fn stops_newly(&self, ports: &SocketPorts<'w, N::Connection>) -> bool
+        ensures { result ≡ is_newly_stopped self.now.control.stops_now ports.now.is_stopped }
+    {
+        self.control.stops_now() && !ports.is_stopped()
+    }
+
+    /// Returns the status of the run.
+    fn run_status(&self) -> RunStatus
+        ensures { IsRunStatus self.now.acceptor.came (length self.now.present.numbers.items)
+            (length self.now.arrivals.items) self.now.unreached
+            (nat_le self.now.max_sessions (length self.now.present.numbers.items)
+            && is_accept_due self.now.poller.table self.now.acceptor.key self.now.acceptor.readiness
+            self.now.acceptor.resumes_at) self.now.control.stops_accepting
+            (or_zero (seconds_between self.now.control.started_at self.now.poller.table.reading)) result }
+    {
+        let connecting = counted(self.arrivals.len());
+        let present = counted(self.present.len());
+        let is_full = self.present.len() >= self.max_sessions;
+        RunStatus {
+            open: present.saturating_sub(connecting),
+            connecting,
+            served: self
+                .acceptor
+                .came()
+                .saturating_sub(present)
+                .saturating_sub(self.unreached),
+            unreached: self.unreached,
+            has_waiting: is_full && self.acceptor.is_due(&self.poller.table),
+            is_stopping: self.control.stops_accepting(),
+            seconds: self.control.seconds(self.poller.table.now()),
+        }
+    }
+
+    /// Returns the row of a session with this status; `None` if its bot is not among those that are there.
+    fn row_of(
+        &self,
+        ports: &SocketPorts<'w, N::Connection>,
+        status: SessionStatus,
+    ) -> Option<SessionRow>
+        ensures row { IfSome result (λ row. IsSessionRow self.now.poller.table.reading ports.now.number
+            (slice_get self.now.present.addresses.items (position_of ports.now.number self.now.present.numbers.items))
+            (ports.now.bot, ports.now.server) status row) }
+        ensures absent { IsNone result →
+            slice_get self.now.present.addresses.items (position_of ports.now.number self.now.present.numbers.items) ≡ None }
+    {
+        let bot = self.present.address_of(ports.number())?;
+        let (held_to_bot, held_to_server) = ports.held();
+        let (bot_heard_at, server_heard_at) = ports.heard_at();
+        let now = self.poller.table.now();
+        Some(SessionRow {
+            number: ports.number(),
+            bot,
+            phase: status.phase,
+            level: status.level,
+            summary: status.summary,
+            queued_to_bot: status.queued_to_bot,
+            queued_to_server: status.queued_to_server,
+            held_to_bot,
+            held_to_server,
+            bot_idle: seconds_between(bot_heard_at, now),
+            server_idle: seconds_between(server_heard_at, now),
+        })
+    }
+
+    /// Advances the control socket, and returns the operator's orders. Once a stop is requested, the listener for bots is
+    /// closed.
+    ///
+    /// `control`: a status has the run as it is at the beginning of the round.
+    ///
+    /// `watched`: the next wait watches the control socket.
+    fn take_orders(&mut self) -> Orders
+        ensures orders { result.stops_accepting ≡ self.new.control.stops_accepting }
+        ensures kept { self.old.control.stops_accepting ≡ true → self.new.control.stops_accepting ≡ true }
+        ensures now_kept { self.old.control.stops_now ≡ true → self.new.control.stops_now ≡ true }
+        ensures control { (run : RunStatus) × IsRunStatus self.old.acceptor.came
+            (length self.old.present.numbers.items) (length self.old.arrivals.items) self.old.unreached
+            (nat_le self.old.max_sessions (length self.old.present.numbers.items)
+            && is_accept_due self.old.poller.table self.old.acceptor.key self.old.acceptor.readiness
+            self.old.acceptor.resumes_at) self.old.control.stops_accepting
+            (or_zero (seconds_between self.old.control.started_at self.old.poller.table.reading)) run
+            × BeginsRound N.Connection.to_give N.Connection.taken
+            N.Connection.calls run self.old.poller.table.reading self.old.control result self.new.control }
+        ensures watched { (before : Table) × (self.new.poller.table ≡ watching_control before self.new.control) }
+        ensures closes { result.stops_accepting ≡ true → self.old.control.stops_accepting ≡ false →
+            (before : N) × N.transition before StopsListening self.new.poller.network }
+        ensures came { self.new.acceptor.came ≡ self.old.acceptor.came }
+        ensures same { self.new ≡ record self.old {
+          poller = self.new.poller;
+          acceptor = self.new.acceptor;
+          control = self.new.control;
+        } }
+    {
+        let run = self.run_status();
+        let was_stopped = self.control.stops_accepting();
+        let orders = self.control.begin_round(&mut self.poller, &run);
+        if orders.stops_accepting && !was_stopped {
+            self.acceptor.close(&mut self.poller);
+        }
+        self.control.watch(&mut self.poller.table);
+        orders
+    }
+
     /// Waits until the last sockets are closed. That takes at most a second after their peers accepted the buffered
-    /// bytes, or are stalled. The closing sockets are advanced by rounds, and by nothing else.
+    /// bytes, or are stalled. The closing sockets are advanced by rounds, and by nothing else. Each round is at the last
+    /// reading of the clock (`readings`).
     pub fn finish(&mut self)
         ensures closing { (rounds : ℕ) × GoOnFor N.Connection.to_give N.Connection.taken
             N.Connection.calls rounds self.old.closings self.new.closings
             × ((self.new.closings.streams ≡ []) ⊎ (rounds ≡ u64.MAX)) }
+        ensures readings { FinishesAll N.transition N.Connection.to_give N.Connection.taken N.Connection.calls u64.MAX
+            self.old.poller.network self.old.poller.table.reading self.old.closings self.new.closings }
         ensures came { self.new.acceptor.came ≡ self.old.acceptor.came }
         ensures arrivals { self.new.arrivals.items ≡ self.old.arrivals.items }
     {
-        self.acceptor.stop(&mut self.poller.table);
         self.closings.finish(&mut self.poller);
     }
 
@@ -285,7 +449,10 @@ impl<'w, N: Network, E: Write + Drop> Sockets<'w, N, E> {
     ///
     /// `made`: with room for one more, an accept is made if the listener is ready by the table, and no pause is under way.
     ///
-    /// `im_due`: its IM timer runs from the table's reading of the clock on.
+    /// `left`: if no bot came, no accept is due any more at this reading of the clock, or the listener is to be asked again
+    /// at once.
+    ///
+    /// `times`: its IM timer, and the time of its connect, run from the table's reading of the clock on.
     ///
     /// `allowed`: a bot that is accepted may come by the ranges, and by the limit beside those that are there.
     ///
@@ -300,12 +467,15 @@ impl<'w, N: Network, E: Write + Drop> Sockets<'w, N, E> {
             self.old.acceptor.came < u32.MAX → is_accept_due self.old.poller.table self.old.acceptor.key
             self.old.acceptor.readiness self.old.acceptor.resumes_at ≡ true →
             MakesAccept N.transition self.old.poller.network }
-        ensures im_due { IfSome result (λ _. ComesWith self.old.arrivals.items self.old.poller.table.reading
-            (as_nanos self.old.im_time) self.new.arrivals.items) }
+        ensures left { IfNone result (length self.old.arrivals.items < vec_capacity self.old.arrivals →
+            self.old.acceptor.came < u32.MAX → self.new.acceptor.looks_again ≡ false →
+            is_accept_due self.new.poller.table self.new.acceptor.key self.new.acceptor.readiness
+            self.new.acceptor.resumes_at ≡ false) }
+        ensures times { IfSome result (λ _. ComesWith self.old.arrivals.items self.old.poller.table.reading
+            (as_nanos self.old.im_time) (as_nanos self.old.connect_time) self.new.arrivals.items) }
         ensures allowed { IfSome result (λ began. IsAllowed self.old.allow.now self.old.max_per_address
             self.old.present.hosts.items began) }
-        ensures present { IfSome result (λ began. IsPresentWith self.old.present.numbers.items
-            self.old.present.hosts.items began self.new.present.numbers.items self.new.present.hosts.items) }
+        ensures present { IfSome result (λ began. IsPresentWith self.old.present began self.new.present) }
         ensures absent { IfNone result (self.new.present ≡ self.old.present) }
     {
         if self.arrivals.len() >= self.arrivals.capacity() {
@@ -332,17 +502,18 @@ impl<'w, N: Network, E: Write + Drop> Sockets<'w, N, E> {
         })
     }
 
-    /// Waits, and watches the sessions that it was to watch. If a closing socket may have more to discard, it only polls.
+    /// Waits, and watches the sessions that it was to watch, the listener, each connect and each closing socket
+    /// (`others_watched`). It only polls if something may be done at once for one of them.
     fn rest(&mut self)
         ensures rest { self.new ≡ record self.old { poller = self.new.poller } }
-        ensures waits { self.old.closings.streams ≡ [] → (after : Table) × WaitsOnce N.transition
-            self.old.poller.network self.old.poller.table self.new.poller.network after
-            × (self.new.poller.table ≡ unwatched after) }
-        ensures polls { RestsOnce N.transition self.old.poller.network self.old.poller.table self.new.poller.network
+        ensures polls { RestsOnce N.transition (others_watched self.old.poller.table
+            (self.old.acceptor.looks_again, self.old.acceptor.resumes_at) self.old.arrivals.items
+            self.old.closings.streams) self.old.poller.network self.old.poller.table self.new.poller.network
             self.new.poller.table }
     {
+        self.acceptor.watch(&mut self.poller.table);
+        watch_arrivals(self.arrivals.as_slice(), &mut self.poller.table);
         self.closings.rest(&mut self.poller);
-        self.poller.table.unwatch();
     }
 }
 
@@ -358,9 +529,52 @@ impl<'w, N: Network, E: Write + Drop> System<SocketPorts<'w, N::Connection>> for
           im_due = ports.im_due;
         }) (old.poller.network, old.poller.table) answer (new.poller.network, new.poller.table) };
 
-    fn begin_round(&mut self) {
+    fn begin_round(&mut self) -> Orders
+        ensures transition { Transits {P = PortsOf N.Connection} N.Connection.to_give N.Connection.taken
+            N.Connection.calls
+            (λ ports. record { number = ports.number; bot = ports.bot.stream; server = ports.server.stream })
+            (record { came = self.old.acceptor.came; arrivals = self.old.arrivals.items; closing = self.old.closings })
+            (Begins result)
+            (record { came = self.new.acceptor.came; arrivals = self.new.arrivals.items; closing = self.new.closings })
+            × Wakes {P = PortsOf N.Connection} N.transition (λ ports. record {
+              bot = ports.bot;
+              server = ports.server;
+              reading = ports.idle.reading;
+              im_due = ports.im_due;
+            }) (self.old.poller.network, self.old.poller.table) (Begins result) (self.new.poller.network, self.new.poller.table) }
+        ensures orders { result.stops_accepting ≡ self.new.control.stops_accepting }
+        ensures kept { self.old.control.stops_accepting ≡ true → self.new.control.stops_accepting ≡ true }
+        ensures now_kept { self.old.control.stops_now ≡ true → self.new.control.stops_now ≡ true }
+        ensures watched { (before : Table) × (self.new.poller.table ≡ watching_control before self.new.control) }
+    {
         self.poller.look_by_turns();
         self.tidy();
+        self.take_orders()
+    }
+
+    fn show(&mut self, ports: &SocketPorts<'w, N::Connection>, status: SessionStatus)
+        ensures transition { Transits N.Connection.to_give N.Connection.taken N.Connection.calls
+            (λ ports. record { number = ports.number; bot = ports.bot.stream; server = ports.server.stream })
+            (record { came = self.old.acceptor.came; arrivals = self.old.arrivals.items; closing = self.old.closings })
+            (Shows ports.now status)
+            (record { came = self.new.acceptor.came; arrivals = self.new.arrivals.items; closing = self.new.closings })
+            × Wakes N.transition (λ ports. record {
+              bot = ports.bot;
+              server = ports.server;
+              reading = ports.idle.reading;
+              im_due = ports.im_due;
+            }) (self.old.poller.network, self.old.poller.table) (Shows ports.now status) (self.new.poller.network, self.new.poller.table) }
+        ensures shows { IsSome (slice_get self.old.present.addresses.items
+            (position_of ports.now.number self.old.present.numbers.items)) → (row : SessionRow)
+            × IsSessionRow self.old.poller.table.reading ports.now.number
+            (slice_get self.old.present.addresses.items (position_of ports.now.number self.old.present.numbers.items))
+            (ports.now.bot, ports.now.server) status row
+            × Each (PlaceShows row) (places self.old.control.slots) (places self.new.control.slots) }
+        ensures same { self.new ≡ record self.old { control = self.new.control } }
+    {
+        if let Some(row) = self.row_of(ports, status) {
+            self.control.show(&row);
+        }
     }
 
     fn has_news(&mut self, ports: &SocketPorts<'w, N::Connection>) -> bool
@@ -375,21 +589,23 @@ impl<'w, N: Network, E: Write + Drop> System<SocketPorts<'w, N::Connection>> for
               reading = ports.idle.reading;
               im_due = ports.im_due;
             }) (self.old.poller.network, self.old.poller.table) (ReportsNews ports.now result) (self.new.poller.network, self.new.poller.table) }
-        ensures news { result ≡ has_session_news self.old.poller.table (record {
-          bot = ports.now.bot;
-          server = ports.now.server;
-          reading = ports.now.idle.reading;
-          im_due = ports.now.im_due;
-        }) }
+        ensures news { result ≡ (is_newly_stopped self.old.control.stops_now ports.now.is_stopped
+            || has_session_news self.old.poller.table (record {
+              bot = ports.now.bot;
+              server = ports.now.server;
+              reading = ports.now.idle.reading;
+              im_due = ports.now.im_due;
+            })) }
         ensures same { self.new ≡ self.old }
     {
-        ports.has_news(&self.poller.table)
+        self.stops_newly(ports) || ports.has_news(&self.poller.table)
     }
 
     fn begin_turn(&mut self, ports: &mut SocketPorts<'w, N::Connection>)
         ensures ports { Transfers N.Connection.to_give N.Connection.taken
             (ports.old.bot.stream, ports.old.server.stream) TurnBegins (ports.new.bot.stream, ports.new.server.stream)
-            × Settles TurnBegins (ports.old.bot, ports.old.server) (ports.new.bot, ports.new.server) }
+            × Settles TurnBegins (ports.old.bot, ports.old.server) (ports.new.bot, ports.new.server)
+            × SetsTimers TurnBegins (timers_of ports.old) (timers_of ports.new) }
         ensures system { Transits N.Connection.to_give N.Connection.taken
             N.Connection.calls
             (λ ports. record { number = ports.number; bot = ports.bot.stream; server = ports.server.stream })
@@ -410,8 +626,12 @@ impl<'w, N: Network, E: Write + Drop> System<SocketPorts<'w, N::Connection>> for
         ensures clock { self.new.poller.table.reading ≡ self.old.poller.table.reading }
         ensures expires { ports.new.im_timer_expired ≡ is_past self.old.poller.table.reading ports.old.im_due }
         ensures once { ports.new.im_due ≡ due_after self.old.poller.table.reading ports.old.im_due }
+        ensures stops { ports.new.is_stopped ≡ (ports.old.is_stopped || self.old.control.stops_now) }
     {
         ports.begin_turn(&mut self.poller.table);
+        if self.control.stops_now() {
+            ports.stop();
+        }
     }
 
     fn watch(&mut self, ports: &SocketPorts<'w, N::Connection>)
@@ -442,9 +662,6 @@ impl<'w, N: Network, E: Write + Drop> System<SocketPorts<'w, N::Connection>> for
     fn connected(&mut self) -> Connect<SocketPorts<'w, N::Connection>> {
         // A pending arrival moves to the end, so after a check of each the order is as before.
         for _look in 0..self.arrivals.len() {
-            if self.arrivals.is_empty() {
-                break;
-            }
             match self.look_at_first() {
                 Connect::Ready(ports) => return Connect::Ready(ports),
                 Connect::Failed => return Connect::Failed,
@@ -476,6 +693,8 @@ impl<'w, N: Network, E: Write + Drop> System<SocketPorts<'w, N::Connection>> for
             ≡ without_at (position_of ports.entry.number self.old.present.numbers.items) self.old.present.numbers.items }
         ensures hosts { self.new.present.hosts.items
             ≡ without_at (position_of ports.entry.number self.old.present.numbers.items) self.old.present.hosts.items }
+        ensures addresses { self.new.present.addresses.items
+            ≡ without_at (position_of ports.entry.number self.old.present.numbers.items) self.old.present.addresses.items }
     {
         self.present.remove(ports.number());
         let notice = SessionNotice::of_end(ports.number(), end, ports.timed(), self.stall_seconds);
@@ -484,11 +703,35 @@ impl<'w, N: Network, E: Write + Drop> System<SocketPorts<'w, N::Connection>> for
     }
 
     fn tell(&mut self, notice: Notice) {
+        // Once sessions end at an operator's request, no connect is tried, so the server was not unreachable.
+        if self.control.stops_now() && notice == Notice::CannotReach {
+            return;
+        }
         // The run goes on if the line cannot be written.
         let _ = writeln!(self.errors, "daide-gate: {notice}");
     }
 
-    fn wait(&mut self) {
+    fn wait(&mut self)
+        ensures transition { Transits N.Connection.to_give N.Connection.taken N.Connection.calls
+            (λ (ports : SocketPorts N.Connection). record {
+              number = ports.number;
+              bot = ports.bot.stream;
+              server = ports.server.stream;
+            })
+            (record { came = self.old.acceptor.came; arrivals = self.old.arrivals.items; closing = self.old.closings }) Waits
+            (record { came = self.new.acceptor.came; arrivals = self.new.arrivals.items; closing = self.new.closings })
+            × Wakes N.transition (λ (ports : SocketPorts N.Connection). record {
+              bot = ports.bot;
+              server = ports.server;
+              reading = ports.idle.reading;
+              im_due = ports.im_due;
+            }) (self.old.poller.network, self.old.poller.table) Waits (self.new.poller.network, self.new.poller.table) }
+        ensures polls { RestsOnce N.transition (others_watched self.old.poller.table
+            (self.old.acceptor.looks_again, self.old.acceptor.resumes_at) self.old.arrivals.items
+            self.old.closings.streams) self.old.poller.network self.old.poller.table self.new.poller.network
+            self.new.poller.table }
+        ensures same { self.new ≡ record self.old { poller = self.new.poller } }
+    {
         self.rest();
     }
 }

@@ -5,7 +5,8 @@
 //! its row. Those of sessions are watched anew for each wait. So an idle session makes no system call.
 
 ghost use Rattle.std.specs.Duration.{as_nanos};
-ghost use Rattle.std.specs.Prelude.{◌≡◌, ◌||◌, nat_le, IsNone, IfOk, None, [], false};
+ghost use Rattle.std.specs.Prelude.{◌≡◌, ◌<◌, ◌≤◌, ◌||◌, nat_le, length, IsNone, IfSome, IfNone, IfOk, None, [], false};
+ghost use Rattle.daide_sockets.specs.Table.{first_free, TakesRow};
 ghost use Rattle.daide_sockets.specs.Table.{row_at, merged, report_at, has_report, is_reported_at, any_work, has_pending, nearest};
 ghost use Rattle.daide_sockets.specs.Table.{changed, without_report, with_due, left_with, watching, unwatched, freed, with_event, with_news, latest};
 ghost use Rattle.daide_sockets.specs.Table.{earlier, IsUntil};
@@ -28,9 +29,9 @@ pub struct Row {
     pub is_taken: bool,
     /// What polls reported of the socket since it last took the report.
     pub report: Readiness,
-    /// Whether its last turn left something that may be done at once.
+    /// Whether something may be done at once for it. Never for a session's socket: a wait watches the session.
     pub has_work: bool,
-    /// Its nearest deadline; `None` if there is none.
+    /// Its nearest deadline; `None` if there is none. None for a session's socket.
     pub due: Option<Instant>,
 }
 
@@ -198,8 +199,25 @@ fn nearest(first: Option<Instant>, rows: &[Row]) -> Option<Instant>
     found
 }
 
+/// Returns the key of the first free row; the number of rows if all are taken.
+fn first_free(rows: &[Row]) -> usize
+    ensures key { result ≡ first_free rows.now }
+    ensures few { result ≤ length rows.now }
+{
+    let mut key = 0;
+    let mut rest = rows;
+    while let [row, others @ ..] = rest {
+        if !row.is_taken {
+            return key;
+        }
+        key += 1;
+        rest = others;
+    }
+    key
+}
+
 /// Returns whether one of two things is so.
-fn either(one: bool, other: bool) -> bool
+pub(crate) fn either(one: bool, other: bool) -> bool
     ensures { result ≡ (one || other) }
 {
     one || other
@@ -262,22 +280,24 @@ impl SocketTable {
     /// Takes the first free row, for a socket of which nothing is known, and returns its key, by which a poll names it.
     /// Returns `None` if there is none.
     pub fn take_row(&mut self) -> Option<usize>
-        ensures rest { (self.new.reading ≡ self.old.reading) × (self.new.turns ≡ self.old.turns)
-            × (self.new.has_news ≡ self.old.has_news) × (self.new.watched_work ≡ self.old.watched_work)
-            × (self.new.watched_due ≡ self.old.watched_due) × (self.new.max_rows ≡ self.old.max_rows) }
+        ensures row { IfSome result (λ key. TakesRow self.old key self.new) }
+        ensures few { IfSome result (λ key. key < self.old.max_rows) }
+        ensures none { IfNone result (self.new ≡ self.old) }
+        ensures clock { self.new.reading ≡ self.old.reading }
     {
         let row = Row {
             is_taken: true,
             ..Row::FREE
         };
-        for key in 0..self.rows.len() {
-            if !self.rows[key].is_taken {
-                self.rows[key] = row;
-                return Some(key);
-            }
+        let key = first_free(&self.rows);
+        if key >= self.max_rows {
+            return None;
         }
-        let key = self.rows.len();
-        if key >= self.max_rows || self.rows.push(row).is_err() {
+        if key < self.rows.len() {
+            self.rows[key] = row;
+            return Some(key);
+        }
+        if self.rows.push(row).is_err() {
             return None;
         }
         Some(key)
@@ -376,8 +396,15 @@ impl SocketTable {
         self.watched_due = earlier(self.watched_due, due);
     }
 
-    /// Forgets the sessions that were watched.
-    pub(crate) fn unwatch(&mut self)
+    /// Returns what the next wait watches: whether something may be done at once, and the nearest deadline.
+    pub fn watched(&self) -> (bool, Option<Instant>)
+        ensures { result ≡ (self.now.watched_work, self.now.watched_due) }
+    {
+        (self.watched_work, self.watched_due)
+    }
+
+    /// Forgets what was watched.
+    pub fn unwatch(&mut self)
         ensures { self.new ≡ unwatched self.old }
     {
         self.watched_work = false;
@@ -385,7 +412,9 @@ impl SocketTable {
     }
 
     /// Forgets all deadlines, and what may be done at once.
-    pub(crate) fn forget_turns(&mut self) {
+    pub(crate) fn forget_turns(&mut self)
+        ensures { self.new.reading ≡ self.old.reading }
+    {
         self.unwatch();
         for row in self.rows.iter_mut() {
             row.has_work = false;

@@ -12,7 +12,7 @@ ghost use Rattle.daide_settings.specs.Judged.{fault_at, is_right, is_right_docum
 use super::SettingsError;
 use super::allow::ranges_fault;
 use super::key::{Key, is_known};
-use super::reading::{address_fault, flag_fault, found, has_only_known, number_fault};
+use super::reading::{address_fault, flag_fault, found, has_only_known, number_fault, text_fault};
 use super::suggestion::nearest_key;
 use super::words::words_fault;
 use std::alloc::Global;
@@ -41,6 +41,7 @@ fn fault_at(table: &Table, key: Key) -> Option<SettingsError>
         Key::Words => words_fault(found(table, key)),
         Key::Endless => flag_fault(table, key),
         Key::Allow => ranges_fault(found(table, key)),
+        Key::Control => text_fault(table, key),
         Key::TopLevel
         | Key::MaxBody
         | Key::MaxDepth
@@ -85,6 +86,7 @@ fn range_text(key: Key) -> &'static str {
         Key::Endless => "true or false",
         Key::Allow => "an array of 1 to 16 strings, each an address with or without /PREFIX",
         Key::MaxPerAddress => "an integer from 0 to 256",
+        Key::Control => "a string of 1 to 100 bytes",
     }
 }
 
@@ -163,14 +165,16 @@ fn write_faults<O: Write>(table: &Table, text: &str, output: &mut O) -> io::Resu
     Ok(())
 }
 
-/// Writes the default of a key as TOML. The addresses have none.
+/// Writes the default of a key as TOML. The addresses have none. A path that is not set has no value, so a comment says
+/// it.
 fn write_default<O: Write>(key: Key, output: &mut O) -> io::Result<()> {
     match key {
-        Key::Words => write!(output, "[]"),
-        Key::Endless => write!(output, "false"),
-        Key::Allow => write!(output, "[\"0.0.0.0/0\", \"::/0\"]"),
+        Key::Words => writeln!(output, "{key} = [] # default"),
+        Key::Endless => writeln!(output, "{key} = false # default"),
+        Key::Allow => writeln!(output, "{key} = [\"0.0.0.0/0\", \"::/0\"] # default"),
+        Key::Control => writeln!(output, "# {key} is not set"),
         _ => match key.default_number() {
-            Some(number) => write!(output, "{number}"),
+            Some(number) => writeln!(output, "{key} = {number} # default"),
             None => Ok(()),
         },
     }
@@ -181,11 +185,7 @@ fn write_values<O: Write>(table: &Table, output: &mut O) -> io::Result<()> {
     for key in Key::ALL {
         match found(table, key) {
             Some(value) => writeln!(output, "{key} = {value}")?,
-            None => {
-                write!(output, "{key} = ")?;
-                write_default(key, output)?;
-                writeln!(output, " # default")?;
-            }
+            None => write_default(key, output)?,
         }
     }
     Ok(())

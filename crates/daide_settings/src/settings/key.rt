@@ -13,6 +13,9 @@ use std::fmt;
 /// The longest timeout that an operator may set, in seconds: a day.
 const LONGEST_TIMEOUT: u64 = 86_400;
 
+/// The longest path of a control socket, in bytes.
+const LONGEST_PATH: u64 = 100;
+
 /// A key of the settings. The variants are in the order of the checks.
 #[derive(Clone, Copy, Debug, PartialEq, Eq)]
 pub enum Key {
@@ -48,11 +51,14 @@ pub enum Key {
     Allow,
     /// The greatest number of sessions at once with bots from one address: 0, for no limit, to 256; 0 by default.
     MaxPerAddress,
+    /// The path of the Unix-domain socket on which the run takes an operator's requests: a text of 1 to 100 bytes; none by
+    /// default.
+    Control,
 }
 
 impl Key {
     /// All keys, in the order of the checks.
-    pub const ALL: [Key; 15] = [
+    pub const ALL: [Key; 16] = [
         Key::Listen,
         Key::Server,
         Key::TopLevel,
@@ -68,6 +74,7 @@ impl Key {
         Key::Endless,
         Key::Allow,
         Key::MaxPerAddress,
+        Key::Control,
     ];
 
     /// Returns the key as a document writes it.
@@ -90,17 +97,19 @@ impl Key {
             Key::Endless => "endless",
             Key::Allow => "allow",
             Key::MaxPerAddress => "max_per_address",
+            Key::Control => "control",
         }
     }
 
     /// Returns the number of a key that is missing in a document; `None` for the two addresses, which are required, and
-    /// for words, ranges and a flag.
+    /// for words, ranges, a flag and a path.
     pub fn default_number(self) -> Option<u64>
         ensures number { result ≡ default_of self }
         ensures within { IfSome result (λ n. is_in_keys_range self n ≡ true) }
     {
         match self {
-            Key::Listen | Key::Server | Key::Words | Key::Endless | Key::Allow => None,
+            Key::Listen | Key::Server => None,
+            Key::Words | Key::Endless | Key::Allow | Key::Control => None,
             Key::TopLevel => Some(60),
             Key::MaxBody => Some(MAX_BODY as u64),
             Key::MaxDepth => Some(62),
@@ -114,8 +123,8 @@ impl Key {
         }
     }
 
-    /// Returns true if a number is in the key's range. The number is that of the bytes of an address, of the words, or of
-    /// the ranges. A flag has no number.
+    /// Returns true if a number is in the key's range. The number is that of the bytes of an address or a path, of the
+    /// words, or of the ranges. A flag has no number.
     pub fn is_in_range(self, number: u64) -> bool
         ensures { result ≡ is_in_keys_range self number }
     {
@@ -139,6 +148,7 @@ impl Key {
             Key::Endless => false,
             Key::Allow => 1 <= number && number <= MAX_RANGES as u64,
             Key::MaxPerAddress => number <= MAX_SESSIONS as u64,
+            Key::Control => 1 <= number && number <= LONGEST_PATH,
         }
     }
 }
@@ -172,5 +182,6 @@ pub(crate) fn is_known(text: &str) -> bool
             | "endless"
             | "allow"
             | "max_per_address"
+            | "control"
     )
 }

@@ -9,11 +9,12 @@ ghost use Rattle.toml.specs.View.{view, table_view};
 ghost use Rattle.toml.specs.Parse.{parse_document};
 ghost use Rattle.daide_settings.specs.Given.{given_of};
 ghost use Rattle.daide_settings.specs.Settings.{key_text, is_known as is_known_key, is_in_range};
-ghost use Rattle.daide_settings.specs.Settings.{address_of, read_flag, read_number as judged_number, has_only_known as knows_all};
+ghost use Rattle.daide_settings.specs.Settings.{address_of, read_flag, read_number as judged_number, read_text, has_only_known as knows_all};
 ghost use Rattle.daide_settings.specs.Settings.{judged_members, judged_settings};
 
 use crate::settings::address::Address;
 use crate::settings::allow::ranges_at;
+use crate::settings::control_path::ControlPath;
 use crate::settings::key::{Key, is_known};
 use crate::settings::words::words_at;
 use crate::settings::{Settings, SettingsError};
@@ -86,6 +87,21 @@ fn flag_at(table: &Table, key: Key) -> Result<bool, SettingsError>
     }
 }
 
+/// Returns the text of a key, if the document has it. Fails with `WrongType`, then with `Range`.
+fn text_at<'a>(table: &'a Table, key: Key) -> Result<Option<&'a str>, SettingsError>
+    ensures { let judged = read_text key (get_member (key_text key) (table_view table.now)) in
+        MatchResult result (λ text. judged ≡ Ok (option_map (λ text. text.now) text)) (λ fault. judged ≡ Err fault) }
+{
+    let Some(value) = found(table, key) else {
+        return Ok(None);
+    };
+    match value.as_str() {
+        Some(text) if key.is_in_range(text.len() as u64) => Ok(Some(text)),
+        Some(_) => Err(SettingsError::Range(key)),
+        None => Err(SettingsError::WrongType(key)),
+    }
+}
+
 /// Returns the fault of an address.
 pub(super) fn address_fault(table: &Table, key: Key) -> Option<SettingsError>
     ensures { result ≡ result_err (address_of key (get_member (key_text key) (table_view table.now))) }
@@ -116,6 +132,16 @@ pub(super) fn flag_fault(table: &Table, key: Key) -> Option<SettingsError>
     }
 }
 
+/// Returns the fault of a text.
+pub(super) fn text_fault(table: &Table, key: Key) -> Option<SettingsError>
+    ensures { result ≡ result_err (read_text key (get_member (key_text key) (table_view table.now))) }
+{
+    match text_at(table, key) {
+        Ok(_) => None,
+        Err(fault) => Some(fault),
+    }
+}
+
 /// Reads the settings of a document.
 #[tactic(auto, unfolding(crate::specs::Settings::judged_members))]
 fn settings_of(alloc: Global, table: &Table) -> Result<Settings, SettingsError>
@@ -141,10 +167,14 @@ fn settings_of(alloc: Global, table: &Table) -> Result<Settings, SettingsError>
     let endless = flag_at(table, Key::Endless)?;
     let allow = ranges_at(found(table, Key::Allow))?;
     let max_per_address = number_at(table, Key::MaxPerAddress)?;
+    let control = text_at(table, Key::Control)?;
     let Ok(listen) = Address::new(alloc, listen) else {
         return Err(SettingsError::Memory);
     };
     let Ok(server) = Address::new(alloc, server) else {
+        return Err(SettingsError::Memory);
+    };
+    let Ok(control) = ControlPath::of(alloc, control) else {
         return Err(SettingsError::Memory);
     };
     Ok(Settings {
@@ -165,6 +195,7 @@ fn settings_of(alloc: Global, table: &Table) -> Result<Settings, SettingsError>
         endless,
         allow,
         max_per_address: max_per_address as u16,
+        control,
     })
 }
 

@@ -1,6 +1,6 @@
-use Rattle.std.proofs.Common.{◌≤◌, ◌<◌, ◌++◌, ◌∷◌, [], List, refl, sym, ap, ◌∙◌, subst, add-one, take}
+use Rattle.std.proofs.Common.{◌≤◌, ◌<◌, ◌∷◌, [], refl, subst, add-one, take}
 use Rattle.std.proofs.lemmas.List.{take_all}
-use Rattle.daide_io.specs.System.{SystemCall, Watches, TransitsBy}
+use Rattle.daide_io.specs.System.{Watches, TransitsBy}
 use Rattle.daide_event_loop.specs.Serving.{watches}
 use Rattle.daide_event_loop.proofs.ServingLemmas.{watch_more}
 use Rattle.daide_event_loop.proofs.TransitLemmas.{transits_then}

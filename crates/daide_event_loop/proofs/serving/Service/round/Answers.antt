@@ -1,27 +1,40 @@
-use Rattle.std.proofs.Common.{ℕ, List, [], ◌∷◌, ◌++◌, Result, Ok, Err, refl, ap, ◌∙◌, subst, arith}
-use Rattle.std.specs.Prelude.{◌||◌, OnErr}
+use Rattle.std.proofs.Common.{◌≡◌, ℕ, List, [], ◌∷◌, ◌++◌, Result, Ok, Err, refl, ap, ◌∙◌, subst, arith}
+use Rattle.std.specs.Prelude.{◌||◌, OnErr, length}
 use Rattle.daide_io.specs.declared.system.Connect.TheVariants.{Ready}
-use Rattle.daide_io.specs.System.{SystemCall, Begins, Connects, TransitsBy}
-use Rattle.daide_event_loop.specs.Serving.{ServiceView, Admits, BreaksOff, Round, wait_where}
+use Rattle.daide_io.specs.System.{SystemCall, Connects, TransitsBy}
+use Rattle.daide_event_loop.specs.declared.admission_counters.AdmissionCounters.{AdmissionCounters}
+use Rattle.daide_event_loop.specs.Serving.{ServiceView, heeding, opening, Admits, BreaksOff, Round, wait_where}
 use Rattle.daide_event_loop.proofs.ServingLemmas.{waits_alike}
 use Rattle.daide_event_loop.proofs.TransitLemmas.{transits_then}
 use Rattle.daide_event_loop.proofs.serving.Service.round.Goals as goal
+
+-- the admission is by the counters after the orders, at the number of places
+admitted : {P : Type 0} (places : ℕ) (heeded : AdmissionCounters) (answers : List (SystemCall P)) (new : AdmissionCounters)
+    (count : ℕ) (counters : AdmissionCounters) → count ≡ places → counters ≡ heeded → Admits count counters answers new →
+    Admits places heeded answers new
+admitted places heeded answers new count counters e f h =
+    subst (λ (c : AdmissionCounters). Admits places c answers new) f
+    (subst (λ (n : ℕ). Admits n counters answers new) e h)
 
 pub returns-clause-round : goal.returns-clause-round
 returns-clause-round g c =
     let go = g.S.System.transition in
     let old = c.self.inside in
+    let orders = c.begin_round-orders.result in
+    let opens = opening {P = g.row.P.Denot} orders old.hub.places in
     let admits = c.admit-came.ensures.admits in
     let finishes = c.in_ok-connected.ensures.finishes in
     let turns = c.turn_all.ensures.turns in
     let removes = c.remove_closed-removed.ensures.removes in
-    let progressed = c.admit-came.result || c.in_ok-connected.connected || c.has_moved-made_progress.result || c.remove_closed-removed.result in
+    let progressed = c.admit-came.result || c.in_ok-connected.connected || c.has_moved-made_progress.result || c.remove_closed-removed.result
+    || c.is_done.result in
     let after = c.remove_closed-removed.new.hub.places in
-    let asleep = waits_alike {P = g.row.P.Denot} after _ _ _ _ _ _ _ _ admits.3 finishes.3 c.has_moved-made_progress.ensures
-    removes.3 in
+    let asleep = waits_alike {P = g.row.P.Denot} after _ _ _ _ _ _ _ _ _ _ admits.3 finishes.3 c.has_moved-made_progress.ensures
+    removes.3 c.is_done.ensures in
     let step : Round g.P.Ports.transition (record { hub = old.hub; counters = old.counters })
-    (Begins ∷ admits.0 ++ finishes.0 ++ turns.0 ++ removes.0 ++ wait_where progressed after)
+    (opens ++ admits.0 ++ finishes.0 ++ turns.0 ++ removes.0 ++ wait_where progressed after)
     (record { hub = c.remove_closed-removed.new.hub; counters = c.finish_connect.new.counters }) = record {
+      orders = orders;
       admission = admits.0;
       meeting = finishes.0;
       beginnings = turns.0;
@@ -29,7 +42,8 @@ returns-clause-round g c =
       came = c.admit-came.new.counters;
       connected = c.finish_connect.new.hub;
       turned = c.turn_all.new.hub;
-      admits = subst (λ (n : ℕ). Admits n old.counters admits.0 c.admit-came.new.counters) c.count.ensures admits.2;
+      admits = admitted (length old.hub.places) (heeding orders old.counters) admits.0 c.admit-came.new.counters _ _
+          c.count.ensures c.heed.ensures admits.2;
       finishes = finishes.2;
       turns = turns.2;
       removes = removes.2;
@@ -42,17 +56,18 @@ returns-clause-round g c =
             omega (arith, held, count, fewer);
         accepted = c.finish_connect.ensures.within.accepted;
       };
-      asked = ap (λ w. Begins ∷ admits.0 ++ finishes.0 ++ turns.0 ++ removes.0 ++ w) asleep;
+      asked = ap (λ w. opens ++ admits.0 ++ finishes.0 ++ turns.0 ++ removes.0 ++ w) asleep;
     } in (
-      Begins ∷ admits.0 ++ finishes.0 ++ turns.0 ++ removes.0 ++ wait_where progressed after,
-      transits_then go (Begins ∷ admits.0 ++ finishes.0 ++ turns.0 ++ removes.0) _ _ _ _
-          (transits_then go (Begins ∷ admits.0 ++ finishes.0 ++ turns.0) removes.0 _ _ _
-          (transits_then go (Begins ∷ admits.0 ++ finishes.0) turns.0 _ _ _
-          (transits_then go (Begins ∷ admits.0) finishes.0 _ _ _
-          (c.begin_round.new.self, c.begin_round.ensures, admits.1) finishes.1) turns.1) removes.1)
-          c.rest.ensures,
+      opens ++ admits.0 ++ finishes.0 ++ turns.0 ++ removes.0 ++ wait_where progressed after,
+      transits_then go (opens ++ admits.0 ++ finishes.0 ++ turns.0 ++ removes.0) _ _ _ _
+          (transits_then go (opens ++ admits.0 ++ finishes.0 ++ turns.0) removes.0 _ _ _
+          (transits_then go (opens ++ admits.0 ++ finishes.0) turns.0 _ _ _
+          (transits_then go (opens ++ admits.0) finishes.0 _ _ _
+          (transits_then go opens admits.0 _ _ _
+          (c.begin_round-orders.new.self, c.begin_round-orders.ensures, c.show_sessions.ensures) admits.1) finishes.1) turns.1)
+          removes.1) c.rest.ensures,
       subst (λ (a : ServiceView g.row.P.Denot). Round g.P.Ports.transition a
-          (Begins ∷ admits.0 ++ finishes.0 ++ turns.0 ++ removes.0 ++ wait_where progressed after)
+          (opens ++ admits.0 ++ finishes.0 ++ turns.0 ++ removes.0 ++ wait_where progressed after)
           (record { hub = c.remove_closed-removed.new.hub; counters = c.finish_connect.new.counters })) c.self.view_is step,
     )
 
@@ -68,13 +83,17 @@ returns-in_err-connected-clause-broken_off g c =
     let broken = c.in_err-connected.ensures.broken_off in
     let left = c.in_err-connected.ensures.left in
     let old = c.self.inside in
-    let answers = Begins ∷ admits.0 ++ Connects (Ready broken.0) ∷ [] in
+    let orders = c.begin_round-orders.result in
+    let opens = opening {P = g.row.P.Denot} orders old.hub.places in
+    let answers = opens ++ admits.0 ++ Connects (Ready broken.0) ∷ [] in
     let after : ServiceView g.row.P.Denot = record { hub = c.finish_connect.new.hub; counters = c.finish_connect.new.counters } in
     let breaks : BreaksOff g.A.Memory.Refuses (record { hub = old.hub; counters = old.counters }) answers after = record {
+      orders = orders;
       admission = admits.0;
       came = c.admit-came.new.counters;
       ports = broken.0;
-      admits = subst (λ (n : ℕ). Admits n old.counters admits.0 c.admit-came.new.counters) c.count.ensures admits.2;
+      admits = admitted (length old.hub.places) (heeding orders old.counters) admits.0 c.admit-came.new.counters _ _
+          c.count.ensures c.heed.ensures admits.2;
       under_way = broken.2;
       asked = refl;
       refused = c.in_err-connected.ensures.out_of_memory;
@@ -84,7 +103,8 @@ returns-in_err-connected-clause-broken_off g c =
     × TransitsBy go c.args.system.now all c.finish_connect.new.system
     × BreaksOff g.A.Memory.Refuses c.args.self.now all after) (
       answers,
-      transits_then go (Begins ∷ admits.0) (Connects (Ready broken.0) ∷ []) _ _ _
-          (c.begin_round.new.self, c.begin_round.ensures, admits.1) broken.1,
+      transits_then go (opens ++ admits.0) (Connects (Ready broken.0) ∷ []) _ _ _
+          (transits_then go opens admits.0 _ _ _
+          (c.begin_round-orders.new.self, c.begin_round-orders.ensures, c.show_sessions.ensures) admits.1) broken.1,
       subst (λ (a : ServiceView g.row.P.Denot). BreaksOff g.A.Memory.Refuses a answers after) c.self.view_is breaks,
     )

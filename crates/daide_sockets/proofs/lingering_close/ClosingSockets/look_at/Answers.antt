@@ -8,7 +8,7 @@ returns-then-goes_on-clause-looks g c =
     let inside = c.requires in
     lingers_here g.S.Duplex.to_give g.S.Duplex.taken g.S.Duplex.calls c.args.now c.self.inside.sockets.items c.args.self.now _ c.args.at
     c.index_mut-closing.result.now c.goes_on.new.self c.self.view_is (omega (arith, len, inside))
-    c.index_mut-closing.ensures.value refl (c.goes_on.ensures.lingers c.if-goes_on.true)
+    c.index_mut-closing.ensures.value refl (_, c.goes_on.ensures.lingers c.if-goes_on.true)
 
 pub returns-clause-looks : goal.returns-clause-looks
 returns-clause-looks g c =
@@ -16,4 +16,4 @@ returns-clause-looks g c =
     let inside = c.requires in
     leaves_here g.S.Duplex.to_give g.S.Duplex.taken g.S.Duplex.calls c.args.now c.self.inside.sockets.items c.args.self.now _ c.args.at
     c.index_mut-closing.result.now c.goes_on.new.self c.self.view_is (omega (arith, len, inside))
-    c.index_mut-closing.ensures.value c.remove.ensures.items (c.goes_on.ensures.leaves c.if-goes_on.false)
+    c.index_mut-closing.ensures.value c.remove.ensures.items (_, c.goes_on.ensures.leaves c.if-goes_on.false)

@@ -12,10 +12,13 @@ returns-clause-closes g c =
     ∙ room_time g.S.Duplex.to_give g.S.Duplex.taken g.S.Duplex.calls c.now-now.result _ in
     rw (sym c.now-now.ensures)
     (record {
+      key = c.args.socket.key;
+      known = c.args.socket.readiness;
       last = last;
       writes = subst (λ (first : ClosingStream g.row.S.Denot).
           WritesOut g.S.Duplex.to_give g.S.Duplex.taken g.S.Duplex.calls c.now-now.result first last)
-          (c.new-closing.ensures ∙ ap (λ (t : Option Duration). begins_closing t c.args.socket.stream) time)
+          (c.new-closing.ensures ∙ ap (λ (t : Option Duration).
+          begins_closing t c.args.socket.key c.args.socket.readiness c.args.socket.stream) time)
           c.end_writing.ensures.writes;
       now = appended g.S.Duplex.to_give g.S.Duplex.taken g.S.Duplex.calls c.now-now.result _ _ last _ room c.push.ensures;
     })

@@ -10,6 +10,8 @@ returns-then-is_behind-clause-writes g c = record {
   tries = c.write_on.ensures.tries;
   write_buffer = refl;
   failed = refl;
+  key = refl;
+  known = refl;
   stall_time = refl;
   stalls_at = refl;
   flushes = (c.write_on.ensures.passes, c.write_on.ensures.unread);
@@ -31,6 +33,8 @@ returns-clause-writes g c =
       write_buffer = last.unwritten.write_buffer
           ∙ ap (λ (o : ClosingStream g.row.S.Denot). o.stream.write_buffer) c.self.view_is;
       failed = last.failed ∙ ap (λ (o : ClosingStream g.row.S.Denot). o.stream.has_failed) c.self.view_is;
+      key = last.known.0 ∙ ap (λ (o : ClosingStream g.row.S.Denot). o.key) c.self.view_is;
+      known = last.known.1 ∙ ap (λ (o : ClosingStream g.row.S.Denot). o.known) c.self.view_is;
       stall_time = last.stalls.0 ∙ ap (λ (o : ClosingStream g.row.S.Denot). o.stall_time) c.self.view_is;
       stalls_at = last.stalls.1 ∙ ap (λ (o : ClosingStream g.row.S.Denot). o.stalls_at) c.self.view_is;
       flushes = (

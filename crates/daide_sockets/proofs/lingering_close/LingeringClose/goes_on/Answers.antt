@@ -1,4 +1,4 @@
 use Rattle.daide_sockets.proofs.lingering_close.LingeringClose.goes_on.Goals as goal
 
-pub returns-else-stays-clause-leaves : goal.returns-else-stays-clause-leaves
-returns-else-stays-clause-leaves g c = rw c.take_report.ensures.same at c.lingers-stays.ensures.leaves
+pub returns-clause-leaves : goal.returns-clause-leaves
+returns-clause-leaves g c = rw c.take_report.ensures.taken at c.lingers-stays.ensures.leaves

@@ -12,5 +12,5 @@ returns-clause-comes g c = record {
   closing = search rules;
 }
 
-pub returns-clause-im_due : goal.returns-clause-im_due
-returns-clause-im_due g c = (c.new-arrival.result, search rules, search rules)
+pub returns-clause-times : goal.returns-clause-times
+returns-clause-times g c = (c.new-arrival.result, search rules, search rules, search rules)

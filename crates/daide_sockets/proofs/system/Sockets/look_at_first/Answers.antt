@@ -1,8 +1,10 @@
-use Rattle.std.proofs.Common.{refl, rules}
+use Rattle.std.proofs.Common.{◌≡◌, List, ◌∷◌, refl, sym, ap, ◌∙◌, rules}
+use Rattle.daide_sockets.specs.Pairing.{Arriving}
+use Rattle.daide_sockets.proofs.PairingLemmas.{first_removed}
 use Rattle.daide_sockets.proofs.system.Sockets.look_at_first.Goals as goal
 
-pub returns-in-Ok : goal.returns-in-Ok
-returns-in-Ok g c = (
+pub returns-in-Ok-clause-evolves : goal.returns-in-Ok-clause-evolves
+returns-in-Ok-clause-evolves g c = (
   c.remove-arrival.result,
   c.advances.new.self,
   c.remove-arrival.new.self.items,
@@ -13,8 +15,19 @@ returns-in-Ok g c = (
   refl,
 )
 
-pub returns-in-Ok-join : goal.returns-in-Ok-join
-returns-in-Ok-join g c = (c.remove-arrival.result, search rules, search rules, refl, refl)
+pub returns-in-Ok-join-clause-evolves : goal.returns-in-Ok-join-clause-evolves
+returns-in-Ok-join-clause-evolves g c = (c.remove-arrival.result, search rules, search rules, refl, refl)
 
-pub returns-in-Err-join : goal.returns-in-Err-join
-returns-in-Err-join g c = (c.remove-arrival.result, search rules, search rules, search rules)
+pub returns-in-Err-join-clause-evolves : goal.returns-in-Err-join-clause-evolves
+returns-in-Err-join-clause-evolves g c =
+    let first : c.args.self.now.arrivals.items ≡ c.remove-arrival.result ∷ c.remove-arrival.new.self.items =
+    first_removed _ _ _ c.requires c.remove-arrival.ensures.value c.remove-arrival.ensures.items in (
+      c.remove-arrival.result,
+      first ∙ ap (λ (others : List (Arriving g.row.N-Connection.Denot)). c.remove-arrival.result ∷ others)
+          (sym c.let_go-in-Err-join.ensures.arrivals),
+      search rules,
+      search rules,
+    )
+
+pub returns-then-is_given_up-clause-evolves : goal.returns-then-is_given_up-clause-evolves
+returns-then-is_given_up-clause-evolves g c = (c.remove-arrival.result, search rules, search rules, search rules)

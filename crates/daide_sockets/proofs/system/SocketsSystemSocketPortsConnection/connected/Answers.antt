@@ -1,10 +1,11 @@
-use Rattle.std.proofs.Common.{ℕ, ◌<◌, ◌∙◌, subst}
-use Rattle.daide_sockets.proofs.PairingLemmas.{next_out, one_more}
+use Rattle.std.proofs.Common.{◌≡◌, ℕ, ◌<◌, length, ◌∙◌, subst, arith}
+use Rattle.daide_sockets.specs.Pairing.{ChecksArrivals}
+use Rattle.daide_sockets.proofs.PairingLemmas.{next_out, one_more, checked_len}
 use Rattle.daide_sockets.proofs.system.SocketsSystemSocketPortsConnection.connected.Goals as goal
 
 pub returns-in-Ready : goal.returns-in-Ready
 returns-in-Ready g c =
-    let e = c.in-Ready.ensures in
+    let e = c.in-Ready.ensures.evolves in
     let inside = subst (λ (n : ℕ). c.loop-look._look < n) (c.len-look-end.ensures ∙ c.args.self.now.arrivals.ok.0)
     c.loop-look-test.true in (
       (
@@ -19,7 +20,7 @@ returns-in-Ready g c =
 
 pub returns-in-Failed : goal.returns-in-Failed
 returns-in-Failed g c =
-    let e = c.in-Failed.ensures in
+    let e = c.in-Failed.ensures.evolves in
     let inside = subst (λ (n : ℕ). c.loop-look._look < n) (c.len-look-end.ensures ∙ c.args.self.now.arrivals.ok.0)
     c.loop-look-test.true in (
       (
@@ -33,7 +34,7 @@ returns-in-Failed g c =
 
 pub loop-look-preserved : goal.loop-look-preserved
 loop-look-preserved g c =
-    let e = c.in-Pending.ensures in
+    let e = c.in-Pending.ensures.evolves in
     let inside = subst (λ (n : ℕ). c.loop-look._look < n) (c.len-look-end.ensures ∙ c.args.self.now.arrivals.ok.0)
     c.loop-look-test.true in
     record {
@@ -41,3 +42,28 @@ loop-look-preserved g c =
       came = e.6 ∙ c.loop-look.invariant.came;
       closing = e.7 ∙ c.loop-look.invariant.closing;
     }
+
+-- each was checked
+pub returns : goal.returns
+returns g c =
+    let past = c.loop-look-test.false in
+    let few = c.loop-look.auto._look-end in
+    let all = c.len-look-end.ensures ∙ c.args.self.now.arrivals.ok.0 in
+    let count : c.loop-look._look ≡ length c.args.self.now.arrivals.items = omega (arith, past, few, all) in (
+      (
+        subst (λ (n : ℕ). ChecksArrivals n c.args.self.now.arrivals.items c.loop-look.self.arrivals.items) count
+            c.loop-look.invariant.looks,
+        c.loop-look.invariant.came,
+        c.loop-look.invariant.closing,
+      ),
+      tt,
+    )
+
+-- one is left to check
+pub look_at_first-requires : goal.look_at_first-requires
+look_at_first-requires g c =
+    let some = c.loop-look-test.true in
+    let end = c.len-look-end.ensures ∙ c.args.self.now.arrivals.ok.0 in
+    let len = checked_len c.loop-look._look c.args.self.now.arrivals.items c.loop-look.self.arrivals.items
+    c.loop-look.invariant.looks in
+    omega (arith, some, end, len)

@@ -1,5 +1,5 @@
 use Rattle.daide_commands.proofs.RunLemmas.{run_ends, none_yet, still_none, of_whatever}
-use Rattle.daide_commands.proofs.running.serve_sockets.Goals as goal
+use Rattle.daide_commands.proofs.running.serve_bound.Goals as goal
 
 pub returns-in-None-clause-plain : goal.returns-in-None-clause-plain
 returns-in-None-clause-plain g c none =

@@ -1,0 +1,18 @@
+-- What the commands `status` and `stop` send to a run. (own)
+use Rattle.std.specs.Prelude.{ℕ, ◌++◌, Bool, true, false, List, [], ◌∷◌}
+use Rattle.daide_status.specs.declared.request.ControlRequest.{ControlRequest}
+use Rattle.daide_status.specs.declared.request.ControlRequest.TheVariants.{Stop, StopNow}
+use Rattle.daide_status.specs.Requests.{request_text}
+
+-- a request as it is sent: its text and a line feed
+abbrev pub request_line : ControlRequest → List ℕ
+request_line request = request_text request ++ 10 ∷ []
+
+-- the request of `stop`, without and with `--now`
+abbrev pub stop_request : Bool → ControlRequest
+stop_request false = Stop
+stop_request true = StopNow
+
+-- the most bytes of an answer that is printed
+abbrev pub longest_answer : ℕ
+longest_answer = 4194304

@@ -1,0 +1,7 @@
+use Rattle.daide_event_loop.proofs.OrderLemmas.{orders_heeded}
+use Rattle.daide_event_loop.proofs.ServedLemmas.{rounds_serve}
+use Rattle.daide_event_loop.proofs.laws.orders_are_heeded.Goals as goal
+
+pub returns : goal.returns
+returns g c = λ settings n answers run h.
+    orders_heeded g.P.Ports.transition settings answers run (rounds_serve g.P.Ports.transition settings n answers run h).limit

@@ -1,0 +1,5 @@
+use Rattle.daide_run_laws.proofs.OverdueLemmas.{deadlines_pass_seldom}
+use Rattle.daide_run_laws.proofs.laws.deadlines_pass_seldom.Goals as goal
+
+pub returns : goal.returns
+returns g c = deadlines_pass_seldom _ _ (λ old new call h. h.2)

@@ -1,0 +1,212 @@
+-- Every place is freed: the deadline that each session of a run over sockets has when the run waits, and how often its
+-- deadlines can pass. (own)
+use Rattle.std.specs.Prelude.{◌≡◌, ◌≤◌, ◌<◌, ◌⊎◌, ℕ, ◌+◌, ◌-◌, ◌++◌, ◌&&◌, ◌||◌, not, max, Bool, true, false, List, [], ◌∷◌, length}
+use Rattle.std.specs.Prelude.{Option, Some, is_some, All}
+use Rattle.std.specs.Duration.{as_nanos}
+use Rattle.std.specs.Time.{instant_nanos, FitsClock}
+use Rattle.std.specs.declared.time.Duration.{Duration}
+use Rattle.std.specs.declared.time.Instant.{Instant}
+use Rattle.daide_frame.specs.declared.side.Side.{Side}
+use Rattle.daide_frame.specs.Side.{same_side}
+use Rattle.daide_protocol.specs.Wires.{SessionView}
+use Rattle.daide_io.specs.declared.ports.Put.TheVariants.{Took}
+use Rattle.daide_io.specs.Network.{NetworkCall}
+use Rattle.daide_io.specs.Ports.{PortCall, TurnBegins, Clock, Pulled, Offered, EvolvesBy}
+use Rattle.daide_io.specs.System.{SystemCall, Waits, TransitsBy}
+use Rattle.daide_settings.specs.declared.settings.Settings.{Settings}
+use Rattle.daide_event_loop.specs.QuotaPorts.{QuotaPortsView, Meters}
+use Rattle.daide_event_loop.specs.Serving.{ServiceView, Round, Rounds, initial_service, is_done, fresh}
+use Rattle.daide_event_loop.specs.Served.{IsServed}
+use Rattle.daide_sockets.specs.declared.socket.Socket.{Socket}
+use Rattle.daide_sockets.specs.InTime.{IsAtMost}
+use Rattle.daide_sockets.specs.Sockets.{due_after}
+use Rattle.daide_sockets.specs.Table.{Table, IsNoTime}
+use Rattle.daide_sockets.specs.Timers.{SessionTimers, BeginsAt, is_got}
+use Rattle.daide_sockets.specs.Times.{is_past}
+use Rattle.daide_sockets.specs.Wakeups.{Wakes, RestsOnce, session_due}
+use Rattle.daide_run_laws.specs.NoLostWakeups.{socket_at}
+
+-- ---- the premises
+
+-- both timeouts of a session's peers are set to these times
+pub record HasTimeouts {S : Type 0} (idle stall : Duration) (session : SessionTimers S) : Type 0 where
+  pub idle_time : session.idle_time ≡ Some idle
+  pub idle_lasts : 0 < as_nanos idle
+  pub stall_time : (side : Side) → (socket_at session.sockets side).stall_time ≡ Some stall
+
+-- a reading of the clock after which both timeouts are within the clock's range
+pub record IsReading (idle stall : Duration) (reading : Option Instant) (now : Instant) : Type 0 where
+  pub read : reading ≡ Some now
+  pub idle_fits : FitsClock (instant_nanos now + as_nanos idle)
+  pub stall_fits : FitsClock (instant_nanos now + as_nanos stall)
+
+-- A session as it begins, at a reading of the clock, with both timeouts.
+pub record BeginsTimed {S : Type 0} (idle stall : Duration) (session : SessionTimers S) : Type 0 where
+  pub idle_lasts : 0 < as_nanos idle
+  pub now : Instant
+  pub reading : IsReading idle stall session.sockets.reading now
+  pub begins : BeginsAt (Some now) (Some idle, Some stall) session
+
+-- a reading of the clock that is not before another
+pub record IsLater (idle stall : Duration) (reading later : Option Instant) : Type 0 where
+  pub before : Instant
+  pub now : Instant
+  pub was : reading ≡ Some before
+  pub is : IsReading idle stall later now
+  pub order : instant_nanos before ≤ instant_nanos now
+
+-- ---- at a wait
+
+-- The session has a nearest deadline, at most the longer of its timeouts after the reading at which its last turn began.
+-- A poll for this time ends by it.
+pub record HasDeadline {S : Type 0} (idle stall : Duration) (table : Table) (time : Option Duration)
+    (session : SessionTimers S) : Type 0 where
+  pub due : Instant
+  pub now : Instant
+  pub is : session_due session.sockets ≡ Some due
+  pub reading : session.sockets.reading ≡ Some now
+  pub within : instant_nanos due ≤ instant_nanos now + max (as_nanos idle) (as_nanos stall)
+  pub ends : (at : Instant) → table.reading ≡ Some at → IsAtMost time (instant_nanos due - instant_nanos at)
+
+-- ---- without a byte
+
+-- how many bytes are held for a socket's peer
+abbrev pub held_len : {S : Type 0} → Socket S → ℕ
+held_len socket = length socket.stream.write_buffer
+
+-- a call of the ports moves no byte of a side's peer, though it may move some of the other's
+abbrev pub MovesNoByte : Side → PortCall → Type 0
+MovesNoByte side TurnBegins = Unit {0}
+MovesNoByte side (Clock im_timer_expired) = Unit {0}
+MovesNoByte side (Pulled from room pull bytes) = same_side from side ≡ true → is_got pull ≡ false
+MovesNoByte side (Offered to bytes put) = same_side to side ≡ true → (put ≡ Took 0) × (0 < length bytes)
+
+-- the timeouts of a peer stay: the moment at which its silence is over; and that of a stall timeout that runs, unless the
+-- wire failed
+pub record KeepsTimeouts {S : Type 0} (old new : Socket S) : Type 0 where
+  pub silence : new.silent_from ≡ old.silent_from
+  pub stall : (moment : Instant) → old.stalls_at ≡ Some moment →
+      (new.stalls_at ≡ Some moment) ⊎ (new.stream.has_failed ≡ true)
+
+-- ---- what is left
+
+abbrev pub one_if : Bool → ℕ
+one_if true = 1
+one_if false = 0
+
+-- The timeouts that are left of a socket's peer after a turn at this reading: of its silence, if that is not over; and of
+-- a stall, unless the peer is given up.
+abbrev pub peer_timeouts_left : {S : Type 0} → Option Instant → Socket S → ℕ
+peer_timeouts_left reading socket = one_if (is_some (due_after reading socket.silent_from))
+    + one_if (not socket.stream.has_failed || is_some socket.stalls_at)
+
+-- The timeouts that are left of a session, at most five: two of each peer, and the one of the initial message.
+abbrev pub timeouts_left : {S : Type 0} → SessionTimers S → ℕ
+timeouts_left session = peer_timeouts_left session.sockets.reading session.sockets.bot
+    + peer_timeouts_left session.sockets.reading session.sockets.server + one_if (is_some session.sockets.im_due)
+
+-- how many pulls returned bytes of a peer
+abbrev pub deliveries : List PortCall → ℕ
+deliveries [] = 0
+deliveries (TurnBegins ∷ calls) = deliveries calls
+deliveries (Clock im_timer_expired ∷ calls) = deliveries calls
+deliveries (Pulled side room pull bytes ∷ calls) = one_if (is_got pull) + deliveries calls
+deliveries (Offered side bytes put ∷ calls) = deliveries calls
+
+-- ---- a run
+
+module _ {P S : Type 0} (transition : P → PortCall → P → Type 0) (timers : P → SessionTimers S) where
+  -- The premise about the clock: by these calls each turn of the session begins at a reading that is not before the one of
+  -- the turn before. How long a turn or a pause between two takes is open.
+  abbrev pub ClockGoesOn : Duration → Duration → (calls : List PortCall) → (old new : QuotaPortsView P) →
+      EvolvesBy (Meters transition) old calls new → Type 0
+  ClockGoesOn idle stall [] old new by = Unit {0}
+  ClockGoesOn idle stall (TurnBegins ∷ calls) old new by =
+      IsLater idle stall (timers old.ports).sockets.reading (timers by.0.ports).sockets.reading
+      × ClockGoesOn idle stall calls by.0 new by.2
+  ClockGoesOn idle stall (Clock im_timer_expired ∷ calls) old new by = ClockGoesOn idle stall calls by.0 new by.2
+  ClockGoesOn idle stall (Pulled side room pull bytes ∷ calls) old new by = ClockGoesOn idle stall calls by.0 new by.2
+  ClockGoesOn idle stall (Offered side bytes put ∷ calls) old new by = ClockGoesOn idle stall calls by.0 new by.2
+
+  -- a session of a run whose peers have these timeouts, while the clock goes on
+  pub record IsTimed (settings : Settings) (answers : List (SystemCall P)) (idle stall : Duration)
+      (place : SessionView × QuotaPortsView P) : Type 0 where
+    pub session : IsServed transition settings answers place
+    pub begins : BeginsTimed idle stall (timers session.ports)
+    pub clock : ClockGoesOn idle stall session.history (fresh session.ports settings.turns) place.1 session.answered
+
+  -- A session of a run had ports of this value, and came from there to its present value by these calls.
+  pub record CameFrom (settings : Settings) (answers : List (SystemCall P)) (mid : QuotaPortsView P) (late : List PortCall)
+      (place : SessionView × QuotaPortsView P) : Type 0 where
+    pub session : IsServed transition settings answers place
+    pub early : List PortCall
+    pub history : session.history ≡ early ++ late
+    pub before : EvolvesBy (Meters transition) (fresh session.ports settings.turns) early mid
+    pub since : EvolvesBy (Meters transition) mid late place.1
+
+  -- ---- a wait
+
+  -- The network is polled once, for the time of a wait that watches others beside the sessions. For no time, or else each
+  -- session that is timed has a deadline.
+  pub record WaitsByDeadlines {N C : Type 0} (network : N → NetworkCall C → N → Type 0) (settings : Settings)
+      (answers : List (SystemCall P)) (places : List (SessionView × QuotaPortsView P)) (old new : N × Table) : Type 0 where
+    pub others : List (Bool × Option Instant)
+    pub rests : RestsOnce network others old.0 old.1 new.0 new.1
+    pub deadlines : IsNoTime rests.time ⊎ All (λ place. (idle stall : Duration) → IsTimed settings answers idle stall place →
+        HasDeadline idle stall old.1 rests.time (timers place.1.ports)) places
+
+  -- In each round of a run over sockets that ends with a wait, the run waits by deadlines.
+  abbrev pub NoSessionWaitsForEver : {N C : Type 0} → (N → NetworkCall C → N → Type 0) → Type 0
+  NoSessionWaitsForEver {N} network = (settings : Settings) (n : ℕ) (before round : List (SystemCall P))
+      (mid run : ServiceView P) (first old new : N × Table) →
+      Rounds transition n (initial_service settings) before mid → is_done mid ≡ false →
+      Round transition mid (round ++ Waits ∷ []) run →
+      TransitsBy (Wakes network (λ ports. (timers ports).sockets)) first (before ++ round) old →
+      Wakes network (λ ports. (timers ports).sockets) old Waits new →
+      WaitsByDeadlines network settings (before ++ round ++ Waits ∷ []) run.hub.places old new
+
+  -- ---- turns without a byte
+
+  -- By these calls no byte comes from the peer of a side or goes to it: no pull of the side returns one, a put to it takes
+  -- none of some, and what is held for it stays held.
+  abbrev pub IsQuietFor : Side → (calls : List PortCall) → (old new : QuotaPortsView P) →
+      EvolvesBy (Meters transition) old calls new → Type 0
+  IsQuietFor side [] old new by = Unit {0}
+  IsQuietFor side (call ∷ calls) old new by = MovesNoByte side call
+      × (held_len (socket_at (timers by.0.ports).sockets side) ≡ held_len (socket_at (timers old.ports).sockets side))
+      × IsQuietFor side calls by.0 new by.2
+
+  -- Take a session of a run, from any of its calls on. While no byte comes from a side's peer or goes to it, its silence
+  -- is over when it was to be over, and a stall timeout that runs expires when it was to expire, unless the wire fails.
+  abbrev pub TimeoutsStay : Type 0
+  TimeoutsStay = (settings : Settings) (answers : List (SystemCall P)) (mid : QuotaPortsView P) (late : List PortCall)
+      (place : SessionView × QuotaPortsView P) (side : Side) → (from : CameFrom settings answers mid late place) →
+      IsQuietFor side late mid place.1 from.since →
+      KeepsTimeouts (socket_at (timers mid.ports).sockets side) (socket_at (timers place.1.ports).sockets side)
+
+  -- ---- turns beyond a deadline
+
+  -- a turn within the quota began at or past the deadline that its session had
+  abbrev pub is_overdue : QuotaPortsView P → QuotaPortsView P → Bool
+  is_overdue old begun = is_some begun.turns_left
+      && is_past (timers begun.ports).sockets.reading (session_due (timers old.ports).sockets)
+
+  -- how many turns began at or past the session's deadline, by these calls
+  abbrev pub overdue_turns : (calls : List PortCall) → (old new : QuotaPortsView P) →
+      EvolvesBy (Meters transition) old calls new → ℕ
+  overdue_turns [] old new by = 0
+  overdue_turns (TurnBegins ∷ calls) old new by = one_if (is_overdue old by.0) + overdue_turns calls by.0 new by.2
+  overdue_turns (Clock im_timer_expired ∷ calls) old new by = overdue_turns calls by.0 new by.2
+  overdue_turns (Pulled side room pull bytes ∷ calls) old new by = overdue_turns calls by.0 new by.2
+  overdue_turns (Offered side bytes put ∷ calls) old new by = overdue_turns calls by.0 new by.2
+
+  -- Take a session of a run, from any of its calls on. Each turn that begins at or past its deadline takes one of the
+  -- timeouts that are left, and each pull that returns bytes gives back at most one.
+  abbrev pub DeadlinesPassSeldom : Type 0
+  DeadlinesPassSeldom = (settings : Settings) (answers : List (SystemCall P)) (mid : QuotaPortsView P) (late : List PortCall)
+      (place : SessionView × QuotaPortsView P) (idle stall : Duration) (start : Option Instant)
+      (times : Option Duration × Option Duration) → (from : CameFrom settings answers mid late place) →
+      BeginsAt start times (timers from.session.ports) → ClockGoesOn idle stall late mid place.1 from.since →
+      (overdue_turns late mid place.1 from.since + timeouts_left (timers place.1.ports)
+      ≤ timeouts_left (timers mid.ports) + deliveries late)
+      × (timeouts_left (timers mid.ports) ≤ 5)

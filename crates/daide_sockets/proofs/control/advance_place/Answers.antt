@@ -1,0 +1,36 @@
+use Rattle.std.proofs.Common.{◌≡◌, ◌∙◌, ap, subst, refl, true, false, Option}
+use Rattle.std.specs.declared.time.Instant.{Instant}
+use Rattle.daide_sockets.specs.Control.{Advances}
+use Rattle.daide_sockets.specs.Table.{Table}
+use Rattle.daide_sockets.specs.declared.control_connection.ControlConnection.{ControlConnection}
+use Rattle.daide_sockets.proofs.control.advance_place.Goals as goal
+
+pub returns-then-advance-clause-advances : goal.returns-then-advance-clause-advances
+returns-then-advance-clause-advances g c =
+    let clock : c.now.result ≡ c.args.table.now.reading =
+    c.now.ensures ∙ ap (λ (t : Table). t.reading) c.take_report-report.ensures.table in
+    rw c.in-Some.is (
+      c.take_report-report.result,
+      true,
+      c.advance.new.self,
+      subst (λ (k : ControlConnection g.row.S.Denot). Advances g.S.Duplex.to_give g.S.Duplex.taken g.S.Duplex.calls
+          c.args.run.now c.args.table.now.reading k true c.advance.new.self) c.note_report.ensures
+          (subst (λ (now : Option Instant). Advances g.S.Duplex.to_give g.S.Duplex.taken g.S.Duplex.calls c.args.run.now now
+          c.note_report.new.self true c.advance.new.self) clock c.if-advance.ensures.advances),
+      refl,
+    )
+
+pub returns-clause-advances : goal.returns-clause-advances
+returns-clause-advances g c =
+    let clock : c.now.result ≡ c.args.table.now.reading =
+    c.now.ensures ∙ ap (λ (t : Table). t.reading) c.take_report-report.ensures.table in
+    rw c.in-Some.is (
+      c.take_report-report.result,
+      false,
+      c.advance.new.self,
+      subst (λ (k : ControlConnection g.row.S.Denot). Advances g.S.Duplex.to_give g.S.Duplex.taken g.S.Duplex.calls
+          c.args.run.now c.args.table.now.reading k false c.advance.new.self) c.note_report.ensures
+          (subst (λ (now : Option Instant). Advances g.S.Duplex.to_give g.S.Duplex.taken g.S.Duplex.calls c.args.run.now now
+          c.note_report.new.self false c.advance.new.self) clock c.if-advance.ensures.advances),
+      refl,
+    )

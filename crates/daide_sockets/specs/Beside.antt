@@ -1,0 +1,70 @@
+-- What a wait watches beside the sessions: the listener, the connects under way, and the closing streams. (own)
+use Rattle.std.specs.Prelude.{◌||◌, ◌&&◌, not, Bool, true, List, [], ◌∷◌, ◌++◌, Option, Some, None, if◌then◌else◌, All}
+use Rattle.std.specs.declared.time.Duration.{Duration}
+use Rattle.std.specs.declared.time.Instant.{Instant}
+use Rattle.daide_buffered_io.specs.declared.readiness.Readiness.{Readiness}
+use Rattle.daide_buffered_io.specs.Buffers.{Buffer}
+use Rattle.daide_sockets.specs.InTime.{IsInTimeFor, watching_all}
+use Rattle.daide_sockets.specs.Lingering.{ClosingStream}
+use Rattle.daide_sockets.specs.Pairing.{Arriving, ConnectRow}
+use Rattle.daide_sockets.specs.Sockets.{is_some_byte}
+use Rattle.daide_sockets.specs.Table.{Table, IsWaitTime, earlier, merged, report_at}
+
+-- ---- a closing stream
+
+-- By what is known of it, a step of a closing stream may do something at once: buffered bytes may be written, or, once
+-- its writing is over, bytes may be dropped.
+abbrev pub may_step : {S : Type 0} → Readiness → Buffer S → Bool
+may_step known stream = if is_some_byte stream.write_buffer && not stream.has_failed then known.may_write
+    else known.may_read || is_some_byte stream.read_buffer
+
+-- the same with the report of its row
+abbrev pub may_close_on : {S : Type 0} → Table → ClosingStream S → Bool
+may_close_on table closing = may_step (merged closing.known (report_at table closing.key)) closing.stream
+
+-- the nearest deadline of a closing stream: of its peer's stall timeout, and of its release
+abbrev pub closing_due : {S : Type 0} → ClosingStream S → Option Instant
+closing_due closing = earlier closing.stalls_at closing.released_at
+
+-- each closing stream, as a wait watches it
+abbrev pub closings_watched : {S : Type 0} → Table → List (ClosingStream S) → List (Bool × Option Instant)
+closings_watched table [] = []
+closings_watched table (closing ∷ others) =
+    (may_close_on table closing, closing_due closing) ∷ closings_watched table others
+
+-- ---- a connect
+
+-- A connect may have a result: a poll reported that its socket is writable. One that did not begin has failed.
+abbrev pub may_connect : Table → Option ConnectRow → Bool
+may_connect table None = true
+may_connect table (Some row) = (merged row.known (report_at table row.key)).may_write
+
+-- each connect, as a wait watches it
+abbrev pub arrivals_watched : {S : Type 0} → Table → List (Arriving S) → List (Bool × Option Instant)
+arrivals_watched table [] = []
+arrivals_watched table (arrival ∷ others) =
+    (may_connect table arrival.row, arrival.gives_up) ∷ arrivals_watched table others
+
+-- ---- a wait
+
+-- the listener, whether it is to be asked again and until when it is not; then the connects, and the closing streams
+abbrev pub others_watched : {S : Type 0} → Table → Bool × Option Instant → List (Arriving S) → List (ClosingStream S) →
+    List (Bool × Option Instant)
+others_watched table listener arrivals closings =
+    listener ∷ arrivals_watched table arrivals ++ closings_watched table closings
+
+-- A wait of this time is in time for the listener, for each connect and for each closing stream. It takes no time if the
+-- listener is to be asked again, a connect may have a result, or a closing stream may do something at once. It lasts at
+-- most until the end of the pause of accepts, and until the deadline of each connect and of each closing stream.
+pub record IsInTimeBeside {S : Type 0} (table : Table) (time : Option Duration) (listener : Bool × Option Instant)
+    (arrivals : List (Arriving S)) (closings : List (ClosingStream S)) : Type 0 where
+  pub accepts : IsInTimeFor table.reading time listener.0 listener.1
+  pub connects : All (λ arrival. IsInTimeFor table.reading time (may_connect table arrival.row) arrival.gives_up) arrivals
+  pub closes : All (λ closing. IsInTimeFor table.reading time (may_close_on table closing) (closing_due closing)) closings
+
+-- each wait that watches these is in time for them
+abbrev pub WaitsAreInTimeBeside : Type 0 → Type 0
+WaitsAreInTimeBeside S = (table : Table) (time : Option Duration) (listener : Bool × Option Instant)
+    (arrivals : List (Arriving S)) (closings : List (ClosingStream S)) →
+    IsWaitTime (watching_all table (others_watched table listener arrivals closings)) time →
+    IsInTimeBeside table time listener arrivals closings

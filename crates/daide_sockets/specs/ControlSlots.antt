@@ -1,0 +1,133 @@
+-- The control connections of a run together: at most four. (own)
+use Rattle.std.specs.Prelude.{◌≡◌, ◌⊎◌, ℕ, ◌+◌, Bool, true, false, ◌||◌, List, [], ◌∷◌, Option, Some, None, if◌then◌else◌}
+use Rattle.std.specs.declared.time.Instant.{Instant}
+use Rattle.daide_io.specs.Network.{NetworkCall, AcceptsControl}
+use Rattle.daide_io.specs.Streams.{StreamCall}
+use Rattle.daide_io.specs.declared.system.Orders.{Orders}
+use Rattle.daide_buffered_io.specs.declared.readiness.Readiness.{Readiness}
+use Rattle.daide_status.specs.declared.snapshot.RunStatus.{RunStatus}
+use Rattle.daide_status.specs.declared.snapshot.SessionRow.{SessionRow}
+use Rattle.daide_sockets.specs.Control.{Advances, ShowsOn, has_control_work, control_due, stops_at, stops_now_at, gathers_at}
+use Rattle.daide_sockets.specs.Table.{Table, merged, watching}
+use Rattle.daide_sockets.specs.Times.{IsAfter}
+use Rattle.daide_sockets.specs.declared.control.Control.{Control}
+use Rattle.daide_sockets.specs.declared.control.ControlListener.{ControlListener}
+use Rattle.daide_sockets.specs.declared.control.Slots.{Slots}
+use Rattle.daide_sockets.specs.declared.control_connection.ControlConnection.{ControlConnection}
+use Rattle.daide_sockets.specs.declared.control_connection.Stage.TheVariants.{Reads}
+use Rattle.std.specs.Prelude.{Result}
+use Rattle.std.specs.declared.io.Error.{Error}
+
+-- the four places, each with a connection or free
+abbrev pub places : {S : Type 0} → Slots S → List (Option (ControlConnection S))
+places slots = slots.first ∷ slots.second ∷ slots.third ∷ slots.fourth ∷ []
+
+-- a relation holds between each place and the same one of another list
+abbrev pub Each : {A : Type 0} → (A → A → Type 0) → List A → List A → Type 0
+Each relation [] [] = Unit {0}
+Each relation (one ∷ old) (later ∷ new) = relation one later × Each relation old new
+Each relation [] (later ∷ new) = ⊥
+Each relation (one ∷ old) [] = ⊥
+
+-- whether a test passes at some connection
+abbrev pub at_place : {S : Type 0} → (ControlConnection S → Bool) → Option (ControlConnection S) → Bool
+at_place test None = false
+at_place test (Some connection) = test connection
+
+abbrev pub at_some : {S : Type 0} → (ControlConnection S → Bool) → List (Option (ControlConnection S)) → Bool
+at_some test [] = false
+at_some test (place ∷ rest) = at_place test place || at_some test rest
+
+-- a place whose connection is closed is free
+abbrev pub left_in : {S : Type 0} → Bool → ControlConnection S → Option (ControlConnection S)
+left_in true connection = Some connection
+left_in false connection = None
+
+-- A place in a round: its connection takes what polls reported of it, and advances.
+abbrev pub PlaceAdvances : {S : Type 0} → (S → Option (List ℕ)) → (S → Option (List ℕ)) → (S → Option (List StreamCall)) →
+    RunStatus → Option Instant → Option (ControlConnection S) → Option (ControlConnection S) → Type 0
+PlaceAdvances to_give taken calls run now None new = new ≡ None
+PlaceAdvances {S} to_give taken calls run now (Some old) new = (report : Readiness) × (is_open : Bool) × (later : ControlConnection S)
+    × Advances to_give taken calls run now (record old { readiness = merged old.readiness report }) is_open later
+    × (new ≡ left_in is_open later)
+
+-- a row is shown to the connection of a place
+abbrev pub PlaceShows : {S : Type 0} → SessionRow → Option (ControlConnection S) → Option (ControlConnection S) → Type 0
+PlaceShows row None new = new ≡ None
+PlaceShows {S} row (Some old) new = (later : ControlConnection S) × ShowsOn row old later × (new ≡ Some later)
+
+-- a connection that was just accepted: it reads a request, of which nothing was received, for two seconds
+pub record IsAccepted {S : Type 0} (reading : Option Instant) (connection : ControlConnection S) : Type 0 where
+  pub stage : connection.stage ≡ Reads
+  pub line : connection.line.items ≡ []
+  pub closes_at : IsAfter reading 2000000000 connection.closes_at
+
+-- whether a place is free
+abbrev pub is_place_free : {S : Type 0} → Option (ControlConnection S) → Bool
+is_place_free None = true
+is_place_free (Some connection) = false
+
+abbrev pub has_free : {S : Type 0} → List (Option (ControlConnection S)) → Bool
+has_free [] = false
+has_free (place ∷ rest) = is_place_free place || has_free rest
+
+-- a connection comes to the first free place
+abbrev pub with_one : {S : Type 0} → ControlConnection S → List (Option (ControlConnection S)) → List (Option (ControlConnection S))
+with_one connection [] = []
+with_one connection (None ∷ rest) = Some connection ∷ rest
+with_one connection (Some other ∷ rest) = Some other ∷ with_one connection rest
+
+-- All places are unchanged, or one that was free has a connection that was just accepted.
+abbrev pub AcceptsOne : {S : Type 0} → Option Instant → List (Option (ControlConnection S)) →
+    List (Option (ControlConnection S)) → Type 0
+AcceptsOne {S} reading old new = (new ≡ old)
+    ⊎ ((connection : ControlConnection S) × (has_free old ≡ true) × IsAccepted reading connection × (new ≡ with_one connection old))
+
+-- the next wait is also to watch the connection of a place
+abbrev pub watching_place : {S : Type 0} → Table → Option (ControlConnection S) → Table
+watching_place table None = table
+watching_place table (Some connection) = watching table (has_control_work connection) (control_due connection)
+
+-- and those of all places
+abbrev pub watching_places : {S : Type 0} → Table → List (Option (ControlConnection S)) → Table
+watching_places table [] = table
+watching_places table (place ∷ rest) = watching_places (watching_place table place) rest
+
+-- The next wait is also to watch the listener, while a place is free: whether it may give a connection, and the end of a
+-- pause.
+abbrev pub watching_listener : Table → Bool → Option ControlListener → Table
+watching_listener table has_room None = table
+watching_listener table has_room (Some listener) =
+    if has_room then watching table listener.readiness.may_read listener.resumes_at else table
+
+-- the next wait is also to watch the control socket: its listener, and each connection
+abbrev pub watching_control : {S : Type 0} → Table → Control S → Table
+watching_control table control =
+    watching_places (watching_listener table (has_free (places control.slots)) control.listener) (places control.slots)
+
+-- A round of the control socket, with the status of the run and the reading of the clock at its beginning. Each connection
+-- advances, and then at most one is accepted. A stop is ordered from the round on in which a connection requests it, and
+-- stays so. Sessions are shown if a connection gathers a status.
+pub record BeginsRound {S : Type 0} (to_give taken : S → Option (List ℕ)) (calls : S → Option (List StreamCall))
+    (run : RunStatus) (reading : Option Instant) (old : Control S) (orders : Orders) (new : Control S) : Type 0 where
+  pub mid : List (Option (ControlConnection S))
+  pub advances : Each (PlaceAdvances to_give taken calls run reading) (places old.slots) mid
+  pub accepts : AcceptsOne reading mid (places new.slots)
+  pub stops : new.stops_accepting ≡ (old.stops_accepting || at_some (λ connection. stops_at connection.stage) (places new.slots))
+  pub at_once : new.stops_now ≡ (old.stops_now || at_some (λ connection. stops_now_at connection.stage) (places new.slots))
+  pub returned : orders ≡ record {
+    stops_accepting = new.stops_accepting;
+    shows_sessions = at_some (λ connection. gathers_at connection.stage) (places new.slots);
+  }
+
+-- both sides of a session count as ended from its next turn on, and did not before
+abbrev pub is_newly_stopped : Bool → Bool → Bool
+is_newly_stopped true false = true
+is_newly_stopped true true = false
+is_newly_stopped false is_stopped = false
+
+-- an accept of a control connection was made
+pub record MakesControlAccept {N C : Type 0} (transition : N → NetworkCall C → N → Type 0) (old : N) : Type 0 where
+  pub accepted : Result C Error
+  pub mid : N
+  pub call : transition old (AcceptsControl accepted) mid

@@ -1,0 +1,50 @@
+-- What a status shows of a run and of its sessions. (own)
+use Rattle.std.specs.Prelude.{◌≡◌, ℕ, ◌-◌, ◌/◌, min, Bool, length, Option, Some, None}
+use Rattle.std.specs.Time.{instant_nanos}
+use Rattle.std.specs.declared.net.socket_addr.SocketAddr.{SocketAddr}
+use Rattle.std.specs.declared.time.Instant.{Instant}
+use Rattle.daide_io.specs.declared.system.SessionStatus.{SessionStatus}
+use Rattle.daide_status.specs.declared.snapshot.RunStatus.{RunStatus}
+use Rattle.daide_status.specs.declared.snapshot.SessionRow.{SessionRow}
+use Rattle.daide_sockets.specs.declared.socket.Socket.{Socket}
+
+-- a number of bots, in 32 bits
+abbrev pub counted : ℕ → ℕ
+counted count = min count 4294967295
+
+-- the whole seconds from one moment until another; none without one of them
+abbrev pub seconds_between : Option Instant → Option Instant → Option ℕ
+seconds_between None later = None
+seconds_between (Some moment) None = None
+seconds_between (Some moment) (Some later) = Some ((instant_nanos later - instant_nanos moment) / 1000000000)
+
+abbrev pub or_zero : Option ℕ → ℕ
+or_zero None = 0
+or_zero (Some seconds) = seconds
+
+-- The status of a run in which so many bots came: `present` of them are there, `pending` of which have a connect under way,
+-- and the server could not be reached for `lost`. All others were served.
+pub record IsRunStatus (came present pending lost : ℕ) (waiting stopping : Bool) (seconds : ℕ) (run : RunStatus) : Type 0 where
+  pub connecting : run.connecting ≡ counted pending
+  pub in_session : run.open ≡ counted present - counted pending
+  pub served : run.served ≡ (came - counted present) - lost
+  pub unreached : run.unreached ≡ lost
+  pub has_waiting : run.has_waiting ≡ waiting
+  pub is_stopping : run.is_stopping ≡ stopping
+  pub up : run.seconds ≡ seconds
+
+-- The row of a session with this number, whose bot has this address: its status, the bytes that the sockets of its bot and
+-- of the server hold, and the seconds since the last byte of each at this reading of the clock.
+pub record IsSessionRow {S : Type 0} (reading : Option Instant) (session : ℕ) (address : Option SocketAddr)
+    (sockets : Socket S × Socket S) (shown : SessionStatus) (row : SessionRow) : Type 0 where
+  pub number : row.number ≡ session
+  pub bot : address ≡ Some row.bot
+  pub phase : row.phase ≡ shown.phase
+  pub level : row.level ≡ shown.level
+  pub summary : row.summary ≡ shown.summary
+  pub queued_to_bot : row.queued_to_bot ≡ shown.queued_to_bot
+  pub queued_to_server : row.queued_to_server ≡ shown.queued_to_server
+  pub held_to_bot : row.held_to_bot ≡ length sockets.0.stream.write_buffer
+  pub held_to_server : row.held_to_server ≡ length sockets.1.stream.write_buffer
+  pub bot_idle : row.bot_idle ≡ seconds_between sockets.0.heard_at reading
+  pub server_idle : row.server_idle ≡ seconds_between sockets.1.heard_at reading

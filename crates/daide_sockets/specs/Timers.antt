@@ -1,0 +1,135 @@
+-- The timers of a session: when its timeouts start and expire, by the calls of its ports. (own)
+use Rattle.std.specs.Prelude.{◌≡◌, ◌≢◌, ◌⊎◌, ℕ, ◌<◌, nat_lt, Bool, true, false, List, length, Option, Some, None}
+use Rattle.std.specs.declared.time.Duration.{Duration}
+use Rattle.std.specs.declared.time.Instant.{Instant}
+use Rattle.daide_io.specs.declared.ports.Pull.{Pull}
+use Rattle.daide_io.specs.declared.ports.Pull.TheVariants.{Got, Idle, Ended}
+use Rattle.daide_io.specs.declared.ports.Put.{Put}
+use Rattle.daide_io.specs.declared.ports.Put.TheVariants.{Took}
+use Rattle.daide_io.specs.Ports.{PortCall, TurnBegins, Clock, Pulled, Offered}
+use Rattle.daide_buffered_io.specs.Streams.{stream_of}
+use Rattle.daide_sockets.specs.declared.socket.Socket.{Socket}
+use Rattle.daide_sockets.specs.declared.ports.SocketPorts.{SocketPorts}
+use Rattle.daide_sockets.specs.Sockets.{due_after}
+use Rattle.daide_sockets.specs.Times.{IsStallEnd, StallsNext, has_stalled, is_past}
+use Rattle.daide_sockets.specs.Wakeups.{SessionSockets}
+
+-- The sockets of a session with their deadlines; the idle timeout of its peers; and whether the deadline of the initial
+-- message passed when its turn began, for the first time.
+pub record SessionTimers (S : Type 0) : Type 0 where
+  pub sockets : SessionSockets S
+  pub idle_time : Option Duration
+  pub im_timer_expired : Bool
+
+-- the timers of ports
+abbrev pub timers_of : {S : Type 0} → SocketPorts S → SessionTimers S
+timers_of ports = record {
+  sockets = record {
+    bot = ports.bot;
+    server = ports.server;
+    reading = ports.idle.reading;
+    im_due = ports.im_due;
+  };
+  idle_time = ports.idle.time;
+  im_timer_expired = ports.im_timer_expired;
+}
+
+-- both sockets of a session
+abbrev pub both_sockets : {S : Type 0} → SessionTimers S → Socket S × Socket S
+both_sockets timers = (timers.sockets.bot, timers.sockets.server)
+
+-- the same, the server's first
+abbrev pub swapped_sockets : {S : Type 0} → SessionTimers S → Socket S × Socket S
+swapped_sockets timers = (timers.sockets.server, timers.sockets.bot)
+
+-- a pull that returned bytes
+abbrev pub is_got : Pull → Bool
+is_got (Got count) = true
+is_got Idle = false
+is_got Ended = false
+
+-- ---- one socket
+
+-- a stall timeout that runs is unchanged
+abbrev pub StallGoesOn : {S : Type 0} → Socket S → Socket S → Type 0
+StallGoesOn old new = (moment : Instant) → old.stalls_at ≡ Some moment → new.stalls_at ≡ Some moment
+
+-- The timeouts of a socket after a call at this reading of the clock that may write to it. Their times stay, and so does
+-- the idle timeout. The stall timeout stays, ends, or starts at the reading. A write that failed stays failed, and then no
+-- stall timeout starts.
+pub record KeepsTimers {S : Type 0} (reading : Option Instant) (old new : Socket S) : Type 0 where
+  pub stall_time : new.stall_time ≡ old.stall_time
+  pub silent_from : new.silent_from ≡ old.silent_from
+  pub stall : (new.stalls_at ≡ old.stalls_at) ⊎ ((new.stalls_at ≡ None) ⊎ IsStallEnd reading old.stall_time new.stalls_at)
+  pub failed : old.stream.has_failed ≡ true →
+      (new.stream.has_failed ≡ true) × ((new.stalls_at ≡ old.stalls_at) ⊎ (new.stalls_at ≡ None))
+
+-- What is held for a peer was written, or stays held. While its peer takes no byte, the stall timeout goes on.
+pub record FlushesInTime {S : Type 0} (reading : Option Instant) (old new : Socket S) : Type 0 where
+  pub kept : KeepsTimers reading old new
+  pub goes_on : new.stream.has_failed ≡ false → length new.stream.write_buffer ≡ length old.stream.write_buffer →
+      StallGoesOn old new
+  pub full : old.readiness.may_write ≡ false → StallGoesOn old new
+
+-- A turn begins at this reading of the clock. A peer whose stall timeout is over is given up: its writes fail.
+pub record BeginsInTime {S : Type 0} (reading : Option Instant) (old new : Socket S) : Type 0 where
+  pub kept : KeepsTimers reading old new
+  pub gives_up : has_stalled old.stall_time reading old.stalls_at ≡ true →
+      (new.stream.has_failed ≡ true) × (new.stalls_at ≡ None)
+  pub goes_on : new.stream.has_failed ≡ false → length new.stream.write_buffer ≡ length old.stream.write_buffer →
+      StallGoesOn old new
+
+-- Bytes were put. If none were taken of some, the stall timeout runs from then on, or goes on if the peer took no byte.
+pub record PutsInTime {S : Type 0} (reading : Option Instant) (bytes : List ℕ) (put : Put) (old new : Socket S) :
+    Type 0 where
+  pub kept : KeepsTimers reading old new
+  pub waits : put ≡ Took 0 → 0 < length bytes → StallsNext old.stall_time reading old.stalls_at
+      (nat_lt (length new.stream.write_buffer) (length old.stream.write_buffer)) new.stalls_at
+
+-- A side was pulled, with this idle timeout. Its silence starts again with what it sends, and only then. Once the timeout
+-- is over, a pull that finds nothing is the side's end.
+pub record PullsInTime {S : Type 0} (reading : Option Instant) (idle_time : Option Duration) (pull : Pull)
+    (old new : Socket S) : Type 0 where
+  pub stall_time : new.stall_time ≡ old.stall_time
+  pub stalls_at : new.stalls_at ≡ old.stalls_at
+  pub failed : new.stream.has_failed ≡ old.stream.has_failed
+  pub starts : is_got pull ≡ true → IsStallEnd reading idle_time new.silent_from
+  pub goes_on : is_got pull ≡ false → new.silent_from ≡ old.silent_from
+  pub late : has_stalled idle_time reading old.silent_from ≡ true → pull ≢ Idle
+
+-- ---- a session begins
+
+-- A session begins at this reading of the clock, with an idle timeout and a stall timeout, none for never. The silence of
+-- each peer begins at the reading, and no stall timeout runs.
+pub record BeginsAt {S : Type 0} (start : Option Instant) (times : Option Duration × Option Duration)
+    (session : SessionTimers S) : Type 0 where
+  pub reading : session.sockets.reading ≡ start
+  pub idle_time : session.idle_time ≡ times.0
+  pub stall_time : (session.sockets.bot.stall_time ≡ times.1) × (session.sockets.server.stall_time ≡ times.1)
+  pub silent_from : IsStallEnd start times.0 session.sockets.bot.silent_from
+      × IsStallEnd start times.0 session.sockets.server.silent_from
+  pub stalls_at : (session.sockets.bot.stalls_at ≡ None) × (session.sockets.server.stalls_at ≡ None)
+
+-- ---- the calls
+
+-- no turn begins, and no timeout of the session changes its time
+pub record SameClock {S : Type 0} (old new : SessionTimers S) : Type 0 where
+  pub reading : new.sockets.reading ≡ old.sockets.reading
+  pub im_due : new.sockets.im_due ≡ old.sockets.im_due
+  pub idle_time : new.idle_time ≡ old.idle_time
+
+-- What a call of a session's ports does to its timers. The deadline of the initial message expires once: in the first turn
+-- that begins at it or after it.
+abbrev pub SetsTimers : {S : Type 0} → PortCall → SessionTimers S → SessionTimers S → Type 0
+SetsTimers TurnBegins old new = (new.idle_time ≡ old.idle_time)
+    × (new.im_timer_expired ≡ is_past new.sockets.reading old.sockets.im_due)
+    × (new.sockets.im_due ≡ due_after new.sockets.reading old.sockets.im_due)
+    × BeginsInTime new.sockets.reading old.sockets.bot new.sockets.bot
+    × BeginsInTime new.sockets.reading old.sockets.server new.sockets.server
+SetsTimers (Clock im_timer_expired) old new = (im_timer_expired ≡ old.im_timer_expired) × (new ≡ old)
+SetsTimers (Pulled side room pull bytes) old new = SameClock old new
+    × PullsInTime old.sockets.reading old.idle_time pull (stream_of (both_sockets old) side) (stream_of (both_sockets new) side)
+    × FlushesInTime old.sockets.reading (stream_of (swapped_sockets old) side) (stream_of (swapped_sockets new) side)
+SetsTimers (Offered side bytes put) old new = SameClock old new
+    × PutsInTime old.sockets.reading bytes put (stream_of (both_sockets old) side) (stream_of (both_sockets new) side)
+    × FlushesInTime old.sockets.reading (stream_of (swapped_sockets old) side) (stream_of (swapped_sockets new) side)

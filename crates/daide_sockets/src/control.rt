@@ -1,0 +1,429 @@
+//! The control socket of a run: its listener, and at most four connections.
+//!
+//! They are read and written when a round begins, each once, so no session waits for them. A wait watches them as it
+//! watches sessions.
+
+ghost use Rattle.std.specs.Prelude.{◌≡◌, ◌||◌, List, Option, [], ◌∷◌, false, true, IfSome, None, Some};
+ghost use Rattle.daide_sockets.specs.Accepting.{is_accept_due, Pauses};
+ghost use Rattle.daide_sockets.specs.Snapshot.{seconds_between, or_zero};
+ghost use Rattle.daide_sockets.specs.Control.{gathers_at, stops_at, stops_now_at};
+ghost use Rattle.daide_sockets.specs.ControlSlots.{places, Each, at_some, PlaceAdvances, PlaceShows};
+ghost use Rattle.daide_sockets.specs.ControlSlots.{at_place, has_free, with_one, watching_place, watching_places, watching_listener};
+ghost use Rattle.daide_sockets.specs.ControlSlots.{MakesControlAccept, AcceptsOne, watching_control, BeginsRound};
+
+use crate::admission::ACCEPT_PAUSE;
+use crate::control_connection::ControlConnection;
+use crate::poller::Poller;
+use crate::table::{SocketTable, after, either, is_past, merged};
+use daide_buffered_io::readiness::Readiness;
+use daide_io::duplex::Duplex;
+use daide_io::network::Network;
+use daide_io::system::Orders;
+use daide_status::{RunStatus, SessionRow};
+use std::alloc::Global;
+use std::io::ErrorKind;
+use std::time::{Duration, Instant};
+
+/// The most control connections at once. Further ones wait in the system's queue.
+pub const MOST_CONTROLS: usize = 4;
+
+/// The number of seconds after which a control connection is closed.
+const CONTROL_SECONDS: u64 = 2;
+
+/// Returns the whole seconds from one moment until another; `None` without one of them.
+pub(crate) fn seconds_between(moment: Option<Instant>, later: Option<Instant>) -> Option<u64>
+    ensures { result ≡ seconds_between moment later }
+{
+    match (moment, later) {
+        (Some(moment), Some(later)) => Some(later.saturating_duration_since(moment).as_secs()),
+        _ => None,
+    }
+}
+
+/// The places of the control connections.
+#[derive(Drop)]
+struct Slots<S: Duplex + Drop> {
+    first: Option<ControlConnection<S>>,
+    second: Option<ControlConnection<S>>,
+    third: Option<ControlConnection<S>>,
+    fourth: Option<ControlConnection<S>>,
+}
+
+/// Advances the connection of a place, and frees the place and its row if it is closed.
+fn advance_place<S: Duplex + Drop>(
+    place: &mut Option<ControlConnection<S>>,
+    table: &mut SocketTable,
+    alloc: Global,
+    run: &RunStatus,
+)
+    ensures advances { PlaceAdvances S.to_give S.taken S.calls run.now table.old.reading place.old place.new }
+    ensures clock { table.new.reading ≡ table.old.reading }
+{
+    let Some(connection) = place else {
+        return;
+    };
+    let report = table.take_report(connection.key());
+    connection.note_report(report);
+    if connection.advance(alloc, run, table.now()) {
+        return;
+    }
+    table.release(connection.key());
+    *place = None;
+}
+
+/// Shows the row of a session to the connection of a place.
+fn show_at<S: Duplex + Drop>(place: &mut Option<ControlConnection<S>>, row: &SessionRow)
+    ensures { PlaceShows row.now place.old place.new }
+{
+    if let Some(connection) = place {
+        connection.show(row);
+    }
+}
+
+/// Has the next wait watch the connection of a place.
+fn watch_place<S: Duplex + Drop>(place: &Option<ControlConnection<S>>, table: &mut SocketTable)
+    ensures { table.new ≡ watching_place table.old place.now }
+{
+    if let Some(connection) = place {
+        table.watch(connection.has_work(), connection.due());
+    }
+}
+
+/// Returns whether the connection of a place gathers a status.
+fn gathers_in<S: Duplex + Drop>(place: &Option<ControlConnection<S>>) -> bool
+    ensures { result ≡ at_place (λ connection. gathers_at connection.stage) place.now }
+{
+    match place {
+        Some(connection) => connection.gathers(),
+        None => false,
+    }
+}
+
+/// Returns whether the connection of a place requested a stop, and whether sessions are to end now.
+fn stops_in<S: Duplex + Drop>(place: &Option<ControlConnection<S>>) -> (bool, bool)
+    ensures stops { result.0 ≡ at_place (λ connection. stops_at connection.stage) place.now }
+    ensures at_once { result.1 ≡ at_place (λ connection. stops_now_at connection.stage) place.now }
+{
+    match place {
+        Some(connection) => connection.stops(),
+        None => (false, false),
+    }
+}
+
+impl<S: Duplex + Drop> Slots<S> {
+    /// Creates four free places.
+    fn new() -> Slots<S>
+        ensures { places result ≡ None ∷ None ∷ None ∷ None ∷ [] }
+    {
+        Slots {
+            first: None,
+            second: None,
+            third: None,
+            fourth: None,
+        }
+    }
+
+    /// Advances each connection.
+    fn advance(&mut self, table: &mut SocketTable, alloc: Global, run: &RunStatus)
+        ensures advances { Each (PlaceAdvances S.to_give S.taken S.calls run.now table.old.reading) (places self.old)
+            (places self.new) }
+        ensures clock { table.new.reading ≡ table.old.reading }
+    {
+        advance_place(&mut self.first, table, alloc, run);
+        advance_place(&mut self.second, table, alloc, run);
+        advance_place(&mut self.third, table, alloc, run);
+        advance_place(&mut self.fourth, table, alloc, run);
+    }
+
+    /// Shows the row of a session to each connection that gathers a status.
+    fn show(&mut self, row: &SessionRow)
+        ensures { Each (PlaceShows row.now) (places self.old) (places self.new) }
+    {
+        show_at(&mut self.first, row);
+        show_at(&mut self.second, row);
+        show_at(&mut self.third, row);
+        show_at(&mut self.fourth, row);
+    }
+
+    /// Has the next wait watch each connection.
+    fn watch(&self, table: &mut SocketTable)
+        ensures { table.new ≡ watching_places table.old (places self.now) }
+    {
+        watch_place(&self.first, table);
+        watch_place(&self.second, table);
+        watch_place(&self.third, table);
+        watch_place(&self.fourth, table);
+    }
+
+    /// Returns whether one gathers a status.
+    fn gather(&self) -> bool
+        ensures { result ≡ at_some (λ connection. gathers_at connection.stage) (places self.now) }
+    {
+        gathers_in(&self.first)
+            || gathers_in(&self.second)
+            || gathers_in(&self.third)
+            || gathers_in(&self.fourth)
+    }
+
+    /// Returns whether one requested a stop, and whether one requested that sessions end now.
+    fn stop(&self) -> (bool, bool)
+        ensures stops { result.0 ≡ at_some (λ connection. stops_at connection.stage) (places self.now) }
+        ensures at_once { result.1 ≡ at_some (λ connection. stops_now_at connection.stage) (places self.now) }
+    {
+        let one = stops_in(&self.first);
+        let two = stops_in(&self.second);
+        let three = stops_in(&self.third);
+        let four = stops_in(&self.fourth);
+        (
+            one.0 || two.0 || three.0 || four.0,
+            one.1 || two.1 || three.1 || four.1,
+        )
+    }
+
+    /// Returns whether a place is free.
+    fn has_room(&self) -> bool
+        ensures { result ≡ has_free (places self.now) }
+    {
+        self.first.is_none()
+            || self.second.is_none()
+            || self.third.is_none()
+            || self.fourth.is_none()
+    }
+
+    /// Puts a connection to the first free place, if there is one.
+    fn put(&mut self, connection: ControlConnection<S>)
+        ensures { places self.new ≡ with_one connection (places self.old) }
+    {
+        if self.first.is_none() {
+            self.first = Some(connection);
+        } else if self.second.is_none() {
+            self.second = Some(connection);
+        } else if self.third.is_none() {
+            self.third = Some(connection);
+        } else if self.fourth.is_none() {
+            self.fourth = Some(connection);
+        }
+    }
+}
+
+/// The listener of the control socket, with a pause after a failed accept.
+#[derive(Drop)]
+struct ControlListener {
+    /// The key of its row.
+    key: usize,
+    /// What is known of it without a system call.
+    readiness: Readiness,
+    /// The end of the pause after a failed accept; `None` if there is no pause.
+    resumes_at: Option<Instant>,
+}
+
+impl ControlListener {
+    /// Returns whether an accept is made now: the listener is ready by the table, and no pause is under way.
+    fn is_due(&self, table: &SocketTable) -> bool
+        ensures { result ≡ is_accept_due table.now self.now.key self.now.readiness self.now.resumes_at }
+    {
+        match self.resumes_at {
+            None => self.readiness.may_read || table.report(self.key).may_read,
+            Some(_) => is_past(table.now(), self.resumes_at),
+        }
+    }
+
+    /// Records an accept that failed for this reason: the listener counts as not ready, and a pause begins unless the
+    /// accept would have blocked.
+    fn pause(&mut self, now: Option<Instant>, why: ErrorKind)
+        ensures pauses { Pauses now why self.new.resumes_at }
+        ensures ready { self.new.readiness.may_read ≡ false }
+        ensures key { self.new.key ≡ self.old.key }
+    {
+        self.readiness.may_read = false;
+        self.resumes_at = match why {
+            ErrorKind::WouldBlock => None,
+            _ => after(now, Duration::from_millis(ACCEPT_PAUSE)),
+        };
+    }
+
+    /// Accepts a connection and has it followed, and returns it with the key of its row. Returns `None` if there is none,
+    /// or if the system refuses. Makes no call if the listener is not ready, or during the pause after a refusal.
+    fn accept<N: Network>(&mut self, poller: &mut Poller<N>) -> Option<(N::Connection, usize)>
+        ensures made { is_accept_due poller.old.table self.old.key self.old.readiness self.old.resumes_at ≡ true →
+            MakesControlAccept N.transition poller.old.network }
+        ensures not_made { is_accept_due poller.old.table self.old.key self.old.readiness self.old.resumes_at ≡ false →
+            (result ≡ None) × (self.new ≡ self.old) × (poller.new ≡ poller.old) }
+        ensures clock { poller.new.table.reading ≡ poller.old.table.reading }
+    {
+        if !self.is_due(&poller.table) {
+            return None;
+        }
+        let report = poller.table.take_report(self.key);
+        self.readiness = merged(self.readiness, report);
+        self.resumes_at = None;
+        let mut connection = match poller.network.accept_control() {
+            Ok(connection) => connection,
+            Err(error) => {
+                self.pause(poller.table.now(), error.kind());
+                return None;
+            }
+        };
+        self.readiness.may_read = true;
+        let Some(key) = poller.follow(&mut connection) else {
+            self.pause(poller.table.now(), ErrorKind::Other);
+            return None;
+        };
+        Some((connection, key))
+    }
+
+    /// Has the next wait watch the listener, if a place is free.
+    fn watch(&self, table: &mut SocketTable, has_room: bool)
+        ensures { table.new ≡ watching_listener table.old has_room (Some self.now) }
+    {
+        if has_room {
+            table.watch(self.readiness.may_read, self.resumes_at);
+        }
+    }
+}
+
+/// The control socket of a run.
+///
+/// An operator's stop is remembered: `stops_accepting` and `stops_now` stay once they are given.
+#[derive(Drop)]
+pub struct Control<S: Duplex + Drop> {
+    alloc: Global,
+    /// `None` if the run has no control socket.
+    listener: Option<ControlListener>,
+    slots: Slots<S>,
+    /// Whether a stop was requested.
+    stops_accepting: bool,
+    /// Whether it was requested that sessions end now.
+    stops_now: bool,
+    /// The reading of the clock when the run began; `None` if it could not be read.
+    started_at: Option<Instant>,
+}
+
+/// Has the listener of the control socket followed, if the network has one. Returns `None` if the table has no free row,
+/// or the system refuses.
+fn listener_of<N: Network>(poller: &mut Poller<N>) -> Option<Option<ControlListener>> {
+    let key = poller.table.take_row()?;
+    match poller.network.listen_for_control(key) {
+        Some(true) => Some(Some(ControlListener {
+            key,
+            readiness: Readiness::UNKNOWN,
+            resumes_at: None,
+        })),
+        Some(false) => {
+            poller.table.release(key);
+            None
+        }
+        None => {
+            poller.table.release(key);
+            Some(None)
+        }
+    }
+}
+
+impl<S: Duplex + Drop> Control<S> {
+    /// Creates the control socket of a run over a network, if that has a listener for it. No stop was requested yet.
+    /// Returns `None` if the listener cannot be followed.
+    pub(crate) fn new<N: Network<Connection = S>>(
+        alloc: Global,
+        poller: &mut Poller<N>,
+    ) -> Option<Control<S>>
+        ensures no_orders { IfSome result (λ control. (control.stops_accepting ≡ false) × (control.stops_now ≡ false)) }
+        ensures free { IfSome result (λ control. places control.slots ≡ None ∷ None ∷ None ∷ None ∷ []) }
+    {
+        let listener = listener_of(poller)?;
+        Some(Control {
+            alloc,
+            listener,
+            slots: Slots::new(),
+            stops_accepting: false,
+            stops_now: false,
+            started_at: poller.table.now(),
+        })
+    }
+
+    /// Accepts a connection, if a place is free and one waits.
+    fn accept<N: Network<Connection = S>>(&mut self, poller: &mut Poller<N>)
+        ensures accepts { AcceptsOne poller.old.table.reading (places self.old.slots) (places self.new.slots) }
+        ensures same { (self.new.stops_accepting ≡ self.old.stops_accepting) × (self.new.stops_now ≡ self.old.stops_now)
+            × (self.new.started_at ≡ self.old.started_at) }
+        ensures clock { poller.new.table.reading ≡ poller.old.table.reading }
+    {
+        let Some(listener) = &mut self.listener else {
+            return;
+        };
+        if !self.slots.has_room() {
+            return;
+        }
+        let Some((stream, key)) = listener.accept(poller) else {
+            return;
+        };
+        let closes_at = poller.table.after(Duration::from_secs(CONTROL_SECONDS));
+        self.slots
+            .put(ControlConnection::new(stream, key, closes_at));
+    }
+
+    /// Has the next wait watch each connection, and the listener if a place is free.
+    pub(crate) fn watch(&self, table: &mut SocketTable)
+        ensures { table.new ≡ watching_control table.old self.now }
+    {
+        if let Some(listener) = &self.listener {
+            listener.watch(table, self.slots.has_room());
+        }
+        self.slots.watch(table);
+    }
+
+    /// Begins a round at the table's reading of the clock, with the status of the run, and returns the operator's orders.
+    ///
+    /// `control`: each connection is read or written once, and then at most one is accepted, to a free place. A stop is
+    /// ordered from the round on in which a connection requests it, and stays so. Sessions are shown if a connection
+    /// gathers a status (`BeginsRound`).
+    pub(crate) fn begin_round<N: Network<Connection = S>>(
+        &mut self,
+        poller: &mut Poller<N>,
+        run: &RunStatus,
+    ) -> Orders
+        ensures control { BeginsRound S.to_give S.taken S.calls run.now poller.old.table.reading self.old result self.new }
+        ensures clock { poller.new.table.reading ≡ poller.old.table.reading }
+        ensures kept { self.old.stops_accepting ≡ true → self.new.stops_accepting ≡ true }
+        ensures now_kept { self.old.stops_now ≡ true → self.new.stops_now ≡ true }
+    {
+        self.slots.advance(&mut poller.table, self.alloc, run);
+        self.accept(poller);
+        let (stops, at_once) = self.slots.stop();
+        self.stops_accepting = either(self.stops_accepting, stops);
+        self.stops_now = either(self.stops_now, at_once);
+        Orders {
+            stops_accepting: self.stops_accepting,
+            shows_sessions: self.slots.gather(),
+        }
+    }
+
+    /// Shows the row of a session to each connection that gathers a status.
+    pub(crate) fn show(&mut self, row: &SessionRow)
+        ensures shows { Each (PlaceShows row.now) (places self.old.slots) (places self.new.slots) }
+        ensures same { self.new ≡ record self.old { slots = self.new.slots } }
+    {
+        self.slots.show(row);
+    }
+
+    /// Returns whether a stop was requested.
+    pub(crate) fn stops_accepting(&self) -> bool
+        ensures { result ≡ self.now.stops_accepting }
+    {
+        self.stops_accepting
+    }
+
+    /// Returns whether it was requested that sessions end now.
+    pub(crate) fn stops_now(&self) -> bool
+        ensures { result ≡ self.now.stops_now }
+    {
+        self.stops_now
+    }
+
+    /// Returns the seconds from the beginning of the run to this reading of the clock; 0 without a reading.
+    pub(crate) fn seconds(&self, now: Option<Instant>) -> u64
+        ensures { result ≡ or_zero (seconds_between self.now.started_at now) }
+    {
+        seconds_between(self.started_at, now).unwrap_or(0)
+    }
+}

@@ -1,0 +1,72 @@
+//! The listener of a control socket, at a path of the file system.
+//!
+//! The operating system decides what is at the path, so no contract is about it.
+
+use mio::net::{UnixListener, UnixStream};
+use std::io::ErrorKind;
+use std::net::Net;
+use std::os::unix::fs::{FileTypeExt, PermissionsExt};
+use std::rt::Files;
+use std::{fs, io};
+
+/// The mode of the socket's file: its user alone may connect.
+const OWN_MODE: u32 = 0o600;
+
+/// Returns true if a socket is at the path on which nobody listens. The connect that tells it does not block.
+fn is_stale<R: Files + Net>(rt: &R, path: &str) -> bool {
+    let is_socket = match fs::symlink_metadata(rt, path) {
+        Ok(found) => found.file_type().is_socket(),
+        Err(_) => false,
+    };
+    is_socket
+        && match UnixStream::connect(rt, path) {
+            Ok(_) => false,
+            Err(error) => error.kind() == ErrorKind::ConnectionRefused,
+        }
+}
+
+/// Creates a listener at the path. If a socket is there on which nobody listens, it is replaced.
+fn listener_at<R: Files + Net>(rt: &R, path: &str) -> io::Result<UnixListener> {
+    match UnixListener::bind(rt, path) {
+        Err(error) if error.kind() == ErrorKind::AddrInUse && is_stale(rt, path) => {
+            fs::remove_file(rt, path)?;
+            UnixListener::bind(rt, path)
+        }
+        bound => bound,
+    }
+}
+
+/// The file of a control socket. It is removed when this is dropped.
+pub struct ControlFile<'a, R: Files> {
+    rt: &'a R,
+    path: &'a str,
+}
+
+impl<R: Files> Drop for ControlFile<'_, R> {
+    fn drop(self) {
+        let ControlFile { rt, path } = self;
+        let _ = fs::remove_file(rt, path);
+    }
+}
+
+impl<'a, R: Files> ControlFile<'a, R> {
+    /// Takes over the file at the path, at which a listener was bound.
+    pub fn at(rt: &'a R, path: &'a str) -> ControlFile<'a, R> {
+        ControlFile { rt, path }
+    }
+}
+
+/// Creates the listener of a control socket at this path, to which its user alone may connect. The system creates its
+/// file before the mode is set, so until then the mode of the folder decides who may connect.
+///
+/// Fails with the system's error: with `AddrInUse` if anything is at the path, except a socket on which nobody listens.
+pub fn bind_control<R: Files + Net>(rt: &R, path: &str) -> io::Result<UnixListener> {
+    let listener = listener_at(rt, path)?;
+    match fs::set_permissions(rt, path, fs::Permissions::from_mode(OWN_MODE)) {
+        Ok(()) => Ok(listener),
+        Err(error) => {
+            let _ = fs::remove_file(rt, path);
+            Err(error)
+        }
+    }
+}

@@ -1,0 +1,5 @@
+pub mod Aligned
+pub mod Chains
+pub mod TextLemmas
+pub mod RequestFacts
+mod StatusFacts

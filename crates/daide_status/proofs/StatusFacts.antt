@@ -1,0 +1,192 @@
+-- The status of a run with no session, with one and with two, in each format. The texts were worked out from
+-- docs/FORMATS.md by hand.
+use Rattle.std.proofs.Common.{◌≡◌, ℕ, ◌++◌, true, false, List, [], ◌∷◌, Some, None, codes, refl}
+use Rattle.std.specs.Fmt.{digits}
+use Rattle.std.specs.declared.net.socket_addr.SocketAddr.{SocketAddr}
+use Rattle.std.specs.declared.net.socket_addr.SocketAddr.TheVariants.{V4}
+use Rattle.daide_grammar.specs.declared.level.Level.TheVariants.{L0, L20}
+use Rattle.daide_protocol.specs.declared.phase.Phase.TheVariants.{WaitRm, Open}
+use Rattle.daide_status.specs.declared.request.Format.TheVariants.{Table, Json, Prometheus}
+use Rattle.daide_status.specs.declared.snapshot.RunStatus.{RunStatus}
+use Rattle.daide_status.specs.declared.snapshot.SessionRow.{SessionRow}
+use Rattle.daide_status.specs.StatusTexts.{status_text}
+
+-- ---- the snapshots
+
+abbrev idle_run : RunStatus
+idle_run =
+    record { «open» = 0; connecting = 0; served = 0; unreached = 0; has_waiting = false; is_stopping = false; seconds = 7 }
+
+abbrev busy_run : RunStatus
+busy_run =
+    record { «open» = 2; connecting = 1; served = 30; unreached = 4; has_waiting = true; is_stopping = true; seconds = 125 }
+
+abbrev address : ℕ → ℕ → ℕ → ℕ → ℕ → SocketAddr
+address a b c d port = V4 (record { ip = record { octets = a ∷ b ∷ c ∷ d ∷ [] }; port = port })
+
+-- each number is another one, so that a number at another's place is seen
+abbrev first : SessionRow
+first = record {
+  number = 1;
+  bot = address 127 0 0 1 50000;
+  phase = Open;
+  level = L20;
+  summary = record { relayed = 87; prn = 2; huh = 3; faults = 0 };
+  queued_to_bot = 10;
+  queued_to_server = 12;
+  held_to_bot = 30;
+  held_to_server = 4;
+  bot_idle = Some 0;
+  server_idle = Some 61;
+}
+
+abbrev second : SessionRow
+second = record {
+  number = 12;
+  bot = address 10 0 0 7 6;
+  phase = WaitRm;
+  level = L0;
+  summary = record { relayed = 1; prn = 0; huh = 0; faults = 0 };
+  queued_to_bot = 0;
+  queued_to_server = 0;
+  held_to_bot = 0;
+  held_to_server = 8;
+  bot_idle = Some 5;
+  server_idle = None;
+}
+
+-- ---- as a table
+
+abbrev columns : List ℕ
+columns = codes "session  phase   relayed    PRN    HUH  to bot to server  bot idle server idle bot\n"
+
+table_of_none : status_text Table idle_run [] ≡ codes "0 open, 0 connecting, 0 served, 0 unreached, up 7 s\n" ++ columns
+unfolding digits
+table_of_none = refl
+
+abbrev busy_line : List ℕ
+busy_line = codes "2 open, 1 connecting, 30 served, 4 unreached, up 125 s; bots wait for a place; stopping\n"
+
+abbrev first_line : List ℕ
+first_line = codes "      1  open 20      87      2      3      40        16         0          61 127.0.0.1:50000\n"
+
+abbrev second_line : List ℕ
+second_line = codes "     12  wait RM       1      0      0       0         8         5           - 10.0.0.7:6\n"
+
+table_of_one : status_text Table busy_run (first ∷ []) ≡ busy_line ++ columns ++ first_line
+unfolding digits
+table_of_one = refl
+
+table_of_two : status_text Table busy_run (first ∷ second ∷ []) ≡ busy_line ++ columns ++ first_line ++ second_line
+unfolding digits
+table_of_two = refl
+
+-- ---- as a document
+
+document_of_none : status_text Json idle_run []
+    ≡ codes "{\"open\":0,\"connecting\":0,\"served\":0,\"unreached\":0,\"bots_wait\":false,\"stopping\":false,\"seconds\":7,\"sessions\":[\n]}\n"
+unfolding digits
+document_of_none = refl
+
+abbrev busy_members : List ℕ
+busy_members =
+    codes "{\"open\":2,\"connecting\":1,\"served\":30,\"unreached\":4,\"bots_wait\":true,\"stopping\":true,\"seconds\":125,\"sessions\":[\n"
+
+abbrev first_object : List ℕ
+first_object =
+    codes "{\"session\":1,\"bot\":\"127.0.0.1:50000\",\"phase\":\"open\",\"level\":20,\"relayed\":87,\"prn\":2,\"huh\":3,\"faults\":0"
+    ++ codes ",\"queued\":{\"bot\":10,\"server\":12},\"held\":{\"bot\":30,\"server\":4},\"idle_seconds\":{\"bot\":0,\"server\":61}}"
+
+abbrev second_object : List ℕ
+second_object =
+    codes "{\"session\":12,\"bot\":\"10.0.0.7:6\",\"phase\":\"wait RM\",\"level\":0,\"relayed\":1,\"prn\":0,\"huh\":0,\"faults\":0"
+    ++ codes ",\"queued\":{\"bot\":0,\"server\":0},\"held\":{\"bot\":0,\"server\":8},\"idle_seconds\":{\"bot\":5,\"server\":null}}"
+
+document_of_one : status_text Json busy_run (first ∷ []) ≡ busy_members ++ first_object ++ codes "\n]}\n"
+unfolding digits
+document_of_one = refl
+
+document_of_two : status_text Json busy_run (first ∷ second ∷ [])
+    ≡ busy_members ++ first_object ++ codes ",\n" ++ second_object ++ codes "\n]}\n"
+unfolding digits
+document_of_two = refl
+
+-- ---- as metrics
+
+abbrev frames_head : List ℕ
+frames_head =
+    codes "# HELP daide_gate_session_frames_total Frames of a session, by what was done with them.\n# TYPE daide_gate_session_frames_total counter\n"
+
+abbrev waiting_head : List ℕ
+waiting_head =
+    codes "# HELP daide_gate_session_waiting_bytes Bytes that wait for a side.\n# TYPE daide_gate_session_waiting_bytes gauge\n"
+
+abbrev idle_head : List ℕ
+idle_head =
+    codes "# HELP daide_gate_session_idle_seconds Seconds since the last byte from a side.\n# TYPE daide_gate_session_idle_seconds gauge\n"
+
+abbrev level_head : List ℕ
+level_head = codes "# HELP daide_gate_session_level The level of press of a session.\n# TYPE daide_gate_session_level gauge\n"
+
+metrics_of_none : status_text Prometheus idle_run []
+    ≡ codes "# HELP daide_gate_sessions Sessions that are open.\n# TYPE daide_gate_sessions gauge\ndaide_gate_sessions 0\n"
+    ++ codes "# HELP daide_gate_connecting Bots that wait for a connection to the server.\n# TYPE daide_gate_connecting gauge\ndaide_gate_connecting 0\n"
+    ++ codes "# HELP daide_gate_served_total Sessions that are over.\n# TYPE daide_gate_served_total counter\ndaide_gate_served_total 0\n"
+    ++ codes "# HELP daide_gate_unreached_total Bots for which the server could not be reached.\n# TYPE daide_gate_unreached_total counter\ndaide_gate_unreached_total 0\n"
+    ++ codes "# HELP daide_gate_bots_wait Whether bots wait for a place.\n# TYPE daide_gate_bots_wait gauge\ndaide_gate_bots_wait 0\n"
+    ++ codes "# HELP daide_gate_stopping Whether the run accepts no further bot.\n# TYPE daide_gate_stopping gauge\ndaide_gate_stopping 0\n"
+    ++ codes "# HELP daide_gate_up_seconds Seconds since the run began.\n# TYPE daide_gate_up_seconds gauge\ndaide_gate_up_seconds 7\n"
+    ++ frames_head ++ waiting_head ++ idle_head ++ level_head
+unfolding digits
+metrics_of_none = refl
+
+abbrev busy_metrics : List ℕ
+busy_metrics =
+    codes "# HELP daide_gate_sessions Sessions that are open.\n# TYPE daide_gate_sessions gauge\ndaide_gate_sessions 2\n"
+    ++ codes "# HELP daide_gate_connecting Bots that wait for a connection to the server.\n# TYPE daide_gate_connecting gauge\ndaide_gate_connecting 1\n"
+    ++ codes "# HELP daide_gate_served_total Sessions that are over.\n# TYPE daide_gate_served_total counter\ndaide_gate_served_total 30\n"
+    ++ codes "# HELP daide_gate_unreached_total Bots for which the server could not be reached.\n# TYPE daide_gate_unreached_total counter\ndaide_gate_unreached_total 4\n"
+    ++ codes "# HELP daide_gate_bots_wait Whether bots wait for a place.\n# TYPE daide_gate_bots_wait gauge\ndaide_gate_bots_wait 1\n"
+    ++ codes "# HELP daide_gate_stopping Whether the run accepts no further bot.\n# TYPE daide_gate_stopping gauge\ndaide_gate_stopping 1\n"
+    ++ codes "# HELP daide_gate_up_seconds Seconds since the run began.\n# TYPE daide_gate_up_seconds gauge\ndaide_gate_up_seconds 125\n"
+
+abbrev first_frames : List ℕ
+first_frames =
+    codes "daide_gate_session_frames_total{session=\"1\",bot=\"127.0.0.1:50000\",result=\"relayed\"} 87\n"
+    ++ codes "daide_gate_session_frames_total{session=\"1\",bot=\"127.0.0.1:50000\",result=\"prn\"} 2\n"
+    ++ codes "daide_gate_session_frames_total{session=\"1\",bot=\"127.0.0.1:50000\",result=\"huh\"} 3\n"
+    ++ codes "daide_gate_session_frames_total{session=\"1\",bot=\"127.0.0.1:50000\",result=\"fault\"} 0\n"
+
+abbrev first_waiting : List ℕ
+first_waiting =
+    codes "daide_gate_session_waiting_bytes{session=\"1\",bot=\"127.0.0.1:50000\",side=\"bot\"} 40\n"
+    ++ codes "daide_gate_session_waiting_bytes{session=\"1\",bot=\"127.0.0.1:50000\",side=\"server\"} 16\n"
+
+abbrev first_idle : List ℕ
+first_idle =
+    codes "daide_gate_session_idle_seconds{session=\"1\",bot=\"127.0.0.1:50000\",side=\"bot\"} 0\n"
+    ++ codes "daide_gate_session_idle_seconds{session=\"1\",bot=\"127.0.0.1:50000\",side=\"server\"} 61\n"
+
+abbrev first_level : List ℕ
+first_level = codes "daide_gate_session_level{session=\"1\",bot=\"127.0.0.1:50000\",phase=\"open\"} 20\n"
+
+metrics_of_one : status_text Prometheus busy_run (first ∷ [])
+    ≡ busy_metrics ++ frames_head ++ first_frames ++ waiting_head ++ first_waiting ++ idle_head ++ first_idle ++ level_head
+    ++ first_level
+unfolding digits
+metrics_of_one = refl
+
+-- a side that has sent nothing has no sample
+metrics_of_two : status_text Prometheus busy_run (first ∷ second ∷ [])
+    ≡ busy_metrics ++ frames_head ++ first_frames
+    ++ codes "daide_gate_session_frames_total{session=\"12\",bot=\"10.0.0.7:6\",result=\"relayed\"} 1\n"
+    ++ codes "daide_gate_session_frames_total{session=\"12\",bot=\"10.0.0.7:6\",result=\"prn\"} 0\n"
+    ++ codes "daide_gate_session_frames_total{session=\"12\",bot=\"10.0.0.7:6\",result=\"huh\"} 0\n"
+    ++ codes "daide_gate_session_frames_total{session=\"12\",bot=\"10.0.0.7:6\",result=\"fault\"} 0\n"
+    ++ waiting_head ++ first_waiting
+    ++ codes "daide_gate_session_waiting_bytes{session=\"12\",bot=\"10.0.0.7:6\",side=\"bot\"} 0\n"
+    ++ codes "daide_gate_session_waiting_bytes{session=\"12\",bot=\"10.0.0.7:6\",side=\"server\"} 8\n"
+    ++ idle_head ++ first_idle ++ codes "daide_gate_session_idle_seconds{session=\"12\",bot=\"10.0.0.7:6\",side=\"bot\"} 5\n"
+    ++ level_head ++ first_level ++ codes "daide_gate_session_level{session=\"12\",bot=\"10.0.0.7:6\",phase=\"wait RM\"} 0\n"
+unfolding digits
+metrics_of_two = refl

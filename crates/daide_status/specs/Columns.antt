@@ -1,0 +1,56 @@
+-- The status of a run as a table: a line of the run, the names of the columns, and a line for each session. (own)
+use Rattle.std.specs.Prelude.{ℕ, ◌+◌, ◌++◌, List, codes}
+use Rattle.std.specs.Fmt.{decimal}
+use Rattle.std.specs.Net.Text.{socket_text}
+use Rattle.daide_grammar.specs.declared.level.Level.{Level}
+use Rattle.daide_grammar.specs.declared.level.Level.TheVariants.{L0, L10, L20, L30, L40, L50, L60}
+use Rattle.daide_protocol.specs.declared.phase.Phase.{Phase}
+use Rattle.daide_protocol.specs.declared.phase.Phase.TheVariants.{WaitIm, WaitRm, Open, Over}
+use Rattle.daide_status.specs.declared.snapshot.RunStatus.{RunStatus}
+use Rattle.daide_status.specs.declared.snapshot.SessionRow.{SessionRow}
+use Rattle.daide_status.specs.Pieces.{right_aligned, seconds_cell, text_if}
+
+-- the phase of an open session with its level, in a column of seven bytes
+abbrev pub open_cell : Level → List ℕ
+open_cell L0 = codes "open 0 "
+open_cell L10 = codes "open 10"
+open_cell L20 = codes "open 20"
+open_cell L30 = codes "open 30"
+open_cell L40 = codes "open 40"
+open_cell L50 = codes "open 50"
+open_cell L60 = codes "open 60"
+
+-- the phase in a column of seven bytes
+abbrev pub phase_cell : Phase → Level → List ℕ
+phase_cell WaitIm level = codes "wait IM"
+phase_cell WaitRm level = codes "wait RM"
+phase_cell Open level = open_cell level
+phase_cell Over level = codes "over   "
+
+-- the numbers of the run
+abbrev pub totals : RunStatus → List ℕ
+totals run =
+    decimal run.open ++ codes " open, " ++ decimal run.connecting ++ codes " connecting, " ++ decimal run.served
+    ++ codes " served, " ++ decimal run.unreached ++ codes " unreached, up " ++ decimal run.seconds ++ codes " s"
+
+-- the line of the run
+abbrev pub run_line : RunStatus → List ℕ
+run_line run =
+    totals run ++ text_if run.has_waiting (codes "; bots wait for a place") ++ text_if run.is_stopping (codes "; stopping")
+    ++ codes "\n"
+
+-- the line of the run, and the names of the columns
+abbrev pub table_head : RunStatus → List ℕ
+table_head run =
+    run_line run
+    ++ codes "session  phase   relayed    PRN    HUH  to bot to server  bot idle server idle bot\n"
+
+-- the line of a session; the bytes for a side are those of the session's queue and those that the side's socket holds
+abbrev pub table_row : SessionRow → List ℕ
+table_row row =
+    right_aligned 7 (decimal row.number) ++ codes "  " ++ phase_cell row.phase row.level
+    ++ right_aligned 8 (decimal row.summary.relayed) ++ right_aligned 7 (decimal row.summary.prn)
+    ++ right_aligned 7 (decimal row.summary.huh)
+    ++ right_aligned 8 (decimal (row.queued_to_bot + row.held_to_bot))
+    ++ right_aligned 10 (decimal (row.queued_to_server + row.held_to_server))
+    ++ seconds_cell 10 row.bot_idle ++ seconds_cell 12 row.server_idle ++ codes " " ++ socket_text row.bot ++ codes "\n"

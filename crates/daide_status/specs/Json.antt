@@ -1,0 +1,68 @@
+-- The status of a run as one JSON document. An address and the name of a phase need no escape. (own)
+use Rattle.std.specs.Prelude.{ℕ, ◌++◌, Bool, if◌then◌else◌, List, [], ◌∷◌, codes}
+use Rattle.std.specs.List.{flat_map}
+use Rattle.std.specs.Fmt.{decimal}
+use Rattle.std.specs.Net.Text.{socket_text}
+use Rattle.daide_grammar.specs.Level.{level_number}
+use Rattle.daide_protocol.specs.declared.summary.Summary.{Summary}
+use Rattle.daide_status.specs.declared.snapshot.RunStatus.{RunStatus}
+use Rattle.daide_status.specs.declared.snapshot.SessionRow.{SessionRow}
+use Rattle.daide_status.specs.Pieces.{phase_name, seconds_or_null}
+
+-- a flag
+abbrev pub json_flag : Bool → List ℕ
+json_flag flag = if flag then codes "true" else codes "false"
+
+-- the numbers of the run
+abbrev pub json_run_counts : RunStatus → List ℕ
+json_run_counts run =
+    codes "{\"open\":" ++ decimal run.open ++ codes ",\"connecting\":" ++ decimal run.connecting
+    ++ codes ",\"served\":" ++ decimal run.served ++ codes ",\"unreached\":" ++ decimal run.unreached
+
+-- the flags of the run and its seconds, and the beginning of the array of sessions
+abbrev pub json_run_state : RunStatus → List ℕ
+json_run_state run =
+    codes ",\"bots_wait\":" ++ json_flag run.has_waiting ++ codes ",\"stopping\":" ++ json_flag run.is_stopping
+    ++ codes ",\"seconds\":" ++ decimal run.seconds ++ codes ",\"sessions\":["
+
+-- the members of the run, and the beginning of the array of sessions
+abbrev pub json_head : RunStatus → List ℕ
+json_head run = json_run_counts run ++ json_run_state run
+
+-- the number of a session, its bot's address, its phase and its level
+abbrev pub json_session : SessionRow → List ℕ
+json_session row =
+    codes "{\"session\":" ++ decimal row.number ++ codes ",\"bot\":\"" ++ socket_text row.bot
+    ++ codes "\",\"phase\":\"" ++ phase_name row.phase ++ codes "\",\"level\":" ++ decimal (level_number row.level)
+
+-- the counts of a session
+abbrev pub json_counts : Summary → List ℕ
+json_counts counts =
+    codes ",\"relayed\":" ++ decimal counts.relayed ++ codes ",\"prn\":" ++ decimal counts.prn
+    ++ codes ",\"huh\":" ++ decimal counts.huh ++ codes ",\"faults\":" ++ decimal counts.faults
+
+-- two numbers of bytes, for the bot and for the server
+abbrev pub json_sides : List ℕ → ℕ → ℕ → List ℕ
+json_sides name bot server =
+    codes ",\"" ++ name ++ codes "\":{\"bot\":" ++ decimal bot ++ codes ",\"server\":" ++ decimal server ++ codes "}"
+
+-- the seconds since each side's last byte, and the end of the object
+abbrev pub json_idle : SessionRow → List ℕ
+json_idle row =
+    codes ",\"idle_seconds\":{\"bot\":" ++ seconds_or_null row.bot_idle ++ codes ",\"server\":"
+    ++ seconds_or_null row.server_idle ++ codes "}}"
+
+-- the object of a session
+abbrev pub json_row : SessionRow → List ℕ
+json_row row =
+    json_session row ++ json_counts row.summary ++ json_sides (codes "queued") row.queued_to_bot row.queued_to_server
+    ++ json_sides (codes "held") row.held_to_bot row.held_to_server ++ json_idle row
+
+-- the objects of all sessions, each on a line, with commas between them
+abbrev pub json_rows : List SessionRow → List ℕ
+json_rows [] = []
+json_rows (row ∷ rows) = codes "\n" ++ json_row row ++ flat_map (λ other. codes ",\n" ++ json_row other) rows
+
+-- the end of the array and of the document
+abbrev pub json_end : List ℕ
+json_end = codes "\n]}\n"

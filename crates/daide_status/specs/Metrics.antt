@@ -1,0 +1,98 @@
+-- The status of a run in the text format of Prometheus. An address and the name of a phase need no escape in a label.
+-- (own)
+use Rattle.std.specs.Prelude.{ℕ, ◌+◌, ◌++◌, Bool, true, false, List, [], Option, Some, None, codes}
+use Rattle.std.specs.Fmt.{decimal}
+use Rattle.std.specs.Net.Text.{socket_text}
+use Rattle.daide_grammar.specs.Level.{level_number}
+use Rattle.daide_protocol.specs.declared.phase.Phase.{Phase}
+use Rattle.daide_status.specs.declared.snapshot.RunStatus.{RunStatus}
+use Rattle.daide_status.specs.declared.snapshot.SessionRow.{SessionRow}
+use Rattle.daide_status.specs.Pieces.{phase_name}
+
+-- the help and the type of a metric
+abbrev pub metric_head : List ℕ → List ℕ → List ℕ → List ℕ
+metric_head name kind help =
+    codes "# HELP daide_gate_" ++ name ++ codes " " ++ help ++ codes "\n# TYPE daide_gate_" ++ name ++ codes " " ++ kind
+    ++ codes "\n"
+
+-- the sample of a metric of the run
+abbrev pub run_sample : List ℕ → ℕ → List ℕ
+run_sample name value = codes "daide_gate_" ++ name ++ codes " " ++ decimal value ++ codes "\n"
+
+-- a metric of the run, with its one sample
+abbrev pub run_metric : List ℕ → List ℕ → List ℕ → ℕ → List ℕ
+run_metric name kind help value = metric_head name kind help ++ run_sample name value
+
+-- a flag as a number
+abbrev pub flag_number : Bool → ℕ
+flag_number true = 1
+flag_number false = 0
+
+-- whether bots wait, whether the run is stopping, and its seconds
+abbrev pub waiting_metrics : RunStatus → List ℕ
+waiting_metrics run =
+    run_metric (codes "bots_wait") (codes "gauge") (codes "Whether bots wait for a place.") (flag_number run.has_waiting)
+    ++ run_metric (codes "stopping") (codes "gauge") (codes "Whether the run accepts no further bot.")
+    (flag_number run.is_stopping)
+    ++ run_metric (codes "up_seconds") (codes "gauge") (codes "Seconds since the run began.") run.seconds
+
+-- the metrics of the run
+abbrev pub metrics_head : RunStatus → List ℕ
+metrics_head run =
+    run_metric (codes "sessions") (codes "gauge") (codes "Sessions that are open.") run.open
+    ++ run_metric (codes "connecting") (codes "gauge") (codes "Bots that wait for a connection to the server.")
+    run.connecting
+    ++ run_metric (codes "served_total") (codes "counter") (codes "Sessions that are over.") run.served
+    ++ run_metric (codes "unreached_total") (codes "counter")
+    (codes "Bots for which the server could not be reached.") run.unreached ++ waiting_metrics run
+
+-- a sample of a session, with one more label
+abbrev pub session_sample : List ℕ → SessionRow → List ℕ → ℕ → List ℕ
+session_sample name row label value =
+    codes "daide_gate_" ++ name ++ codes "{session=\"" ++ decimal row.number ++ codes "\",bot=\"" ++ socket_text row.bot
+    ++ codes "\"," ++ label ++ codes "} " ++ decimal value ++ codes "\n"
+
+-- the frames of a session, by what was done with them
+abbrev pub frame_samples : SessionRow → List ℕ
+frame_samples row =
+    session_sample (codes "session_frames_total") row (codes "result=\"relayed\"") row.summary.relayed
+    ++ session_sample (codes "session_frames_total") row (codes "result=\"prn\"") row.summary.prn
+    ++ session_sample (codes "session_frames_total") row (codes "result=\"huh\"") row.summary.huh
+    ++ session_sample (codes "session_frames_total") row (codes "result=\"fault\"") row.summary.faults
+
+-- the bytes that wait for each side, in the session and in the side's socket
+abbrev pub waiting_samples : SessionRow → List ℕ
+waiting_samples row =
+    session_sample (codes "session_waiting_bytes") row (codes "side=\"bot\"") (row.queued_to_bot + row.held_to_bot)
+    ++ session_sample (codes "session_waiting_bytes") row (codes "side=\"server\"") (row.queued_to_server + row.held_to_server)
+
+-- the seconds since a side's last byte, if it has sent one
+abbrev pub idle_sample : SessionRow → List ℕ → Option ℕ → List ℕ
+idle_sample row label None = []
+idle_sample row label (Some seconds) = session_sample (codes "session_idle_seconds") row label seconds
+
+-- the seconds since each side's last byte
+abbrev pub idle_samples : SessionRow → List ℕ
+idle_samples row =
+    idle_sample row (codes "side=\"bot\"") row.bot_idle ++ idle_sample row (codes "side=\"server\"") row.server_idle
+
+-- the label of a phase
+abbrev pub phase_label : Phase → List ℕ
+phase_label phase = codes "phase=\"" ++ phase_name phase ++ codes "\""
+
+-- the level of a session, with its phase
+abbrev pub level_sample : SessionRow → List ℕ
+level_sample row = session_sample (codes "session_level") row (phase_label row.phase) (level_number row.level)
+
+-- a metric of the sessions, with all its samples
+abbrev pub session_metric : List ℕ → List ℕ → List ℕ → List ℕ → List ℕ
+session_metric name kind help samples = metric_head name kind help ++ samples
+
+-- the metrics of the sessions, each with these samples
+abbrev pub session_metrics : List ℕ → List ℕ → List ℕ → List ℕ → List ℕ
+session_metrics frames waiting idle levels =
+    session_metric (codes "session_frames_total") (codes "counter")
+    (codes "Frames of a session, by what was done with them.") frames
+    ++ session_metric (codes "session_waiting_bytes") (codes "gauge") (codes "Bytes that wait for a side.") waiting
+    ++ session_metric (codes "session_idle_seconds") (codes "gauge") (codes "Seconds since the last byte from a side.") idle
+    ++ session_metric (codes "session_level") (codes "gauge") (codes "The level of press of a session.") levels

@@ -1,0 +1,32 @@
+-- The pieces of which the texts of a status are made. (own)
+use Rattle.std.specs.Prelude.{ℕ, ◌-◌, ◌++◌, Bool, true, false, List, [], Option, Some, None, codes, length}
+use Rattle.std.specs.List.{repeat}
+use Rattle.std.specs.Fmt.{decimal}
+use Rattle.daide_protocol.specs.declared.phase.Phase.{Phase}
+use Rattle.daide_protocol.specs.declared.phase.Phase.TheVariants.{WaitIm, WaitRm, Open, Over}
+
+-- a text after as many spaces as it is shorter than a width
+abbrev pub right_aligned : ℕ → List ℕ → List ℕ
+right_aligned width text = repeat (width - length text) (codes " ") ++ text
+
+-- the name of a phase
+abbrev pub phase_name : Phase → List ℕ
+phase_name WaitIm = codes "wait IM"
+phase_name WaitRm = codes "wait RM"
+phase_name Open = codes "open"
+phase_name Over = codes "over"
+
+-- some seconds in a column, or a dash if there are none
+abbrev pub seconds_cell : ℕ → Option ℕ → List ℕ
+seconds_cell width (Some seconds) = right_aligned width (decimal seconds)
+seconds_cell width None = right_aligned width (codes "-")
+
+-- some seconds in a document, or `null` if there are none
+abbrev pub seconds_or_null : Option ℕ → List ℕ
+seconds_or_null (Some seconds) = decimal seconds
+seconds_or_null None = codes "null"
+
+-- a text, if a condition holds
+abbrev pub text_if : Bool → List ℕ → List ℕ
+text_if true text = text
+text_if false text = []

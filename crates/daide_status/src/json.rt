@@ -1,0 +1,113 @@
+//! The status as one JSON document: the members of the run, and an array with an object for each session.
+
+ghost use Rattle.std.specs.Prelude.{◌≡◌, ◌++◌, OnOk};
+ghost use Rattle.daide_status.specs.Json.{json_counts, json_head, json_idle, json_row, json_run_counts, json_run_state, json_sides, json_session};
+
+use crate::pieces::{phase_name, put_seconds_or_null};
+use crate::snapshot::{RunStatus, SessionRow};
+use daide_protocol::Summary;
+use std::io;
+use std::io::Write;
+
+/// What comes after the last session.
+pub(crate) const END: &str = "\n]}\n";
+
+/// Appends the numbers of the run.
+fn put_run_counts(run: &RunStatus, out: &mut Vec<u8>) -> io::Result<()>
+    ensures { OnOk result (out.new.items ≡ out.old.items ++ json_run_counts run.now) }
+{
+    let RunStatus {
+        open,
+        connecting,
+        served,
+        unreached,
+        ..
+    } = *run;
+    write!(
+        out,
+        "{{\"open\":{open},\"connecting\":{connecting},\"served\":{served},\"unreached\":{unreached}"
+    )
+}
+
+/// Appends the flags of the run and its seconds, and the beginning of the array.
+fn put_run_state(run: &RunStatus, out: &mut Vec<u8>) -> io::Result<()>
+    ensures { OnOk result (out.new.items ≡ out.old.items ++ json_run_state run.now) }
+{
+    let RunStatus {
+        has_waiting,
+        is_stopping,
+        seconds,
+        ..
+    } = *run;
+    write!(
+        out,
+        ",\"bots_wait\":{has_waiting},\"stopping\":{is_stopping},\"seconds\":{seconds},\"sessions\":["
+    )
+}
+
+/// Appends the members of the run, and the beginning of the array.
+pub(crate) fn put_json_head(run: &RunStatus, out: &mut Vec<u8>) -> io::Result<()>
+    ensures { OnOk result (out.new.items ≡ out.old.items ++ json_head run.now) }
+{
+    put_run_counts(run, out)?;
+    put_run_state(run, out)
+}
+
+/// Appends the number of a session, its bot's address, its phase and its level.
+fn put_session(row: &SessionRow, out: &mut Vec<u8>) -> io::Result<()>
+    ensures { OnOk result (out.new.items ≡ out.old.items ++ json_session row.now) }
+{
+    let number = row.number;
+    let bot = row.bot;
+    let phase = phase_name(row.phase);
+    let level = row.level.number();
+    write!(
+        out,
+        "{{\"session\":{number},\"bot\":\"{bot}\",\"phase\":\"{phase}\",\"level\":{level}"
+    )
+}
+
+/// Appends the counts of a session.
+fn put_counts(row: &SessionRow, out: &mut Vec<u8>) -> io::Result<()>
+    ensures { OnOk result (out.new.items ≡ out.old.items ++ json_counts row.now.summary) }
+{
+    let Summary {
+        relayed,
+        prn,
+        huh,
+        faults,
+    } = row.summary;
+    write!(
+        out,
+        ",\"relayed\":{relayed},\"prn\":{prn},\"huh\":{huh},\"faults\":{faults}"
+    )
+}
+
+/// Appends two numbers of bytes, for the bot and for the server, as a member.
+fn put_sides(name: &str, bot: usize, server: usize, out: &mut Vec<u8>) -> io::Result<()>
+    ensures { OnOk result (out.new.items ≡ out.old.items ++ json_sides name.now bot server) }
+{
+    write!(out, ",\"{name}\":{{\"bot\":{bot},\"server\":{server}}}")
+}
+
+/// Appends the seconds since each side's last byte.
+fn put_idle_sides(row: &SessionRow, out: &mut Vec<u8>) -> io::Result<()>
+    ensures { OnOk result (out.new.items ≡ out.old.items ++ json_idle row.now) }
+{
+    out.write_all(b",\"idle_seconds\":{\"bot\":")?;
+    put_seconds_or_null(row.bot_idle, out)?;
+    out.write_all(b",\"server\":")?;
+    put_seconds_or_null(row.server_idle, out)?;
+    out.write_all(b"}}")
+}
+
+/// Appends the object of a session.
+pub(crate) fn put_json_row(row: &SessionRow, out: &mut Vec<u8>) -> io::Result<()>
+    ensures { OnOk result (out.new.items ≡ out.old.items ++ json_row row.now) }
+{
+    put_session(row, out)?;
+    put_counts(row, out)?;
+    put_sides("queued", row.queued_to_bot, row.queued_to_server, out)?;
+    put_sides("held", row.held_to_bot, row.held_to_server, out)?;
+    put_idle_sides(row, out)
+}

@@ -1,0 +1,286 @@
+//! The status in the text format of Prometheus: each metric with its help and its type, and then all its samples.
+
+ghost use Rattle.std.specs.Prelude.{◌≡◌, ◌+◌, ◌++◌, [], OnOk, codes};
+ghost use Rattle.daide_status.specs.Metrics.{flag_number, frame_samples, idle_samples, idle_sample, level_sample};
+ghost use Rattle.daide_status.specs.Metrics.{metric_head, metrics_head, phase_label, run_metric, session_sample, waiting_samples};
+ghost use Rattle.daide_status.specs.Metrics.{run_sample, session_metric, session_metrics, waiting_metrics};
+
+use crate::pieces::sum;
+use crate::snapshot::{RunStatus, SessionRow};
+use daide_protocol::{Phase, Summary};
+use std::alloc::Global;
+use std::io;
+use std::io::Write;
+
+/// The samples of all sessions, by metric, since a metric has all its samples together.
+#[derive(Drop)]
+pub(crate) struct Samples {
+    /// The frames of each session, by what was done with them.
+    pub frames: Vec<u8>,
+    /// The bytes that wait for each side.
+    pub waiting: Vec<u8>,
+    /// The seconds since each side's last byte.
+    pub idle: Vec<u8>,
+    /// The level of each session.
+    pub levels: Vec<u8>,
+}
+
+impl Samples {
+    /// Returns no samples.
+    pub(crate) fn new(alloc: Global) -> Samples
+        ensures frames { result.frames.items ≡ [] }
+        ensures waiting { result.waiting.items ≡ [] }
+        ensures idle { result.idle.items ≡ [] }
+        ensures levels { result.levels.items ≡ [] }
+    {
+        Samples {
+            frames: Vec::new(alloc),
+            waiting: Vec::new(alloc),
+            idle: Vec::new(alloc),
+            levels: Vec::new(alloc),
+        }
+    }
+}
+
+/// Appends the help and the type of a metric.
+fn put_metric(name: &str, kind: &str, help: &str, out: &mut Vec<u8>) -> io::Result<()>
+    ensures { OnOk result (out.new.items ≡ out.old.items ++ metric_head name.now kind.now help.now) }
+{
+    write!(
+        out,
+        "# HELP daide_gate_{name} {help}\n# TYPE daide_gate_{name} {kind}\n"
+    )
+}
+
+/// Appends the sample of a metric of the run.
+fn put_value(name: &str, value: u64, out: &mut Vec<u8>) -> io::Result<()>
+    ensures { OnOk result (out.new.items ≡ out.old.items ++ run_sample name.now value) }
+{
+    writeln!(out, "daide_gate_{name} {value}")
+}
+
+/// Appends a gauge of the run.
+fn put_gauge(name: &str, help: &str, value: u64, out: &mut Vec<u8>) -> io::Result<()>
+    ensures { OnOk result (out.new.items ≡ out.old.items ++ run_metric name.now (codes "gauge") help.now value) }
+{
+    put_metric(name, "gauge", help, out)?;
+    put_value(name, value, out)
+}
+
+/// Appends a counter of the run.
+fn put_counter(name: &str, help: &str, value: u64, out: &mut Vec<u8>) -> io::Result<()>
+    ensures { OnOk result (out.new.items ≡ out.old.items ++ run_metric name.now (codes "counter") help.now value) }
+{
+    put_metric(name, "counter", help, out)?;
+    put_value(name, value, out)
+}
+
+/// Appends whether bots wait, whether the run is stopping, and its seconds.
+fn put_state(run: &RunStatus, out: &mut Vec<u8>) -> io::Result<()>
+    ensures { OnOk result (out.new.items ≡ out.old.items ++ waiting_metrics run.now) }
+{
+    put_gauge(
+        "bots_wait",
+        "Whether bots wait for a place.",
+        run.has_waiting as u64,
+        out,
+    )?;
+    put_gauge(
+        "stopping",
+        "Whether the run accepts no further bot.",
+        run.is_stopping as u64,
+        out,
+    )?;
+    put_gauge(
+        "up_seconds",
+        "Seconds since the run began.",
+        run.seconds,
+        out,
+    )
+}
+
+/// Appends the metrics of the run.
+pub(crate) fn put_metrics_head(run: &RunStatus, out: &mut Vec<u8>) -> io::Result<()>
+    ensures { OnOk result (out.new.items ≡ out.old.items ++ metrics_head run.now) }
+{
+    put_gauge("sessions", "Sessions that are open.", run.open as u64, out)?;
+    put_gauge(
+        "connecting",
+        "Bots that wait for a connection to the server.",
+        run.connecting as u64,
+        out,
+    )?;
+    put_counter(
+        "served_total",
+        "Sessions that are over.",
+        run.served as u64,
+        out,
+    )?;
+    put_counter(
+        "unreached_total",
+        "Bots for which the server could not be reached.",
+        run.unreached as u64,
+        out,
+    )?;
+    put_state(run, out)
+}
+
+/// Appends a sample of a session.
+fn put_sample(
+    name: &str,
+    row: &SessionRow,
+    label: &str,
+    value: u128,
+    out: &mut Vec<u8>,
+) -> io::Result<()>
+    ensures { OnOk result (out.new.items ≡ out.old.items ++ session_sample name.now row.now label.now value) }
+{
+    let number = row.number;
+    let bot = row.bot;
+    writeln!(
+        out,
+        "daide_gate_{name}{{session=\"{number}\",bot=\"{bot}\",{label}}} {value}"
+    )
+}
+
+/// Appends the frames of a session, by what was done with them.
+pub(crate) fn put_frames(row: &SessionRow, out: &mut Vec<u8>) -> io::Result<()>
+    ensures { OnOk result (out.new.items ≡ out.old.items ++ frame_samples row.now) }
+{
+    let Summary {
+        relayed,
+        prn,
+        huh,
+        faults,
+    } = row.summary;
+    put_sample(
+        "session_frames_total",
+        row,
+        "result=\"relayed\"",
+        relayed as u128,
+        out,
+    )?;
+    put_sample(
+        "session_frames_total",
+        row,
+        "result=\"prn\"",
+        prn as u128,
+        out,
+    )?;
+    put_sample(
+        "session_frames_total",
+        row,
+        "result=\"huh\"",
+        huh as u128,
+        out,
+    )?;
+    put_sample(
+        "session_frames_total",
+        row,
+        "result=\"fault\"",
+        faults as u128,
+        out,
+    )
+}
+
+/// Appends the bytes that wait for each side, in the session and in the side's socket.
+pub(crate) fn put_waiting(row: &SessionRow, out: &mut Vec<u8>) -> io::Result<()>
+    ensures { OnOk result (out.new.items ≡ out.old.items ++ waiting_samples row.now) }
+{
+    let to_bot = sum(row.queued_to_bot, row.held_to_bot);
+    let to_server = sum(row.queued_to_server, row.held_to_server);
+    put_sample("session_waiting_bytes", row, "side=\"bot\"", to_bot, out)?;
+    put_sample(
+        "session_waiting_bytes",
+        row,
+        "side=\"server\"",
+        to_server,
+        out,
+    )
+}
+
+/// Appends the seconds since a side's last byte, if it has sent one.
+fn put_idle(
+    row: &SessionRow,
+    label: &str,
+    seconds: Option<u64>,
+    out: &mut Vec<u8>,
+) -> io::Result<()>
+    ensures { OnOk result (out.new.items ≡ out.old.items ++ idle_sample row.now label.now seconds) }
+{
+    match seconds {
+        Some(seconds) => put_sample("session_idle_seconds", row, label, seconds as u128, out),
+        None => Ok(()),
+    }
+}
+
+/// Appends the seconds since each side's last byte.
+pub(crate) fn put_silence(row: &SessionRow, out: &mut Vec<u8>) -> io::Result<()>
+    ensures { OnOk result (out.new.items ≡ out.old.items ++ idle_samples row.now) }
+{
+    put_idle(row, "side=\"bot\"", row.bot_idle, out)?;
+    put_idle(row, "side=\"server\"", row.server_idle, out)
+}
+
+/// Returns the label of a phase.
+fn phase_label(phase: Phase) -> &'static str
+    ensures { result.now ≡ phase_label phase }
+{
+    match phase {
+        Phase::WaitIm => "phase=\"wait IM\"",
+        Phase::WaitRm => "phase=\"wait RM\"",
+        Phase::Open => "phase=\"open\"",
+        Phase::Over => "phase=\"over\"",
+    }
+}
+
+/// Appends the level of a session, with its phase.
+pub(crate) fn put_level(row: &SessionRow, out: &mut Vec<u8>) -> io::Result<()>
+    ensures { OnOk result (out.new.items ≡ out.old.items ++ level_sample row.now) }
+{
+    let label = phase_label(row.phase);
+    let level = row.level.number();
+    put_sample("session_level", row, label, level as u128, out)
+}
+
+/// Appends a metric of the sessions with all its samples.
+fn put_session_metric(
+    name: &str,
+    kind: &str,
+    help: &str,
+    samples: &Vec<u8>,
+    out: &mut Vec<u8>,
+) -> io::Result<()>
+    ensures { OnOk result (out.new.items ≡ out.old.items ++ session_metric name.now kind.now help.now samples.now.items) }
+{
+    put_metric(name, kind, help, out)?;
+    out.write_all(samples.as_slice())
+}
+
+/// Appends the metrics of the sessions, each with all its samples.
+pub(crate) fn put_session_metrics(samples: &Samples, out: &mut Vec<u8>) -> io::Result<()>
+    ensures { OnOk result (out.new.items ≡ out.old.items
+        ++ session_metrics samples.now.frames.items samples.now.waiting.items samples.now.idle.items
+        samples.now.levels.items) }
+{
+    let done = "Frames of a session, by what was done with them.";
+    put_session_metric(
+        "session_frames_total",
+        "counter",
+        done,
+        &samples.frames,
+        out,
+    )?;
+    let waiting = "Bytes that wait for a side.";
+    put_session_metric(
+        "session_waiting_bytes",
+        "gauge",
+        waiting,
+        &samples.waiting,
+        out,
+    )?;
+    let silence = "Seconds since the last byte from a side.";
+    put_session_metric("session_idle_seconds", "gauge", silence, &samples.idle, out)?;
+    let level = "The level of press of a session.";
+    put_session_metric("session_level", "gauge", level, &samples.levels, out)
+}

@@ -1,0 +1,66 @@
+//! The pieces of which the texts are made.
+
+ghost use Rattle.std.specs.Prelude.{◌≡◌, ◌+◌, ◌++◌, OnOk};
+ghost use Rattle.std.specs.Fmt.{decimal};
+ghost use Rattle.daide_status.specs.Pieces.{phase_name, right_aligned, seconds_cell, seconds_or_null, text_if};
+
+use daide_protocol::Phase;
+use std::io;
+use std::io::Write;
+
+/// Returns the name of a phase.
+pub(crate) fn phase_name(phase: Phase) -> &'static str
+    ensures { result.now ≡ phase_name phase }
+{
+    match phase {
+        Phase::WaitIm => "wait IM",
+        Phase::WaitRm => "wait RM",
+        Phase::Open => "open",
+        Phase::Over => "over",
+    }
+}
+
+/// Returns the sum of two numbers of bytes.
+pub(crate) fn sum(one: usize, other: usize) -> u128
+    ensures { result ≡ one + other }
+{
+    one as u128 + other as u128
+}
+
+/// Appends a number, after as many spaces as its digits are fewer than a width.
+pub(crate) fn put_right(width: usize, number: u128, out: &mut Vec<u8>) -> io::Result<()>
+    ensures { OnOk result (out.new.items ≡ out.old.items ++ right_aligned width (decimal number)) }
+{
+    write!(out, "{number:>width$}")
+}
+
+/// Appends some seconds in a column, or a dash if there are none.
+pub(crate) fn put_seconds(width: usize, seconds: Option<u64>, out: &mut Vec<u8>) -> io::Result<()>
+    ensures { OnOk result (out.new.items ≡ out.old.items ++ seconds_cell width seconds) }
+{
+    match seconds {
+        Some(seconds) => put_right(width, seconds as u128, out),
+        None => write!(out, "{dash:>width$}", dash = "-"),
+    }
+}
+
+/// Appends some seconds, or `null` if there are none.
+pub(crate) fn put_seconds_or_null(seconds: Option<u64>, out: &mut Vec<u8>) -> io::Result<()>
+    ensures { OnOk result (out.new.items ≡ out.old.items ++ seconds_or_null seconds) }
+{
+    match seconds {
+        Some(seconds) => write!(out, "{seconds}"),
+        None => out.write_all(b"null"),
+    }
+}
+
+/// Appends a text if a condition holds.
+pub(crate) fn put_if(holds: bool, text: &str, out: &mut Vec<u8>) -> io::Result<()>
+    ensures { OnOk result (out.new.items ≡ out.old.items ++ text_if holds text.now) }
+{
+    if holds {
+        out.write_all(text.as_bytes())
+    } else {
+        Ok(())
+    }
+}

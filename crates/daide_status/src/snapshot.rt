@@ -1,0 +1,51 @@
+//! The status of a run and of a session, as values.
+
+use daide_grammar::Level;
+use daide_protocol::{Phase, Summary};
+use std::net::SocketAddr;
+
+/// The status of a run.
+#[derive(Clone, Copy, Debug, PartialEq, Eq)]
+pub struct RunStatus {
+    /// The number of open sessions.
+    pub open: u32,
+    /// The number of bots for which a connect to the server is pending.
+    pub connecting: u32,
+    /// The number of sessions that are over.
+    pub served: u32,
+    /// The number of bots for which the server could not be reached.
+    pub unreached: u32,
+    /// Whether bots wait for a place.
+    pub has_waiting: bool,
+    /// Whether no further bot is accepted.
+    pub is_stopping: bool,
+    /// The seconds since the run began.
+    pub seconds: u64,
+}
+
+/// The status of a session, with what its sockets know of it.
+#[derive(Clone, Copy, Debug)]
+pub struct SessionRow {
+    /// The number of the session.
+    pub number: u32,
+    /// The address of its bot.
+    pub bot: SocketAddr,
+    /// Its phase.
+    pub phase: Phase,
+    /// Its level of press; level 0 before it is open.
+    pub level: Level,
+    /// The counts of its effects, modulo 2^64.
+    pub summary: Summary,
+    /// The bytes that the session has queued for the bot.
+    pub queued_to_bot: usize,
+    /// The bytes that the session has queued for the server.
+    pub queued_to_server: usize,
+    /// The bytes that the bot's socket holds and has still to write.
+    pub held_to_bot: usize,
+    /// The bytes that the server's socket holds and has still to write.
+    pub held_to_server: usize,
+    /// The seconds since the bot's last byte; `None` if it has sent none.
+    pub bot_idle: Option<u64>,
+    /// The seconds since the server's last byte; `None` if it has sent none.
+    pub server_idle: Option<u64>,
+}

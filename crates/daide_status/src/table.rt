@@ -1,0 +1,95 @@
+//! The status in aligned columns. Its lines have at most 100 bytes, except those with an address of IPv6 or with a number
+//! that is longer than its column.
+
+ghost use Rattle.std.specs.Prelude.{◌≡◌, ◌++◌, OnOk};
+ghost use Rattle.daide_status.specs.Columns.{open_cell, phase_cell, run_line, table_head, table_row, totals};
+
+use crate::pieces::{put_if, put_right, put_seconds, sum};
+use crate::snapshot::{RunStatus, SessionRow};
+use daide_grammar::Level;
+use daide_protocol::Phase;
+use std::io;
+use std::io::Write;
+
+/// Returns the phase of an open session with its level, in seven bytes.
+fn open_cell(level: Level) -> &'static str
+    ensures { result.now ≡ open_cell level }
+{
+    match level {
+        Level::L0 => "open 0 ",
+        Level::L10 => "open 10",
+        Level::L20 => "open 20",
+        Level::L30 => "open 30",
+        Level::L40 => "open 40",
+        Level::L50 => "open 50",
+        Level::L60 => "open 60",
+    }
+}
+
+/// Returns the phase of a session in seven bytes, for an open session with its level.
+fn phase_cell(phase: Phase, level: Level) -> &'static str
+    ensures { result.now ≡ phase_cell phase level }
+{
+    match phase {
+        Phase::WaitIm => "wait IM",
+        Phase::WaitRm => "wait RM",
+        Phase::Open => open_cell(level),
+        Phase::Over => "over   ",
+    }
+}
+
+/// Appends the numbers of the run.
+fn put_totals(run: &RunStatus, out: &mut Vec<u8>) -> io::Result<()>
+    ensures { OnOk result (out.new.items ≡ out.old.items ++ totals run.now) }
+{
+    let RunStatus {
+        open,
+        connecting,
+        served,
+        unreached,
+        seconds,
+        ..
+    } = *run;
+    write!(
+        out,
+        "{open} open, {connecting} connecting, {served} served, {unreached} unreached, up {seconds} s"
+    )
+}
+
+/// Appends the line of the run.
+fn put_run_line(run: &RunStatus, out: &mut Vec<u8>) -> io::Result<()>
+    ensures { OnOk result (out.new.items ≡ out.old.items ++ run_line run.now) }
+{
+    put_totals(run, out)?;
+    put_if(run.has_waiting, "; bots wait for a place", out)?;
+    put_if(run.is_stopping, "; stopping", out)?;
+    out.write_all(b"\n")
+}
+
+/// Appends the line of the run, and the names of the columns.
+pub(crate) fn put_table_head(run: &RunStatus, out: &mut Vec<u8>) -> io::Result<()>
+    ensures { OnOk result (out.new.items ≡ out.old.items ++ table_head run.now) }
+{
+    put_run_line(run, out)?;
+    out.write_all(
+        b"session  phase   relayed    PRN    HUH  to bot to server  bot idle server idle bot\n",
+    )
+}
+
+/// Appends the line of a session.
+pub(crate) fn put_table_row(row: &SessionRow, out: &mut Vec<u8>) -> io::Result<()>
+    ensures { OnOk result (out.new.items ≡ out.old.items ++ table_row row.now) }
+{
+    let bot = row.bot;
+    put_right(7, row.number as u128, out)?;
+    out.write_all(b"  ")?;
+    out.write_all(phase_cell(row.phase, row.level).as_bytes())?;
+    put_right(8, row.summary.relayed as u128, out)?;
+    put_right(7, row.summary.prn as u128, out)?;
+    put_right(7, row.summary.huh as u128, out)?;
+    put_right(8, sum(row.queued_to_bot, row.held_to_bot), out)?;
+    put_right(10, sum(row.queued_to_server, row.held_to_server), out)?;
+    put_seconds(10, row.bot_idle, out)?;
+    put_seconds(12, row.server_idle, out)?;
+    writeln!(out, " {bot}")
+}

@@ -1,0 +1,480 @@
+"""The control socket of a run, and the commands `status` and `stop`, over real sockets.
+
+The expected texts are worked out from docs/FORMATS.md. Each wait is bounded.
+"""
+
+import contextlib
+import json
+import os
+import pathlib
+import re
+import shutil
+import signal
+import socket
+import stat
+import subprocess
+import tempfile
+import time
+
+from frames import FM, IM, IM_FM, ITS_PRN, OBS, RM, UNCLOSED, YES
+from held import NotPlayed, Wrong, same
+from runs import TOP
+from stage import HOST, free_port
+
+# The time limit of each wait, in seconds.
+SECONDS = 20
+
+# The number of sessions of the larger matches.
+SESSIONS = 20
+
+# The number of hostile clients at the control socket.
+HOSTILE = 300
+
+COLUMNS = "session  phase   relayed    PRN    HUH  to bot to server  bot idle server idle bot"
+
+
+def hears_interrupts():
+    """A shell that runs the tests in the background has them ignore SIGINT, and a script can't trap what is ignored."""
+    signal.signal(signal.SIGINT, signal.SIG_DFL)
+
+
+class Match:
+    """A run with a control socket, and a server, in a folder that only this user may enter."""
+
+    def __init__(self, program, settings="", words=(), control=None):
+        self.program = [str(program)] if isinstance(program, pathlib.Path) else program
+        self.room = pathlib.Path(tempfile.mkdtemp(prefix="control-"))
+        self.control = str(self.room / "control") if control is None else control
+        self.words, self.port = words, free_port()
+        self.listener = socket.create_server((HOST, 0), backlog=512)
+        self.listener.settimeout(SECONDS)
+        server = self.listener.getsockname()[1]
+        self.settings = self.room / "settings.toml"
+        self.settings.write_text(
+            f"listen = '{HOST}:{self.port}'\nserver = '{HOST}:{server}'\ncontrol = '{self.control}'\n{settings}\n",
+            encoding="utf-8",
+        )
+        self.process, self.bots, self.servers = None, [], []
+
+    def __enter__(self):
+        self.process = subprocess.Popen(
+            [*self.program, "run", *self.words, str(self.settings)], stdin=subprocess.DEVNULL, cwd=self.room,
+            stdout=subprocess.PIPE, stderr=subprocess.PIPE, bufsize=0, start_new_session=True,
+            preexec_fn=hears_interrupts,
+        )
+        same(self.process.stdout.read(len(b"listening\n")), b"listening\n", "printed by the run")
+        return self
+
+    def __exit__(self, *fault):
+        for stream in (*self.bots, *self.servers, self.listener):
+            stream.close()
+        # The script at the top may have left the program behind, which is in its process group.
+        with contextlib.suppress(ProcessLookupError):
+            os.killpg(self.process.pid, signal.SIGKILL)
+        self.process.communicate()
+        shutil.rmtree(self.room, ignore_errors=True)
+
+    def comes(self):
+        """A bot connects, and the server accepts the connection to it. Returns both ends."""
+        bot = socket.create_connection((HOST, self.port), SECONDS)
+        self.bots.append(bot)
+        server, _ = self.listener.accept()
+        server.settimeout(SECONDS)
+        self.servers.append(server)
+        return bot, server
+
+    def opens(self):
+        """A session opens. Returns both ends."""
+        bot, server = self.comes()
+        bot.sendall(IM)
+        same(received(server, len(IM)), IM, "received by the server")
+        server.sendall(RM)
+        same(received(bot, len(RM)), RM, "received by the bot")
+        return bot, server
+
+    def asks(self, line):
+        """Sends these bytes to the control socket. Returns what comes until the end of the stream."""
+        with self.client() as client:
+            client.sendall(line)
+            return rest(client)
+
+    def client(self):
+        """Returns a connection to the control socket."""
+        client = socket.socket(socket.AF_UNIX)
+        client.settimeout(SECONDS)
+        client.connect(self.control)
+        return client
+
+    def command(self, *words):
+        """Returns the output, the errors and the status of a command of the program, and its seconds."""
+        begun = time.monotonic()
+        done = subprocess.run([*self.program, *words], capture_output=True, timeout=SECONDS, check=False, text=True)
+        return done.stdout, done.stderr, done.returncode, time.monotonic() - begun
+
+    def status(self, form="table"):
+        """Returns the status in this form."""
+        printed, told, status, _ = self.command("status", "--format", form, str(self.settings))
+        same((told, status), ("", 0), f"status as {form}")
+        return printed
+
+    def ended(self):
+        """Waits until the run has ended. Returns its status, and its lines on standard error."""
+        told = self.process.communicate(timeout=SECONDS)[1].decode()
+        return self.process.returncode, told
+
+
+def received(stream, count):
+    """Returns this many bytes of a stream, or fewer up to its end."""
+    found = b""
+    while len(found) < count and (piece := stream.recv(count - len(found))):
+        found += piece
+    return found
+
+
+def rest(stream):
+    """Returns the bytes of a stream up to its end."""
+    found = b""
+    with contextlib.suppress(ConnectionResetError):
+        while piece := stream.recv(65536):
+            found += piece
+    return found
+
+
+def address(bot):
+    """Returns the address of a bot as texts have it."""
+    return "{}:{}".format(*bot.getsockname())
+
+
+def settled(match, form, is_settled):
+    """Returns the first status of which this is true."""
+    over = time.monotonic() + SECONDS
+    while not is_settled(text := match.status(form)):
+        if time.monotonic() > over:
+            raise Wrong(f"the status stays {text!r}")
+        time.sleep(0.05)
+    return text
+
+
+def speaks(bot, server):
+    """A bot sends OBS, which the server answers, and then a bracket that never closes, which gets PRN."""
+    bot.sendall(OBS)
+    same(received(server, len(OBS)), OBS, "received by the server")
+    server.sendall(YES)
+    same(received(bot, len(YES)), YES, "received by the bot")
+    bot.sendall(UNCLOSED)
+    same(received(bot, len(ITS_PRN)), ITS_PRN, "received by the bot")
+
+
+def status_is_a_table(program):
+    """Without a session, with one that waits for its RM, and with one that is open and was answered."""
+    with Match(program, "max_sessions = 2\nsessions = 5") as match:
+        text = re.sub(r"up \d+ s", "up", match.status())
+        same(text, f"0 open, 0 connecting, 0 served, 0 unreached, up\n{COLUMNS}\n", "status without a session")
+        bot, server = match.opens()
+        speaks(bot, server)
+        waiting, other = match.comes()
+        waiting.sendall(IM)
+        same(received(other, len(IM)), IM, "received by the server")
+        lines = match.status().splitlines()
+        # With all places taken, a bot may wait or not: the listener was not asked since.
+        first = re.sub(r"up \d+ s", "up", lines[0]).removesuffix("; bots wait for a place")
+        same(first, "2 open, 0 connecting, 0 served, 0 unreached, up", "the first line")
+        wanted = [
+            f"      1  open 0        4      1      0       0         0         *           * {address(bot)}",
+            f"      2  wait RM       1      0      0       0         0         *           - {address(waiting)}",
+        ]
+        for line, text in zip(lines[2:], wanted, strict=True):
+            pattern = re.escape(text).replace(r"\*", r"\d")
+            if not re.fullmatch(pattern, line):
+                same(line, text, "the line of a session")
+            if len(line) > 100:
+                raise Wrong(f"a line has {len(line)} bytes")
+        third = socket.create_connection((HOST, match.port), SECONDS)
+        match.bots.append(third)
+        settled(match, "table", lambda text: "; bots wait for a place\n" in text)
+
+
+def status_is_a_document(program):
+    """Python's reader of JSON reads the status, and finds the values of the sessions."""
+    with Match(program, "max_sessions = 3\nsessions = 5") as match:
+        found = json.loads(match.status("json"))
+        same(found["sessions"], [], "sessions")
+        bot, server = match.opens()
+        speaks(bot, server)
+        waiting, _ = match.comes()
+        found = json.loads(match.status("json"))
+        same({name: found[name] for name in ("open", "connecting", "served", "unreached", "bots_wait", "stopping")},
+             {"open": 2, "connecting": 0, "served": 0, "unreached": 0, "bots_wait": False, "stopping": False}, "the run")
+        first, second = found["sessions"]
+        same((first["session"], first["bot"], first["phase"], first["level"]), (1, address(bot), "open", 0), "session 1")
+        same([first[name] for name in ("relayed", "prn", "huh", "faults")], [4, 1, 0, 0], "counts of session 1")
+        same((first["queued"], first["held"]), ({"bot": 0, "server": 0},) * 2, "bytes of session 1")
+        same((second["bot"], second["phase"]), (address(waiting), "wait IM"), "session 2")
+        same(second["idle_seconds"], {"bot": None, "server": None}, "silence of session 2")
+
+
+def status_has_metrics(program):
+    """Each metric has its help and its type before all its samples, which are together."""
+    sample = re.compile(r'(\w+)(\{(?:\w+="[^"\\]*",?)*\})? (\d+)')
+    with Match(program, "max_sessions = 3\nsessions = 5") as match:
+        bot, server = match.opens()
+        speaks(bot, server)
+        match.comes()
+        helped, typed, values, last = set(), {}, {}, None
+        for line in match.status("prometheus").splitlines():
+            words = line.split(" ", 3)
+            if words[:2] == ["#", "HELP"]:
+                helped.add(words[2])
+            elif words[:2] == ["#", "TYPE"]:
+                if words[2] in typed:
+                    raise Wrong(f"the type of {words[2]} comes twice")
+                typed[words[2]], last = words[3], words[2]
+            else:
+                if not (found := sample.fullmatch(line)):
+                    raise Wrong(f"no sample: {line}")
+                same(found[1], last, "a sample is of the metric before it")
+                values[found[1] + (found[2] or "")] = int(found[3])
+        same(helped, set(typed), "metrics with a help")
+        labels = f'session="1",bot="{address(bot)}"'
+        same(values["daide_gate_sessions"], 2, "sessions")
+        same(values[f'daide_gate_session_frames_total{{{labels},result="relayed"}}'], 4, "relayed")
+        same(values[f'daide_gate_session_frames_total{{{labels},result="prn"}}'], 1, "PRN")
+        same(values[f'daide_gate_session_level{{{labels},phase="open"}}'], 0, "level")
+
+
+def status_shows_twenty_sessions(program):
+    """A line for each, in order, of which none is that of another session."""
+    with Match(program, f"max_sessions = {SESSIONS}\nsessions = {SESSIONS}") as match:
+        ends = [match.opens() for _ in range(SESSIONS)]
+        for number, (bot, server) in enumerate(ends):
+            for _ in range(number):
+                bot.sendall(OBS)
+                same(received(server, len(OBS)), OBS, "received by the server")
+        rows = json.loads(match.status("json"))["sessions"]
+        same([(row["session"], row["bot"], row["relayed"]) for row in rows],
+             [(number + 1, address(bot), 2 + number) for number, (bot, _) in enumerate(ends)], "sessions")
+
+
+def stop_waits_for_the_sessions(program):
+    """No further bot may come, the open session goes on, and both commands end when it is over, with status 0."""
+    with Match(program, "max_sessions = 4\nsessions = 4\nendless = true") as match:
+        bot, server = match.opens()
+        stopping = subprocess.Popen([*match.program, "stop", str(match.settings)], stdout=subprocess.PIPE,
+                                    stderr=subprocess.PIPE)
+        try:
+            settled(match, "table", lambda text: "; stopping\n" in text)
+            with contextlib.suppress(ConnectionRefusedError):
+                socket.create_connection((HOST, match.port), SECONDS).close()
+                raise Wrong("a bot may come after a stop")
+            speaks(bot, server)
+            same(stopping.poll(), None, "status of the stop before the end")
+            bot.sendall(FM)
+            same(rest(server), FM, "received by the server")
+            bot.close()
+            printed, told = stopping.communicate(timeout=SECONDS)
+            same((printed, told, stopping.returncode), (b"", b"", 0), "the stop")
+            same(match.ended(), (0, ""), "the run")
+        finally:
+            if stopping.poll() is None:
+                stopping.kill()
+                stopping.communicate()
+
+
+def stop_gives_up_after_its_timeout(program):
+    """The run goes on, and the command says so."""
+    with Match(program, "sessions = 4") as match:
+        bot, server = match.opens()
+        printed, told, status, seconds = match.command("stop", "--timeout", "1", str(match.settings))
+        same((printed, told, status), ("", f"daide-gate: {match.control}: still running\n", 1), "the stop")
+        if not 0.9 < seconds < 5:
+            raise Wrong(f"the stop took {seconds:.1f} s")
+        speaks(bot, server)
+
+
+def stop_now_ends_each_session(program):
+    """The server receives an FM for each session, each bot's connection ends, each record is complete, and both commands
+    have status 0 within two seconds."""
+    words = ("--verbose", "--record", "records")
+    with Match(program, f"max_sessions = {SESSIONS}\nsessions = {SESSIONS}\nendless = true", words) as match:
+        ends = [match.opens() for _ in range(SESSIONS)]
+        begun = time.monotonic()
+        stopping = subprocess.Popen([*match.program, "stop", "--now", str(match.settings)], stdout=subprocess.PIPE,
+                                    stderr=subprocess.PIPE)
+        try:
+            for bot, server in ends:
+                same((rest(bot), rest(server)), (b"", FM), "received by both sides")
+                bot.close()
+                server.close()
+            printed, told = stopping.communicate(timeout=SECONDS)
+            same((printed, told, stopping.returncode), (b"", b"", 0), "the stop")
+        finally:
+            if stopping.poll() is None:
+                stopping.kill()
+                stopping.communicate()
+        status, told = match.ended()
+        if time.monotonic() - begun > 2:
+            raise Wrong(f"the stop took {time.monotonic() - begun:.1f} s")
+        same((status, told.count(" ended: ")), (0, SESSIONS), "the run, and its lines")
+        records = sorted((match.room / "records").glob("*.log"))
+        same(len(records), SESSIONS, "records")
+        for record in records:
+            done = subprocess.run([*match.program, "check", str(record)], capture_output=True, check=False, timeout=SECONDS)
+            same((done.returncode, done.stderr), (0, b""), f"check of {record.name}")
+
+
+def control_refuses_what_is_no_request(program):
+    """A longer line, bytes that are no text, the end without a line, and another case of letters."""
+    with Match(program, "sessions = 4") as match:
+        for line in (b"status\n", b"STOP\n", b" stop\n", b"stop \n", b"stop\r\n", b"\0\n", b"x" * 65 + b"\n", b"\xff" * 4096):
+            same(match.asks(line), b"unknown request\n", f"answer to {line[:20]!r}")
+        with match.client() as client:
+            client.sendall(b"status tab")
+            client.shutdown(socket.SHUT_WR)
+            same(rest(client), b"unknown request\n", "answer to a line without its end")
+        same(match.asks(b"status json\n").decode(), match.status("json"), "answer to a request")
+
+
+def hostile_clients_delay_no_session(program):
+    """Clients that send too much, nothing or no text; a session beside them is answered at once."""
+    with Match(program, "sessions = 4") as match:
+        bot, server = match.opens()
+        clients = []
+        try:
+            for number in range(HOSTILE):
+                client = socket.socket(socket.AF_UNIX)
+                client.setblocking(False)
+                clients.append(client)
+                with contextlib.suppress(BlockingIOError):
+                    client.connect(match.control)
+                with contextlib.suppress(BlockingIOError, BrokenPipeError, OSError):
+                    client.send((b"", b"x" * 65536, b"\0\xff" * 100)[number % 3])
+            slowest = 0.0
+            for _ in range(50):
+                begun = time.monotonic()
+                speaks(bot, server)
+                slowest = max(slowest, time.monotonic() - begun)
+            if slowest > 0.5:
+                raise Wrong(f"an answer took {slowest:.2f} s")
+        finally:
+            for client in clients:
+                client.close()
+        settled(match, "table", lambda text: text.startswith("1 open"))
+
+
+def silent_client_is_closed(program):
+    """A client that sends nothing gets the end of its stream within a few seconds."""
+    with Match(program, "sessions = 4") as match, match.client() as client:
+        begun = time.monotonic()
+        same(rest(client), b"", "answer to nothing")
+        if not 1.5 < time.monotonic() - begun < 6:
+            raise Wrong(f"the client was closed after {time.monotonic() - begun:.1f} s")
+
+
+def control_is_of_its_user_alone(program):
+    """The socket's file has mode 0600, and it is gone after the run."""
+    with Match(program, "sessions = 1") as match:
+        mode = os.stat(match.control).st_mode
+        same((stat.S_ISSOCK(mode), oct(stat.S_IMODE(mode))), (True, "0o600"), "the file of the socket")
+        bot, server = match.comes()
+        bot.sendall(IM_FM)
+        same(rest(server), IM_FM, "received by the server")
+        bot.close()
+        same(match.ended()[0], 0, "status of the run")
+        same(os.path.exists(match.control), False, "the file is there after the run")
+
+
+def control_refuses_another_user(program):
+    """Another user can't connect, which the command says with the system's error."""
+    if os.geteuid() != 0:
+        raise NotPlayed("this needs to be root")
+    with Match(program, "sessions = 4") as match:
+        match.room.chmod(0o755)
+        match.settings.chmod(0o644)
+        done = subprocess.run([*match.program, "status", str(match.settings)], capture_output=True, text=True, check=False,
+                              timeout=SECONDS, user=65534, group=65534, extra_groups=())
+        same((done.stdout, done.returncode), ("", 1), "status for another user")
+        same(done.stderr, f"daide-gate: {match.control}: cannot connect: permission denied\n", "told another user")
+
+
+def stale_socket_is_replaced(program):
+    """A socket on which nobody listens is replaced; a file, or one on which somebody listens, is not."""
+    with tempfile.TemporaryDirectory() as room:
+        path = f"{room}/control"
+        with socket.socket(socket.AF_UNIX) as left:
+            left.bind(path)
+        with Match(program, "sessions = 1", control=path) as match:
+            same(json.loads(match.status("json"))["open"], 0, "sessions")
+            second = subprocess.run([*match.program, "run", str(match.settings)], capture_output=True, text=True,
+                                    check=False, timeout=SECONDS)
+            same((second.stdout, second.stderr, second.returncode), ("", "daide-gate: cannot listen\n", 1), "a second run")
+            same(json.loads(match.status("json"))["open"], 0, "sessions after the second run")
+        pathlib.Path(path).unlink(missing_ok=True)
+        pathlib.Path(path).write_text("kept\n", encoding="utf-8")
+        settings = pathlib.Path(room) / "settings.toml"
+        settings.write_text(f"listen = '{HOST}:{free_port()}'\nserver = '{HOST}:1'\ncontrol = '{path}'\n", encoding="utf-8")
+        done = subprocess.run([str(program), "run", str(settings)], capture_output=True, text=True, check=False,
+                              timeout=SECONDS)
+        same((done.stdout, done.stderr, done.returncode), ("", "daide-gate: cannot listen\n", 1), "a run at a file")
+        same(pathlib.Path(path).read_text(encoding="utf-8"), "kept\n", "the file")
+
+
+def requests_without_a_run_say_why(program):
+    """No `control` in the settings, nobody at its path, a file there, and a timeout or a form that there isn't."""
+    with tempfile.TemporaryDirectory() as room:
+        path, settings = f"{room}/control", pathlib.Path(room) / "settings.toml"
+        rows = (
+            ("", "status", "settings have no control", 1),
+            ("", "stop --now", "settings have no control", 1),
+            (f"control = '{path}'", "status", f"{path}: nobody listens", 1),
+            (f"control = '{path}'", "stop", f"{path}: nobody listens", 1),
+            ("control = 1", "stop", "wrong type for control", 1),
+            ("control = ''", "status", "control out of range", 1),
+            (f"control = '{path}'", "status --format xml", "bad format", 2),
+            (f"control = '{path}'", "stop --timeout 0", "bad timeout", 2),
+            (f"control = '{path}'", "stop --timeout 86401", "bad timeout", 2),
+        )
+        for text, words, told, status in rows:
+            settings.write_text(f"listen = '{HOST}:1'\nserver = '{HOST}:1'\n{text}\n", encoding="utf-8")
+            done = subprocess.run([str(program), *words.split(), str(settings)], capture_output=True, text=True,
+                                  check=False, timeout=SECONDS)
+            same((done.stdout, done.stderr, done.returncode), ("", f"daide-gate: {told}\n", status), f"'{words}' with {text!r}")
+
+
+def script_stops_a_run_by_the_protocol(program):
+    """At SIGTERM and at SIGINT the script at the top ends each session with FM, and has the run's status."""
+    for number in (signal.SIGTERM, signal.SIGINT):
+        with tempfile.TemporaryDirectory() as room:
+            script = pathlib.Path(room) / "daide-gate"
+            shutil.copy(TOP / "daide-gate", script)
+            (pathlib.Path(room) / "bin").mkdir()
+            (pathlib.Path(room) / "crates").mkdir()
+            (pathlib.Path(room) / "crates.txt").write_text("", encoding="utf-8")
+            built = pathlib.Path(room) / "bin" / "daide-gate"
+            shutil.copy(program, built)
+            os.utime(built, (time.time() + 60,) * 2)
+            with Match([str(script)], "sessions = 4\nendless = true") as match:
+                bot, server = match.opens()
+                match.process.send_signal(number)
+                same((rest(bot), rest(server)), (b"", FM), "received by both sides")
+                bot.close()
+                server.close()
+                same(match.ended()[0], 0, "status of the script")
+
+
+TESTS = [
+    status_is_a_table,
+    status_is_a_document,
+    status_has_metrics,
+    status_shows_twenty_sessions,
+    stop_waits_for_the_sessions,
+    stop_gives_up_after_its_timeout,
+    stop_now_ends_each_session,
+    control_refuses_what_is_no_request,
+    hostile_clients_delay_no_session,
+    silent_client_is_closed,
+    control_is_of_its_user_alone,
+    control_refuses_another_user,
+    stale_socket_is_replaced,
+    requests_without_a_run_say_why,
+    script_stops_a_run_by_the_protocol,
+]
