@@ -5,6 +5,7 @@
 
 mod address;
 mod allow;
+mod bots;
 mod control_path;
 mod judged;
 mod key;
@@ -16,7 +17,6 @@ mod words;
 ghost use Rattle.std.specs.Prelude.{◌≡◌, Ok};
 ghost use Rattle.daide_protocol.specs.Bounds.{IsSessionCount};
 ghost use Rattle.daide_protocol.specs.Config.{config_fault};
-ghost use Rattle.daide_settings.specs.BotsInAll.{bots_in_all};
 
 pub use address::Address;
 use arrayvec::ArrayVec;
@@ -96,17 +96,5 @@ impl Settings {
         ensures { result.config ≡ self.now.config }
     {
         SessionLimits::of(self.config)
-    }
-
-    /// Returns the number of bots of a run in all: as many as `sessions` says, or all that have a number if the run is
-    /// endless.
-    pub fn bots_in_all(&self) -> u32
-        ensures { result ≡ bots_in_all self.now }
-    {
-        if self.endless {
-            u32::MAX
-        } else {
-            self.sessions
-        }
     }
 }
