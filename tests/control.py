@@ -177,7 +177,7 @@ def status_is_a_table(program):
         same(received(other, len(IM)), IM, "received by the server")
         lines = match.status().splitlines()
         # With all places taken, a bot may wait or not: the listener was not asked since.
-        first = re.sub(r"up \d+ s", "up", lines[0]).removesuffix("; bots wait for a place")
+        first = re.sub(r"up \d+ s", "up", lines[0]).removesuffix("; bots may wait for a place")
         same(first, "2 open, 0 connecting, 0 served, 0 unreached, up", "the first line")
         wanted = [
             f"      1  open 0        4      1      0       0         0         *           * {address(bot)}",
@@ -191,7 +191,7 @@ def status_is_a_table(program):
                 raise Wrong(f"a line has {len(line)} bytes")
         third = socket.create_connection((HOST, match.port), SECONDS)
         match.bots.append(third)
-        settled(match, "table", lambda text: "; bots wait for a place\n" in text)
+        settled(match, "table", lambda text: "; bots may wait for a place\n" in text)
 
 
 def status_is_a_document(program):
@@ -203,8 +203,8 @@ def status_is_a_document(program):
         speaks(bot, server)
         waiting, _ = match.comes()
         found = json.loads(match.status("json"))
-        same({name: found[name] for name in ("open", "connecting", "served", "unreached", "bots_wait", "stopping")},
-             {"open": 2, "connecting": 0, "served": 0, "unreached": 0, "bots_wait": False, "stopping": False}, "the run")
+        same({name: found[name] for name in ("open", "connecting", "served", "unreached", "bots_may_wait", "stopping")},
+             {"open": 2, "connecting": 0, "served": 0, "unreached": 0, "bots_may_wait": False, "stopping": False}, "the run")
         first, second = found["sessions"]
         same((first["session"], first["bot"], first["phase"], first["level"]), (1, address(bot), "open", 0), "session 1")
         same([first[name] for name in ("relayed", "prn", "huh", "faults")], [4, 1, 0, 0], "counts of session 1")

@@ -5,6 +5,7 @@ received the bytes of the acts, and no more. If an act can't go on, the scene wa
 """
 
 import contextlib
+import errno
 import os
 import pathlib
 import selectors
@@ -171,6 +172,11 @@ class Stage:
         self.bots.append(Peer(stream))
         stream.connect_ex((HOST, self.run.port))
         self.ports.append(stream.getsockname()[1])
+
+    def is_refused(self):
+        """Returns whether the program refuses a connection."""
+        with socket.socket() as stream:
+            return stream.connect_ex((HOST, self.run.port)) == errno.ECONNREFUSED
 
     def meets(self):
         """Returns whether the server accepted a connection."""

@@ -14,7 +14,6 @@ use daide_log::Sink;
 use daide_settings::Settings;
 use daide_sockets::bound_sockets::{BindError, BoundSockets, bind_sockets};
 use daide_sockets::control_listener::bind_control;
-use std::io::Write;
 use std::net::Net;
 use std::rt::{Clock, Files};
 use thiserror::Error;

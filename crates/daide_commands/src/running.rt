@@ -168,11 +168,14 @@ fn serve_bound<'r, R: AllocGlobal + Clock + Net, F: AllocGlobal + Files, O: Sink
         (HasFailed O.Fails) (O.contents output.old) (O.contents output.new) result) }
 {
     let BoundSockets {
-        network,
+        mut network,
         servers,
         table,
         pool,
     } = bound;
+    if reports.folder.is_some() {
+        network.set_recorded();
+    }
     let ground = (network, servers.as_slice(), table, &pool);
     let Some(mut sockets) = sockets_on(alloc, settings, ground, errors) else {
         return Err(RunFault::Memory);

@@ -19,7 +19,8 @@ use Rattle.daide_event_loop.specs.QuotaPorts.{QuotaPortsView, Meters, progress_b
 use Rattle.daide_event_loop.specs.Served.{SessionsAreServed, OrdersAreHeeded, MovesAreAnswered, TurnsAreCounted}
 use Rattle.daide_event_loop.specs.Served.{comes, sum_over_calls, retires, unreached}
 use Rattle.daide_event_loop.specs.Served.{run_limits, IsServed, IsEndOf}
-use Rattle.daide_event_loop.specs.Serving.{ServiceView, may_accept, watches, Round, Rounds, fresh, initial_service, is_done, bots_in_all}
+use Rattle.daide_event_loop.specs.Serving.{ServiceView, may_accept, watches, Round, Rounds, fresh, initial_service, is_done}
+use Rattle.daide_settings.specs.BotsInAll.{bots_in_all}
 use Rattle.daide_event_loop.specs.Independence.{SessionsAreIndependent, HaveSameRules, results_of, Received, Handed}
 use Rattle.daide_event_loop.specs.Waiting.{RunsAreIdleAtWaits, IsIdleAtWait, MakesNoProgress}
 

@@ -24,7 +24,8 @@ use Rattle.daide_event_loop.specs.QuotaPorts.{QuotaPortsView, left_after, progre
 use Rattle.daide_event_loop.specs.Served.{turns_in, while_left}
 use Rattle.daide_settings.specs.declared.settings.Settings.{Settings}
 use Rattle.daide_event_loop.specs.declared.admission_counters.AdmissionCounters.{AdmissionCounters}
-use Rattle.daide_event_loop.specs.Serving.{may_accept, is_served, bots_in_all}
+use Rattle.daide_event_loop.specs.Serving.{may_accept, is_served}
+use Rattle.daide_settings.specs.BotsInAll.{bots_in_all}
 use Rattle.daide_event_loop.specs.Serving.{cause_by, retirements, remaining, heeding, opening}
 use Rattle.daide_io.specs.System.{Begins, Shows, BeginsTurn, Retires, Notifies, no_orders}
 

@@ -19,7 +19,8 @@ use Rattle.daide_io.specs.declared.system.SessionEnd.{SessionEnd}
 use Rattle.daide_event_loop.specs.QuotaPorts.{QuotaPortsView, Meters, progress_by}
 use Rattle.daide_io.specs.System.{SystemCall, Begins, Shows, ReportsNews, BeginsTurn, Watches, Accepts, Connects}
 use Rattle.daide_io.specs.System.{Retires, Notifies, Waits}
-use Rattle.daide_event_loop.specs.Serving.{ServiceView, fresh, initial_service, is_done, bots_in_all, Rounds, Serves}
+use Rattle.daide_event_loop.specs.Serving.{ServiceView, fresh, initial_service, is_done, Rounds, Serves}
+use Rattle.daide_settings.specs.BotsInAll.{bots_in_all}
 
 -- the limits of a run's sessions
 abbrev pub run_limits : Settings → Limits

@@ -57,6 +57,8 @@ pub struct Acceptor {
     resumes_at: Option<Instant>,
     /// Whether the listener is to be asked again at once: more may wait behind a bot that may not come.
     looks_again: bool,
+    /// Whether the listener is closed.
+    is_closed: bool,
     /// The number of bots accepted.
     came: u32,
 }
@@ -65,7 +67,7 @@ impl Acceptor {
     /// Has the listener followed. Returns `None` if the table has no free row, or the system refuses.
     pub fn new<N: Network>(poller: &mut Poller<N>) -> Option<Acceptor>
         ensures { IfSome result (λ acceptor. (acceptor.came ≡ 0) × (acceptor.resumes_at ≡ None)
-            × (acceptor.looks_again ≡ false)) }
+            × (acceptor.looks_again ≡ false) × (acceptor.is_closed ≡ false)) }
     {
         let key = poller.listen()?;
         Some(Acceptor {
@@ -73,6 +75,7 @@ impl Acceptor {
             readiness: Readiness::UNKNOWN,
             resumes_at: None,
             looks_again: false,
+            is_closed: false,
             came: 0,
         })
     }
@@ -102,12 +105,14 @@ impl Acceptor {
     pub(crate) fn close<N: Network>(&mut self, poller: &mut Poller<N>)
         ensures came { self.new.came ≡ self.old.came }
         ensures none { (self.new.looks_again ≡ false) × (self.new.resumes_at ≡ None) }
+        ensures closed { self.new.is_closed ≡ true }
         ensures table { poller.new.table ≡ poller.old.table }
         ensures closes { N.transition poller.old.network StopsListening poller.new.network }
     {
         self.readiness.may_read = false;
         self.looks_again = false;
         self.resumes_at = None;
+        self.is_closed = true;
         poller.network.stop_listening();
     }
 
@@ -116,6 +121,13 @@ impl Acceptor {
         ensures { result ≡ self.now.came }
     {
         self.came
+    }
+
+    /// Returns whether the listener is closed.
+    pub(crate) fn is_closed(&self) -> bool
+        ensures { result ≡ self.now.is_closed }
+    {
+        self.is_closed
     }
 
     /// Returns whether an accept is made now: the listener is ready by the table, and no pause is under way.

@@ -1,13 +1,14 @@
 //! The environment of the event loop, `System`, over sockets.
 
 ghost use Rattle.std.specs.Duration.{as_nanos};
-ghost use Rattle.std.specs.Prelude.{◌≡◌, ◌⊎◌, ℕ, ◌+◌, ◌-◌, ◌*◌, ◌^◌, ◌<◌, ◌||◌, ◌&&◌, nat_le, IfSome, IfNone, IsSome, IsNone, None, Some, true, false, [], length, slice_get, vec_capacity};
+ghost use Rattle.std.specs.Prelude.{◌≡◌, ◌⊎◌, ℕ, ◌+◌, ◌-◌, ◌*◌, ◌^◌, ◌<◌, ◌≤◌, ◌||◌, ◌&&◌, nat_le, not, IfSome, IfNone, IsSome, IsNone, None, Some, true, false, [], length, slice_get, vec_capacity};
 ghost use Rattle.daide_io.specs.Network.{StopsListening};
 ghost use Rattle.daide_io.specs.Ports.{TurnBegins};
 ghost use Rattle.daide_status.specs.declared.snapshot.RunStatus.{RunStatus};
 ghost use Rattle.daide_status.specs.declared.snapshot.SessionRow.{SessionRow};
 ghost use Rattle.daide_io.specs.System.{Begins, Shows, ReportsNews, BeginsTurn, Watches, Retires, Waits};
 ghost use Rattle.daide_buffered_io.specs.Streams.{Transfers};
+ghost use Rattle.daide_settings.specs.BotsInAll.{bots_in_all};
 ghost use Rattle.daide_sockets.specs.Accepting.{is_accept_due, MakesAccept};
 ghost use Rattle.daide_sockets.specs.Beside.{others_watched};
 ghost use Rattle.daide_sockets.specs.declared.ports.SocketPorts.{SocketPorts as PortsOf};
@@ -88,7 +89,8 @@ fn counted(count: usize) -> u32
 /// `hosts`).
 ///
 /// At the end of `begin_round` the control socket advances, and the next wait watches it (`take_orders`: `control`,
-/// `watched`). Once a stop is requested, the listener for bots is closed (`closes`). Once it is requested that sessions end
+/// `watched`). Once a stop is requested, or all bots of the run came, the listener for bots is closed (`closes`,
+/// `all_came`). Once it is requested that sessions end
 /// now, a pending connect is given up (`look_at_first`: `given_up`). Each session has news until its next turn (`has_news`:
 /// `news`), and that turn stops it (`begin_turn`: `stops`).
 ///
@@ -118,6 +120,8 @@ pub struct Sockets<'w, N: Network, E: Write + Drop> {
     max_per_address: u16,
     /// The most sessions at once.
     max_sessions: usize,
+    /// The number of bots of the run in all.
+    bots_in_all: u32,
     /// The bots that are there.
     present: Present,
     /// The number of bots whose server could not be reached.
@@ -132,7 +136,8 @@ pub struct Sockets<'w, N: Network, E: Write + Drop> {
 
 impl<'w, N: Network, E: Write + Drop> Sockets<'w, N, E> {
     /// Creates the sockets of a run with no bot yet, over a network, with the addresses of the server, a table and a pool,
-    /// and a deadline for connects. Returns `None` if memory is refused or the listener cannot be followed. Sessions are not logged.
+    /// and a deadline for connects. Returns `None` if memory is refused or the listener cannot be followed. Sessions are not
+    /// logged.
     pub fn new(
         alloc: Global,
         ground: (N, &'w [SocketAddr], SocketTable, &'w Pool),
@@ -152,6 +157,8 @@ impl<'w, N: Network, E: Write + Drop> Sockets<'w, N, E> {
             × (sockets.max_per_address ≡ settings.now.max_per_address)) }
         ensures no_orders { IfSome result (λ sockets. (sockets.control.stops_accepting ≡ false)
             × (sockets.control.stops_now ≡ false)) }
+        ensures bots { IfSome result (λ sockets. (sockets.bots_in_all ≡ bots_in_all settings.now)
+            × (sockets.acceptor.is_closed ≡ false)) }
         ensures none_present { IfSome result (λ sockets. (sockets.present.numbers.items ≡ [])
             × (sockets.present.hosts.items ≡ []) × (sockets.present.addresses.items ≡ [])) }
     {
@@ -184,6 +191,7 @@ impl<'w, N: Network, E: Write + Drop> Sockets<'w, N, E> {
             allow: settings.allow.as_slice(),
             max_per_address: settings.max_per_address,
             max_sessions: settings.max_sessions,
+            bots_in_all: settings.bots_in_all(),
             present,
             unreached: 0,
             control,
@@ -338,8 +346,9 @@ impl<'w, N: Network, E: Write + Drop> Sockets<'w, N, E> {
         ensures { IsRunStatus self.now.acceptor.came (length self.now.present.numbers.items)
             (length self.now.arrivals.items) self.now.unreached
             (nat_le self.now.max_sessions (length self.now.present.numbers.items)
+            && (not self.now.acceptor.is_closed
             && is_accept_due self.now.poller.table self.now.acceptor.key self.now.acceptor.readiness
-            self.now.acceptor.resumes_at) self.now.control.stops_accepting
+            self.now.acceptor.resumes_at)) self.now.control.stops_accepting
             (or_zero (seconds_between self.now.control.started_at self.now.poller.table.reading)) result }
     {
         let connecting = counted(self.arrivals.len());
@@ -354,7 +363,9 @@ impl<'w, N: Network, E: Write + Drop> Sockets<'w, N, E> {
                 .saturating_sub(present)
                 .saturating_sub(self.unreached),
             unreached: self.unreached,
-            has_waiting: is_full && self.acceptor.is_due(&self.poller.table),
+            has_waiting: is_full
+                && !self.acceptor.is_closed()
+                && self.acceptor.is_due(&self.poller.table),
             is_stopping: self.control.stops_accepting(),
             seconds: self.control.seconds(self.poller.table.now()),
         }
@@ -391,8 +402,15 @@ impl<'w, N: Network, E: Write + Drop> Sockets<'w, N, E> {
         })
     }
 
-    /// Advances the control socket, and returns the operator's orders. Once a stop is requested, the listener for bots is
-    /// closed.
+    /// Returns whether all bots of the run came.
+    fn has_all_bots(&self) -> bool
+        ensures { result ≡ nat_le self.now.bots_in_all self.now.acceptor.came }
+    {
+        self.acceptor.came() >= self.bots_in_all
+    }
+
+    /// Advances the control socket, and returns the operator's orders. Once a stop is requested, or all bots of the run
+    /// came, the listener for bots is closed. So a bot that comes too late is refused.
     ///
     /// `control`: a status has the run as it is at the beginning of the round.
     ///
@@ -404,14 +422,21 @@ impl<'w, N: Network, E: Write + Drop> Sockets<'w, N, E> {
         ensures control { (run : RunStatus) × IsRunStatus self.old.acceptor.came
             (length self.old.present.numbers.items) (length self.old.arrivals.items) self.old.unreached
             (nat_le self.old.max_sessions (length self.old.present.numbers.items)
+            && (not self.old.acceptor.is_closed
             && is_accept_due self.old.poller.table self.old.acceptor.key self.old.acceptor.readiness
-            self.old.acceptor.resumes_at) self.old.control.stops_accepting
+            self.old.acceptor.resumes_at)) self.old.control.stops_accepting
             (or_zero (seconds_between self.old.control.started_at self.old.poller.table.reading)) run
             × BeginsRound N.Connection.to_give N.Connection.taken
             N.Connection.calls run self.old.poller.table.reading self.old.control result self.new.control }
         ensures watched { (before : Table) × (self.new.poller.table ≡ watching_control before self.new.control) }
         ensures closes { result.stops_accepting ≡ true → self.old.control.stops_accepting ≡ false →
             (before : N) × N.transition before StopsListening self.new.poller.network }
+        ensures all_came { self.old.bots_in_all ≤ self.old.acceptor.came → self.old.acceptor.is_closed ≡ false →
+            (before : N) × N.transition before StopsListening self.new.poller.network }
+        ensures open { self.old.acceptor.came < self.old.bots_in_all → result.stops_accepting ≡ false →
+            self.new.acceptor ≡ self.old.acceptor }
+        ensures closed { (self.old.bots_in_all ≤ self.old.acceptor.came → self.new.acceptor.is_closed ≡ true)
+            × (result.stops_accepting ≡ true → self.old.control.stops_accepting ≡ false → self.new.acceptor.is_closed ≡ true) }
         ensures came { self.new.acceptor.came ≡ self.old.acceptor.came }
         ensures same { self.new ≡ record self.old {
           poller = self.new.poller;
@@ -422,7 +447,8 @@ impl<'w, N: Network, E: Write + Drop> Sockets<'w, N, E> {
         let run = self.run_status();
         let was_stopped = self.control.stops_accepting();
         let orders = self.control.begin_round(&mut self.poller, &run);
-        if orders.stops_accepting && !was_stopped {
+        let is_stopped_now = orders.stops_accepting && !was_stopped;
+        if is_stopped_now || self.has_all_bots() && !self.acceptor.is_closed() {
             self.acceptor.close(&mut self.poller);
         }
         self.control.watch(&mut self.poller.table);
