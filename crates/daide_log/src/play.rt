@@ -197,7 +197,7 @@ pub fn halt<A: Allocator, W: Write, S: Style>(
         take_answers(session);
         return Ok(());
     }
-    let written = tell(session, source, Side::Bot, reported, account);
+    let listed = tell(session, source, Side::Bot, reported, account);
     take_answers(session);
-    written
+    listed
 }

@@ -8,14 +8,14 @@ use Rattle.daide_protocol.proofs.GrowthLemmas.{no_more}
 use Rattle.daide_log.proofs.EventLemmas.{on_ok}
 use Rattle.daide_log.proofs.play.halt.Goals as goal
 
-pub tell-written-requires-clause-under : goal.tell-written-requires-clause-under
-tell-written-requires-clause-under g c =
+pub tell-listed-requires-clause-under : goal.tell-listed-requires-clause-under
+tell-listed-requires-clause-under g c =
     under_after c.args.account.now.head.limits.config (words_of c.args.account.now.head.words) c.args.session.now
     c.stop-reported.new.self (OperatorStops ∷ []) c.stop-reported.result c.requires.ready.under
     c.stop-reported.ensures.goes
 
-pub tell-written-requires-clause-made : goal.tell-written-requires-clause-made
-tell-written-requires-clause-made g c = (
+pub tell-listed-requires-clause-made : goal.tell-listed-requires-clause-made
+tell-listed-requires-clause-made g c = (
   c.args.session.now,
   OperatorStops ∷ [],
   stop_made c.args.session.now c.stop-reported.new.self c.stop-reported.result
@@ -49,12 +49,12 @@ returns-clause-ready g c =
 
 pub returns-clause-reported : goal.returns-clause-reported
 returns-clause-reported g c =
-    on_ok c.tell-written.result _ _ c.tell-written.ensures.text
+    on_ok c.tell-listed.result _ _ c.tell-listed.ensures.text
     (λ t.
     tells_one (g.S.Style.form (words_of c.args.account.now.head.words)) c.args.source c.args.session.now
     (OperatorStops ∷ []) Bot c.stop-reported.result c.stop-reported.new.self
-    c.take_answers-2.new.session.state t.0 c.args.account.now.summary c.tell-written.new.account.summary
-    (all_of g.W.Write.contents c.args.account.now.output) (all_of g.W.Write.contents c.tell-written.new.account.output)
+    c.take_answers-2.new.session.state t.0 c.args.account.now.summary c.tell-listed.new.account.summary
+    (all_of g.W.Write.contents c.args.account.now.output) (all_of g.W.Write.contents c.tell-listed.new.account.output)
     (stop_made c.args.session.now c.stop-reported.new.self c.stop-reported.result
     c.stop-reported.ensures.goes c.in_default.not-Nothing)
-    c.take_answers-2.ensures.state t.1 c.tell-written.ensures.counted t.2)
+    c.take_answers-2.ensures.state t.1 c.tell-listed.ensures.counted t.2)
