@@ -292,7 +292,7 @@ def stop_gives_up_after_its_timeout(program):
 
 
 def stop_now_ends_each_session(program):
-    """The server receives an FM for each session, each bot's connection ends, each record is complete, and both commands
+    """Each bot and the server receive an FM for each session, the reports of the records have the stop, and both commands
     have status 0 within two seconds."""
     words = ("--verbose", "--record", "records")
     with Match(program, f"max_sessions = {SESSIONS}\nsessions = {SESSIONS}\nendless = true", words) as match:
@@ -302,7 +302,7 @@ def stop_now_ends_each_session(program):
                                     stderr=subprocess.PIPE)
         try:
             for bot, server in ends:
-                same((rest(bot), rest(server)), (b"", FM), "received by both sides")
+                same((rest(bot), rest(server)), (FM, FM), "received by both sides")
                 bot.close()
                 server.close()
             printed, told = stopping.communicate(timeout=SECONDS)
@@ -314,12 +314,35 @@ def stop_now_ends_each_session(program):
         status, told = match.ended()
         if time.monotonic() - begun > 2:
             raise Wrong(f"the stop took {time.monotonic() - begun:.1f} s")
-        same((status, told.count(" ended: ")), (0, SESSIONS), "the run, and its lines")
+        same((status, told.count(" ended: stopped by the operator")), (0, SESSIONS), "the run, and its lines")
         records = sorted((match.room / "records").glob("*.log"))
         same(len(records), SESSIONS, "records")
         for record in records:
             done = subprocess.run([*match.program, "check", str(record)], capture_output=True, check=False, timeout=SECONDS)
             same((done.returncode, done.stderr), (0, b""), f"check of {record.name}")
+            lines = done.stdout.splitlines()
+            same((lines[-2].split(b" ", 1)[1], lines[-1]), (b"1 operator stop", b"relayed 2 prn 0 huh 0 faults 0"),
+                 f"the report of {record.name}")
+
+
+def stop_now_ends_a_session_at_each_place(program):
+    """Before the IM the bot alone receives an FM; before the RM and in the middle of a message each side receives one."""
+    with Match(program, "max_sessions = 4\nsessions = 4\nendless = true") as match:
+        silent, untold = match.comes()
+        waiting, told = match.comes()
+        waiting.sendall(IM)
+        same(received(told, len(IM)), IM, "received by the server")
+        bot, server = match.opens()
+        bot.sendall(OBS[:-1])
+        settled(match, "table", lambda text: text.count("  open ") == 1)
+        with match.client() as client:
+            client.sendall(b"stop now\n")
+            for sides, texts in (((silent, untold), (FM, b"")), ((waiting, told), (FM, FM)), ((bot, server), (FM, FM))):
+                same(tuple(map(rest, sides)), texts, "received by both sides")
+                for side in sides:
+                    side.close()
+            same(rest(client), b"", "answer to the stop")
+        same(match.ended(), (0, ""), "the run")
 
 
 def control_refuses_what_is_no_request(program):
@@ -455,7 +478,7 @@ def script_stops_a_run_by_the_protocol(program):
             with Match([str(script)], "sessions = 4\nendless = true") as match:
                 bot, server = match.opens()
                 match.process.send_signal(number)
-                same((rest(bot), rest(server)), (b"", FM), "received by both sides")
+                same((rest(bot), rest(server)), (FM, FM), "received by both sides")
                 bot.close()
                 server.close()
                 same(match.ended()[0], 0, "status of the script")
@@ -469,6 +492,7 @@ TESTS = [
     stop_waits_for_the_sessions,
     stop_gives_up_after_its_timeout,
     stop_now_ends_each_session,
+    stop_now_ends_a_session_at_each_place,
     control_refuses_what_is_no_request,
     hostile_clients_delay_no_session,
     silent_client_is_closed,

@@ -8,6 +8,7 @@ use Rattle.std.specs.declared.time.Duration.{Duration}
 use Rattle.std.specs.declared.time.Instant.{Instant}
 use Rattle.daide_frame.specs.declared.side.Side.{Side}
 use Rattle.daide_frame.specs.declared.side.Side.TheVariants.{Bot, Server}
+use Rattle.daide_io.specs.declared.ports.ClockEvent.{ClockEvent}
 use Rattle.daide_io.specs.declared.ports.Pull.{Pull}
 use Rattle.daide_io.specs.declared.ports.Put.{Put}
 use Rattle.daide_io.specs.Ports.{PortCall, TurnBegins, Clock, Pulled, Offered, EvolvesBy}
@@ -265,9 +266,9 @@ module _ {S : Type 0} where
       let peers = past_counted new.sockets.reading (due old.sockets.bot) (due old.sockets.server) in
       omega (arith, bot, server, im, all, peers)
 
-  clock_left : (im_timer_expired : Bool) (old new : SessionTimers S) → SetsTimers (Clock im_timer_expired) old new →
+  clock_left : (event : ClockEvent) (old new : SessionTimers S) → SetsTimers (Clock event) old new →
       timeouts_left new ≤ timeouts_left old
-  clock_left im_timer_expired old new h = let same = ap timeouts_left h.1 in omega (arith, same)
+  clock_left event old new h = let same = ap timeouts_left h.1 in omega (arith, same)
 
   pulled_left : (side : Side) (room : ℕ) (pull : Pull) (bytes : List ℕ) (old new : SessionTimers S) →
       SetsTimers (Pulled side room pull bytes) old new → timeouts_left new ≤ timeouts_left old + one_if (is_got pull)
@@ -360,11 +361,11 @@ module _ {P S : Type 0} (port_transition : P → PortCall → P → Type 0) (tim
       let first = begins_left a h.0 h.1 set clock.0 in
       let rest = overdue_left calls h.0 b h.2 clock.1 (set_then TurnBegins a h.0 h.1 set) in
       omega (arith, first, rest)
-  overdue_left (Clock im_timer_expired ∷ calls) a b h clock set =
-      let first = other_left (Clock im_timer_expired) 0 a h.0 h.1
-      (λ (t : SetsTimers (Clock im_timer_expired) (timers a.ports) (timers h.0.ports)).
-      let least = clock_left im_timer_expired (timers a.ports) (timers h.0.ports) t in omega (arith, least)) in
-      let rest = overdue_left calls h.0 b h.2 clock (set_then (Clock im_timer_expired) a h.0 h.1 set) in
+  overdue_left (Clock event ∷ calls) a b h clock set =
+      let first = other_left (Clock event) 0 a h.0 h.1
+      (λ (t : SetsTimers (Clock event) (timers a.ports) (timers h.0.ports)).
+      let least = clock_left event (timers a.ports) (timers h.0.ports) t in omega (arith, least)) in
+      let rest = overdue_left calls h.0 b h.2 clock (set_then (Clock event) a h.0 h.1 set) in
       omega (arith, first, rest)
   overdue_left (Pulled side room pull bytes ∷ calls) a b h clock set =
       let first = other_left (Pulled side room pull bytes) (one_if (is_got pull)) a h.0 h.1

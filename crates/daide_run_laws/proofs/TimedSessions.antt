@@ -73,7 +73,7 @@ module _ {S : Type 0} where
       KeepsStall new.sockets.reading (own old side) (own new side)
   step_stall TurnBegins old new h Bot = kept_stall new.sockets.reading old.sockets.bot new.sockets.bot h.3.kept
   step_stall TurnBegins old new h Server = kept_stall new.sockets.reading old.sockets.server new.sockets.server h.4.kept
-  step_stall (Clock im_timer_expired) old new h side =
+  step_stall (Clock event) old new h side =
       same_stall new.sockets.reading (own old side) (own new side) (ap (λ (s : SessionTimers S). own s side) h.1)
   step_stall (Pulled Bot room pull bytes) old new h Bot =
       at_stall old.sockets.reading new.sockets.reading old.sockets.bot new.sockets.bot h.0.reading
@@ -108,7 +108,7 @@ module _ {S : Type 0} where
       KeepsSilence new.sockets.reading old.idle_time (own old side) (own new side)
   step_silence TurnBegins old new h Bot = inl h.3.kept.silent_from
   step_silence TurnBegins old new h Server = inl h.4.kept.silent_from
-  step_silence (Clock im_timer_expired) old new h side = inl (ap (λ (s : SessionTimers S). (own s side).silent_from) h.1)
+  step_silence (Clock event) old new h side = inl (ap (λ (s : SessionTimers S). (own s side).silent_from) h.1)
   step_silence (Pulled Bot room pull bytes) old new h Bot =
       at_silence old.sockets.reading new.sockets.reading old.idle_time old.sockets.bot new.sockets.bot h.0.reading
       (pulled_silence old.sockets.reading old.idle_time pull old.sockets.bot new.sockets.bot h.1)
@@ -124,7 +124,7 @@ module _ {S : Type 0} where
 
   pub step_idle_time : (call : PortCall) (old new : SessionTimers S) → SetsTimers call old new → new.idle_time ≡ old.idle_time
   step_idle_time TurnBegins old new h = h.0
-  step_idle_time (Clock im_timer_expired) old new h = ap (λ (s : SessionTimers S). s.idle_time) h.1
+  step_idle_time (Clock event) old new h = ap (λ (s : SessionTimers S). s.idle_time) h.1
   step_idle_time (Pulled side room pull bytes) old new h = h.0.idle_time
   step_idle_time (Offered side bytes put) old new h = h.0.idle_time
 
@@ -291,11 +291,11 @@ module _ {S : Type 0} (idle stall : Duration) where
         (⊎_elim (λ (t : SetsTimers TurnBegins (timers a.ports) (timers h.0.ports)).
         timed_step TurnBegins (timers a.ports) (timers h.0.ports) t k clock.0)
         (λ (e : h.0.ports ≡ a.ports). spent_timed a h.0 e k) (made_or_spent TurnBegins a h.0 h.1))
-    history_timed (Clock im_timer_expired ∷ calls) a b h clock k =
+    history_timed (Clock event ∷ calls) a b h clock k =
         history_timed calls h.0 b h.2 clock
-        (⊎_elim (λ (t : SetsTimers (Clock im_timer_expired) (timers a.ports) (timers h.0.ports)).
+        (⊎_elim (λ (t : SetsTimers (Clock event) (timers a.ports) (timers h.0.ports)).
         subst (λ (s : SessionTimers S). IsTimedNow idle stall s) (sym t.1) k)
-        (λ (e : h.0.ports ≡ a.ports). spent_timed a h.0 e k) (made_or_spent (Clock im_timer_expired) a h.0 h.1))
+        (λ (e : h.0.ports ≡ a.ports). spent_timed a h.0 e k) (made_or_spent (Clock event) a h.0 h.1))
     history_timed (Pulled side room pull bytes ∷ calls) a b h clock k =
         history_timed calls h.0 b h.2 clock
         (⊎_elim (λ (t : SetsTimers (Pulled side room pull bytes) (timers a.ports) (timers h.0.ports)).

@@ -77,7 +77,7 @@ held_len socket = length socket.stream.write_buffer
 -- a call of the ports moves no byte of a side's peer, though it may move some of the other's
 abbrev pub MovesNoByte : Side → PortCall → Type 0
 MovesNoByte side TurnBegins = Unit {0}
-MovesNoByte side (Clock im_timer_expired) = Unit {0}
+MovesNoByte side (Clock event) = Unit {0}
 MovesNoByte side (Pulled from room pull bytes) = same_side from side ≡ true → is_got pull ≡ false
 MovesNoByte side (Offered to bytes put) = same_side to side ≡ true → (put ≡ Took 0) × (0 < length bytes)
 
@@ -109,7 +109,7 @@ timeouts_left session = peer_timeouts_left session.sockets.reading session.socke
 abbrev pub deliveries : List PortCall → ℕ
 deliveries [] = 0
 deliveries (TurnBegins ∷ calls) = deliveries calls
-deliveries (Clock im_timer_expired ∷ calls) = deliveries calls
+deliveries (Clock event ∷ calls) = deliveries calls
 deliveries (Pulled side room pull bytes ∷ calls) = one_if (is_got pull) + deliveries calls
 deliveries (Offered side bytes put ∷ calls) = deliveries calls
 
@@ -124,7 +124,7 @@ module _ {P S : Type 0} (transition : P → PortCall → P → Type 0) (timers :
   ClockGoesOn idle stall (TurnBegins ∷ calls) old new by =
       IsLater idle stall (timers old.ports).sockets.reading (timers by.0.ports).sockets.reading
       × ClockGoesOn idle stall calls by.0 new by.2
-  ClockGoesOn idle stall (Clock im_timer_expired ∷ calls) old new by = ClockGoesOn idle stall calls by.0 new by.2
+  ClockGoesOn idle stall (Clock event ∷ calls) old new by = ClockGoesOn idle stall calls by.0 new by.2
   ClockGoesOn idle stall (Pulled side room pull bytes ∷ calls) old new by = ClockGoesOn idle stall calls by.0 new by.2
   ClockGoesOn idle stall (Offered side bytes put ∷ calls) old new by = ClockGoesOn idle stall calls by.0 new by.2
 
@@ -196,7 +196,7 @@ module _ {P S : Type 0} (transition : P → PortCall → P → Type 0) (timers :
       EvolvesBy (Meters transition) old calls new → ℕ
   overdue_turns [] old new by = 0
   overdue_turns (TurnBegins ∷ calls) old new by = one_if (is_overdue old by.0) + overdue_turns calls by.0 new by.2
-  overdue_turns (Clock im_timer_expired ∷ calls) old new by = overdue_turns calls by.0 new by.2
+  overdue_turns (Clock event ∷ calls) old new by = overdue_turns calls by.0 new by.2
   overdue_turns (Pulled side room pull bytes ∷ calls) old new by = overdue_turns calls by.0 new by.2
   overdue_turns (Offered side bytes put ∷ calls) old new by = overdue_turns calls by.0 new by.2
 

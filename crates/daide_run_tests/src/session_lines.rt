@@ -26,6 +26,7 @@ const CAUSES: &[(Why, &str)] = &[
     (Why::Ended(Cause::Session(Ending::Fault(Side::Bot, Code::ImTimeout))), "no IM in time"),
     (Why::Ended(Cause::Session(Ending::Fault(Side::Bot, Code::SecondIm))), "fault 06 of bot"),
     (Why::Ended(Cause::Session(Ending::Fault(Side::Server, Code::InvalidToken))), "fault 0E of server"),
+    (Why::Ended(Cause::Session(Ending::Stopped)), "stopped by the operator"),
     (Why::Ended(Cause::TurnsSpent), "turns spent"),
     (Why::Silent(Side::Bot), "bot silent"),
     (Why::Silent(Side::Server), "server silent"),
@@ -78,6 +79,7 @@ const TIMES: &[(Ending, Timed, Timed, Why)] = &[
     (Ending::Lost(Side::Server), STALLED, Timed::NONE, Why::Ended(Cause::Session(Ending::Lost(Side::Server)))),
     (Ending::Ended(Side::Bot), STALLED, Timed::NONE, Why::Ended(Cause::Session(Ending::Ended(Side::Bot)))),
     (Ending::Ended(Side::Bot), STALLED_END, Timed::NONE, Why::Stalled(Side::Bot, 60)),
+    (Ending::Stopped, SILENT, STALLED, Why::Ended(Cause::Session(Ending::Stopped))),
 ];
 
 /// The log line names a side's silence instead of its end, and its stall instead of its loss.

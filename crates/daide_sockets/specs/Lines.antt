@@ -2,7 +2,7 @@
 use Rattle.std.specs.Prelude.{ℕ, if◌then◌else◌}
 use Rattle.daide_frame.specs.declared.side.Side.{Side}
 use Rattle.daide_frame.specs.declared.side.Side.TheVariants.{Bot, Server}
-use Rattle.daide_protocol.specs.declared.ending.Ending.TheVariants.{Ended, Lost, Final, Error, Fault}
+use Rattle.daide_protocol.specs.declared.ending.Ending.TheVariants.{Ended, Lost, Final, Error, Fault, Stopped}
 use Rattle.daide_io.specs.declared.system.Cause.{Cause}
 use Rattle.daide_io.specs.declared.system.Cause.TheVariants as Causes
 use Rattle.daide_sockets.specs.declared.session_notice.Why.{Why}
@@ -34,3 +34,4 @@ why_by (Causes.Session (Lost side)) timed seconds = why_lost side (timed_at time
 why_by (Causes.Session (Final side)) timed seconds = Whys.Ended (Causes.Session (Final side))
 why_by (Causes.Session (Error side)) timed seconds = Whys.Ended (Causes.Session (Error side))
 why_by (Causes.Session (Fault side code)) timed seconds = Whys.Ended (Causes.Session (Fault side code))
+why_by (Causes.Session Stopped) timed seconds = Whys.Ended (Causes.Session Stopped)

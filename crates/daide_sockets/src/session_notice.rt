@@ -126,6 +126,7 @@ fn write_ending<W: fmt::Write>(f: &mut fmt::Formatter<W>, ending: Ending) -> fmt
         Ending::Error(side) => write!(f, "EM of {}", name_of(side)),
         Ending::Fault(_, Code::ImTimeout) => f.write_str("no IM in time"),
         Ending::Fault(side, code) => write!(f, "fault {:02X} of {}", code.number(), name_of(side)),
+        Ending::Stopped => f.write_str("stopped by the operator"),
     }
 }
 

@@ -1,7 +1,7 @@
 //! The environment of the event loop, `System`, over sockets.
 
 ghost use Rattle.std.specs.Duration.{as_nanos};
-ghost use Rattle.std.specs.Prelude.{◌≡◌, ◌⊎◌, ℕ, ◌+◌, ◌-◌, ◌*◌, ◌^◌, ◌<◌, ◌≤◌, ◌||◌, ◌&&◌, nat_le, not, IfSome, IfNone, IsSome, IsNone, None, Some, true, false, [], length, slice_get, vec_capacity};
+ghost use Rattle.std.specs.Prelude.{◌≡◌, ◌⊎◌, ℕ, ◌+◌, ◌-◌, ◌*◌, ◌^◌, ◌<◌, ◌≤◌, ◌||◌, ◌&&◌, nat_le, IfSome, IfNone, IsSome, IsNone, None, Some, true, false, [], length, not, slice_get, vec_capacity};
 ghost use Rattle.daide_io.specs.Network.{StopsListening};
 ghost use Rattle.daide_io.specs.Ports.{TurnBegins};
 ghost use Rattle.daide_status.specs.declared.snapshot.RunStatus.{RunStatus};
@@ -92,7 +92,7 @@ fn counted(count: usize) -> u32
 /// `watched`). Once a stop is requested, or all bots of the run came, the listener for bots is closed (`closes`,
 /// `all_came`). Once it is requested that sessions end
 /// now, a pending connect is given up (`look_at_first`: `given_up`). Each session has news until its next turn (`has_news`:
-/// `news`), and that turn stops it (`begin_turn`: `stops`).
+/// `news`). That turn stops it, and no later one (`begin_turn`: `stops`, `once`).
 ///
 /// Not said: that a wait ended because something came. That held bytes are given up only after a failed write, or after
 /// `stall_seconds`, is read from `flush_at` and `give_up_stalled`. `SessionNotice::of_end` and `why_of` give the counts
@@ -334,7 +334,7 @@ impl<'w, N: Network, E: Write + Drop> Sockets<'w, N, E> {
         self.closings.advance(&mut self.poller.table);
     }
 
-    /// Returns whether both sides of a session count as ended from its next turn on, and did not before.
+    /// Returns whether a session is to be stopped in its next turn: an operator requested it, and no turn has stopped it.
     fn stops_newly(&self, ports: &SocketPorts<'w, N::Connection>) -> bool
         ensures { result ≡ is_newly_stopped self.now.control.stops_now ports.now.is_stopped }
     {
@@ -651,8 +651,9 @@ impl<'w, N: Network, E: Write + Drop> System<SocketPorts<'w, N::Connection>> for
         ensures same { self.new ≡ record self.old { poller = self.new.poller } }
         ensures clock { self.new.poller.table.reading ≡ self.old.poller.table.reading }
         ensures expires { ports.new.im_timer_expired ≡ is_past self.old.poller.table.reading ports.old.im_due }
-        ensures once { ports.new.im_due ≡ due_after self.old.poller.table.reading ports.old.im_due }
+        ensures im_once { ports.new.im_due ≡ due_after self.old.poller.table.reading ports.old.im_due }
         ensures stops { ports.new.is_stopped ≡ (ports.old.is_stopped || self.old.control.stops_now) }
+        ensures once { ports.new.stops ≡ (self.old.control.stops_now && not ports.old.is_stopped) }
     {
         ports.begin_turn(&mut self.poller.table);
         if self.control.stops_now() {
