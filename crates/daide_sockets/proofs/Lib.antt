@@ -6,6 +6,7 @@ pub mod InTimeLemmas
 mod BesideLemmas
 mod FinishingLemmas
 mod AccountedLemmas
+mod ClosingTimeLemmas
 mod AcceptLemmas
 pub mod ControlInTimeLemmas
 mod LawFacts
