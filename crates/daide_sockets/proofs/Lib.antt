@@ -7,6 +7,7 @@ mod BesideLemmas
 mod FinishingLemmas
 mod AccountedLemmas
 mod ClosingTimeLemmas
+pub mod SchedulingLemmas
 mod AcceptLemmas
 pub mod ControlInTimeLemmas
 mod LawFacts

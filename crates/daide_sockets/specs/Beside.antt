@@ -4,6 +4,8 @@ use Rattle.std.specs.declared.time.Duration.{Duration}
 use Rattle.std.specs.declared.time.Instant.{Instant}
 use Rattle.daide_buffered_io.specs.declared.readiness.Readiness.{Readiness}
 use Rattle.daide_buffered_io.specs.Buffers.{Buffer}
+use Rattle.daide_sockets.specs.declared.admission.Acceptor.{Acceptor}
+use Rattle.daide_sockets.specs.Accepting.{is_accept_due}
 use Rattle.daide_sockets.specs.InTime.{IsInTimeFor, watching_all}
 use Rattle.daide_sockets.specs.Lingering.{ClosingStream}
 use Rattle.daide_sockets.specs.Pairing.{Arriving, ConnectRow}
@@ -47,17 +49,28 @@ arrivals_watched table [] = []
 arrivals_watched table (arrival ∷ others) =
     (may_connect table arrival.row, arrival.gives_up) ∷ arrivals_watched table others
 
+-- ---- the listener
+
+-- The listener, as a wait watches it: whether the wait is for bots too and an accept is due; and the end of the pause of
+-- accepts.
+abbrev pub listener_watched : Table → Acceptor → Bool × Option Instant
+listener_watched table acceptor = (
+  acceptor.awaits_bots && is_accept_due table acceptor.key acceptor.readiness acceptor.resumes_at,
+  acceptor.resumes_at,
+)
+
 -- ---- a wait
 
--- the listener, whether it is to be asked again and until when it is not; then the connects, and the closing streams
+-- the listener, whether an accept is awaited and due and until when none is made; then the connects, and the closing
+-- streams
 abbrev pub others_watched : {S : Type 0} → Table → Bool × Option Instant → List (Arriving S) → List (ClosingStream S) →
     List (Bool × Option Instant)
 others_watched table listener arrivals closings =
     listener ∷ arrivals_watched table arrivals ++ closings_watched table closings
 
--- A wait of this time is in time for the listener, for each connect and for each closing stream. It takes no time if the
--- listener is to be asked again, a connect may have a result, or a closing stream may do something at once. It lasts at
--- most until the end of the pause of accepts, and until the deadline of each connect and of each closing stream.
+-- A wait of this time is in time for the listener, for each connect and for each closing stream. It takes no time if an
+-- accept is awaited and due, a connect may have a result, or a closing stream may do something at once. It lasts at most
+-- until the end of the pause of accepts, and until the deadline of each connect and of each closing stream.
 pub record IsInTimeBeside {S : Type 0} (table : Table) (time : Option Duration) (listener : Bool × Option Instant)
     (arrivals : List (Arriving S)) (closings : List (ClosingStream S)) : Type 0 where
   pub accepts : IsInTimeFor table.reading time listener.0 listener.1
