@@ -1,10 +1,9 @@
 //! A run that records each session in a folder: the system of its sockets, with a record around the ports of each
 //! session. A run without records uses the sockets' own system, and nothing of this.
 
-ghost use Rattle.std.specs.Prelude.{◌≡◌, ◌⊎◌, ℕ, []};
+ghost use Rattle.std.specs.Prelude.{◌≡◌, ◌⊎◌, ℕ, [], vec_capacity};
 ghost use Rattle.daide_sockets.specs.Lingering.{GoOnFor};
-ghost use Rattle.daide_sockets.specs.Pairing.{Transits};
-ghost use Rattle.daide_sockets.specs.Wakeups.{Wakes};
+ghost use Rattle.daide_sockets.specs.Scheduling.{RunEvolves, run_state};
 
 use crate::folder::{Folder, SessionFile, end, tell_if_ended};
 use crate::running::Finish;
@@ -37,29 +36,12 @@ impl<N: Network, R: AllocGlobal + Files, E: Write + Drop> Finish
 impl<'w, N: Network, R: AllocGlobal + Files, E: Write + Drop> System<
     Recording<SocketPorts<'w, N::Connection>, SessionFile<R::File>>,
 > for RecordedSockets<'w, '_, N, R, E> {
-    ghost transition = { λ old answer new. Transits N.Connection.to_give N.Connection.taken
-        N.Connection.calls (λ ports. record {
-          number = ports.ports.number;
-          bot = ports.ports.bot.stream;
-          server = ports.ports.server.stream;
-        })
-        (record {
-          came = old.sockets.acceptor.came;
-          arrivals = old.sockets.arrivals.items;
-          closing = old.sockets.closings;
-        }) answer
-        (record {
-          came = new.sockets.acceptor.came;
-          arrivals = new.sockets.arrivals.items;
-          closing = new.sockets.closings;
-        })
-        × Wakes N.transition (λ ports. record {
-          bot = ports.ports.bot;
-          server = ports.ports.server;
-          reading = ports.ports.idle.reading;
-          im_due = ports.ports.im_due;
-        }) (old.sockets.poller.network, old.sockets.poller.table) answer
-        (new.sockets.poller.network, new.sockets.poller.table) };
+    ghost transition = { λ old answer new. RunEvolves N.transition N.Connection.to_give N.Connection.taken
+        N.Connection.calls (λ ports. ports.ports)
+        (run_state (old.sockets.poller.network, old.sockets.poller.table) (old.sockets.idle_time, old.sockets.stall_time)
+        old.sockets.acceptor (vec_capacity old.sockets.arrivals) old.sockets.arrivals.items old.sockets.closings) answer
+        (run_state (new.sockets.poller.network, new.sockets.poller.table) (new.sockets.idle_time, new.sockets.stall_time)
+        new.sockets.acceptor (vec_capacity new.sockets.arrivals) new.sockets.arrivals.items new.sockets.closings) };
 
     fn begin_round(&mut self) -> Orders {
         self.sockets.begin_round()

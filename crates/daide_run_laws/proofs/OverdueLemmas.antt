@@ -11,6 +11,7 @@ use Rattle.daide_frame.specs.declared.side.Side.TheVariants.{Bot, Server}
 use Rattle.daide_io.specs.declared.ports.ClockEvent.{ClockEvent}
 use Rattle.daide_io.specs.declared.ports.Pull.{Pull}
 use Rattle.daide_io.specs.declared.ports.Put.{Put}
+use Rattle.daide_io.specs.Network.{NetworkCall}
 use Rattle.daide_io.specs.Ports.{PortCall, TurnBegins, Clock, Pulled, Offered, EvolvesBy}
 use Rattle.daide_event_loop.specs.QuotaPorts.{QuotaPortsView, Meters, EvolvesWhile}
 use Rattle.daide_event_loop.specs.Serving.{fresh}
@@ -22,6 +23,7 @@ use Rattle.daide_sockets.specs.Times.{IsStallEnd, has_stalled, is_past}
 use Rattle.daide_sockets.specs.Wakeups.{session_due}
 use Rattle.daide_run_laws.specs.FreedPlaces.{IsLater, ClockGoesOn, one_if, peer_timeouts_left, timeouts_left}
 use Rattle.daide_run_laws.specs.FreedPlaces.{is_overdue, overdue_turns, deliveries, DeadlinesPassSeldom}
+use Rattle.daide_run_laws.proofs.BegunSessions.{begun_with}
 use Rattle.daide_run_laws.proofs.TimedSessions.{PortsSetTimers, own, KeepsStall, step_stall, made_or_spent}
 
 -- ---- counts
@@ -379,12 +381,14 @@ module _ {P S : Type 0} (port_transition : P → PortCall → P → Type 0) (tim
       let rest = overdue_left calls h.0 b h.2 clock (set_then (Offered side bytes put) a h.0 h.1 set) in
       omega (arith, first, rest)
 
-pub deadlines_pass_seldom : {P S : Type 0} (port_transition : P → PortCall → P → Type 0) (timers : P → SessionTimers S) →
-    PortsSetTimers port_transition timers → DeadlinesPassSeldom port_transition timers
-deadlines_pass_seldom port_transition timers keeps =
-    λ settings answers mid late place idle stall start times from begins clock. (
+pub deadlines_pass_seldom : {P S N C : Type 0} (port_transition : P → PortCall → P → Type 0) (timers : P → SessionTimers S) →
+    PortsSetTimers port_transition timers → (network : N → NetworkCall C → N → Type 0) →
+    DeadlinesPassSeldom port_transition timers network
+deadlines_pass_seldom port_transition timers keeps network =
+    λ settings answers mid late place idle stall begun last from sessions clock.
+    let at = begun_with network timers from.session.ports answers begun last sessions from.session.came in (
       overdue_left port_transition timers keeps idle stall late mid place.1 from.since clock
           (set_by port_transition timers keeps idle stall from.early (fresh from.session.ports settings.turns) mid from.before
-          (begins_stall start times (timers from.session.ports) begins)),
+          (begins_stall at.0 begun.times (timers from.session.ports) at.1)),
       at_most_five (timers mid.ports),
     )

@@ -1,5 +1,5 @@
 -- The timers of a session, by the calls of its ports.
-use Rattle.std.proofs.Common.{◌≡◌, ◌⊎◌, ℕ, ◌+◌, ◌≤◌, Bool, true, false, List, [], ◌∷◌, refl, sym, ap, ◌∙◌, subst, arith, inl, inr, ⊎_elim}
+use Rattle.std.proofs.Common.{◌≡◌, ◌⊎◌, ℕ, ◌+◌, ◌≤◌, ◌<◌, Bool, true, false, List, [], ◌∷◌, refl, sym, ap, ◌∙◌, subst, arith, inl, inr, ⊎_elim}
 use Rattle.std.proofs.Common.{Option, Some, None}
 use Rattle.std.specs.Duration.{as_nanos}
 use Rattle.std.specs.Time.{instant_nanos, FitsClock}
@@ -11,10 +11,10 @@ use Rattle.daide_io.specs.declared.ports.Pull.{Pull}
 use Rattle.daide_io.specs.Ports.{PortCall, TurnBegins, Clock, Pulled, Offered, EvolvesBy}
 use Rattle.daide_event_loop.specs.QuotaPorts.{QuotaPortsView, Meters, EvolvesWhile}
 use Rattle.daide_sockets.specs.declared.socket.Socket.{Socket}
-use Rattle.daide_sockets.specs.Timers.{SessionTimers, KeepsTimers, PullsInTime, SetsTimers, is_got}
+use Rattle.daide_sockets.specs.Timers.{SessionTimers, BeginsAt, KeepsTimers, PullsInTime, SetsTimers, is_got}
 use Rattle.daide_sockets.specs.Times.{IsAfter, IsStallEnd}
 use Rattle.daide_run_laws.specs.NoLostWakeups.{socket_at}
-use Rattle.daide_run_laws.specs.FreedPlaces.{HasTimeouts, IsReading, BeginsTimed, IsLater, ClockGoesOn}
+use Rattle.daide_run_laws.specs.FreedPlaces.{HasTimeouts, IsReading, IsLater, ClockGoesOn}
 
 -- the calls of ports do to the timers of their session what `SetsTimers` says
 abbrev pub PortsSetTimers : {P S : Type 0} → (P → PortCall → P → Type 0) → (P → SessionTimers S) → Type 0
@@ -165,6 +165,13 @@ end_there reading set now time moment read is fits h =
 
 same_instant : (a b : Instant) (reading : Option Instant) → reading ≡ Some a → reading ≡ Some b → a ≡ b
 same_instant a b reading e f = cc
+
+-- a session as it begins, at a reading of the clock, with both timeouts
+pub record BeginsTimed {S : Type 0} (idle stall : Duration) (session : SessionTimers S) : Type 0 where
+  pub idle_lasts : 0 < as_nanos idle
+  pub now : Instant
+  pub reading : IsReading idle stall session.sockets.reading now
+  pub begins : BeginsAt (Some now) (Some idle, Some stall) session
 
 module _ {S : Type 0} (idle stall : Duration) where
   stall_set : (session : SessionTimers S) → BeginsTimed idle stall session → (side : Side) →

@@ -6,6 +6,8 @@ pub mod InTimeLemmas
 mod BesideLemmas
 mod FinishingLemmas
 mod AccountedLemmas
+mod ClosingTimeLemmas
+pub mod SchedulingLemmas
 mod AcceptLemmas
 pub mod ControlInTimeLemmas
 mod LawFacts

@@ -10,19 +10,20 @@ ghost use Rattle.daide_io.specs.System.{Begins, Shows, ReportsNews, BeginsTurn, 
 ghost use Rattle.daide_buffered_io.specs.Streams.{Transfers};
 ghost use Rattle.daide_settings.specs.BotsInAll.{bots_in_all};
 ghost use Rattle.daide_sockets.specs.Accepting.{is_accept_due, MakesAccept};
-ghost use Rattle.daide_sockets.specs.Beside.{others_watched};
+ghost use Rattle.daide_sockets.specs.Beside.{listener_watched, others_watched};
 ghost use Rattle.daide_sockets.specs.declared.ports.SocketPorts.{SocketPorts as PortsOf};
 ghost use Rattle.daide_sockets.specs.ControlSlots.{BeginsRound, Each, PlaceShows, places, is_newly_stopped, watching_control};
 ghost use Rattle.daide_sockets.specs.Finishing.{FinishesAll};
 ghost use Rattle.daide_sockets.specs.Snapshot.{counted, seconds_between, or_zero, IsRunStatus, IsSessionRow};
 ghost use Rattle.daide_sockets.specs.Lingering.{LooksAround, in_pass, GoOnFor, no_closing};
-ghost use Rattle.daide_sockets.specs.Pairing.{FirstArrivalEvolves, Transits, Closes, ClosesBothAt, Comes, ComesWith};
+ghost use Rattle.daide_sockets.specs.Pairing.{FirstArrivalEvolves, Closes, ClosesBothAt, Comes, ComesWith};
 ghost use Rattle.daide_sockets.specs.Present.{IsAllowed, IsPresentWith, position_of, without_at};
+ghost use Rattle.daide_sockets.specs.Scheduling.{RunEvolves, run_state};
 ghost use Rattle.daide_sockets.specs.Sockets.{due_after};
 ghost use Rattle.daide_sockets.specs.Table.{Table, watching};
-ghost use Rattle.daide_sockets.specs.Timers.{SetsTimers, timers_of};
+ghost use Rattle.daide_sockets.specs.Timers.{BeginsAt, SetsTimers, timers_of};
 ghost use Rattle.daide_sockets.specs.Times.{IsSeconds, IsIdleTime, is_past};
-ghost use Rattle.daide_sockets.specs.Wakeups.{Settles, Wakes, RestsOnce, may_session_go_on, session_due, has_session_news};
+ghost use Rattle.daide_sockets.specs.Wakeups.{Settles, RestsOnce, may_session_go_on, session_due, has_session_news};
 
 use crate::admission::{Acceptor, PendingConnection, Unreached, watch_arrivals};
 use crate::control::{Control, MOST_CONTROLS, seconds_between};
@@ -71,11 +72,12 @@ fn counted(count: usize) -> u32
     u32::try_from(count).unwrap_or(u32::MAX)
 }
 
-/// The sockets of a run: its system. `Transits` says what each call does to the bots and to the sockets that close. An
-/// accept that returned true added one bot, with the next number and the connect that was begun for it. Ports that are
-/// ready have the two connections of one such bot: its own, and the one made for it. A bot whose server can't be
-/// reached begins to close. So do both connections of a session that is retired, with what is held for them. A pending
-/// connect keeps its bot, and may be begun again. Except `begin_round`, no other call changes them.
+/// The sockets of a run: its system. What each call does to them is one relation (`transition`, `RunEvolves`).
+/// `Transits` says what it does to the bots and to the sockets that close. An accept that returned true added one bot,
+/// with the next number and the connect that was begun for it. Ports that are ready have the two connections of one
+/// such bot: its own, and the one made for it. A bot whose server can't be reached begins to close. So do both
+/// connections of a session that is retired, with what is held for them. A pending connect keeps its bot, and may be
+/// begun again. Except `begin_round`, no other call changes them.
 ///
 /// In `begin_round` the sockets that close make progress, by the table's reading of the clock (`tidy`: `closing`): all of
 /// them, or eight if there are more (`ClosingsGoOn`). They keep their order. If a turn begins, what was held for too long
@@ -83,10 +85,13 @@ fn counted(count: usize) -> u32
 /// done at once for it, or its nearest deadline is past (`has_news`: `news`). A wait watches the sessions that it was to
 /// watch (`Wakes`), the listener, each connect and each closing socket (`wait`: `polls`). It polls once, for the time
 /// until the nearest deadline, unless something is pending or may be done at once. With room for one more, a bot is
-/// accepted if the listener is ready (`accept_next`: `made`). If none comes, the listener is not ready any more, or is to
-/// be asked again (`left`). A bot is accepted only if it may come by the settings, beside the hosts of those that are
-/// there (`allowed`). A bot that comes is added to those, and the end of its session removes it (`retire` and `let_go`:
-/// `hosts`).
+/// accepted if the listener is ready (`accept_next`: `made`). From then on the wait of the round is for bots too
+/// (`awaited`), so it does not block while an accept is due. A bot is accepted only if it may come by the settings, beside
+/// the hosts of those that are there (`allowed`). A bot that comes is added to those, and the end of its session removes it
+/// (`retire` and `let_go`: `hosts`).
+///
+/// No call changes the timeouts of the run, which are those of the settings (`new`: `idle_time`, `stall_time`). The ports of
+/// a connect begin with them, at the table's reading of the clock (`Schedules`).
 ///
 /// At the end of `begin_round` the control socket advances, and the next wait watches it (`take_orders`: `control`,
 /// `watched`). Once a stop is requested, or all bots of the run came, the listener for bots is closed (`closes`,
@@ -148,6 +153,7 @@ impl<'w, N: Network, E: Write + Drop> Sockets<'w, N, E> {
         ensures none_came { IfSome result (λ sockets. (sockets.acceptor.came ≡ 0) × (sockets.is_verbose ≡ false)) }
         ensures none_held { IfSome result (λ sockets. (sockets.arrivals.items ≡ [])
             × (sockets.closings ≡ no_closing sockets.stall_time)) }
+        ensures room { IfSome result (λ sockets. settings.now.max_sessions ≤ vec_capacity sockets.arrivals) }
         ensures im_time { IfSome result (λ sockets. IsSeconds settings.now.im_seconds sockets.im_time) }
         ensures idle_time { IfSome result (λ sockets. IsIdleTime settings.now.idle_seconds sockets.idle_time) }
         ensures stall_time { IfSome result (λ sockets. IsIdleTime settings.now.stall_seconds sockets.stall_time
@@ -273,6 +279,9 @@ impl<'w, N: Network, E: Write + Drop> Sockets<'w, N, E> {
             ≡ without_at (position_of left.entry.number self.old.present.numbers.items) self.old.present.hosts.items }
         ensures addresses { self.new.present.addresses.items
             ≡ without_at (position_of left.entry.number self.old.present.numbers.items) self.old.present.addresses.items }
+        ensures clock { self.new.poller.table.reading ≡ self.old.poller.table.reading }
+        ensures times { (self.new.idle_time ≡ self.old.idle_time) × (self.new.stall_time ≡ self.old.stall_time) }
+        ensures acceptor { self.new.acceptor ≡ self.old.acceptor }
     {
         self.present.remove(left.number);
         self.unreached = self.unreached.saturating_add(1);
@@ -284,6 +293,8 @@ impl<'w, N: Network, E: Write + Drop> Sockets<'w, N, E> {
     /// its socket closes. Otherwise the connect is still under way, and the arrival moves to the end.
     ///
     /// `given_up`: after a request that sessions end now, the connect is given up.
+    ///
+    /// `begins`: ports begin at the table's reading of the clock, with the timeouts of the run.
     fn look_at_first(&mut self) -> Connect<SocketPorts<'w, N::Connection>>
         requires { 0 < length self.old.arrivals.items }
         ensures given_up { self.old.control.stops_now ≡ true → result ≡ Connect.Failed }
@@ -292,6 +303,11 @@ impl<'w, N: Network, E: Write + Drop> Sockets<'w, N, E> {
             (λ ports. record { number = ports.number; bot = ports.bot.stream; server = ports.server.stream })
             (record { came = self.old.acceptor.came; arrivals = self.old.arrivals.items; closing = self.old.closings })
             result (record { came = self.new.acceptor.came; arrivals = self.new.arrivals.items; closing = self.new.closings }) }
+        ensures begins { (ports : PortsOf N.Connection) → result ≡ Connect.Ready ports →
+            BeginsAt self.old.poller.table.reading (self.old.idle_time, self.old.stall_time) (timers_of ports) }
+        ensures clock { self.new.poller.table.reading ≡ self.old.poller.table.reading }
+        ensures times { (self.new.idle_time ≡ self.old.idle_time) × (self.new.stall_time ≡ self.old.stall_time) }
+        ensures acceptor { self.new.acceptor ≡ self.old.acceptor }
     {
         let mut arrival = self.arrivals.remove(0);
         let is_given_up = self.control.stops_now();
@@ -321,7 +337,7 @@ impl<'w, N: Network, E: Write + Drop> Sockets<'w, N, E> {
         }
     }
 
-    /// Advances the closing sockets, and reopens the acceptor if its pause is over.
+    /// Begins a round of the acceptor, and advances the closing sockets.
     fn tidy(&mut self)
         ensures came { self.new.acceptor.came ≡ self.old.acceptor.came }
         ensures arrivals { self.new.arrivals.items ≡ self.old.arrivals.items }
@@ -329,8 +345,9 @@ impl<'w, N: Network, E: Write + Drop> Sockets<'w, N, E> {
             self.old.poller.table.reading (in_pass self.old.closings) self.new.closings }
         ensures clock { self.new.poller.table.reading ≡ self.old.poller.table.reading }
         ensures control { self.new.control ≡ self.old.control }
+        ensures times { (self.new.idle_time ≡ self.old.idle_time) × (self.new.stall_time ≡ self.old.stall_time) }
     {
-        self.acceptor.reopen(self.poller.table.now());
+        self.acceptor.begin_round(self.poller.table.now());
         self.closings.advance(&mut self.poller.table);
     }
 
@@ -475,8 +492,7 @@ impl<'w, N: Network, E: Write + Drop> Sockets<'w, N, E> {
     ///
     /// `made`: with room for one more, an accept is made if the listener is ready by the table, and no pause is under way.
     ///
-    /// `left`: if no bot came, no accept is due any more at this reading of the clock, or the listener is to be asked again
-    /// at once.
+    /// `awaited`: the wait of this round is for bots too, so it does not block while an accept is due.
     ///
     /// `times`: its IM timer, and the time of its connect, run from the table's reading of the clock on.
     ///
@@ -493,17 +509,16 @@ impl<'w, N: Network, E: Write + Drop> Sockets<'w, N, E> {
             self.old.acceptor.came < u32.MAX → is_accept_due self.old.poller.table self.old.acceptor.key
             self.old.acceptor.readiness self.old.acceptor.resumes_at ≡ true →
             MakesAccept N.transition self.old.poller.network }
-        ensures left { IfNone result (length self.old.arrivals.items < vec_capacity self.old.arrivals →
-            self.old.acceptor.came < u32.MAX → self.new.acceptor.looks_again ≡ false →
-            is_accept_due self.new.poller.table self.new.acceptor.key self.new.acceptor.readiness
-            self.new.acceptor.resumes_at ≡ false) }
+        ensures awaited { self.new.acceptor.awaits_bots ≡ true }
         ensures times { IfSome result (λ _. ComesWith self.old.arrivals.items self.old.poller.table.reading
             (as_nanos self.old.im_time) (as_nanos self.old.connect_time) self.new.arrivals.items) }
         ensures allowed { IfSome result (λ began. IsAllowed self.old.allow.now self.old.max_per_address
             self.old.present.hosts.items began) }
         ensures present { IfSome result (λ began. IsPresentWith self.old.present began self.new.present) }
         ensures absent { IfNone result (self.new.present ≡ self.old.present) }
+        ensures timeouts { (self.new.idle_time ≡ self.old.idle_time) × (self.new.stall_time ≡ self.old.stall_time) }
     {
+        self.acceptor.await_bots();
         if self.arrivals.len() >= self.arrivals.capacity() {
             return None;
         }
@@ -533,7 +548,7 @@ impl<'w, N: Network, E: Write + Drop> Sockets<'w, N, E> {
     fn rest(&mut self)
         ensures rest { self.new ≡ record self.old { poller = self.new.poller } }
         ensures polls { RestsOnce N.transition (others_watched self.old.poller.table
-            (self.old.acceptor.looks_again, self.old.acceptor.resumes_at) self.old.arrivals.items
+            (listener_watched self.old.poller.table self.old.acceptor) self.old.arrivals.items
             self.old.closings.streams) self.old.poller.network self.old.poller.table self.new.poller.network
             self.new.poller.table }
     {
@@ -544,30 +559,20 @@ impl<'w, N: Network, E: Write + Drop> Sockets<'w, N, E> {
 }
 
 impl<'w, N: Network, E: Write + Drop> System<SocketPorts<'w, N::Connection>> for Sockets<'w, N, E> {
-    ghost transition = { λ old answer new. Transits N.Connection.to_give N.Connection.taken
-        N.Connection.calls (λ ports. record { number = ports.number; bot = ports.bot.stream; server = ports.server.stream })
-        (record { came = old.acceptor.came; arrivals = old.arrivals.items; closing = old.closings }) answer
-        (record { came = new.acceptor.came; arrivals = new.arrivals.items; closing = new.closings })
-        × Wakes N.transition (λ ports. record {
-          bot = ports.bot;
-          server = ports.server;
-          reading = ports.idle.reading;
-          im_due = ports.im_due;
-        }) (old.poller.network, old.poller.table) answer (new.poller.network, new.poller.table) };
+    ghost transition = { λ old answer new. RunEvolves N.transition N.Connection.to_give N.Connection.taken N.Connection.calls
+        (λ (ports : PortsOf N.Connection). ports)
+        (run_state (old.poller.network, old.poller.table) (old.idle_time, old.stall_time) old.acceptor
+        (vec_capacity old.arrivals) old.arrivals.items old.closings) answer
+        (run_state (new.poller.network, new.poller.table) (new.idle_time, new.stall_time) new.acceptor
+        (vec_capacity new.arrivals) new.arrivals.items new.closings) };
 
     fn begin_round(&mut self) -> Orders
-        ensures transition { Transits {P = PortsOf N.Connection} N.Connection.to_give N.Connection.taken
-            N.Connection.calls
-            (λ ports. record { number = ports.number; bot = ports.bot.stream; server = ports.server.stream })
-            (record { came = self.old.acceptor.came; arrivals = self.old.arrivals.items; closing = self.old.closings })
-            (Begins result)
-            (record { came = self.new.acceptor.came; arrivals = self.new.arrivals.items; closing = self.new.closings })
-            × Wakes {P = PortsOf N.Connection} N.transition (λ ports. record {
-              bot = ports.bot;
-              server = ports.server;
-              reading = ports.idle.reading;
-              im_due = ports.im_due;
-            }) (self.old.poller.network, self.old.poller.table) (Begins result) (self.new.poller.network, self.new.poller.table) }
+        ensures transition { RunEvolves N.transition N.Connection.to_give N.Connection.taken N.Connection.calls
+            (λ (ports : PortsOf N.Connection). ports)
+            (run_state (self.old.poller.network, self.old.poller.table) (self.old.idle_time, self.old.stall_time) self.old.acceptor
+            (vec_capacity self.old.arrivals) self.old.arrivals.items self.old.closings) (Begins result)
+            (run_state (self.new.poller.network, self.new.poller.table) (self.new.idle_time, self.new.stall_time) self.new.acceptor
+            (vec_capacity self.new.arrivals) self.new.arrivals.items self.new.closings) }
         ensures orders { result.stops_accepting ≡ self.new.control.stops_accepting }
         ensures kept { self.old.control.stops_accepting ≡ true → self.new.control.stops_accepting ≡ true }
         ensures now_kept { self.old.control.stops_now ≡ true → self.new.control.stops_now ≡ true }
@@ -579,17 +584,12 @@ impl<'w, N: Network, E: Write + Drop> System<SocketPorts<'w, N::Connection>> for
     }
 
     fn show(&mut self, ports: &SocketPorts<'w, N::Connection>, status: SessionStatus)
-        ensures transition { Transits N.Connection.to_give N.Connection.taken N.Connection.calls
-            (λ ports. record { number = ports.number; bot = ports.bot.stream; server = ports.server.stream })
-            (record { came = self.old.acceptor.came; arrivals = self.old.arrivals.items; closing = self.old.closings })
-            (Shows ports.now status)
-            (record { came = self.new.acceptor.came; arrivals = self.new.arrivals.items; closing = self.new.closings })
-            × Wakes N.transition (λ ports. record {
-              bot = ports.bot;
-              server = ports.server;
-              reading = ports.idle.reading;
-              im_due = ports.im_due;
-            }) (self.old.poller.network, self.old.poller.table) (Shows ports.now status) (self.new.poller.network, self.new.poller.table) }
+        ensures transition { RunEvolves N.transition N.Connection.to_give N.Connection.taken N.Connection.calls
+            (λ (ports : PortsOf N.Connection). ports)
+            (run_state (self.old.poller.network, self.old.poller.table) (self.old.idle_time, self.old.stall_time) self.old.acceptor
+            (vec_capacity self.old.arrivals) self.old.arrivals.items self.old.closings) (Shows ports.now status)
+            (run_state (self.new.poller.network, self.new.poller.table) (self.new.idle_time, self.new.stall_time) self.new.acceptor
+            (vec_capacity self.new.arrivals) self.new.arrivals.items self.new.closings) }
         ensures shows { IsSome (slice_get self.old.present.addresses.items
             (position_of ports.now.number self.old.present.numbers.items)) → (row : SessionRow)
             × IsSessionRow self.old.poller.table.reading ports.now.number
@@ -604,17 +604,12 @@ impl<'w, N: Network, E: Write + Drop> System<SocketPorts<'w, N::Connection>> for
     }
 
     fn has_news(&mut self, ports: &SocketPorts<'w, N::Connection>) -> bool
-        ensures transition { Transits N.Connection.to_give N.Connection.taken N.Connection.calls
-            (λ ports. record { number = ports.number; bot = ports.bot.stream; server = ports.server.stream })
-            (record { came = self.old.acceptor.came; arrivals = self.old.arrivals.items; closing = self.old.closings })
-            (ReportsNews ports.now result)
-            (record { came = self.new.acceptor.came; arrivals = self.new.arrivals.items; closing = self.new.closings })
-            × Wakes N.transition (λ ports. record {
-              bot = ports.bot;
-              server = ports.server;
-              reading = ports.idle.reading;
-              im_due = ports.im_due;
-            }) (self.old.poller.network, self.old.poller.table) (ReportsNews ports.now result) (self.new.poller.network, self.new.poller.table) }
+        ensures transition { RunEvolves N.transition N.Connection.to_give N.Connection.taken N.Connection.calls
+            (λ (ports : PortsOf N.Connection). ports)
+            (run_state (self.old.poller.network, self.old.poller.table) (self.old.idle_time, self.old.stall_time) self.old.acceptor
+            (vec_capacity self.old.arrivals) self.old.arrivals.items self.old.closings) (ReportsNews ports.now result)
+            (run_state (self.new.poller.network, self.new.poller.table) (self.new.idle_time, self.new.stall_time) self.new.acceptor
+            (vec_capacity self.new.arrivals) self.new.arrivals.items self.new.closings) }
         ensures news { result ≡ (is_newly_stopped self.old.control.stops_now ports.now.is_stopped
             || has_session_news self.old.poller.table (record {
               bot = ports.now.bot;
@@ -632,18 +627,12 @@ impl<'w, N: Network, E: Write + Drop> System<SocketPorts<'w, N::Connection>> for
             (ports.old.bot.stream, ports.old.server.stream) TurnBegins (ports.new.bot.stream, ports.new.server.stream)
             × Settles TurnBegins (ports.old.bot, ports.old.server) (ports.new.bot, ports.new.server)
             × SetsTimers TurnBegins (timers_of ports.old) (timers_of ports.new) }
-        ensures system { Transits N.Connection.to_give N.Connection.taken
-            N.Connection.calls
-            (λ ports. record { number = ports.number; bot = ports.bot.stream; server = ports.server.stream })
-            (record { came = self.old.acceptor.came; arrivals = self.old.arrivals.items; closing = self.old.closings })
-            (BeginsTurn ports.old ports.new)
-            (record { came = self.new.acceptor.came; arrivals = self.new.arrivals.items; closing = self.new.closings })
-            × Wakes N.transition (λ ports. record {
-              bot = ports.bot;
-              server = ports.server;
-              reading = ports.idle.reading;
-              im_due = ports.im_due;
-            }) (self.old.poller.network, self.old.poller.table) (BeginsTurn ports.old ports.new) (self.new.poller.network, self.new.poller.table) }
+        ensures system { RunEvolves N.transition N.Connection.to_give N.Connection.taken N.Connection.calls
+            (λ (ports : PortsOf N.Connection). ports)
+            (run_state (self.old.poller.network, self.old.poller.table) (self.old.idle_time, self.old.stall_time) self.old.acceptor
+            (vec_capacity self.old.arrivals) self.old.arrivals.items self.old.closings) (BeginsTurn ports.old ports.new)
+            (run_state (self.new.poller.network, self.new.poller.table) (self.new.idle_time, self.new.stall_time) self.new.acceptor
+            (vec_capacity self.new.arrivals) self.new.arrivals.items self.new.closings) }
         ensures silent { (ports.new.bot.timed.is_silent ≡ ports.old.bot.timed.is_silent)
             × (ports.new.server.timed.is_silent ≡ ports.old.server.timed.is_silent) }
         ensures gathering { (ports.new.bot.is_gathering ≡ false) × (ports.new.server.is_gathering ≡ false) }
@@ -662,17 +651,12 @@ impl<'w, N: Network, E: Write + Drop> System<SocketPorts<'w, N::Connection>> for
     }
 
     fn watch(&mut self, ports: &SocketPorts<'w, N::Connection>)
-        ensures transition { Transits N.Connection.to_give N.Connection.taken N.Connection.calls
-            (λ ports. record { number = ports.number; bot = ports.bot.stream; server = ports.server.stream })
-            (record { came = self.old.acceptor.came; arrivals = self.old.arrivals.items; closing = self.old.closings })
-            (Watches ports.now)
-            (record { came = self.new.acceptor.came; arrivals = self.new.arrivals.items; closing = self.new.closings })
-            × Wakes N.transition (λ ports. record {
-              bot = ports.bot;
-              server = ports.server;
-              reading = ports.idle.reading;
-              im_due = ports.im_due;
-            }) (self.old.poller.network, self.old.poller.table) (Watches ports.now) (self.new.poller.network, self.new.poller.table) }
+        ensures transition { RunEvolves N.transition N.Connection.to_give N.Connection.taken N.Connection.calls
+            (λ (ports : PortsOf N.Connection). ports)
+            (run_state (self.old.poller.network, self.old.poller.table) (self.old.idle_time, self.old.stall_time) self.old.acceptor
+            (vec_capacity self.old.arrivals) self.old.arrivals.items self.old.closings) (Watches ports.now)
+            (run_state (self.new.poller.network, self.new.poller.table) (self.new.idle_time, self.new.stall_time) self.new.acceptor
+            (vec_capacity self.new.arrivals) self.new.arrivals.items self.new.closings) }
         ensures same { self.new ≡ record self.old { poller = self.new.poller } }
     {
         self.watch_also(ports, false);
@@ -699,17 +683,12 @@ impl<'w, N: Network, E: Write + Drop> System<SocketPorts<'w, N::Connection>> for
     }
 
     fn retire(&mut self, ports: SocketPorts<'w, N::Connection>, end: SessionEnd)
-        ensures transition { Transits N.Connection.to_give N.Connection.taken N.Connection.calls
-            (λ ports. record { number = ports.number; bot = ports.bot.stream; server = ports.server.stream })
-            (record { came = self.old.acceptor.came; arrivals = self.old.arrivals.items; closing = self.old.closings })
-            (Retires ports.entry end)
-            (record { came = self.new.acceptor.came; arrivals = self.new.arrivals.items; closing = self.new.closings })
-            × Wakes N.transition (λ ports. record {
-              bot = ports.bot;
-              server = ports.server;
-              reading = ports.idle.reading;
-              im_due = ports.im_due;
-            }) (self.old.poller.network, self.old.poller.table) (Retires ports.entry end) (self.new.poller.network, self.new.poller.table) }
+        ensures transition { RunEvolves N.transition N.Connection.to_give N.Connection.taken N.Connection.calls
+            (λ (ports : PortsOf N.Connection). ports)
+            (run_state (self.old.poller.network, self.old.poller.table) (self.old.idle_time, self.old.stall_time) self.old.acceptor
+            (vec_capacity self.old.arrivals) self.old.arrivals.items self.old.closings) (Retires ports.entry end)
+            (run_state (self.new.poller.network, self.new.poller.table) (self.new.idle_time, self.new.stall_time) self.new.acceptor
+            (vec_capacity self.new.arrivals) self.new.arrivals.items self.new.closings) }
         ensures closes { ClosesBothAt N.Connection.to_give N.Connection.taken N.Connection.calls
             self.old.poller.table.reading self.old.closings (record {
               number = ports.entry.number;
@@ -739,22 +718,14 @@ impl<'w, N: Network, E: Write + Drop> System<SocketPorts<'w, N::Connection>> for
     }
 
     fn wait(&mut self)
-        ensures transition { Transits N.Connection.to_give N.Connection.taken N.Connection.calls
-            (λ (ports : SocketPorts N.Connection). record {
-              number = ports.number;
-              bot = ports.bot.stream;
-              server = ports.server.stream;
-            })
-            (record { came = self.old.acceptor.came; arrivals = self.old.arrivals.items; closing = self.old.closings }) Waits
-            (record { came = self.new.acceptor.came; arrivals = self.new.arrivals.items; closing = self.new.closings })
-            × Wakes N.transition (λ (ports : SocketPorts N.Connection). record {
-              bot = ports.bot;
-              server = ports.server;
-              reading = ports.idle.reading;
-              im_due = ports.im_due;
-            }) (self.old.poller.network, self.old.poller.table) Waits (self.new.poller.network, self.new.poller.table) }
+        ensures transition { RunEvolves N.transition N.Connection.to_give N.Connection.taken N.Connection.calls
+            (λ (ports : PortsOf N.Connection). ports)
+            (run_state (self.old.poller.network, self.old.poller.table) (self.old.idle_time, self.old.stall_time) self.old.acceptor
+            (vec_capacity self.old.arrivals) self.old.arrivals.items self.old.closings) Waits
+            (run_state (self.new.poller.network, self.new.poller.table) (self.new.idle_time, self.new.stall_time) self.new.acceptor
+            (vec_capacity self.new.arrivals) self.new.arrivals.items self.new.closings) }
         ensures polls { RestsOnce N.transition (others_watched self.old.poller.table
-            (self.old.acceptor.looks_again, self.old.acceptor.resumes_at) self.old.arrivals.items
+            (listener_watched self.old.poller.table self.old.acceptor) self.old.arrivals.items
             self.old.closings.streams) self.old.poller.network self.old.poller.table self.new.poller.network
             self.new.poller.table }
         ensures same { self.new ≡ record self.old { poller = self.new.poller } }
