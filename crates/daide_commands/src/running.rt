@@ -15,7 +15,7 @@ use crate::text::{SettingsTextFault, read_text};
 use daide_event_loop::ServeFault;
 use daide_io::duplex::Duplex;
 use daide_io::{Network, Ports, System};
-use daide_log::{Recording, Sink};
+use daide_log::{Sink, TimedRecording};
 use daide_settings::{Settings, SettingsError, read_settings};
 use daide_sockets::bound_sockets::{BoundSockets, sockets_on};
 use daide_sockets::connection::Connection;
@@ -145,7 +145,7 @@ fn control_file<'a, R: Files>(rt: &'a R, settings: &'a Settings) -> Option<Contr
 /// Serves over sockets that are bound, with these settings: opens the sockets, serves on them, and finishes closing. If
 /// there is a folder, the system is one around the sockets, which keeps a record of each session there.
 fn serve_bound<'r, R: AllocGlobal + Clock + Net, F: AllocGlobal + Files, O: Sink, E: Write + Drop>(
-    alloc: Global,
+    rt: &'r R,
     settings: &Settings,
     reports: SessionReports<'r, F>,
     bound: BoundSockets<'r, R>,
@@ -164,7 +164,7 @@ fn serve_bound<'r, R: AllocGlobal + Clock + Net, F: AllocGlobal + Files, O: Sink
           bot = ports.ports.bot.stream;
           server = ports.ports.server.stream;
         })
-        ⟦<Recording<SocketPorts<'static, Connection>, SessionFile<F::File>> as Ports>⟧.transition settings.now
+        ⟦<TimedRecording<SocketPorts<'static, Connection>, SessionFile<F::File>> as Ports>⟧.transition settings.now
         (HasFailed O.Fails) (O.contents output.old) (O.contents output.new) result) }
 {
     let BoundSockets {
@@ -174,15 +174,15 @@ fn serve_bound<'r, R: AllocGlobal + Clock + Net, F: AllocGlobal + Files, O: Sink
         pool,
     } = bound;
     let ground = (network, servers.as_slice(), table, &pool);
-    let Some(mut sockets) = sockets_on(alloc, settings, ground, errors) else {
+    let Some(mut sockets) = sockets_on(rt.alloc(), settings, ground, errors) else {
         return Err(RunFault::Memory);
     };
     sockets.set_verbose(reports.is_verbose);
     match reports.folder {
-        None => run_on(alloc, settings, &mut sockets, output),
+        None => run_on(rt.alloc(), settings, &mut sockets, output),
         Some(folder) => {
-            let mut system = RecordedSockets { sockets, folder };
-            run_on(alloc, settings, &mut system, output)
+            let mut system = RecordedSockets::new(sockets, folder, rt);
+            run_on(rt.alloc(), settings, &mut system, output)
         }
     }
 }
@@ -214,12 +214,12 @@ fn serve_sockets<
           bot = ports.ports.bot.stream;
           server = ports.ports.server.stream;
         })
-        ⟦<Recording<SocketPorts<'static, Connection>, SessionFile<F::File>> as Ports>⟧.transition settings.now
+        ⟦<TimedRecording<SocketPorts<'static, Connection>, SessionFile<F::File>> as Ports>⟧.transition settings.now
         (HasFailed O.Fails) (O.contents output.old) (O.contents output.new) result) }
 {
     let bound = bind(rt, settings).map_err(RunFault::Gateway)?;
     let _file = control_file(rt, settings);
-    serve_bound(rt.alloc(), settings, reports, bound, output, errors)
+    serve_bound(rt, settings, reports, bound, output, errors)
 }
 
 /// Serves with the settings of a text: binds, opens the sockets, serves on them (`serve_on`), and finishes closing. If
@@ -275,7 +275,7 @@ fn run_recorded<'r, R: AllocGlobal + Files + Clock + Net, O: Sink, E: Write>(
           bot = ports.ports.bot.stream;
           server = ports.ports.server.stream;
         })
-        ⟦<Recording<SocketPorts<'static, Connection>, SessionFile<R::File>> as Ports>⟧.transition
+        ⟦<TimedRecording<SocketPorts<'static, Connection>, SessionFile<R::File>> as Ports>⟧.transition
         (HasFailed O.Fails) (O.contents output.old) (O.contents output.new) result }
 {
     let settings = settings_at(rt, order.settings)?;
