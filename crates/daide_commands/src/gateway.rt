@@ -7,6 +7,7 @@ ghost use Rattle.daide_event_loop.specs.Serving.{IsServeCause, GivesUp};
 ghost use Rattle.daide_commands.specs.Gateway.{IsBeforeServing, fault_by, Announces};
 ghost use Rattle.daide_log.specs.Recording.{HasFailed};
 
+use crate::arguments::VERSION;
 use daide_event_loop::{ServeFault, serve};
 use daide_frame::Memory;
 use daide_io::{Ports, System};
@@ -18,6 +19,28 @@ use std::io::Write;
 use std::net::Net;
 use std::rt::{Clock, Files};
 use thiserror::Error;
+
+/// A log line about the beginning of a run: its addresses, as in the settings, and how many sessions it serves at once.
+#[derive(Clone, Copy, Debug, Error)]
+#[error("listening on {listen}, server {server}, {max_sessions} sessions, version {VERSION}")]
+struct BeginningNotice<'a> {
+    listen: &'a str,
+    server: &'a str,
+    max_sessions: usize,
+}
+
+/// Logs the beginning of a run if its sessions are logged. The run goes on if the line cannot be written.
+pub(crate) fn log_beginning<E: Write>(is_verbose: bool, settings: &Settings, errors: &mut E) {
+    if !is_verbose {
+        return;
+    }
+    let notice = BeginningNotice {
+        listen: settings.listen.as_str(),
+        server: settings.server.as_str(),
+        max_sessions: settings.max_sessions,
+    };
+    let _ = writeln!(errors, "daide-gate: {notice}");
+}
 
 /// Why a gateway does not begin, or ends early.
 #[derive(Clone, Copy, Debug, PartialEq, Eq, Error)]

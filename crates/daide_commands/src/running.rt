@@ -9,7 +9,7 @@ ghost use Rattle.daide_words.specs.Words.{words_of};
 use crate::arguments::RunOrder;
 use crate::faults::{CLEAN, FAULT, tell};
 use crate::folder::{Folder, SessionFile};
-use crate::gateway::{GatewayFault, bind, serve_on};
+use crate::gateway::{GatewayFault, bind, log_beginning, serve_on};
 use crate::recorded::RecordedSockets;
 use crate::text::{SettingsTextFault, read_text};
 use daide_event_loop::ServeFault;
@@ -150,7 +150,7 @@ fn serve_bound<'r, R: AllocGlobal + Clock + Net, F: AllocGlobal + Files, O: Sink
     reports: SessionReports<'r, F>,
     bound: BoundSockets<'r, R>,
     output: &mut O,
-    errors: E,
+    mut errors: E,
 ) -> Result<(), RunFault>
     ensures plain { reports.entry.folder ≡ None →
         RunEnds ⟦<Connection as Duplex>⟧.to_give ⟦<Connection as Duplex>⟧.taken ⟦<Connection as Duplex>⟧.calls
@@ -173,6 +173,7 @@ fn serve_bound<'r, R: AllocGlobal + Clock + Net, F: AllocGlobal + Files, O: Sink
         table,
         pool,
     } = bound;
+    log_beginning(reports.is_verbose, settings, &mut errors);
     let ground = (network, servers.as_slice(), table, &pool);
     let Some(mut sockets) = sockets_on(rt.alloc(), settings, ground, errors) else {
         return Err(RunFault::Memory);
