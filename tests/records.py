@@ -34,7 +34,7 @@ TIMED = re.compile(rf"# {TIME}")
 # The least number of seconds between two times of a record.
 STEP = 0.01
 
-ENDED = re.compile(r"^daide-gate: session (\d+) ended: .*; (relayed .*)$", re.MULTILINE)
+ENDED = re.compile(r"^daide-gate: session (\d+) ended after [\d.]+ s: .*; (relayed .*)$", re.MULTILINE)
 
 
 def said_in(record):
@@ -150,7 +150,7 @@ def report_of(program, file):
 # The log of a run of `GETS_PRN`: an IM, an RM and an OBS were relayed, and a message got a PRN.
 TELLS_BOTH = """\
 daide-gate: session 1 began: bot at 127.0.0.1:{0}
-daide-gate: session 1 ended: bot ended; relayed 3 prn 1 huh 0 faults 0
+daide-gate: session 1 ended after *.* s: bot ended; relayed 3 prn 1 huh 0 faults 0
 """
 
 IS_THERE = "daide-gate: session 1 is not recorded: its file is there already\n"
@@ -184,9 +184,9 @@ TELLS_EACH = """\
 daide-gate: session 1 began: bot at 127.0.0.1:{0}
 daide-gate: session 2 began: bot at 127.0.0.1:{1}
 daide-gate: session 3 began: bot at 127.0.0.1:{2}
-daide-gate: session 2 ended: FM of server; relayed 3 prn 1 huh 0 faults 0
-daide-gate: session 3 ended: FM of bot; relayed 3 prn 0 huh 1 faults 0
-daide-gate: session 1 ended: bot ended; relayed 3 prn 0 huh 0 faults 0
+daide-gate: session 2 ended after *.* s: FM of server; relayed 3 prn 1 huh 0 faults 0
+daide-gate: session 3 ended after *.* s: FM of bot; relayed 3 prn 0 huh 1 faults 0
+daide-gate: session 1 ended after *.* s: bot ended; relayed 3 prn 0 huh 0 faults 0
 """
 
 KEEPS_EACH = ((IM + OBS, RM), (IM + UNCLOSED, RM + FM), (IM + OBS_GOF + FM, RM))
@@ -226,8 +226,8 @@ ARE_JOINED_IN_ANOTHER_ORDER = [
 TELLS_AS_THEY_CAME = """\
 daide-gate: session 1 began: bot at 127.0.0.1:{0}
 daide-gate: session 2 began: bot at 127.0.0.1:{1}
-daide-gate: session 2 ended: FM of bot; relayed 3 prn 1 huh 0 faults 0
-daide-gate: session 1 ended: FM of server; relayed 5 prn 0 huh 0 faults 0
+daide-gate: session 2 ended after *.* s: FM of bot; relayed 3 prn 1 huh 0 faults 0
+daide-gate: session 1 ended after *.* s: FM of server; relayed 5 prn 0 huh 0 faults 0
 """
 
 KEEPS_AS_THEY_CAME = ((IM + OBS, RM + YES + FM), (IM + UNCLOSED + FM, RM))
@@ -238,8 +238,8 @@ ENDINGS = [
     (Server, FM, FM, b"", "FM of server; relayed 3 prn 0 huh 0 faults 0"),
     (Bot, EM_08, b"", EM_08, "EM of bot; relayed 3 prn 0 huh 0 faults 0"),
     (Server, EM_08, EM_08, b"", "EM of server; relayed 3 prn 0 huh 0 faults 0"),
-    (Bot, UNKNOWN[:4], EM_08, FM, "fault 08 of bot; relayed 2 prn 0 huh 0 faults 1"),
-    (Server, RM, FM, EM_0C, "fault 0C of server; relayed 2 prn 0 huh 0 faults 1"),
+    (Bot, UNKNOWN[:4], EM_08, FM, "fault 08 of bot: unknown message; relayed 2 prn 0 huh 0 faults 1"),
+    (Server, RM, FM, EM_0C, "fault 0C of server: second RM; relayed 2 prn 0 huh 0 faults 1"),
 ]
 
 # The session after them, whose bot sends no IM.
@@ -270,7 +270,7 @@ ENDS = [*(row[-1] for row in ENDINGS), "no IM in time; relayed 0 prn 0 huh 0 fau
 
 TELLS_EACH_END = "".join(
     f"daide-gate: session {number} began: bot at 127.0.0.1:{{{number - 1}}}\n"
-    f"daide-gate: session {number} ended: {end}\n"
+    f"daide-gate: session {number} ended after *.* s: {end}\n"
     for number, end in enumerate(ENDS, 1)
 )
 
@@ -284,15 +284,15 @@ SPENT = "daide-gate: turns spent\n"
 TELLS_SPENT = """\
 daide-gate: session 1 began: bot at 127.0.0.1:{0}
 daide-gate: turns spent
-daide-gate: session 1 ended: turns spent; relayed 0 prn 0 huh 0 faults 0
+daide-gate: session 1 ended after *.* s: turns spent; relayed 0 prn 0 huh 0 faults 0
 """
 
 TELLS_UNREACHED = """\
 daide-gate: session 1 began: bot at 127.0.0.1:{0}
-daide-gate: session 1 ended: no server; relayed 0 prn 0 huh 0 faults 0
+daide-gate: session 1 ended after *.* s: no server; relayed 0 prn 0 huh 0 faults 0
 daide-gate: cannot reach the server
 daide-gate: session 2 began: bot at 127.0.0.1:{1}
-daide-gate: session 2 ended: no server; relayed 0 prn 0 huh 0 faults 0
+daide-gate: session 2 ended after *.* s: no server; relayed 0 prn 0 huh 0 faults 0
 daide-gate: cannot reach the server
 """
 

@@ -341,7 +341,7 @@ class Scene:
     errors: object = field(default=ErrorsFile)
     # Whether the run uses almost no CPU time, because it waits.
     waits: bool = False
-    # Whether the run logs its beginning, and the beginning and the end of sessions; and whether its first line is taken.
+    # Whether the run logs its beginning, and the beginning and the end of sessions. Whether its first line is taken.
     verbose: bool = False
     begins: bool = True
     # The number of recorded sessions, or none if the run is not recorded. The number of empty records before the run.

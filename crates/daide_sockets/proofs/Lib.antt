@@ -8,4 +8,5 @@ mod FinishingLemmas
 mod AccountedLemmas
 mod AcceptLemmas
 pub mod ControlInTimeLemmas
+mod CapacityFacts
 mod LawFacts
