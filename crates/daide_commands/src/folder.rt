@@ -163,28 +163,49 @@ fn highest_in<R: AllocGlobal + Files>(rt: &R, path: &str) -> io::Result<u32> {
     Ok(highest)
 }
 
+/// Creates a folder if it does not exist. Returns the highest number of the records in it.
+fn highest_made<R: AllocGlobal + Files>(rt: &R, path: &str) -> io::Result<u32> {
+    fs::create_dir_all(rt, path)?;
+    highest_in(rt, path)
+}
+
 impl<'a, R: AllocGlobal + Files> Folder<'a, R> {
-    /// Opens a folder for the records of sessions with these settings, and creates it if it does not exist. Returns
-    /// `None` if the path is empty, if the folder can't be created or read, or if no file can be created in it. To test
-    /// that, a file with the number 0, which no record has, is created and removed.
-    pub(crate) fn at(rt: &'a R, path: &'a str, settings: &Settings) -> Option<Folder<'a, R>>
-        ensures { IfSome result (λ folder. (folder.config ≡ settings.now.config) × (folder.words ≡ settings.now.words)) }
+    /// Opens a folder for the records of sessions with these settings, and creates it if it does not exist. Fails with
+    /// the system's error if the folder can't be created or read, or if no file can be created in it, and with
+    /// `InvalidInput` if the path is empty. To test that, a file with the number 0, which no record has, is created and
+    /// removed.
+    pub(crate) fn at(
+        rt: &'a R,
+        path: &'a str,
+        settings: &Settings,
+    ) -> Result<Folder<'a, R>, ErrorKind>
+        ensures { IfOk result (λ folder. (folder.config ≡ settings.now.config) × (folder.words ≡ settings.now.words)) }
     {
         if path.is_empty() {
-            return None;
+            return Err(ErrorKind::InvalidInput);
         }
-        fs::create_dir_all(rt, path).ok()?;
+        let highest = match highest_made(rt, path) {
+            Ok(highest) => highest,
+            Err(error) => return Err(error.kind()),
+        };
         let folder = Folder {
             rt,
             path,
-            highest: highest_in(rt, path).ok()?,
+            highest,
             config: settings.config,
             words: settings.words,
         };
-        let name = path_of(rt.alloc(), path, 0).ok()?;
-        let _file = folder.make(name.as_str()).ok()?;
-        rt.remove_file(name.as_str()).ok()?;
-        Some(folder)
+        match folder.try_file() {
+            Ok(()) => Ok(folder),
+            Err(error) => Err(error.kind()),
+        }
+    }
+
+    /// Creates the file with the number 0, and removes it.
+    fn try_file(&self) -> io::Result<()> {
+        let name = path_of(self.rt.alloc(), self.path, 0)?;
+        let _file = self.make(name.as_str())?;
+        self.rt.remove_file(name.as_str())
     }
 
     /// Creates a file, which must not exist yet.

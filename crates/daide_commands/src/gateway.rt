@@ -12,10 +12,10 @@ use daide_event_loop::{ServeFault, serve};
 use daide_frame::Memory;
 use daide_io::{Ports, System};
 use daide_log::Sink;
-use daide_settings::Settings;
+use daide_settings::{Key, Settings};
 use daide_sockets::bound_sockets::{BindError, BoundSockets, bind_sockets};
 use daide_sockets::control_listener::bind_control;
-use std::io::Write;
+use std::io::{ErrorKind, Write};
 use std::net::Net;
 use std::rt::{Clock, Files};
 use thiserror::Error;
@@ -45,10 +45,10 @@ pub(crate) fn log_beginning<E: Write>(is_verbose: bool, settings: &Settings, err
 /// Why a gateway does not begin, or ends early.
 #[derive(Clone, Copy, Debug, PartialEq, Eq, Error)]
 pub enum GatewayFault {
-    /// The address or the path of the control socket cannot be bound, or the system has no descriptor for the table of
-    /// sockets.
+    /// The value of this key, an address or the path of the control socket, cannot be bound, or the system has no
+    /// descriptor for the network. With the system's error.
     #[error("cannot listen")]
-    Listen,
+    Listen(Key, ErrorKind),
     /// The allocator refused the server's addresses or the table of sockets.
     #[error("out of memory")]
     Memory,
@@ -63,7 +63,7 @@ fn fault_of(fault: BindError) -> GatewayFault
     ensures cause { result ≡ fault_by fault }
 {
     match fault {
-        BindError::Listen => GatewayFault::Listen,
+        BindError::Listen(cause) => GatewayFault::Listen(Key::Listen, cause),
         BindError::Memory => GatewayFault::Memory,
     }
 }
@@ -83,7 +83,7 @@ pub fn bind<'r, R: AllocGlobal + Files + Clock + Net>(
     if let Some(path) = &settings.control {
         match bind_control(rt, path.as_str()) {
             Ok(listener) => bound.network.set_control(listener),
-            Err(_) => return Err(GatewayFault::Listen),
+            Err(error) => return Err(GatewayFault::Listen(Key::Control, error.kind())),
         }
     }
     Ok(bound)

@@ -7,6 +7,7 @@ ghost use Rattle.daide_commands.specs.Gateway.{Announces};
 ghost use Rattle.daide_words.specs.Words.{words_of};
 
 use crate::arguments::RunOrder;
+use crate::causes::tell_cause;
 use crate::faults::{CLEAN, FAULT, tell};
 use crate::folder::{Folder, SessionFile};
 use crate::gateway::{GatewayFault, bind, log_beginning, serve_on};
@@ -24,7 +25,7 @@ use daide_sockets::ports::SocketPorts;
 use daide_sockets::system::Sockets;
 use daide_words::Words;
 use std::alloc::{Allocator, Global};
-use std::io::{Read, Write};
+use std::io::{ErrorKind, Read, Write};
 use std::net::Net;
 use std::rt::{Clock, Files, LibcRuntime};
 use std::{fs, io};
@@ -33,18 +34,18 @@ use thiserror::Error;
 /// Why a run does not begin, or ends early.
 #[derive(Clone, Copy, Debug, PartialEq, Eq, Error)]
 pub enum RunFault {
-    /// The file cannot be read, is too long, or is not UTF-8.
+    /// The file cannot be read, is too long, or is not UTF-8, with the system's error (`SettingsTextFault`).
     #[error("settings could not be read")]
-    Unreadable,
+    Unreadable(ErrorKind),
     /// The text of the file has no settings.
     #[error("{0}")]
     Settings(SettingsError),
     /// The allocator refused the file's text or the sockets, or the listener cannot be registered.
     #[error("out of memory")]
     Memory,
-    /// No file can be created in the folder of the records.
+    /// No file can be created in the folder of the records, with the system's error.
     #[error("record could not be written")]
-    Record,
+    Record(ErrorKind),
     /// The gateway does not begin, or ends early.
     #[error("{0}")]
     Gateway(GatewayFault),
@@ -55,14 +56,14 @@ pub fn text_of<A: Allocator, I: Read>(alloc: A, input: &mut I) -> Result<String<
     ensures { IfOk result (λ text. IfSome (I.remaining input.old) (λ all. string_bytes text ≡ all)) }
 {
     read_text(alloc, input).map_err(|fault| match fault {
-        SettingsTextFault::Unreadable => RunFault::Unreadable,
+        SettingsTextFault::Unreadable(cause) => RunFault::Unreadable(cause),
         SettingsTextFault::Memory => RunFault::Memory,
     })
 }
 
 /// Reads the text of a file of settings.
 fn text_at<R: AllocGlobal + Files>(rt: &R, path: &str) -> Result<String, RunFault> {
-    let mut file = fs::open(rt, path).map_err(|_| RunFault::Unreadable)?;
+    let mut file = fs::open(rt, path).map_err(|error| RunFault::Unreadable(error.kind()))?;
     text_of(rt.alloc(), &mut file)
 }
 
@@ -262,11 +263,12 @@ pub fn run_text<R: AllocGlobal + Files + Clock + Net, O: Sink, E: Write>(
     }
 }
 
-/// Serves with the settings of a file, and keeps a record of each session in a folder.
+/// Serves with the settings of a text, and keeps a record of each session in a folder. `records` is the folder, and
+/// whether sessions are logged.
 fn run_recorded<'r, R: AllocGlobal + Files + Clock + Net, O: Sink, E: Write>(
     rt: &'r R,
-    order: RunOrder<'r>,
-    folder: &'r str,
+    text: &str,
+    records: (&'r str, bool),
     output: &mut O,
     errors: &mut E,
 ) -> Result<(), RunFault>
@@ -279,20 +281,23 @@ fn run_recorded<'r, R: AllocGlobal + Files + Clock + Net, O: Sink, E: Write>(
         ⟦<TimedRecording<SocketPorts<'static, Connection>, SessionFile<R::File>> as Ports>⟧.transition
         (HasFailed O.Fails) (O.contents output.old) (O.contents output.new) result }
 {
-    let settings = settings_at(rt, order.settings)?;
-    let Some(folder) = Folder::at(rt, folder, &settings) else {
-        return Err(RunFault::Record);
+    let (folder, is_verbose) = records;
+    let settings = read_settings(rt.alloc(), text).map_err(RunFault::Settings)?;
+    let folder = match Folder::at(rt, folder, &settings) {
+        Ok(folder) => folder,
+        Err(cause) => return Err(RunFault::Record(cause)),
     };
     let reports = SessionReports {
-        is_verbose: order.is_verbose,
+        is_verbose,
         folder: Some(&folder),
     };
     serve_sockets(rt, &settings, reports, output, errors)
 }
 
-/// Carries out the order to serve.
+/// Carries out the order to serve, with the text of its settings.
 fn run_ordered<R: AllocGlobal + Files + Clock + Net, O: Sink, E: Write>(
     rt: &R,
+    text: &str,
     order: RunOrder<'_>,
     output: &mut O,
     errors: &mut E,
@@ -300,10 +305,26 @@ fn run_ordered<R: AllocGlobal + Files + Clock + Net, O: Sink, E: Write>(
     ensures { OnOk result (Announces (HasFailed O.Fails) (O.contents output.old) (O.contents output.new)) }
 {
     if let Some(folder) = order.record {
-        return run_recorded(rt, order, folder, output, errors);
+        return run_recorded(rt, text, (folder, order.is_verbose), output, errors);
     }
-    let text = text_at(rt, order.settings)?;
-    run_text(rt, text.as_str(), order.is_verbose, output, errors)
+    run_text(rt, text, order.is_verbose, output, errors)
+}
+
+/// Reports a fault of a run, and its cause if the order asks for that. Returns the status.
+fn end_failed<E: Write>(
+    alloc: Global,
+    order: RunOrder<'_>,
+    text: &str,
+    fault: RunFault,
+    errors: &mut E,
+) -> io::Result<u8>
+    ensures { IfOk result (λ status. status ≡ FAULT) }
+{
+    let status = tell(errors, fault, FAULT)?;
+    if order.is_verbose {
+        tell_cause(alloc, order, text, fault, errors);
+    }
+    Ok(status)
 }
 
 /// Reads the settings of a file, binds the address, prints `listening`, and serves until all bots were served. Returns
@@ -318,8 +339,12 @@ pub(crate) fn run<R: AllocGlobal + Files + Clock + Net, O: Sink, E: Write>(
     ensures listened { IfOk result (λ status. status ≡ CLEAN →
         Announces (HasFailed O.Fails) (O.contents output.old) (O.contents output.new)) }
 {
-    match run_ordered(rt, order, output, errors) {
+    let text = match text_at(rt, order.settings) {
+        Ok(text) => text,
+        Err(fault) => return end_failed(rt.alloc(), order, "", fault, errors),
+    };
+    match run_ordered(rt, text.as_str(), order, output, errors) {
         Ok(()) => Ok(CLEAN),
-        Err(fault) => tell(errors, fault, FAULT),
+        Err(fault) => end_failed(rt.alloc(), order, text.as_str(), fault, errors),
     }
 }
