@@ -100,8 +100,15 @@ def left_over(count):
     ]
 
 
+WAITS_FOR_ONE = """\
+daide-gate: bots wait: the system has no descriptor or no memory for another one
+daide-gate: session 1 began: bot at 127.0.0.1:{0}
+daide-gate: bots are accepted again
+daide-gate: session 1 ended after *.* s: bot ended; relayed 1 prn 0 huh 0 faults 0
+"""
+
 SCENES = [
     Many("silent_peers_keep_no_bot_out", END_SILENTLY, f"max_sessions = 1\nsessions = {SESSIONS}"),
-    Scene("few_descriptors_make_a_bot_wait", left_over(1), waits=True),
+    Scene("few_descriptors_make_a_bot_wait", left_over(1), told=WAITS_FOR_ONE, verbose=True, waits=True),
     Scene("few_descriptors_make_a_recorded_bot_wait", left_over(2), waits=True, recorded=1),
 ]

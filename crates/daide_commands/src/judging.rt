@@ -174,6 +174,6 @@ pub(crate) fn run_settings<R: AllocGlobal + Files, I: Read, O: Write, E: Write>(
     }
     match fs::open(rt, path) {
         Ok(mut file) => judge_read(rt.alloc(), &mut file, output, errors),
-        Err(_) => tell(errors, RunFault::Unreadable, FAULT),
+        Err(error) => tell(errors, RunFault::Unreadable(error.kind()), FAULT),
     }
 }

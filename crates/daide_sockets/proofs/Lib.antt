@@ -10,4 +10,5 @@ mod ClosingTimeLemmas
 pub mod SchedulingLemmas
 mod AcceptLemmas
 pub mod ControlInTimeLemmas
+mod CapacityFacts
 mod LawFacts

@@ -4,6 +4,7 @@
 //! they are tried one after the other, within one deadline for all.
 
 ghost use Rattle.std.specs.Prelude.{◌≡◌, ◌≢◌, ◌⊎◌, ◌+◌, ◌<◌, ◌++◌, ◌∷◌, [], Some, None, Err, true, false, IfOk, IfErr, IfSome, IsSome};
+ghost use Rattle.std.specs.Option.{is_some};
 ghost use Rattle.daide_buffered_io.specs.Buffers.{Buffer};
 ghost use Rattle.daide_io.specs.Network.{AsksConnect, StopsListening};
 ghost use Rattle.daide_sockets.specs.Beside.{may_connect, arrivals_watched, listener_watched};
@@ -140,6 +141,13 @@ impl Acceptor {
         ensures { result ≡ self.now.is_closed }
     {
         self.is_closed
+    }
+
+    /// Returns whether a pause after a failed accept is under way, or over and no accept was made since.
+    pub(crate) fn is_paused(&self) -> bool
+        ensures { result ≡ is_some self.now.resumes_at }
+    {
+        self.resumes_at.is_some()
     }
 
     /// Returns whether an accept is made now: the listener is ready by the table, and no pause is under way.
@@ -284,7 +292,8 @@ impl Acceptor {
             (host_of (socket_ip bot.2)) ≡ true) }
         ensures added { IfOk result (λ bot. (present.new.numbers.items ≡ present.old.numbers.items ++ bot.0 ∷ [])
             × (present.new.hosts.items ≡ present.old.hosts.items ++ host_of (socket_ip bot.2) ∷ [])
-            × (present.new.addresses.items ≡ present.old.addresses.items ++ bot.2 ∷ [])) }
+            × (present.new.addresses.items ≡ present.old.addresses.items ++ bot.2 ∷ [])
+            × (present.new.times.items ≡ present.old.times.items ++ poller.old.table.reading ∷ [])) }
         ensures same { IfErr result (λ _. present.new ≡ present.old) }
         ensures awaited { self.new.awaits_bots ≡ self.old.awaits_bots }
         ensures declined { (address : SocketAddr) → result ≡ Err (Some address) →
@@ -306,7 +315,7 @@ impl Acceptor {
             return Err(None);
         };
         // The list has room for each bot of a run.
-        if !present.add(number, host, address) {
+        if !present.add(number, host, address, poller.table.now()) {
             poller.table.release(bot.key);
             self.pause_after_refusal(poller.table.now());
             return Err(None);

@@ -34,8 +34,8 @@ pub struct OsNetwork<'r, R: Clock + Net> {
 /// Why there is no network.
 #[derive(Clone, Copy, Debug)]
 pub enum NetworkError {
-    /// The system has no descriptor for it.
-    System,
+    /// The system has no descriptor for it, with its error.
+    System(ErrorKind),
     /// The allocator refused it.
     Memory,
 }
@@ -68,11 +68,13 @@ impl<'r, R: Clock + Net> OsNetwork<'r, R> {
         listener: TcpListener,
         events: usize,
     ) -> Result<OsNetwork<'r, R>, NetworkError> {
-        let Ok(poll) = Poll::new(runtime) else {
-            return Err(NetworkError::System);
+        let poll = match Poll::new(runtime) {
+            Ok(poll) => poll,
+            Err(error) => return Err(NetworkError::System(error.kind())),
         };
-        let Ok(registry) = poll.registry().try_clone() else {
-            return Err(NetworkError::System);
+        let registry = match poll.registry().try_clone() {
+            Ok(registry) => registry,
+            Err(error) => return Err(NetworkError::System(error.kind())),
         };
         let Ok(events) = Events::with_capacity(alloc, events) else {
             return Err(NetworkError::Memory);

@@ -1,6 +1,7 @@
 //! The environment of the event loop, `System`, over sockets.
 
 ghost use Rattle.std.specs.Duration.{as_nanos};
+ghost use Rattle.std.specs.Option.{is_some};
 ghost use Rattle.std.specs.Prelude.{◌≡◌, ◌⊎◌, ℕ, ◌+◌, ◌-◌, ◌*◌, ◌^◌, ◌<◌, ◌≤◌, ◌||◌, ◌&&◌, nat_le, IfSome, IfNone, IsSome, IsNone, None, Some, true, false, [], length, not, slice_get, vec_capacity};
 ghost use Rattle.daide_io.specs.Network.{StopsListening};
 ghost use Rattle.daide_io.specs.Ports.{TurnBegins};
@@ -16,8 +17,10 @@ ghost use Rattle.daide_sockets.specs.ControlSlots.{BeginsRound, Each, PlaceShows
 ghost use Rattle.daide_sockets.specs.Finishing.{FinishesAll};
 ghost use Rattle.daide_sockets.specs.Snapshot.{counted, seconds_between, or_zero, IsRunStatus, IsSessionRow};
 ghost use Rattle.daide_sockets.specs.Lingering.{LooksAround, in_pass, GoOnFor, no_closing};
+ghost use Rattle.daide_sockets.specs.Capacity.{capacity_after};
+ghost use Rattle.daide_sockets.specs.Lines.{milliseconds_between};
 ghost use Rattle.daide_sockets.specs.Pairing.{FirstArrivalEvolves, Closes, ClosesBothAt, Comes, ComesWith};
-ghost use Rattle.daide_sockets.specs.Present.{IsAllowed, IsPresentWith, position_of, without_at};
+ghost use Rattle.daide_sockets.specs.Present.{IsAllowed, IsPresentWith, position_of, time_in, without_at};
 ghost use Rattle.daide_sockets.specs.Scheduling.{RunEvolves, run_state};
 ghost use Rattle.daide_sockets.specs.Sockets.{due_after};
 ghost use Rattle.daide_sockets.specs.Table.{Table, watching};
@@ -26,12 +29,13 @@ ghost use Rattle.daide_sockets.specs.Times.{IsSeconds, IsIdleTime, is_past};
 ghost use Rattle.daide_sockets.specs.Wakeups.{Settles, RestsOnce, may_session_go_on, session_due, has_session_news};
 
 use crate::admission::{Acceptor, PendingConnection, Unreached, watch_arrivals};
+use crate::capacity::Capacity;
 use crate::control::{Control, MOST_CONTROLS, seconds_between};
 use crate::lingering_close::{Closings, MOST_CLOSING};
 use crate::poller::Poller;
 use crate::ports::SocketPorts;
 use crate::present::Present;
-use crate::session_notice::SessionNotice;
+use crate::session_notice::{Lasted, SessionNotice};
 use crate::table::SocketTable;
 use daide_buffered_io::pool::Pool;
 use daide_io::network::Network;
@@ -99,6 +103,8 @@ fn counted(count: usize) -> u32
 /// now, a pending connect is given up (`look_at_first`: `given_up`). Each session has news until its next turn (`has_news`:
 /// `news`). That turn stops it, and no later one (`begin_turn`: `stops`, `once`).
 ///
+/// Before a wait, a run notes whether it is full and whether accepts pause, and logs what changed (`wait`: `capacity`).
+///
 /// Not said: that a wait ended because something came. That held bytes are given up only after a failed write, or after
 /// `stall_seconds`, is read from `flush_at` and `give_up_stalled`. `SessionNotice::of_end` and `why_of` give the counts
 /// and the cause in a line of a session's end. Tests and `scripts/recorded` show that `--verbose` writes it.
@@ -135,8 +141,10 @@ pub struct Sockets<'w, N: Network, E: Write + Drop> {
     control: Control<N::Connection>,
     /// The output for log lines.
     pub errors: E,
-    /// Whether the beginning and the end of each session are logged.
+    /// Whether the beginning and the end of each session are logged, and the capacity of the run.
     is_verbose: bool,
+    /// The capacity of the run, as it was logged last.
+    capacity: Capacity,
 }
 
 impl<'w, N: Network, E: Write + Drop> Sockets<'w, N, E> {
@@ -166,7 +174,8 @@ impl<'w, N: Network, E: Write + Drop> Sockets<'w, N, E> {
         ensures bots { IfSome result (λ sockets. (sockets.bots_in_all ≡ bots_in_all settings.now)
             × (sockets.acceptor.is_closed ≡ false)) }
         ensures none_present { IfSome result (λ sockets. (sockets.present.numbers.items ≡ [])
-            × (sockets.present.hosts.items ≡ []) × (sockets.present.addresses.items ≡ [])) }
+            × (sockets.present.hosts.items ≡ []) × (sockets.present.addresses.items ≡ [])
+            × (sockets.present.times.items ≡ [])) }
     {
         let (network, servers, table, pool) = ground;
         let Ok(mut poller) = Poller::new(alloc, network, table) else {
@@ -203,6 +212,7 @@ impl<'w, N: Network, E: Write + Drop> Sockets<'w, N, E> {
             control,
             errors,
             is_verbose: false,
+            capacity: Capacity::NEW,
         })
     }
 
@@ -221,7 +231,7 @@ impl<'w, N: Network, E: Write + Drop> Sockets<'w, N, E> {
         &self.poller.table
     }
 
-    /// Sets whether the beginning and the end of each session are logged.
+    /// Sets whether the beginning and the end of each session are logged, and the capacity of the run.
     pub fn set_verbose(&mut self, is_verbose: bool)
         ensures { self.new ≡ record self.old { is_verbose = is_verbose } }
     {
@@ -258,6 +268,31 @@ impl<'w, N: Network, E: Write + Drop> Sockets<'w, N, E> {
         }
     }
 
+    /// Looks whether a further bot can be accepted. Logs what changed in that, if sessions are logged.
+    fn note_capacity(&mut self)
+        ensures capacity { self.new.capacity ≡ capacity_after self.old.capacity
+            (length self.old.present.numbers.items) self.old.max_sessions (is_some self.old.acceptor.resumes_at)
+            self.old.acceptor.came }
+        ensures same { self.new ≡ record self.old { errors = self.new.errors; capacity = self.new.capacity } }
+    {
+        let (present, most) = (self.present.len(), self.max_sessions);
+        let is_paused = self.acceptor.is_paused();
+        let after = self.capacity.after(present, most, is_paused, self.acceptor.came());
+        if self.is_verbose {
+            self.capacity.log_change(after, most, &mut self.errors);
+        }
+        self.capacity = after;
+    }
+
+    /// Returns how long the session with this number has lasted.
+    fn lasted(&self, number: u32) -> Lasted
+        ensures { result.milliseconds ≡ milliseconds_between
+            (time_in self.now.present.times.items (position_of number self.now.present.numbers.items))
+            self.now.poller.table.reading }
+    {
+        Lasted::between(self.present.came_at(number), self.poller.table.now())
+    }
+
     /// Logs the address of a bot that may not come, if there is one and sessions are logged.
     fn tell_of_declined(&mut self, declined: Option<SocketAddr>)
         ensures { self.new ≡ record self.old { errors = self.new.errors } }
@@ -280,12 +315,15 @@ impl<'w, N: Network, E: Write + Drop> Sockets<'w, N, E> {
         ensures addresses { self.new.present.addresses.items
             ≡ without_at (position_of left.entry.number self.old.present.numbers.items) self.old.present.addresses.items }
         ensures clock { self.new.poller.table.reading ≡ self.old.poller.table.reading }
-        ensures times { (self.new.idle_time ≡ self.old.idle_time) × (self.new.stall_time ≡ self.old.stall_time) }
+        ensures timeouts { (self.new.idle_time ≡ self.old.idle_time) × (self.new.stall_time ≡ self.old.stall_time) }
         ensures acceptor { self.new.acceptor ≡ self.old.acceptor }
+        ensures times { self.new.present.times.items
+            ≡ without_at (position_of left.entry.number self.old.present.numbers.items) self.old.present.times.items }
     {
+        let lasted = self.lasted(left.number);
         self.present.remove(left.number);
         self.unreached = self.unreached.saturating_add(1);
-        self.tell_of_session(SessionNotice::of_no_server(left.number));
+        self.tell_of_session(SessionNotice::of_no_server(left.number, lasted));
         self.closings.begin(&mut self.poller.table, left.bot);
     }
 
@@ -498,7 +536,8 @@ impl<'w, N: Network, E: Write + Drop> Sockets<'w, N, E> {
     ///
     /// `allowed`: a bot that is accepted may come by the ranges, and by the limit beside those that are there.
     ///
-    /// `present`: it is the last of those, with the number and the host of its session's line.
+    /// `present`: it is the last of those, with the number and the host of its session's line, and with the table's
+    /// reading of the clock as its time.
     fn accept_next(&mut self) -> Option<SessionNotice>
         ensures comes { IfSome result (λ _. Comes
             (record { came = self.old.acceptor.came; arrivals = self.old.arrivals.items; closing = self.old.closings })
@@ -514,7 +553,8 @@ impl<'w, N: Network, E: Write + Drop> Sockets<'w, N, E> {
             (as_nanos self.old.im_time) (as_nanos self.old.connect_time) self.new.arrivals.items) }
         ensures allowed { IfSome result (λ began. IsAllowed self.old.allow.now self.old.max_per_address
             self.old.present.hosts.items began) }
-        ensures present { IfSome result (λ began. IsPresentWith self.old.present began self.new.present) }
+        ensures present { IfSome result (λ began. IsPresentWith self.old.poller.table.reading self.old.present began
+            self.new.present) }
         ensures absent { IfNone result (self.new.present ≡ self.old.present) }
         ensures timeouts { (self.new.idle_time ≡ self.old.idle_time) × (self.new.stall_time ≡ self.old.stall_time) }
     {
@@ -701,9 +741,12 @@ impl<'w, N: Network, E: Write + Drop> System<SocketPorts<'w, N::Connection>> for
             ≡ without_at (position_of ports.entry.number self.old.present.numbers.items) self.old.present.hosts.items }
         ensures addresses { self.new.present.addresses.items
             ≡ without_at (position_of ports.entry.number self.old.present.numbers.items) self.old.present.addresses.items }
+        ensures times { self.new.present.times.items
+            ≡ without_at (position_of ports.entry.number self.old.present.numbers.items) self.old.present.times.items }
     {
+        let session = (ports.number(), self.lasted(ports.number()));
         self.present.remove(ports.number());
-        let notice = SessionNotice::of_end(ports.number(), end, ports.timed(), self.stall_seconds);
+        let notice = SessionNotice::of_end(session, end, ports.timed(), self.stall_seconds);
         self.tell_of_session(notice);
         self.closings.begin_both(&mut self.poller.table, ports);
     }
@@ -728,8 +771,16 @@ impl<'w, N: Network, E: Write + Drop> System<SocketPorts<'w, N::Connection>> for
             (listener_watched self.old.poller.table self.old.acceptor) self.old.arrivals.items
             self.old.closings.streams) self.old.poller.network self.old.poller.table self.new.poller.network
             self.new.poller.table }
-        ensures same { self.new ≡ record self.old { poller = self.new.poller } }
+        ensures capacity { self.new.capacity ≡ capacity_after self.old.capacity
+            (length self.old.present.numbers.items) self.old.max_sessions (is_some self.old.acceptor.resumes_at)
+            self.old.acceptor.came }
+        ensures same { self.new ≡ record self.old {
+          poller = self.new.poller;
+          errors = self.new.errors;
+          capacity = self.new.capacity;
+        } }
     {
+        self.note_capacity();
         self.rest();
     }
 }
