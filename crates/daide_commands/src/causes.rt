@@ -80,7 +80,10 @@ fn value_at(settings: &Settings, key: Key) -> &str {
 /// Writes the value of a key that cannot be bound, from the text of the settings.
 fn tell_value<E: Write>(alloc: Global, text: &str, key: Key, cause: ErrorKind, errors: &mut E) {
     if let Ok(settings) = read_settings(alloc, text) {
-        tell(errors, CauseNotice::Value(key, value_at(&settings, key), cause));
+        tell(
+            errors,
+            CauseNotice::Value(key, value_at(&settings, key), cause),
+        );
     }
 }
 
@@ -110,7 +113,10 @@ pub(crate) fn tell_cause<E: Write>(
     match subject_of(fault) {
         FaultSubject::File(cause) => tell(errors, CauseNotice::File(order.settings, cause)),
         FaultSubject::Folder(cause) => {
-            tell(errors, CauseNotice::Folder(order.record.unwrap_or(""), cause));
+            tell(
+                errors,
+                CauseNotice::Folder(order.record.unwrap_or(""), cause),
+            );
         }
         FaultSubject::Value(key, cause) => tell_value(alloc, text, key, cause, errors),
         FaultSubject::Text => tell_faults(alloc, text, errors),

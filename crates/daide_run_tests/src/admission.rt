@@ -163,11 +163,7 @@ fn are_first_undelayed(system: &mut HostSockets<'_, '_>) -> bool {
 }
 
 /// The same for the first bot at a listener of its own, with these server addresses.
-fn sends_at_once(
-    rt: &HostRuntime,
-    pool: &Pool,
-    servers: &[SocketAddr],
-) -> Result<bool, Fail> {
+fn sends_at_once(rt: &HostRuntime, pool: &Pool, servers: &[SocketAddr]) -> Result<bool, Fail> {
     let settings = plain_settings(rt.alloc())?;
     let (listener, _bot) = door_with_bot(rt)?;
     let mut told = Vec::new(rt.alloc());

@@ -176,7 +176,11 @@ fn capacity_is_logged_once(_rt: HostRuntime) -> Result<(), Fail> {
         let after = before.after(*present, 2, *is_paused, *came);
         let told = full_notice(2, before.is_full, after.is_full);
         same(&told, full, came)?;
-        same(&pause_notice(before.paused_at, after.paused_at), pause, came)?;
+        same(
+            &pause_notice(before.paused_at, after.paused_at),
+            pause,
+            came,
+        )?;
         before = after;
     }
     Ok(())

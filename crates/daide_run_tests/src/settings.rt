@@ -71,7 +71,11 @@ fn settings_that_cannot_be_read(rt: HostRuntime) -> Result<(), Fail> {
     let mut not_text = b"listen = '\xff'".as_slice();
     let not_utf8 = unreadable(ErrorKind::InvalidData);
     same(&refusal(rt.alloc(), &mut not_text), &not_utf8, &"no text")?;
-    for kind in [ErrorKind::Other, ErrorKind::WouldBlock, ErrorKind::ConnectionReset] {
+    for kind in [
+        ErrorKind::Other,
+        ErrorKind::WouldBlock,
+        ErrorKind::ConnectionReset,
+    ] {
         same(&refusal_at(rt.alloc(), kind), &unreadable(kind), &kind)?;
     }
     let memory = refusal_at(rt.alloc(), ErrorKind::OutOfMemory);
@@ -93,7 +97,11 @@ fn told_within(alloc: Global, size: usize) -> Result<Option<RunFault>, Fail> {
 #[test]
 fn want_of_memory_for_settings_is_told(rt: HostRuntime) -> Result<(), Fail> {
     let other = told_at(rt.alloc(), ErrorKind::Other);
-    same(&other, &Some(RunFault::Unreadable(ErrorKind::Other)), &"another error")?;
+    same(
+        &other,
+        &Some(RunFault::Unreadable(ErrorKind::Other)),
+        &"another error",
+    )?;
     let memory = told_at(rt.alloc(), ErrorKind::OutOfMemory);
     same(&memory, &Some(RunFault::Memory), &"want of memory")?;
     same(&told_within(rt.alloc(), 0)?, &Some(RunFault::Memory), &0)?;

@@ -277,7 +277,9 @@ impl<'w, N: Network, E: Write + Drop> Sockets<'w, N, E> {
     {
         let (present, most) = (self.present.len(), self.max_sessions);
         let is_paused = self.acceptor.is_paused();
-        let after = self.capacity.after(present, most, is_paused, self.acceptor.came());
+        let after = self
+            .capacity
+            .after(present, most, is_paused, self.acceptor.came());
         if self.is_verbose {
             self.capacity.log_change(after, most, &mut self.errors);
         }
