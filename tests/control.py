@@ -314,7 +314,7 @@ def stop_now_ends_each_session(program):
         status, told = match.ended()
         if time.monotonic() - begun > 2:
             raise Wrong(f"the stop took {time.monotonic() - begun:.1f} s")
-        same((status, told.count(" ended after ")), (0, SESSIONS), "the run, and its lines")
+        same((status, told.count(": stopped by the operator; ")), (0, SESSIONS), "the run, and its lines")
         records = sorted((match.room / "records").glob("*.log"))
         same(len(records), SESSIONS, "records")
         for record in records:
