@@ -175,11 +175,13 @@ def layers(notes, _columns, rows):
         rows_up.setdefault(row_of(name), []).append((name, kind, what))
     y = picture.top + 6
     for row in sorted(rows_up, reverse=True):
-        left = (WIDTH - 190 * len(rows_up[row]) + 14) / 2
+        step = min(190, (WIDTH - 26) / len(rows_up[row]))
+        left = (WIDTH - step * len(rows_up[row]) + 14) / 2
         for place, (name, kind, what) in enumerate(rows_up[row]):
-            picture.box(left + 190 * place, y, 176, 40, kind)
-            picture.text(left + 190 * place + 88, y + 17, name, anchor="middle", weight="bold", family="monospace")
-            picture.text(left + 190 * place + 88, y + 33, what, "faint", 12, anchor="middle")
+            middle = left + step * place + (step - 14) / 2
+            picture.box(left + step * place, y, step - 14, 40, kind)
+            picture.text(middle, y + 17, name, anchor="middle", weight="bold", family="monospace")
+            picture.text(middle, y + 33, what, "faint", 12, anchor="middle")
         y += 50
     picture.box(40, y, WIDTH - 80, 44, "trusted")
     picture.text(WIDTH / 2, y + 18, "the toolchain, LLVM, the C library, the operating system", anchor="middle")

@@ -98,6 +98,17 @@ class ComesFrom(Act):
 
 
 @dataclass(frozen=True)
+class IsRefused(Act):
+    """A bot's connect is refused, since the program listens no more. Tried until it is."""
+
+    def play(self, stage):
+        if stage.is_refused():
+            return True
+        stage.awaits_moment(time.monotonic() + 0.01)
+        return False
+
+
+@dataclass(frozen=True)
 class FinishesConnect(Act):
     """The server accepts a connection."""
 

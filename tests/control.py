@@ -177,7 +177,7 @@ def status_is_a_table(program):
         same(received(other, len(IM)), IM, "received by the server")
         lines = match.status().splitlines()
         # With all places taken, a bot may wait or not: the listener was not asked since.
-        first = re.sub(r"up \d+ s", "up", lines[0]).removesuffix("; bots wait for a place")
+        first = re.sub(r"up \d+ s", "up", lines[0]).removesuffix("; bots may wait for a place")
         same(first, "2 open, 0 connecting, 0 served, 0 unreached, up", "the first line")
         wanted = [
             f"      1  open 0        4      1      0       0         0         *           * {address(bot)}",
@@ -191,7 +191,7 @@ def status_is_a_table(program):
                 raise Wrong(f"a line has {len(line)} bytes")
         third = socket.create_connection((HOST, match.port), SECONDS)
         match.bots.append(third)
-        settled(match, "table", lambda text: "; bots wait for a place\n" in text)
+        settled(match, "table", lambda text: "; bots may wait for a place\n" in text)
 
 
 def status_is_a_document(program):
@@ -203,8 +203,8 @@ def status_is_a_document(program):
         speaks(bot, server)
         waiting, _ = match.comes()
         found = json.loads(match.status("json"))
-        same({name: found[name] for name in ("open", "connecting", "served", "unreached", "bots_wait", "stopping")},
-             {"open": 2, "connecting": 0, "served": 0, "unreached": 0, "bots_wait": False, "stopping": False}, "the run")
+        same({name: found[name] for name in ("open", "connecting", "served", "unreached", "bots_may_wait", "stopping")},
+             {"open": 2, "connecting": 0, "served": 0, "unreached": 0, "bots_may_wait": False, "stopping": False}, "the run")
         first, second = found["sessions"]
         same((first["session"], first["bot"], first["phase"], first["level"]), (1, address(bot), "open", 0), "session 1")
         same([first[name] for name in ("relayed", "prn", "huh", "faults")], [4, 1, 0, 0], "counts of session 1")
@@ -292,7 +292,7 @@ def stop_gives_up_after_its_timeout(program):
 
 
 def stop_now_ends_each_session(program):
-    """The server receives an FM for each session, each bot's connection ends, each record is complete, and both commands
+    """Each bot and the server receive an FM for each session, the reports of the records have the stop, and both commands
     have status 0 within two seconds."""
     words = ("--verbose", "--record", "records")
     with Match(program, f"max_sessions = {SESSIONS}\nsessions = {SESSIONS}\nendless = true", words) as match:
@@ -302,7 +302,7 @@ def stop_now_ends_each_session(program):
                                     stderr=subprocess.PIPE)
         try:
             for bot, server in ends:
-                same((rest(bot), rest(server)), (b"", FM), "received by both sides")
+                same((rest(bot), rest(server)), (FM, FM), "received by both sides")
                 bot.close()
                 server.close()
             printed, told = stopping.communicate(timeout=SECONDS)
@@ -314,12 +314,35 @@ def stop_now_ends_each_session(program):
         status, told = match.ended()
         if time.monotonic() - begun > 2:
             raise Wrong(f"the stop took {time.monotonic() - begun:.1f} s")
-        same((status, told.count(" ended: ")), (0, SESSIONS), "the run, and its lines")
+        same((status, told.count(": stopped by the operator; ")), (0, SESSIONS), "the run, and its lines")
         records = sorted((match.room / "records").glob("*.log"))
         same(len(records), SESSIONS, "records")
         for record in records:
             done = subprocess.run([*match.program, "check", str(record)], capture_output=True, check=False, timeout=SECONDS)
             same((done.returncode, done.stderr), (0, b""), f"check of {record.name}")
+            lines = done.stdout.splitlines()
+            same((lines[-2].split(b" ", 1)[1], lines[-1]), (b"1 operator stop", b"relayed 2 prn 0 huh 0 faults 0"),
+                 f"the report of {record.name}")
+
+
+def stop_now_ends_a_session_at_each_place(program):
+    """Before the IM the bot alone receives an FM; before the RM and in the middle of a message each side receives one."""
+    with Match(program, "max_sessions = 4\nsessions = 4\nendless = true") as match:
+        silent, untold = match.comes()
+        waiting, told = match.comes()
+        waiting.sendall(IM)
+        same(received(told, len(IM)), IM, "received by the server")
+        bot, server = match.opens()
+        bot.sendall(OBS[:-1])
+        settled(match, "table", lambda text: text.count("  open ") == 1)
+        with match.client() as client:
+            client.sendall(b"stop now\n")
+            for sides, texts in (((silent, untold), (FM, b"")), ((waiting, told), (FM, FM)), ((bot, server), (FM, FM))):
+                same(tuple(map(rest, sides)), texts, "received by both sides")
+                for side in sides:
+                    side.close()
+            same(rest(client), b"", "answer to the stop")
+        same(match.ended(), (0, ""), "the run")
 
 
 def control_refuses_what_is_no_request(program):
@@ -455,7 +478,7 @@ def script_stops_a_run_by_the_protocol(program):
             with Match([str(script)], "sessions = 4\nendless = true") as match:
                 bot, server = match.opens()
                 match.process.send_signal(number)
-                same((rest(bot), rest(server)), (b"", FM), "received by both sides")
+                same((rest(bot), rest(server)), (FM, FM), "received by both sides")
                 bot.close()
                 server.close()
                 same(match.ended()[0], 0, "status of the script")
@@ -469,6 +492,7 @@ TESTS = [
     stop_waits_for_the_sessions,
     stop_gives_up_after_its_timeout,
     stop_now_ends_each_session,
+    stop_now_ends_a_session_at_each_place,
     control_refuses_what_is_no_request,
     hostile_clients_delay_no_session,
     silent_client_is_closed,

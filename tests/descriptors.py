@@ -83,22 +83,32 @@ class Many(Scene):
         return seconds, longest
 
 
-# One descriptor is left when a bot connects, and its session needs two. The bot waits in the queue, and is served once
-# there are two. The program accepts as soon as it can, so the others are taken before the bot connects.
-ONE_IS_LEFT = [
-    Hoards(1),
-    Comes(),
-    Passes(250),
-    MeetsNobody(),
-    Frees(),
-    FinishesConnect(),
-    Says(Bot(0), IM),
-    Hears(Server(0), IM),
-    Ends(Bot(0)),
-    Hears(Server(0), FM),
-]
+def left_over(count):
+    """So many descriptors are left when a bot connects, and its session needs one more. The bot waits in the queue, and is
+    served once there is another. The program accepts as soon as it can, so the others are taken before the bot connects."""
+    return [
+        Hoards(count),
+        Comes(),
+        Passes(250),
+        MeetsNobody(),
+        Frees(),
+        FinishesConnect(),
+        Says(Bot(0), IM),
+        Hears(Server(0), IM),
+        Ends(Bot(0)),
+        Hears(Server(0), FM),
+    ]
+
+
+WAITS_FOR_ONE = """\
+daide-gate: bots wait: the system has no descriptor or no memory for another one
+daide-gate: session 1 began: bot at 127.0.0.1:{0}
+daide-gate: bots are accepted again
+daide-gate: session 1 ended after *.* s: bot ended; relayed 1 prn 0 huh 0 faults 0
+"""
 
 SCENES = [
     Many("silent_peers_keep_no_bot_out", END_SILENTLY, f"max_sessions = 1\nsessions = {SESSIONS}"),
-    Scene("few_descriptors_make_a_bot_wait", ONE_IS_LEFT, waits=True),
+    Scene("few_descriptors_make_a_bot_wait", left_over(1), told=WAITS_FOR_ONE, verbose=True, waits=True),
+    Scene("few_descriptors_make_a_recorded_bot_wait", left_over(2), waits=True, recorded=1),
 ]

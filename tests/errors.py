@@ -7,7 +7,7 @@ import os
 from acts import Bot, Comes, FinishesConnect, Hears, HearsEnd, MeetsNobody, ReadsErrors, Says, Server, Waits
 from frames import FM, IM_FM
 from gateway import joins, opens
-from stage import Scene
+from stage import BEGINNING, HOST, Scene
 
 # The size of the smallest pipe, and the call that sets it (F_SETPIPE_SZ).
 PIPE, SET_PIPE_SIZE = 4_096, 1031
@@ -93,8 +93,8 @@ HAS_ROOM_LATER = [*joins(), *opens(0), ReadsErrors(), *joins(), *opens(1), *ends
 
 LATER_LINES = """\
 daide-gate: session 2 began: bot at 127.0.0.1:{1}
-daide-gate: session 2 ended: FM of bot; relayed 3 prn 0 huh 0 faults 0
-daide-gate: session 1 ended: FM of bot; relayed 3 prn 0 huh 0 faults 0
+daide-gate: session 2 ended after *.* s: FM of bot; relayed 3 prn 0 huh 0 faults 0
+daide-gate: session 1 ended after *.* s: FM of bot; relayed 3 prn 0 huh 0 faults 0
 """
 
 # The number of bots, one after another, whose lines don't fit into the pipe.
@@ -105,12 +105,27 @@ def lines_of(number, port="50000"):
     """Returns the lines of a session whose bot ends it at once. Its port has five digits."""
     return (
         f"daide-gate: session {number} began: bot at 127.0.0.1:{port}\n"
-        f"daide-gate: session {number} ended: FM of bot; relayed 2 prn 0 huh 0 faults 0\n"
+        f"daide-gate: session {number} ended after *.* s: FM of bot; relayed 2 prn 0 huh 0 faults 0\n"
     )
 
 
+# The line of a run whose one place is taken. It is written once, since a bot waits whenever the place is free.
+IS_FULL = "daide-gate: full: 1 of 1 sessions; further bots wait\n"
+
+
+def all_lines():
+    """Returns the lines of all sessions, with the line of a full run after the first one."""
+    first, *others = (line for number in range(MANY) for line in lines_of(number + 1, f"{{{number}}}").splitlines(True))
+    return "".join((first, IS_FULL, *others))
+
+
 # The number of the first session whose lines find no room.
-FIRST_HELD = next(number for number in range(1, MANY) if sum(len(lines_of(n + 1)) for n in range(number)) > PIPE)
+FIRST_HELD = next(
+    number
+    for number in range(1, MANY)
+    if len(BEGINNING.format(50_000, f"{HOST}:50000").replace("*", "1") + IS_FULL)
+    + sum(len(lines_of(n + 1)) for n in range(number)) > PIPE
+)
 
 # If nobody reads standard error, the run is held up in the first line without room, as docs/OPERATING.md says: it accepts
 # no further bot, and uses no processor time. It goes on once the lines are read, and none is lost.
@@ -127,13 +142,12 @@ NOBODY_READS = [
 SCENES = [
     Scene(
         "lost_error_line_silences_no_later_one", HAS_ROOM_LATER, "sessions = 2", LATER_LINES, errors=FullPipe,
-        verbose=True,
+        verbose=True, begins=False,
     ),
     Scene(
         "unread_error_lines_hold_up_the_run", NOBODY_READS, f"max_sessions = 1\nsessions = {MANY}",
-        "".join(lines_of(number, f"{{{number - 1}}}") for number in range(1, MANY + 1)), errors=NarrowPipe,
-        verbose=True,
+        all_lines(), errors=NarrowPipe, verbose=True,
     ),
-    Scene("closed_standard_error_ends_no_run", TWO_SESSIONS, "sessions = 2", errors=ClosedPipe, verbose=True),
-    Scene("full_standard_error_ends_no_run", TWO_SESSIONS, "sessions = 2", errors=Untaken, verbose=True),
+    Scene("closed_standard_error_ends_no_run", TWO_SESSIONS, "sessions = 2", errors=ClosedPipe, verbose=True, begins=False),
+    Scene("full_standard_error_ends_no_run", TWO_SESSIONS, "sessions = 2", errors=Untaken, verbose=True, begins=False),
 ]

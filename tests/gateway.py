@@ -1,8 +1,8 @@
 """Scenes of the gateway at work, as lists of acts. The expected bytes are worked out from docs/PROTOCOL.md."""
 
 from acts import (
-    Bot, Comes, ComesFrom, Ends, FinishesConnect, Flooded, Floods, Hears, HearsEnd, HearsEndAlone, Leave, MeetsNobody, Passes,
-    Pours, Rests, Says, Server,
+    Bot, Comes, ComesFrom, Ends, FinishesConnect, Flooded, Floods, Hears, HearsEnd, HearsEndAlone, IsRefused, Leave, MeetsNobody,
+    Passes, Pours, Rests, Says, Server,
 )
 from frames import (
     EM_01, EM_08, FM, HLO_20, IM, IM_FM, ITS_HUH, ITS_PRN, OBS, OBS_FM, RM, UNCLOSED, UNKNOWN, XYZ, XYZ_OF_SERVER,
@@ -39,6 +39,15 @@ OPENS_AND_ENDS = [
     Hears(Server(0), FM),
     HearsEnd(Server(0)),
     HearsEnd(Bot(0)),
+]
+
+# The run has one bot.
+ONE_TOO_MANY = [
+    *joins(),
+    IsRefused(),
+    *opens(0),
+    Ends(Bot(0)),
+    Hears(Server(0), FM),
 ]
 
 GETS_PRN = [
@@ -222,7 +231,7 @@ ONE_ADDRESS_MAY_COME = [
 TELLS_OF_ONE_ADDRESS = """\
 daide-gate: bot at 127.0.0.1:{0} may not come
 daide-gate: session 1 began: bot at 127.0.0.2:{1}
-daide-gate: session 1 ended: FM of bot; relayed 3 prn 0 huh 0 faults 0
+daide-gate: session 1 ended after *.* s: FM of bot; relayed 3 prn 0 huh 0 faults 0
 """
 
 # The second bot of one address may not come while the first is there. A third may come after it.
@@ -250,6 +259,7 @@ SCENES = [
     ),
     Scene("bots_of_one_address_come_one_at_a_time", ONE_AT_A_TIME, "max_per_address = 1\nsessions = 2"),
     Scene("opens_with_im_and_rm_over_sockets", OPENS_AND_ENDS),
+    Scene("bot_after_the_last_is_refused", ONE_TOO_MANY, waits=True),
     Scene("unclosed_bracket_gets_prn_over_sockets", GETS_PRN),
     Scene("word_of_the_settings_goes_on", WORD_GOES_ON, WITH_XYZ),
     Scene("word_of_the_settings_goes_on_to_the_bot", WORD_COMES_FROM_THE_SERVER, WITH_XYZ),

@@ -58,6 +58,8 @@ RUNS = [
         ["settings", "settings"], SETTINGS + "depth = 5\n",
         (b"line 20: unknown key: depth\n", b"", 1),
     ),
+    (["status", "settings"], SETTINGS, (b"", b"daide-gate: c: nobody listens\n", 1)),
+    (["stop", "--now", "settings"], SETTINGS, (b"", b"daide-gate: c: nobody listens\n", 1)),
     (["run", "settings"], SETTINGS + "depth =\n", (b"", b"daide-gate: settings are not TOML\n", 1)),
     (["run", "settings"], SETTINGS.replace("0x4A41", "0x4A40"), (b"", b"daide-gate: words out of range\n", 1)),
 ]

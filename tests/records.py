@@ -5,6 +5,7 @@ import re
 import subprocess
 import time
 from dataclasses import dataclass
+from datetime import datetime, timezone
 
 from acts import (
     Act, Appears, Bot, Comes, Empties, Ends, FinishesConnect, Hears, HearsEnd, MeetsNobody, Passes, Pours, Says, Server,
@@ -25,7 +26,15 @@ HEAD = ["daide-log 2", "config 60 65526 62 1 0"]
 # The most lines of a record.
 MOST_LINES = 1_000_000
 
-ENDED = re.compile(r"^daide-gate: session (\d+) ended: .*; (relayed .*)$", re.MULTILINE)
+# The comments of a record: the one behind its head, and the time of the line that follows.
+TIME = r"(\d{4}-\d\d-\d\dT\d\d:\d\d:\d\d\.\d{3}Z)"
+BEGUN = re.compile(rf"# session (\d+), bot at (\S+), {TIME}")
+TIMED = re.compile(rf"# {TIME}")
+
+# The least number of seconds between two times of a record.
+STEP = 0.01
+
+ENDED = re.compile(r"^daide-gate: session (\d+) ended after [\d.]+ s: .*; (relayed .*)$", re.MULTILINE)
 
 
 def said_in(record):
@@ -37,11 +46,44 @@ def said_in(record):
     return said["bot"], said["server"]
 
 
+def seconds_of(text):
+    """Returns the moment of a time of a record, in seconds."""
+    return datetime.strptime(text, "%Y-%m-%dT%H:%M:%S.%fZ").replace(tzinfo=timezone.utc).timestamp()
+
+
+def check_times(lines, number, port, began):
+    """Checks the comments of a record: behind the head the session, its bot's address and a time, and later times, each
+    before the line of an event, all of them since `began` and in their order."""
+    first = BEGUN.fullmatch(lines[len(HEAD)])
+    if first is None:
+        raise Wrong(f"behind the head of record {number} stands {lines[len(HEAD)]!r}")
+    same(first.groups()[:2], (str(number), f"127.0.0.1:{port}"), f"the session of record {number}")
+    times = [seconds_of(first[3])]
+    later = lines[len(HEAD) + 1 :]
+    for line, follower in zip(later, [*later[1:], ""]):
+        if line.startswith("#"):
+            timed = TIMED.fullmatch(line)
+            if timed is None or not follower.startswith("1 "):
+                raise Wrong(f"record {number} has {line!r} before {follower!r}")
+            times.append(seconds_of(timed[1]))
+    moments = [began, *times, time.time()]
+    # A time is cut to the millisecond.
+    if any(one - 0.001 > other for one, other in zip(moments, moments[1:])):
+        raise Wrong(f"the times of record {number} are {moments}")
+    if any(other - one < STEP - 0.0001 for one, other in zip(times, times[1:])):
+        raise Wrong(f"times of record {number} are less than {STEP} s apart: {times}")
+
+
 @dataclass
 class Recorded(Scene):
     """A recorded scene, with the bytes of the bot and of the server in the record of each session."""
 
     kept: tuple = ()
+
+    def play(self, program):
+        """Plays the scene, and notes when it began."""
+        self.began = time.time()
+        super().play(program)
 
     def end(self, stage):
         """Checks also each record, and that its report has the counts of the session's line, if there are lines."""
@@ -52,6 +94,7 @@ class Recorded(Scene):
             file = stage.run.folder / name
             lines = file.read_text(encoding="utf-8").splitlines()
             same(lines[:2], HEAD, f"the head of {name}")
+            check_times(lines, number, stage.ports[number - 1], self.began)
             self.check(lines, said, name)
             if self.verbose:
                 same(report_of(stage.run.program, file)[-1:], [counts.get(str(number))], f"the counts of {name}")
@@ -107,7 +150,7 @@ def report_of(program, file):
 # The log of a run of `GETS_PRN`: an IM, an RM and an OBS were relayed, and a message got a PRN.
 TELLS_BOTH = """\
 daide-gate: session 1 began: bot at 127.0.0.1:{0}
-daide-gate: session 1 ended: bot ended; relayed 3 prn 1 huh 0 faults 0
+daide-gate: session 1 ended after *.* s: bot ended; relayed 3 prn 1 huh 0 faults 0
 """
 
 IS_THERE = "daide-gate: session 1 is not recorded: its file is there already\n"
@@ -141,9 +184,9 @@ TELLS_EACH = """\
 daide-gate: session 1 began: bot at 127.0.0.1:{0}
 daide-gate: session 2 began: bot at 127.0.0.1:{1}
 daide-gate: session 3 began: bot at 127.0.0.1:{2}
-daide-gate: session 2 ended: FM of server; relayed 3 prn 1 huh 0 faults 0
-daide-gate: session 3 ended: FM of bot; relayed 3 prn 0 huh 1 faults 0
-daide-gate: session 1 ended: bot ended; relayed 3 prn 0 huh 0 faults 0
+daide-gate: session 2 ended after *.* s: FM of server; relayed 3 prn 1 huh 0 faults 0
+daide-gate: session 3 ended after *.* s: FM of bot; relayed 3 prn 0 huh 1 faults 0
+daide-gate: session 1 ended after *.* s: bot ended; relayed 3 prn 0 huh 0 faults 0
 """
 
 KEEPS_EACH = ((IM + OBS, RM), (IM + UNCLOSED, RM + FM), (IM + OBS_GOF + FM, RM))
@@ -183,8 +226,8 @@ ARE_JOINED_IN_ANOTHER_ORDER = [
 TELLS_AS_THEY_CAME = """\
 daide-gate: session 1 began: bot at 127.0.0.1:{0}
 daide-gate: session 2 began: bot at 127.0.0.1:{1}
-daide-gate: session 2 ended: FM of bot; relayed 3 prn 1 huh 0 faults 0
-daide-gate: session 1 ended: FM of server; relayed 5 prn 0 huh 0 faults 0
+daide-gate: session 2 ended after *.* s: FM of bot; relayed 3 prn 1 huh 0 faults 0
+daide-gate: session 1 ended after *.* s: FM of server; relayed 5 prn 0 huh 0 faults 0
 """
 
 KEEPS_AS_THEY_CAME = ((IM + OBS, RM + YES + FM), (IM + UNCLOSED + FM, RM))
@@ -195,8 +238,8 @@ ENDINGS = [
     (Server, FM, FM, b"", "FM of server; relayed 3 prn 0 huh 0 faults 0"),
     (Bot, EM_08, b"", EM_08, "EM of bot; relayed 3 prn 0 huh 0 faults 0"),
     (Server, EM_08, EM_08, b"", "EM of server; relayed 3 prn 0 huh 0 faults 0"),
-    (Bot, UNKNOWN[:4], EM_08, FM, "fault 08 of bot; relayed 2 prn 0 huh 0 faults 1"),
-    (Server, RM, FM, EM_0C, "fault 0C of server; relayed 2 prn 0 huh 0 faults 1"),
+    (Bot, UNKNOWN[:4], EM_08, FM, "fault 08 of bot: unknown message; relayed 2 prn 0 huh 0 faults 1"),
+    (Server, RM, FM, EM_0C, "fault 0C of server: second RM; relayed 2 prn 0 huh 0 faults 1"),
 ]
 
 # The session after them, whose bot sends no IM.
@@ -227,7 +270,7 @@ ENDS = [*(row[-1] for row in ENDINGS), "no IM in time; relayed 0 prn 0 huh 0 fau
 
 TELLS_EACH_END = "".join(
     f"daide-gate: session {number} began: bot at 127.0.0.1:{{{number - 1}}}\n"
-    f"daide-gate: session {number} ended: {end}\n"
+    f"daide-gate: session {number} ended after *.* s: {end}\n"
     for number, end in enumerate(ENDS, 1)
 )
 
@@ -241,15 +284,15 @@ SPENT = "daide-gate: turns spent\n"
 TELLS_SPENT = """\
 daide-gate: session 1 began: bot at 127.0.0.1:{0}
 daide-gate: turns spent
-daide-gate: session 1 ended: turns spent; relayed 0 prn 0 huh 0 faults 0
+daide-gate: session 1 ended after *.* s: turns spent; relayed 0 prn 0 huh 0 faults 0
 """
 
 TELLS_UNREACHED = """\
 daide-gate: session 1 began: bot at 127.0.0.1:{0}
-daide-gate: session 1 ended: no server; relayed 0 prn 0 huh 0 faults 0
+daide-gate: session 1 ended after *.* s: no server; relayed 0 prn 0 huh 0 faults 0
 daide-gate: cannot reach the server
 daide-gate: session 2 began: bot at 127.0.0.1:{1}
-daide-gate: session 2 ended: no server; relayed 0 prn 0 huh 0 faults 0
+daide-gate: session 2 ended after *.* s: no server; relayed 0 prn 0 huh 0 faults 0
 daide-gate: cannot reach the server
 """
 
@@ -269,6 +312,28 @@ def says_many(count):
         Hears(Server(0), FM),
         HearsEnd(Server(0)),
     ]
+
+
+# Half a second passes before a bot speaks.
+SPEAKS_LATE = [
+    *joins(),
+    Passes(500),
+    *opens(0),
+    Says(Bot(0), FM),
+    Hears(Server(0), FM),
+    HearsEnd(Server(0)),
+]
+
+
+class Later(Recorded):
+    """A scene in which the first line of the record has a time half a second after the beginning of its session."""
+
+    def check(self, lines, said, name):
+        """Checks also the distance of the first two times."""
+        super().check(lines, said, name)
+        times = [seconds_of(line.split()[-1]) for line in lines if line.startswith("#")]
+        if not 0.4 <= times[1] - times[0] < SECONDS:
+            raise Wrong(f"the times of {name} are {times}")
 
 
 # Whenever nothing moves, the record has all that was said.
@@ -308,6 +373,7 @@ SCENES = [
     Left("record_that_appears_is_left_as_it_is", [Appears(), *GETS_PRN], told=IS_THERE, recorded=1),
     Scene("folder_of_records_is_made", GETS_PRN, recorded=1, folder="records/of-today"),
     Recorded("record_is_read_beside_its_session", IS_READ_BESIDE, recorded=1, kept=((IM + OBS + UNCLOSED + FM, RM + YES),)),
+    Later("record_has_times", SPEAKS_LATE, recorded=1, kept=((IM + FM, RM),)),
     Scene("each_line_names_its_own_session", END_IN_ANOTHER_ORDER, "sessions = 3", TELLS_EACH, verbose=True),
     Recorded(
         "each_record_is_of_its_own_session", END_IN_ANOTHER_ORDER, "sessions = 3", TELLS_EACH, verbose=True,

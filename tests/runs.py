@@ -281,23 +281,36 @@ def one_bracket_too_deep_gets_huh(program):
                 raise Wrong(f"{depth} brackets: saw {printed.decode()!r}, wanted {verdict!r} in it")
 
 
-def cannot_listen(program, address, limit=None):
-    """Checks that the program can't listen at this address, and prints nothing."""
+def cannot_listen(program, address, cause="", limit=None):
+    """Checks that the program can't listen at this address, and prints nothing. With `--verbose` it says why, if the
+    cause is given."""
     settings = f"listen = '{address}'\nserver = '127.0.0.1:1'\n"
     with Folder(program, {"settings": settings}) as folder:
         ran = folder.run(["run", "settings"], limit=limit)
         check_ran(ran, ("", "cannot listen", "1"), f"listen = '{address}'")
+        if cause:
+            ran = folder.run(["run", "--verbose", "settings"], limit=limit)
+            check_ran(ran, ("", f"cannot listen/listen {address}: {cause}", "1"), f"listen = '{address}', --verbose")
 
 
 def address_that_is_taken_cannot_be_listened_on(program):
     """The port is in use."""
     with socket.create_server(("127.0.0.1", 0)) as taken:
-        cannot_listen(program, f"127.0.0.1:{taken.getsockname()[1]}")
+        cannot_listen(program, f"127.0.0.1:{taken.getsockname()[1]}", "address in use")
 
 
 def address_with_no_port_cannot_be_listened_on(program):
     """The program can't listen at an address without a port."""
-    cannot_listen(program, "127.0.0.1")
+    cannot_listen(program, "127.0.0.1", "invalid input parameter")
+
+
+def path_of_the_control_socket_is_named(program):
+    """There is no folder for the control socket, and `--verbose` names its path."""
+    settings = "listen = '127.0.0.1:0'\nserver = '127.0.0.1:1'\ncontrol = 'no-such-folder/socket'\n"
+    with Folder(program, {"settings": settings}) as folder:
+        printed, told, status = folder.run(["run", "--verbose", "settings"])
+        wanted = "daide-gate: cannot listen\ndaide-gate: control no-such-folder/socket: entity not found\n"
+        same((printed, told.decode(), status), (b"", wanted, 1), "a control socket without a folder")
 
 
 def without_a_descriptor_for_its_table_it_cannot_listen(program):
@@ -325,5 +338,6 @@ TESTS = [
     file_of_the_folders_test_is_left_as_it_is,
     address_that_is_taken_cannot_be_listened_on,
     address_with_no_port_cannot_be_listened_on,
+    path_of_the_control_socket_is_named,
     without_a_descriptor_for_its_table_it_cannot_listen,
 ]

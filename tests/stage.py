@@ -5,6 +5,7 @@ received the bytes of the acts, and no more. If an act can't go on, the scene wa
 """
 
 import contextlib
+import errno
 import os
 import pathlib
 import selectors
@@ -27,6 +28,10 @@ WAITING = 0.3
 QUEUE = 128
 
 HOST = "127.0.0.1"
+
+
+# The first line of a run that logs its sessions, with its port and the server's address.
+BEGINNING = f"daide-gate: listening on {HOST}:{{0}}, server {{1}}, * sessions, version *.*.*\n"
 
 
 class ErrorsFile:
@@ -72,7 +77,7 @@ class Run:
     """A run of the program in this folder, at a free port, under these conditions, with a server at this address."""
 
     def __init__(self, program, room, conditions, address):
-        self.program, self.port, self.room = program, free_port(), pathlib.Path(room)
+        self.program, self.port, self.room, self.address = program, free_port(), pathlib.Path(room), address
         self.folder = self.room / conditions.folder
         self.printed, self.status, self.seconds = b"", None, 0.0
         file = self.room / "settings.toml"
@@ -171,6 +176,11 @@ class Stage:
         self.bots.append(Peer(stream))
         stream.connect_ex((HOST, self.run.port))
         self.ports.append(stream.getsockname()[1])
+
+    def is_refused(self):
+        """Returns whether the program refuses a connection."""
+        with socket.socket() as stream:
+            return stream.connect_ex((HOST, self.run.port)) == errno.ECONNREFUSED
 
     def meets(self):
         """Returns whether the server accepted a connection."""
@@ -337,8 +347,9 @@ class Scene:
     errors: object = field(default=ErrorsFile)
     # Whether the run uses almost no CPU time, because it waits.
     waits: bool = False
-    # Whether the run logs the beginning and the end of sessions.
+    # Whether the run logs its beginning, and the beginning and the end of sessions. Whether its first line is taken.
     verbose: bool = False
+    begins: bool = True
     # The number of recorded sessions, or none if the run is not recorded. The number of empty records before the run.
     recorded: int | None = None
     there: int = 0
@@ -370,7 +381,8 @@ class Scene:
         run = stage.run
         same(run.status, 0, f"status, told {run.told()!r}")
         same(run.printed, b"listening\n", "printed")
-        same_but_counts(run.told(), self.told.format(*stage.ports), "told")
+        beginning = BEGINNING.format(run.port, run.address) if self.verbose and self.begins else ""
+        same_but_counts(run.told(), beginning + self.told.format(*stage.ports), "told")
         same(run.records(), record_names(self.recorded or 0), "records")
         same([run.size(name) for name in record_names(self.there)], [0] * self.there, "records that were there")
         if self.waits and run.seconds >= WAITING:

@@ -4,6 +4,7 @@ use Rattle.std.proofs.Common.{◌∙◌, subst}
 use Rattle.daide_frame.specs.declared.side.Side.{Side}
 use Rattle.daide_frame.specs.declared.side.Side.TheVariants.{Bot, Server}
 use Rattle.daide_frame.specs.Side.{other}
+use Rattle.daide_io.specs.declared.ports.ClockEvent.{ClockEvent}
 use Rattle.daide_io.specs.Ports.{PortCall, TurnBegins, Clock, Pulled, Offered, took, pulled_len}
 use Rattle.daide_protocol.proofs.WireLemmas.{same_self}
 use Rattle.daide_io.specs.declared.ports.Pull.{Pull}
@@ -115,5 +116,5 @@ module _ {S : Type 0} (to_give got : S → Option (List ℕ)) where
         })
 
     -- a question moves none
-    pub asked_moves : (im_timer_expired : Bool) → new ≡ old → Transfers to_give got old (Clock im_timer_expired) new
-    asked_moves im_timer_expired e = still_moves (Clock im_timer_expired) (λ side. refl) (λ side. refl) e
+    pub asked_moves : (event : ClockEvent) → new ≡ old → Transfers to_give got old (Clock event) new
+    asked_moves event e = still_moves (Clock event) (λ side. refl) (λ side. refl) e

@@ -17,7 +17,7 @@ stream_of streams Server = streams.1
 -- the bytes that a call returned from this side's stream
 abbrev pub gave : Side → PortCall → List ℕ
 gave side TurnBegins = []
-gave side (Clock im_timer_expired) = []
+gave side (Clock event) = []
 gave side (Pulled from buffer (Got n) bytes) = if same_side from side then bytes else []
 gave side (Pulled from buffer Idle bytes) = []
 gave side (Pulled from buffer Ended bytes) = []
@@ -31,14 +31,14 @@ given side (answer ∷ answers) = gave side answer ++ given side answers
 -- whether a call concerns this side's stream
 abbrev pub is_of : Side → PortCall → Bool
 is_of side TurnBegins = false
-is_of side (Clock im_timer_expired) = false
+is_of side (Clock event) = false
 is_of side (Pulled from buffer pull bytes) = same_side from side
 is_of side (Offered to bytes put) = same_side to side
 
 -- whether a call is a question, which calls no stream
 abbrev pub is_question : PortCall → Bool
 is_question TurnBegins = false
-is_question (Clock im_timer_expired) = true
+is_question (Clock event) = true
 is_question (Pulled from buffer pull bytes) = false
 is_question (Offered to bytes put) = false
 

@@ -53,6 +53,10 @@ daide-log 1/config 60 1024 16/timer\r | | line 3 is not a log line
 daide-log 1/config 60 1024 16/end server/ | 3 server end/relayed 0 prn 0 huh 0 faults 0/ |
 daide-log 1/config 60 1024 16/end bot/end server/ | 3 bot end/relayed 0 prn 0 huh 0 faults 0/ |
 daide-log 1/config 60 1024 16/bot 03000000/timer/ | 3 bot FM 0 drop/relayed 0 prn 0 huh 0 faults 0/ |
+daide-log 1/config 60 1024 16/stop/timer/stop/ | 3 operator stop/relayed 0 prn 0 huh 0 faults 0/ |
+daide-log 1/config 60 1024 16/bot 000000040001DA10/server 01000000/bot 02000002/stop/bot 480F/ | 3 bot IM 4 relay/4 server RM 0 relay/6 operator stop/relayed 2 prn 0 huh 0 faults 0/ |
+daide-log 1/config 60 1024 16/end bot/stop/ | 3 bot end/relayed 0 prn 0 huh 0 faults 0/ |
+daide-log 1/config 60 1024 16/stop bot/ | | line 3 is not a log line
 daide-log 1/config 60 1024 16//# x/bot 000000040001DA10/server 01000000/bot 020000024803/bot 0200000448034000/server 03000000/ | 5 bot IM 4 relay/6 server RM 0 relay/7 bot DM 2 relay/8 bot DM 4 prn/9 server FM 0 relay/relayed 4 prn 1 huh 0 faults 0/ |
 daide-log 1/config 60 1024 16/bot 000000040001DA10/server 01000000/bot 020000024803/bot 0200000448034000/server 03000000/ | 3 bot IM 4 relay/4 server RM 0 relay/5 bot DM 2 relay/6 bot DM 4 prn/7 server FM 0 relay/relayed 4 prn 1 huh 0 faults 0/ |
 daide-log 1/config 60 1024 16/bot 000000040001DA10/server 01000000/bot 020000024803/bot 0200000448034000/server 03000000/bot 02000/ | 3 bot IM 4 relay/4 server RM 0 relay/5 bot DM 2 relay/6 bot DM 4 prn/7 server FM 0 relay/ | line 8 is not a log line

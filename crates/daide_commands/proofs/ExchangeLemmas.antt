@@ -26,7 +26,7 @@ module _ {P S : Type 0} (streams : P → Buffer S × Buffer S) (to_give taken : 
   spent_moves : (answer : PortCall) (old new : Buffer S × Buffer S) → IsSpentAnswer answer → new ≡ old →
       Transfers to_give taken old answer new
   spent_moves TurnBegins old new h e = still_moves to_give taken old new _ (λ one. refl) (λ one. refl) e
-  spent_moves (Clock im_timer_expired) old new h e = still_moves to_give taken old new _ (λ one. refl) (λ one. refl) e
+  spent_moves (Clock event) old new h e = still_moves to_give taken old new _ (λ one. refl) (λ one. refl) e
   spent_moves (Pulled side buffer pull bytes) old new h e =
       subst (λ (p : Pull). Transfers to_give taken old (Pulled side buffer p bytes) new) (sym h)
       (still_moves to_give taken old new _ (λ one. refl) (λ one. refl) e)

@@ -76,11 +76,11 @@ module _ {P S T : Type 0} (to_give taken : S → Option (List ℕ)) (calls : S �
       (h.0, runs settings.stall_seconds (IsWholeRun transition settings) begun h.1 none (h.2, h.3, h.4))
   run_ends settings failed before after begun (Err (Gateway (gateway_faults.Serve fault))) h none =
       (h.0, runs settings.stall_seconds (GivesUp (λ n. Unit {0}) transition settings fault) begun h.1 none (h.2, h.3, h.4))
-  run_ends settings failed before after begun (Err (Gateway gateway_faults.Listen)) h none = absurd h
+  run_ends settings failed before after begun (Err (Gateway (gateway_faults.Listen key cause))) h none = absurd h
   run_ends settings failed before after begun (Err (Gateway gateway_faults.Memory)) h none = absurd h
   run_ends settings failed before after begun (Err run_faults.Memory) h none = absurd h
-  run_ends settings failed before after begun (Err run_faults.Unreadable) h none = absurd h
-  run_ends settings failed before after begun (Err run_faults.Record) h none = absurd h
+  run_ends settings failed before after begun (Err (run_faults.Unreadable cause)) h none = absurd h
+  run_ends settings failed before after begun (Err (run_faults.Record cause)) h none = absurd h
   run_ends settings failed before after begun (Err (run_faults.Settings fault)) h none = absurd h
 
 module _ {P S : Type 0} (to_give taken : S → Option (List ℕ)) (calls : S → Option (List StreamCall)) (pair : P → Paired S)
@@ -88,7 +88,7 @@ module _ {P S : Type 0} (to_give taken : S → Option (List ℕ)) (calls : S →
   -- a run that does not begin leaves the output unchanged
   pub unbegun : (settings : Settings) (failed : Type 0) (known : Option (List ℕ)) (fault : GatewayFault) →
       IsBeforeServing fault → RunEnds to_give taken calls pair transition settings failed known known (Err (Gateway fault))
-  unbegun settings failed known gateway_faults.Listen before = refl
+  unbegun settings failed known (gateway_faults.Listen key cause) before = refl
   unbegun settings failed known gateway_faults.Memory before = refl
   unbegun settings failed known (gateway_faults.Serve fault) before = absurd before
 
@@ -98,9 +98,9 @@ module _ {P S : Type 0} (to_give taken : S → Option (List ℕ)) (calls : S →
       IfErr result (λ fault. IsOfText fault → X)
   unrefused settings failed before after X (Ok done) ends = tt
   unrefused settings failed before after X (Err (run_faults.Settings fault)) ends = absurd ends
-  unrefused settings failed before after X (Err run_faults.Unreadable) ends = λ h. absurd h
+  unrefused settings failed before after X (Err (run_faults.Unreadable cause)) ends = λ h. absurd h
   unrefused settings failed before after X (Err run_faults.Memory) ends = λ h. absurd h
-  unrefused settings failed before after X (Err run_faults.Record) ends = λ h. absurd h
+  unrefused settings failed before after X (Err (run_faults.Record cause)) ends = λ h. absurd h
   unrefused settings failed before after X (Err (Gateway fault)) ends = λ h. absurd h
 
   -- a run that ends well has printed `listening`

@@ -4,12 +4,13 @@ use Rattle.std.proofs.Common.{◌∙◌, subst, append_assoc, append-nil}
 use Rattle.std.specs.Io.KnownBytes.{Consumes, Appends}
 use Rattle.daide_frame.specs.declared.side.Side.{Side}
 use Rattle.daide_frame.specs.declared.side.Side.TheVariants.{Bot, Server}
-use Rattle.daide_protocol.specs.Events.{Event, Comes, Ends, Loses, ImTimerExpired, bytes_come}
+use Rattle.daide_protocol.specs.Events.{Event, Comes, Ends, Loses, ImTimerExpired, OperatorStops, bytes_come}
 use Rattle.daide_protocol.specs.Heard.{bytes_from}
 use Rattle.daide_protocol.specs.Machine.{Limits}
 use Rattle.daide_frame.specs.Side.{same_side}
 use Rattle.daide_protocol.specs.Wires.{SessionView, sent_bytes, queued}
 use Rattle.daide_driver.specs.Headline.{IsBoundedAndExact, untouched}
+use Rattle.daide_io.specs.declared.ports.ClockEvent.TheVariants.{NoEvent, ImTimeIsOver, StopIsRequested}
 use Rattle.daide_io.specs.Ports.{PortCall, TurnBegins, Clock, Pulled, Offered, EvolvesBy, event_of}
 use Rattle.daide_io.specs.Ports.{events_of, took}
 use Rattle.daide_driver.specs.Record.{Moved}
@@ -36,6 +37,7 @@ event_first side (Comes from byte) events more h = go (same_side from side) refl
 event_first side (Ends from) events more h = h
 event_first side (Loses from) events more h = h
 event_first side ImTimerExpired events more h = h
+event_first side OperatorStops events more h = h
 
 bytes_from-append : (side : Side) (events more : List Event) →
     bytes_from side (events ++ more) ≡ bytes_from side events ++ bytes_from side more
@@ -54,8 +56,9 @@ none_of_other side from (byte ∷ bytes) e = rw e (none_of_other side from bytes
 
 bytes_of_event : (side : Side) (answer : PortCall) → bytes_from side (event_of answer) ≡ gave side answer
 bytes_of_event side TurnBegins = refl
-bytes_of_event side (Clock true) = refl
-bytes_of_event side (Clock false) = refl
+bytes_of_event side (Clock ImTimeIsOver) = refl
+bytes_of_event side (Clock StopIsRequested) = refl
+bytes_of_event side (Clock NoEvent) = refl
 bytes_of_event side (Pulled from buffer (Got n) bytes) = go (same_side from side) refl
   where
     go : (b : Bool) → same_side from side ≡ b →

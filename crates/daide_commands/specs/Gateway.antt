@@ -1,6 +1,7 @@
 -- The faults of a gateway, and its output.
 use Rattle.std.specs.Prelude.{◌⊎◌, ℕ, List, Option, codes}
 use Rattle.std.specs.Io.KnownBytes.{Appends}
+use Rattle.daide_settings.specs.declared.settings.key.Key.TheVariants as keys
 use Rattle.daide_sockets.specs.declared.bound_sockets.BindError.{BindError}
 use Rattle.daide_sockets.specs.declared.bound_sockets.BindError.TheVariants as BindErrors
 use Rattle.daide_commands.specs.declared.gateway.GatewayFault.{GatewayFault}
@@ -8,12 +9,12 @@ use Rattle.daide_commands.specs.declared.gateway.GatewayFault.TheVariants.{Liste
 
 -- the fault of a gateway that could not bind its sockets
 abbrev pub fault_by : BindError → GatewayFault
-fault_by BindErrors.Listen = Listen
+fault_by (BindErrors.Listen cause) = Listen keys.Listen cause
 fault_by BindErrors.Memory = Memory
 
 -- a fault before the gateway serves
 abbrev pub IsBeforeServing : GatewayFault → Type 0
-IsBeforeServing Listen = Unit {0}
+IsBeforeServing (Listen key cause) = Unit {0}
 IsBeforeServing Memory = Unit {0}
 IsBeforeServing (Serve fault) = ⊥
 

@@ -50,11 +50,11 @@ RunsOn {P} {T} transition port_transition settings failed old new begun (Ok done
 RunsOn {P} {T} transition port_transition settings failed old new begun (Err (Gateway (gateway_faults.Serve fault))) =
     Announces failed old new × (last : T) × (answers : List (SystemCall P)) × TransitsBy transition begun answers last
     × GivesUp (λ n. Unit {0}) port_transition settings fault answers
-RunsOn transition port_transition settings failed old new begun (Err (Gateway gateway_faults.Listen)) = ⊥
+RunsOn transition port_transition settings failed old new begun (Err (Gateway (gateway_faults.Listen key cause))) = ⊥
 RunsOn transition port_transition settings failed old new begun (Err (Gateway gateway_faults.Memory)) = ⊥
 RunsOn transition port_transition settings failed old new begun (Err Memory) = ⊥
-RunsOn transition port_transition settings failed old new begun (Err Unreadable) = ⊥
-RunsOn transition port_transition settings failed old new begun (Err Record) = ⊥
+RunsOn transition port_transition settings failed old new begun (Err (Unreadable cause)) = ⊥
+RunsOn transition port_transition settings failed old new begun (Err (Record cause)) = ⊥
 RunsOn transition port_transition settings failed old new begun (Err (run_faults.Settings fault)) = ⊥
 
 -- The end of a run of settings. If all bots were served, it printed `listening`, and its calls are a whole run of these
@@ -68,19 +68,19 @@ RunEnds to_give taken calls pair transition settings failed old new (Ok done) =
 RunEnds to_give taken calls pair transition settings failed old new (Err (Gateway (gateway_faults.Serve fault))) =
     Announces failed old new × RunsBy to_give taken calls pair settings.stall_seconds
     (GivesUp (λ n. Unit {0}) transition settings fault)
-RunEnds to_give taken calls pair transition settings failed old new (Err (Gateway gateway_faults.Listen)) = new ≡ old
+RunEnds to_give taken calls pair transition settings failed old new (Err (Gateway (gateway_faults.Listen key cause))) = new ≡ old
 RunEnds to_give taken calls pair transition settings failed old new (Err (Gateway gateway_faults.Memory)) = new ≡ old
 RunEnds to_give taken calls pair transition settings failed old new (Err Memory) = new ≡ old
-RunEnds to_give taken calls pair transition settings failed old new (Err Unreadable) = ⊥
-RunEnds to_give taken calls pair transition settings failed old new (Err Record) = ⊥
+RunEnds to_give taken calls pair transition settings failed old new (Err (Unreadable cause)) = ⊥
+RunEnds to_give taken calls pair transition settings failed old new (Err (Record cause)) = ⊥
 RunEnds to_give taken calls pair transition settings failed old new (Err (run_faults.Settings fault)) = ⊥
 
 -- a fault of a text, which is found before any socket is opened
 abbrev pub IsOfText : RunFault → Type 0
 IsOfText (run_faults.Settings fault) = Unit {0}
-IsOfText Unreadable = ⊥
+IsOfText (Unreadable cause) = ⊥
 IsOfText Memory = ⊥
-IsOfText Record = ⊥
+IsOfText (Record cause) = ⊥
 IsOfText (Gateway fault) = ⊥
 
 -- a text has settings, or a fault

@@ -18,7 +18,7 @@ use std::alloc::{AllocError, Global};
 use std::convert::AsStr;
 
 /// The version of the program.
-pub const VERSION: &str = "1.0.0";
+pub(crate) const VERSION: &str = "1.0.0";
 
 /// The order that the arguments give. The slices of arguments are borrowed for `'m`, their texts for `'a`.
 #[derive(Clone, Copy)]
@@ -201,8 +201,8 @@ Examples:
 /// The help on `stop`, with examples and exit statuses.
 const STOP_NOTES: &str = "\
 The run accepts no further bot. Without '--now' its open sessions go on, and it ends when the last one is over; with
-'--now' each session ends as if its bot had left: the server gets an FM, and the bot's connection ends. The command
-returns when the run is over.
+'--now' each session ends: its bot and the server get an FM, and both connections end. The command returns when the
+run is over.
 The exit status is 0 if the run is over, and 1 if it goes on after the timeout, or if nobody listens at the path of the
 settings' key 'control'.
 

@@ -3,21 +3,22 @@
 //! The operating system decides whether a file exists, whether one can be created, and which written bytes it keeps. No
 //! contract is about that.
 
-ghost use Rattle.std.specs.Prelude.{◌≡◌, ◌+◌, ℕ, List, Option, IfOk, IfErr, IfSome, string_bytes};
-ghost use Rattle.std.specs.Io.KnownBytes.{append_known};
-ghost use Rattle.daide_log.specs.RecordText.{head_text, head_count};
+ghost use Rattle.std.specs.Prelude.{◌≡◌, ◌+◌, ℕ, List, Option, Some, IfOk, IfErr, IfSome, option_map, string_bytes};
+ghost use Rattle.std.specs.Net.Text.{socket_text};
+ghost use Rattle.daide_log.specs.Recording.{HasFailed};
 ghost use Rattle.daide_words.specs.Words.{words_of};
-ghost use Rattle.daide_commands.specs.Folder.{path_in, IsNoFileOf};
+ghost use Rattle.daide_commands.specs.Folder.{path_in, IsNoFileOf, IsAddressOf, BeginsRecord, headed, time_begun};
 
 use daide_io::Ports;
 use daide_log::record::MOST_LINES;
-use daide_log::{Activity, Record, RecordEnd, Recording};
+use daide_log::{Activity, Comment, Moment, Record, RecordEnd, Sink, TimedRecording};
 use daide_protocol::Config;
 use daide_settings::Settings;
 use daide_words::Words;
 use std::alloc::{AllocError, Global};
 use std::fs::OpenOptions;
 use std::io::{ErrorKind, Write};
+use std::net::SocketAddr;
 use std::rt::Files;
 use std::{fs, io};
 use thiserror::Error;
@@ -101,6 +102,50 @@ fn path_of(alloc: Global, folder: &str, number: u64) -> Result<String, AllocErro
     format!(in alloc; "{folder}/session-{number:06}.log")
 }
 
+/// Returns the text of an address; `None` if memory for it is refused.
+fn text_of(alloc: Global, address: SocketAddr) -> Option<String>
+    ensures { IfSome result (λ text. string_bytes text ≡ socket_text address) }
+{
+    format!(in alloc; "{address}").ok()
+}
+
+/// Returns the text of a bot's address; `None` without an address, or if memory for it is refused.
+fn address_text(alloc: Global, bot: Option<SocketAddr>) -> Option<String>
+    ensures { IsAddressOf bot (option_map (λ text. string_bytes text) result) }
+{
+    match bot {
+        Some(bot) => text_of(alloc, bot),
+        None => None,
+    }
+}
+
+/// Adds a comment to a record: the number of its session, the address of its bot, and when the session began.
+fn put_beginning<W: Sink + Drop>(log: &mut Record<W>, number: u32, address: &str, began: Moment)
+    ensures { BeginsRecord (HasFailed W.Fails) number (Some address.now) (Some began) log.old log.new }
+{
+    log.comment(Comment::Begun(number, address, began.utc()));
+}
+
+/// Adds this comment to a record if the address and the time are known. Returns the time if it did.
+fn begin_record<W: Sink + Drop>(
+    log: &mut Record<W>,
+    number: u32,
+    address: &Option<String>,
+    now: Option<Moment>,
+) -> Option<Moment>
+    ensures record_of { BeginsRecord (HasFailed W.Fails) number (option_map (λ text. string_bytes text) address.now) now
+        log.old log.new }
+    ensures last { result ≡ time_begun (option_map (λ text. string_bytes text) address.now) now }
+{
+    match (address, now) {
+        (Some(text), Some(now)) => {
+            put_beginning(log, number, text.as_str(), now);
+            Some(now)
+        }
+        _ => None,
+    }
+}
+
 /// Returns the number in the name of a record's file; `None` if no record has this name.
 fn number_in(name: &str) -> Option<u32> {
     let digits = name.strip_prefix("session-")?.strip_suffix(".log")?;
@@ -118,28 +163,49 @@ fn highest_in<R: AllocGlobal + Files>(rt: &R, path: &str) -> io::Result<u32> {
     Ok(highest)
 }
 
+/// Creates a folder if it does not exist. Returns the highest number of the records in it.
+fn highest_made<R: AllocGlobal + Files>(rt: &R, path: &str) -> io::Result<u32> {
+    fs::create_dir_all(rt, path)?;
+    highest_in(rt, path)
+}
+
 impl<'a, R: AllocGlobal + Files> Folder<'a, R> {
-    /// Opens a folder for the records of sessions with these settings, and creates it if it does not exist. Returns
-    /// `None` if the path is empty, if the folder can't be created or read, or if no file can be created in it. To test
-    /// that, a file with the number 0, which no record has, is created and removed.
-    pub(crate) fn at(rt: &'a R, path: &'a str, settings: &Settings) -> Option<Folder<'a, R>>
-        ensures { IfSome result (λ folder. (folder.config ≡ settings.now.config) × (folder.words ≡ settings.now.words)) }
+    /// Opens a folder for the records of sessions with these settings, and creates it if it does not exist. Fails with
+    /// the system's error if the folder can't be created or read, or if no file can be created in it, and with
+    /// `InvalidInput` if the path is empty. To test that, a file with the number 0, which no record has, is created and
+    /// removed.
+    pub(crate) fn at(
+        rt: &'a R,
+        path: &'a str,
+        settings: &Settings,
+    ) -> Result<Folder<'a, R>, ErrorKind>
+        ensures { IfOk result (λ folder. (folder.config ≡ settings.now.config) × (folder.words ≡ settings.now.words)) }
     {
         if path.is_empty() {
-            return None;
+            return Err(ErrorKind::InvalidInput);
         }
-        fs::create_dir_all(rt, path).ok()?;
+        let highest = match highest_made(rt, path) {
+            Ok(highest) => highest,
+            Err(error) => return Err(error.kind()),
+        };
         let folder = Folder {
             rt,
             path,
-            highest: highest_in(rt, path).ok()?,
+            highest,
             config: settings.config,
             words: settings.words,
         };
-        let name = path_of(rt.alloc(), path, 0).ok()?;
-        let _file = folder.make(name.as_str()).ok()?;
-        rt.remove_file(name.as_str()).ok()?;
-        Some(folder)
+        match folder.try_file() {
+            Ok(()) => Ok(folder),
+            Err(error) => Err(error.kind()),
+        }
+    }
+
+    /// Creates the file with the number 0, and removes it.
+    fn try_file(&self) -> io::Result<()> {
+        let name = path_of(self.rt.alloc(), self.path, 0)?;
+        let _file = self.make(name.as_str())?;
+        self.rt.remove_file(name.as_str())
     }
 
     /// Creates a file, which must not exist yet.
@@ -171,24 +237,9 @@ impl<'a, R: AllocGlobal + Files> Folder<'a, R> {
             })
     }
 
-    /// Starts the record of the session with this number, and returns its ports with the record. The head for these
-    /// settings is appended to the file, and the record is whole so far. Reports a failure to create the file.
-    pub(crate) fn begin<P: Ports, E: Write>(
-        &self,
-        number: u32,
-        ports: P,
-        errors: &mut E,
-    ) -> Recording<P, SessionFile<R::File>>
-        ensures { (before : Option (List ℕ)) × (result ≡ record {
-          ports = ports;
-          record_of = record {
-            text = append_known before (head_text self.now.config (words_of self.now.words));
-            unwritten = head_text self.now.config (words_of self.now.words);
-            lines = head_count (words_of self.now.words);
-            ending = RecordEnd.Whole;
-          };
-          activity = Activity.Moving;
-        }) }
+    /// Opens the file of a session's record. Reports a failure to create it.
+    fn open_file<E: Write>(&self, number: u32, errors: &mut E) -> SessionFile<R::File>
+        ensures { result.number ≡ number }
     {
         let file = match self.file_of(number) {
             Ok(file) => Some(file),
@@ -197,12 +248,38 @@ impl<'a, R: AllocGlobal + Files> Folder<'a, R> {
                 None
             }
         };
-        let file = SessionFile {
+        SessionFile {
             number,
             file,
             cause: ErrorKind::Other,
-        };
-        Recording::new(ports, Record::new(file, self.config, self.words))
+        }
+    }
+
+    /// Starts the record of a session with this number and with a bot at this address, and returns its ports with the
+    /// record. The head for these settings is appended to the file, and then a comment with the address and the present
+    /// time, if both are known. The record is whole so far, unless its file did not take the head. Reports a failure to
+    /// create the file.
+    ///
+    /// Not said: that memory for the text of the address was refused if the comment is missing.
+    pub(crate) fn begin<P: Ports, E: Write>(
+        &self,
+        session: (u32, Option<SocketAddr>),
+        ports: P,
+        now: Option<Moment>,
+        errors: &mut E,
+    ) -> TimedRecording<P, SessionFile<R::File>>
+        ensures ports { result.ports ≡ ports }
+        ensures record { (before : Option (List ℕ)) × (address : Option (List ℕ)) × IsAddressOf session.1 address
+            × BeginsRecord (HasFailed ⟦<SessionFile<R::File> as Sink>⟧.Fails) session.0 address now
+            (headed before self.now.config (words_of self.now.words)) result.record_of
+            × (result.last ≡ time_begun address now) }
+        ensures activity { result.activity ≡ Activity.Moving }
+    {
+        let (number, bot) = session;
+        let mut log = Record::new(self.open_file(number, errors), self.config, self.words);
+        let address = address_text(self.rt.alloc(), bot);
+        let began = begin_record(&mut log, number, &address, now);
+        TimedRecording::new(ports, log, began)
     }
 }
 
@@ -220,7 +297,7 @@ fn tell_end<F: Drop, E: Write>(file: &SessionFile<F>, end: RecordEnd, errors: &m
 
 /// Reports that a session's record has just broken off, if it has.
 pub(crate) fn tell_if_ended<P: Ports, F: Write + Drop, E: Write>(
-    recorded: &Recording<P, SessionFile<F>>,
+    recorded: &TimedRecording<P, SessionFile<F>>,
     errors: &mut E,
 ) {
     if recorded.has_just_ended() {
@@ -231,7 +308,7 @@ pub(crate) fn tell_if_ended<P: Ports, F: Write + Drop, E: Write>(
 
 /// Ends a session's record. Reports why it is not whole, if that was not reported before. Returns the ports.
 pub(crate) fn end<P: Ports, F: Write + Drop, E: Write>(
-    recorded: Recording<P, SessionFile<F>>,
+    recorded: TimedRecording<P, SessionFile<F>>,
     errors: &mut E,
 ) -> P
     ensures { result ≡ recorded.ports }

@@ -7,25 +7,48 @@ ghost use Rattle.daide_event_loop.specs.Serving.{IsServeCause, GivesUp};
 ghost use Rattle.daide_commands.specs.Gateway.{IsBeforeServing, fault_by, Announces};
 ghost use Rattle.daide_log.specs.Recording.{HasFailed};
 
+use crate::arguments::VERSION;
 use daide_event_loop::{ServeFault, serve};
 use daide_frame::Memory;
 use daide_io::{Ports, System};
 use daide_log::Sink;
-use daide_settings::Settings;
+use daide_settings::{Key, Settings};
 use daide_sockets::bound_sockets::{BindError, BoundSockets, bind_sockets};
 use daide_sockets::control_listener::bind_control;
-use std::io::Write;
+use std::io::{ErrorKind, Write};
 use std::net::Net;
 use std::rt::{Clock, Files};
 use thiserror::Error;
 
+/// A log line about the beginning of a run: its addresses, as in the settings, and how many sessions it serves at once.
+#[derive(Clone, Copy, Debug, Error)]
+#[error("listening on {listen}, server {server}, {max_sessions} sessions, version {VERSION}")]
+struct BeginningNotice<'a> {
+    listen: &'a str,
+    server: &'a str,
+    max_sessions: usize,
+}
+
+/// Logs the beginning of a run if its sessions are logged. The run goes on if the line cannot be written.
+pub(crate) fn log_beginning<E: Write>(is_verbose: bool, settings: &Settings, errors: &mut E) {
+    if !is_verbose {
+        return;
+    }
+    let notice = BeginningNotice {
+        listen: settings.listen.as_str(),
+        server: settings.server.as_str(),
+        max_sessions: settings.max_sessions,
+    };
+    let _ = writeln!(errors, "daide-gate: {notice}");
+}
+
 /// Why a gateway does not begin, or ends early.
 #[derive(Clone, Copy, Debug, PartialEq, Eq, Error)]
 pub enum GatewayFault {
-    /// The address or the path of the control socket cannot be bound, or the system has no descriptor for the table of
-    /// sockets.
+    /// The value of this key, an address or the path of the control socket, cannot be bound, or the system has no
+    /// descriptor for the network. With the system's error.
     #[error("cannot listen")]
-    Listen,
+    Listen(Key, ErrorKind),
     /// The allocator refused the server's addresses or the table of sockets.
     #[error("out of memory")]
     Memory,
@@ -40,7 +63,7 @@ fn fault_of(fault: BindError) -> GatewayFault
     ensures cause { result ≡ fault_by fault }
 {
     match fault {
-        BindError::Listen => GatewayFault::Listen,
+        BindError::Listen(cause) => GatewayFault::Listen(Key::Listen, cause),
         BindError::Memory => GatewayFault::Memory,
     }
 }
@@ -60,7 +83,7 @@ pub fn bind<'r, R: AllocGlobal + Files + Clock + Net>(
     if let Some(path) = &settings.control {
         match bind_control(rt, path.as_str()) {
             Ok(listener) => bound.network.set_control(listener),
-            Err(_) => return Err(GatewayFault::Listen),
+            Err(error) => return Err(GatewayFault::Listen(Key::Control, error.kind())),
         }
     }
     Ok(bound)

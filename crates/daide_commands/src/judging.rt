@@ -22,6 +22,9 @@ use thiserror::Error;
 /// The descriptors of the listener and the poller.
 const OWN_DESCRIPTORS: usize = 4;
 
+/// The descriptors of a control socket: its listener and its four connections.
+const CONTROL_DESCRIPTORS: usize = 5;
+
 /// Why settings were not judged.
 #[derive(Clone, Copy, Debug, PartialEq, Eq, Error)]
 pub(crate) enum SettingsFault {
@@ -42,14 +45,32 @@ fn session_bytes(settings: &Settings) -> usize
     2 * body as usize + 16 * depth as usize + 96
 }
 
+/// Writes the descriptors that a run needs, as comments of TOML.
+fn write_descriptors(settings: &Settings, text: &mut Vec<u8>) -> io::Result<()> {
+    let has_control = settings.control.is_some();
+    let descriptors = settings
+        .max_sessions
+        .saturating_mul(2)
+        .saturating_add(OWN_DESCRIPTORS + MOST_CLOSING)
+        .saturating_add(if has_control { CONTROL_DESCRIPTORS } else { 0 });
+    writeln!(
+        text,
+        "# descriptors: at most {descriptors}: {OWN_DESCRIPTORS}, 2 a session, and 1 for each of {MOST_CLOSING} sockets that close;"
+    )?;
+    if has_control {
+        writeln!(
+            text,
+            "#   {CONTROL_DESCRIPTORS} of these are for the control socket;"
+        )?;
+    }
+    writeln!(text, "#   1 a session more with --record")
+}
+
 /// Returns the memory and the descriptors that a run needs, as comments of TOML.
 fn needs_of(alloc: Global, settings: &Settings) -> io::Result<Vec<u8>> {
     let one = session_bytes(settings);
     let count = settings.max_sessions;
     let all = one.saturating_mul(count);
-    let descriptors = count
-        .saturating_mul(2)
-        .saturating_add(OWN_DESCRIPTORS + MOST_CLOSING);
     let mut text = Vec::new(alloc);
     writeln!(
         text,
@@ -59,11 +80,7 @@ fn needs_of(alloc: Global, settings: &Settings) -> io::Result<Vec<u8>> {
         text,
         "#   about 22000 a session for its other fields and its buffers, and 3 MB for the program"
     )?;
-    writeln!(
-        text,
-        "# descriptors: at most {descriptors}: {OWN_DESCRIPTORS}, 2 a session, and 1 for each of {MOST_CLOSING} sockets that close;"
-    )?;
-    writeln!(text, "#   1 a session more with --record")?;
+    write_descriptors(settings, &mut text)?;
     Ok(text)
 }
 
@@ -157,6 +174,6 @@ pub(crate) fn run_settings<R: AllocGlobal + Files, I: Read, O: Write, E: Write>(
     }
     match fs::open(rt, path) {
         Ok(mut file) => judge_read(rt.alloc(), &mut file, output, errors),
-        Err(_) => tell(errors, RunFault::Unreadable, FAULT),
+        Err(error) => tell(errors, RunFault::Unreadable(error.kind()), FAULT),
     }
 }

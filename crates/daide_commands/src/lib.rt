@@ -5,10 +5,12 @@
 //! (`typed`), a file or a reader. `judging` judges a file of settings. `running` reads the settings and runs the
 //! gateway; `gateway` is the gateway over sockets, with its laws. `text` reads a text of bounded length. `folder` has
 //! the records of sessions, and `recorded` is a run that keeps them. `faults` has the line that reports a fault and the
-//! exit statuses, and `terminal` is a standard input with a prompt.
+//! exit statuses, and `causes` the lines that say what a fault of a run is about. `terminal` is a standard input with a
+//! prompt.
 #![tactic(auto)]
 
 mod arguments;
+mod causes;
 mod checking;
 mod controlling;
 pub mod faults;

@@ -1,29 +1,73 @@
 //! A run that records each session in a folder: the system of its sockets, with a record around the ports of each
 //! session. A run without records uses the sockets' own system, and nothing of this.
 
-ghost use Rattle.std.specs.Prelude.{◌≡◌, ◌⊎◌, ℕ, []};
+ghost use Rattle.std.specs.Prelude.{◌≡◌, ◌⊎◌, ℕ, [], vec_capacity};
 ghost use Rattle.daide_sockets.specs.Lingering.{GoOnFor};
-ghost use Rattle.daide_sockets.specs.Pairing.{Transits};
-ghost use Rattle.daide_sockets.specs.Wakeups.{Wakes};
+ghost use Rattle.daide_sockets.specs.Scheduling.{RunEvolves, run_state};
 
 use crate::folder::{Folder, SessionFile, end, tell_if_ended};
 use crate::running::Finish;
 use daide_io::{Connect, Network, Notice, Orders, SessionEnd, SessionStatus, System};
-use daide_log::Recording;
+use daide_log::{Moment, TimedRecording};
 use daide_sockets::ports::SocketPorts;
 use daide_sockets::system::Sockets;
 use std::io::Write;
-use std::rt::Files;
+use std::rt::{Clock, Files};
+use std::time::{SystemTime, UNIX_EPOCH};
 
-/// The sockets of a run, and the folder of its records.
-#[derive(Drop)]
-pub(crate) struct RecordedSockets<'w, 'f, N: Network, R: AllocGlobal + Files, E: Write + Drop> {
-    pub sockets: Sockets<'w, N, E>,
-    pub folder: &'f Folder<'f, R>,
+/// Returns the present moment by the system's clock; `None` if it can't be read.
+fn moment_by<C: Clock>(clock: &C) -> Option<Moment> {
+    let now = SystemTime::now(clock).ok()?;
+    let since = now.duration_since(UNIX_EPOCH).ok()?;
+    Moment::from_millisecond(u64::try_from(since.as_millis()).ok()?)
 }
 
-impl<N: Network, R: AllocGlobal + Files, E: Write + Drop> Finish
-    for RecordedSockets<'_, '_, N, R, E> {
+/// The sockets of a run, the folder of its records, and the clock that gives their times.
+///
+/// Not said: that the times of a record are readings of this clock. A scene of tests/records.py compares them.
+#[derive(Drop)]
+pub(crate) struct RecordedSockets<
+    'w,
+    'f,
+    N: Network,
+    R: AllocGlobal + Files,
+    C: Clock,
+    E: Write + Drop,
+> {
+    sockets: Sockets<'w, N, E>,
+    folder: &'f Folder<'f, R>,
+    clock: &'f C,
+    /// When the round began.
+    now: Option<Moment>,
+}
+
+impl<'w, 'f, N: Network, R: AllocGlobal + Files, C: Clock, E: Write + Drop> RecordedSockets<
+    'w,
+    'f,
+    N,
+    R,
+    C,
+    E,
+> {
+    /// Has a folder keep a record of each session over these sockets.
+    pub fn new(
+        sockets: Sockets<'w, N, E>,
+        folder: &'f Folder<'f, R>,
+        clock: &'f C,
+    ) -> RecordedSockets<'w, 'f, N, R, C, E>
+        ensures { result.sockets ≡ sockets.entry }
+    {
+        RecordedSockets {
+            sockets,
+            folder,
+            clock,
+            now: moment_by(clock),
+        }
+    }
+}
+
+impl<N: Network, R: AllocGlobal + Files, C: Clock, E: Write + Drop> Finish
+    for RecordedSockets<'_, '_, N, R, C, E> {
     /// Waits until the last sockets are closed. The closing sockets are advanced by rounds.
     fn finish(&mut self)
         ensures { (rounds : ℕ) × GoOnFor N.Connection.to_give N.Connection.taken
@@ -34,40 +78,25 @@ impl<N: Network, R: AllocGlobal + Files, E: Write + Drop> Finish
     }
 }
 
-impl<'w, N: Network, R: AllocGlobal + Files, E: Write + Drop> System<
-    Recording<SocketPorts<'w, N::Connection>, SessionFile<R::File>>,
-> for RecordedSockets<'w, '_, N, R, E> {
-    ghost transition = { λ old answer new. Transits N.Connection.to_give N.Connection.taken
-        N.Connection.calls (λ ports. record {
-          number = ports.ports.number;
-          bot = ports.ports.bot.stream;
-          server = ports.ports.server.stream;
-        })
-        (record {
-          came = old.sockets.acceptor.came;
-          arrivals = old.sockets.arrivals.items;
-          closing = old.sockets.closings;
-        }) answer
-        (record {
-          came = new.sockets.acceptor.came;
-          arrivals = new.sockets.arrivals.items;
-          closing = new.sockets.closings;
-        })
-        × Wakes N.transition (λ ports. record {
-          bot = ports.ports.bot;
-          server = ports.ports.server;
-          reading = ports.ports.idle.reading;
-          im_due = ports.ports.im_due;
-        }) (old.sockets.poller.network, old.sockets.poller.table) answer
-        (new.sockets.poller.network, new.sockets.poller.table) };
+impl<'w, N: Network, R: AllocGlobal + Files, C: Clock, E: Write + Drop> System<
+    TimedRecording<SocketPorts<'w, N::Connection>, SessionFile<R::File>>,
+> for RecordedSockets<'w, '_, N, R, C, E> {
+    ghost transition = { λ old answer new. RunEvolves N.transition N.Connection.to_give N.Connection.taken
+        N.Connection.calls (λ ports. ports.ports)
+        (run_state (old.sockets.poller.network, old.sockets.poller.table) (old.sockets.idle_time, old.sockets.stall_time)
+        old.sockets.acceptor (vec_capacity old.sockets.arrivals) old.sockets.arrivals.items old.sockets.closings) answer
+        (run_state (new.sockets.poller.network, new.sockets.poller.table) (new.sockets.idle_time, new.sockets.stall_time)
+        new.sockets.acceptor (vec_capacity new.sockets.arrivals) new.sockets.arrivals.items new.sockets.closings) };
 
+    /// The times that are recorded in the round are that of its beginning.
     fn begin_round(&mut self) -> Orders {
+        self.now = moment_by(self.clock);
         self.sockets.begin_round()
     }
 
     fn show(
         &mut self,
-        ports: &Recording<SocketPorts<'w, N::Connection>, SessionFile<R::File>>,
+        ports: &TimedRecording<SocketPorts<'w, N::Connection>, SessionFile<R::File>>,
         status: SessionStatus,
     ) {
         self.sockets.show(ports.ports(), status);
@@ -76,7 +105,7 @@ impl<'w, N: Network, R: AllocGlobal + Files, E: Write + Drop> System<
     /// A record that has just ended is news too, so that the next turn begins at once and logs it.
     fn has_news(
         &mut self,
-        ports: &Recording<SocketPorts<'w, N::Connection>, SessionFile<R::File>>,
+        ports: &TimedRecording<SocketPorts<'w, N::Connection>, SessionFile<R::File>>,
     ) -> bool {
         let news = self.sockets.has_news(ports.ports());
         news || ports.has_just_ended()
@@ -84,13 +113,16 @@ impl<'w, N: Network, R: AllocGlobal + Files, E: Write + Drop> System<
 
     fn begin_turn(
         &mut self,
-        ports: &mut Recording<SocketPorts<'w, N::Connection>, SessionFile<R::File>>,
+        ports: &mut TimedRecording<SocketPorts<'w, N::Connection>, SessionFile<R::File>>,
     ) {
         tell_if_ended(ports, &mut self.sockets.errors);
-        ports.begin_turn(&mut self.sockets);
+        ports.begin_turn(&mut self.sockets, self.now);
     }
 
-    fn watch(&mut self, ports: &Recording<SocketPorts<'w, N::Connection>, SessionFile<R::File>>) {
+    fn watch(
+        &mut self,
+        ports: &TimedRecording<SocketPorts<'w, N::Connection>, SessionFile<R::File>>,
+    ) {
         self.sockets
             .watch_also(ports.ports(), ports.has_just_ended());
     }
@@ -101,11 +133,13 @@ impl<'w, N: Network, R: AllocGlobal + Files, E: Write + Drop> System<
 
     fn connected(
         &mut self,
-    ) -> Connect<Recording<SocketPorts<'w, N::Connection>, SessionFile<R::File>>> {
+    ) -> Connect<TimedRecording<SocketPorts<'w, N::Connection>, SessionFile<R::File>>> {
         match self.sockets.connected() {
             Connect::Ready(ports) => {
                 let number = ports.number();
-                Connect::Ready(self.folder.begin(number, ports, &mut self.sockets.errors))
+                let session = (number, self.sockets.address_of(number));
+                let errors = &mut self.sockets.errors;
+                Connect::Ready(self.folder.begin(session, ports, self.now, errors))
             }
             Connect::Failed => Connect::Failed,
             Connect::Pending => Connect::Pending,
@@ -114,7 +148,7 @@ impl<'w, N: Network, R: AllocGlobal + Files, E: Write + Drop> System<
 
     fn retire(
         &mut self,
-        ports: Recording<SocketPorts<'w, N::Connection>, SessionFile<R::File>>,
+        ports: TimedRecording<SocketPorts<'w, N::Connection>, SessionFile<R::File>>,
         end_of: SessionEnd,
     ) {
         tell_if_ended(&ports, &mut self.sockets.errors);

@@ -7,15 +7,16 @@ ghost use Rattle.daide_commands.specs.Gateway.{Announces};
 ghost use Rattle.daide_words.specs.Words.{words_of};
 
 use crate::arguments::RunOrder;
+use crate::causes::tell_cause;
 use crate::faults::{CLEAN, FAULT, tell};
 use crate::folder::{Folder, SessionFile};
-use crate::gateway::{GatewayFault, bind, serve_on};
+use crate::gateway::{GatewayFault, bind, log_beginning, serve_on};
 use crate::recorded::RecordedSockets;
 use crate::text::{SettingsTextFault, read_text};
 use daide_event_loop::ServeFault;
 use daide_io::duplex::Duplex;
 use daide_io::{Network, Ports, System};
-use daide_log::{Recording, Sink};
+use daide_log::{Sink, TimedRecording};
 use daide_settings::{Settings, SettingsError, read_settings};
 use daide_sockets::bound_sockets::{BoundSockets, sockets_on};
 use daide_sockets::connection::Connection;
@@ -24,7 +25,7 @@ use daide_sockets::ports::SocketPorts;
 use daide_sockets::system::Sockets;
 use daide_words::Words;
 use std::alloc::{Allocator, Global};
-use std::io::{Read, Write};
+use std::io::{ErrorKind, Read, Write};
 use std::net::Net;
 use std::rt::{Clock, Files, LibcRuntime};
 use std::{fs, io};
@@ -33,18 +34,18 @@ use thiserror::Error;
 /// Why a run does not begin, or ends early.
 #[derive(Clone, Copy, Debug, PartialEq, Eq, Error)]
 pub enum RunFault {
-    /// The file cannot be read, is too long, or is not UTF-8.
+    /// The file cannot be read, is too long, or is not UTF-8, with the system's error (`SettingsTextFault`).
     #[error("settings could not be read")]
-    Unreadable,
+    Unreadable(ErrorKind),
     /// The text of the file has no settings.
     #[error("{0}")]
     Settings(SettingsError),
     /// The allocator refused the file's text or the sockets, or the listener cannot be registered.
     #[error("out of memory")]
     Memory,
-    /// No file can be created in the folder of the records.
+    /// No file can be created in the folder of the records, with the system's error.
     #[error("record could not be written")]
-    Record,
+    Record(ErrorKind),
     /// The gateway does not begin, or ends early.
     #[error("{0}")]
     Gateway(GatewayFault),
@@ -55,14 +56,14 @@ pub fn text_of<A: Allocator, I: Read>(alloc: A, input: &mut I) -> Result<String<
     ensures { IfOk result (λ text. IfSome (I.remaining input.old) (λ all. string_bytes text ≡ all)) }
 {
     read_text(alloc, input).map_err(|fault| match fault {
-        SettingsTextFault::Unreadable => RunFault::Unreadable,
+        SettingsTextFault::Unreadable(cause) => RunFault::Unreadable(cause),
         SettingsTextFault::Memory => RunFault::Memory,
     })
 }
 
 /// Reads the text of a file of settings.
 fn text_at<R: AllocGlobal + Files>(rt: &R, path: &str) -> Result<String, RunFault> {
-    let mut file = fs::open(rt, path).map_err(|_| RunFault::Unreadable)?;
+    let mut file = fs::open(rt, path).map_err(|error| RunFault::Unreadable(error.kind()))?;
     text_of(rt.alloc(), &mut file)
 }
 
@@ -145,12 +146,12 @@ fn control_file<'a, R: Files>(rt: &'a R, settings: &'a Settings) -> Option<Contr
 /// Serves over sockets that are bound, with these settings: opens the sockets, serves on them, and finishes closing. If
 /// there is a folder, the system is one around the sockets, which keeps a record of each session there.
 fn serve_bound<'r, R: AllocGlobal + Clock + Net, F: AllocGlobal + Files, O: Sink, E: Write + Drop>(
-    alloc: Global,
+    rt: &'r R,
     settings: &Settings,
     reports: SessionReports<'r, F>,
     bound: BoundSockets<'r, R>,
     output: &mut O,
-    errors: E,
+    mut errors: E,
 ) -> Result<(), RunFault>
     ensures plain { reports.entry.folder ≡ None →
         RunEnds ⟦<Connection as Duplex>⟧.to_give ⟦<Connection as Duplex>⟧.taken ⟦<Connection as Duplex>⟧.calls
@@ -164,25 +165,29 @@ fn serve_bound<'r, R: AllocGlobal + Clock + Net, F: AllocGlobal + Files, O: Sink
           bot = ports.ports.bot.stream;
           server = ports.ports.server.stream;
         })
-        ⟦<Recording<SocketPorts<'static, Connection>, SessionFile<F::File>> as Ports>⟧.transition settings.now
+        ⟦<TimedRecording<SocketPorts<'static, Connection>, SessionFile<F::File>> as Ports>⟧.transition settings.now
         (HasFailed O.Fails) (O.contents output.old) (O.contents output.new) result) }
 {
     let BoundSockets {
-        network,
+        mut network,
         servers,
         table,
         pool,
     } = bound;
+    if reports.folder.is_some() {
+        network.set_recorded();
+    }
+    log_beginning(reports.is_verbose, settings, &mut errors);
     let ground = (network, servers.as_slice(), table, &pool);
-    let Some(mut sockets) = sockets_on(alloc, settings, ground, errors) else {
+    let Some(mut sockets) = sockets_on(rt.alloc(), settings, ground, errors) else {
         return Err(RunFault::Memory);
     };
     sockets.set_verbose(reports.is_verbose);
     match reports.folder {
-        None => run_on(alloc, settings, &mut sockets, output),
+        None => run_on(rt.alloc(), settings, &mut sockets, output),
         Some(folder) => {
-            let mut system = RecordedSockets { sockets, folder };
-            run_on(alloc, settings, &mut system, output)
+            let mut system = RecordedSockets::new(sockets, folder, rt);
+            run_on(rt.alloc(), settings, &mut system, output)
         }
     }
 }
@@ -214,12 +219,12 @@ fn serve_sockets<
           bot = ports.ports.bot.stream;
           server = ports.ports.server.stream;
         })
-        ⟦<Recording<SocketPorts<'static, Connection>, SessionFile<F::File>> as Ports>⟧.transition settings.now
+        ⟦<TimedRecording<SocketPorts<'static, Connection>, SessionFile<F::File>> as Ports>⟧.transition settings.now
         (HasFailed O.Fails) (O.contents output.old) (O.contents output.new) result) }
 {
     let bound = bind(rt, settings).map_err(RunFault::Gateway)?;
     let _file = control_file(rt, settings);
-    serve_bound(rt.alloc(), settings, reports, bound, output, errors)
+    serve_bound(rt, settings, reports, bound, output, errors)
 }
 
 /// Serves with the settings of a text: binds, opens the sockets, serves on them (`serve_on`), and finishes closing. If
@@ -261,11 +266,12 @@ pub fn run_text<R: AllocGlobal + Files + Clock + Net, O: Sink, E: Write>(
     }
 }
 
-/// Serves with the settings of a file, and keeps a record of each session in a folder.
+/// Serves with the settings of a text, and keeps a record of each session in a folder. `records` is the folder, and
+/// whether sessions are logged.
 fn run_recorded<'r, R: AllocGlobal + Files + Clock + Net, O: Sink, E: Write>(
     rt: &'r R,
-    order: RunOrder<'r>,
-    folder: &'r str,
+    text: &str,
+    records: (&'r str, bool),
     output: &mut O,
     errors: &mut E,
 ) -> Result<(), RunFault>
@@ -275,23 +281,26 @@ fn run_recorded<'r, R: AllocGlobal + Files + Clock + Net, O: Sink, E: Write>(
           bot = ports.ports.bot.stream;
           server = ports.ports.server.stream;
         })
-        ⟦<Recording<SocketPorts<'static, Connection>, SessionFile<R::File>> as Ports>⟧.transition
+        ⟦<TimedRecording<SocketPorts<'static, Connection>, SessionFile<R::File>> as Ports>⟧.transition
         (HasFailed O.Fails) (O.contents output.old) (O.contents output.new) result }
 {
-    let settings = settings_at(rt, order.settings)?;
-    let Some(folder) = Folder::at(rt, folder, &settings) else {
-        return Err(RunFault::Record);
+    let (folder, is_verbose) = records;
+    let settings = read_settings(rt.alloc(), text).map_err(RunFault::Settings)?;
+    let folder = match Folder::at(rt, folder, &settings) {
+        Ok(folder) => folder,
+        Err(cause) => return Err(RunFault::Record(cause)),
     };
     let reports = SessionReports {
-        is_verbose: order.is_verbose,
+        is_verbose,
         folder: Some(&folder),
     };
     serve_sockets(rt, &settings, reports, output, errors)
 }
 
-/// Carries out the order to serve.
+/// Carries out the order to serve, with the text of its settings.
 fn run_ordered<R: AllocGlobal + Files + Clock + Net, O: Sink, E: Write>(
     rt: &R,
+    text: &str,
     order: RunOrder<'_>,
     output: &mut O,
     errors: &mut E,
@@ -299,10 +308,26 @@ fn run_ordered<R: AllocGlobal + Files + Clock + Net, O: Sink, E: Write>(
     ensures { OnOk result (Announces (HasFailed O.Fails) (O.contents output.old) (O.contents output.new)) }
 {
     if let Some(folder) = order.record {
-        return run_recorded(rt, order, folder, output, errors);
+        return run_recorded(rt, text, (folder, order.is_verbose), output, errors);
     }
-    let text = text_at(rt, order.settings)?;
-    run_text(rt, text.as_str(), order.is_verbose, output, errors)
+    run_text(rt, text, order.is_verbose, output, errors)
+}
+
+/// Reports a fault of a run, and its cause if the order asks for that. Returns the status.
+fn end_failed<E: Write>(
+    alloc: Global,
+    order: RunOrder<'_>,
+    text: &str,
+    fault: RunFault,
+    errors: &mut E,
+) -> io::Result<u8>
+    ensures { IfOk result (λ status. status ≡ FAULT) }
+{
+    let status = tell(errors, fault, FAULT)?;
+    if order.is_verbose {
+        tell_cause(alloc, order, text, fault, errors);
+    }
+    Ok(status)
 }
 
 /// Reads the settings of a file, binds the address, prints `listening`, and serves until all bots were served. Returns
@@ -317,8 +342,12 @@ pub(crate) fn run<R: AllocGlobal + Files + Clock + Net, O: Sink, E: Write>(
     ensures listened { IfOk result (λ status. status ≡ CLEAN →
         Announces (HasFailed O.Fails) (O.contents output.old) (O.contents output.new)) }
 {
-    match run_ordered(rt, order, output, errors) {
+    let text = match text_at(rt, order.settings) {
+        Ok(text) => text,
+        Err(fault) => return end_failed(rt.alloc(), order, "", fault, errors),
+    };
+    match run_ordered(rt, text.as_str(), order, output, errors) {
         Ok(()) => Ok(CLEAN),
-        Err(fault) => tell(errors, fault, FAULT),
+        Err(fault) => end_failed(rt.alloc(), order, text.as_str(), fault, errors),
     }
 }

@@ -11,8 +11,8 @@ const MOST_BYTES: usize = 65_536;
 /// Why there is no text.
 #[derive(Clone, Copy, Debug, PartialEq, Eq)]
 pub enum SettingsTextFault {
-    /// The stream cannot be read, has too many bytes, or is not UTF-8.
-    Unreadable,
+    /// The stream cannot be read, has too many bytes (`FileTooLarge`), or is not UTF-8 (`InvalidData`).
+    Unreadable(ErrorKind),
     /// The allocator refused a growth.
     Memory,
 }
@@ -33,13 +33,13 @@ pub fn read_text<A: Allocator, I: Read>(
         Err(error) if error.kind() == ErrorKind::OutOfMemory => return Err(
             SettingsTextFault::Memory,
         ),
-        Err(_) => return Err(SettingsTextFault::Unreadable),
+        Err(error) => return Err(SettingsTextFault::Unreadable(error.kind())),
     }
     if bytes.len() > MOST_BYTES {
-        return Err(SettingsTextFault::Unreadable);
+        return Err(SettingsTextFault::Unreadable(ErrorKind::FileTooLarge));
     }
     match String::from_utf8(bytes) {
         Ok(text) => Ok(text),
-        Err(_) => Err(SettingsTextFault::Unreadable),
+        Err(_) => Err(SettingsTextFault::Unreadable(ErrorKind::InvalidData)),
     }
 }

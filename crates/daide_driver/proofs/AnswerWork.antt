@@ -4,11 +4,13 @@ use Rattle.std.proofs.Common.{subst, arith, length-append, append-nil}
 use Rattle.daide_frame.specs.declared.side.Side.{Side}
 use Rattle.daide_frame.specs.declared.side.Side.TheVariants.{Bot, Server}
 use Rattle.daide_frame.specs.Side.{other, same_side}
-use Rattle.daide_protocol.specs.Events.{Event, Comes, Ends, Loses, ImTimerExpired, bytes_come}
+use Rattle.daide_protocol.specs.Events.{Event, Comes, Ends, Loses, ImTimerExpired, OperatorStops, bytes_come}
 use Rattle.daide_protocol.specs.Heard.{bytes_from}
 use Rattle.daide_protocol.specs.Wires.{SessionView}
 use Rattle.daide_session.specs.Work.{IsPaidBy}
 use Rattle.daide_session.proofs.WorkLemmas.{paid_then}
+use Rattle.daide_io.specs.declared.ports.ClockEvent.{ClockEvent}
+use Rattle.daide_io.specs.declared.ports.ClockEvent.TheVariants.{NoEvent, ImTimeIsOver, StopIsRequested}
 use Rattle.daide_io.specs.declared.ports.Pull.TheVariants.{Got}
 use Rattle.daide_io.specs.Ports.{PortCall, Clock, Pulled, events_of}
 use Rattle.daide_driver.specs.Totals.{came, Works}
@@ -28,6 +30,7 @@ bytes_from-append side (Comes from byte ∷ xs) ys = go (same_side from side) (b
 bytes_from-append side (Ends from ∷ xs) ys = bytes_from-append side xs ys
 bytes_from-append side (Loses from ∷ xs) ys = bytes_from-append side xs ys
 bytes_from-append side (ImTimerExpired ∷ xs) ys = bytes_from-append side xs ys
+bytes_from-append side (OperatorStops ∷ xs) ys = bytes_from-append side xs ys
 
 pub works_then : (a : SessionView) (xs : List PortCall) (b : SessionView) (ys : List PortCall) (c : SessionView) →
     events_of (xs ++ ys) ≡ events_of xs ++ events_of ys → Works a xs b → Works b ys c → Works a (xs ++ ys) c
@@ -42,9 +45,10 @@ works_then a xs b ys c joined h k side =
 
 -- ---- a port call that delivers no byte
 
-pub works_clock : (a b : SessionView) (im_timer_expired : Bool) → ((side : Side) → IsPaidBy 0 side a b) → Works a (Clock im_timer_expired ∷ []) b
-works_clock a b true h side = h side
-works_clock a b false h side = h side
+pub works_clock : (a b : SessionView) (event : ClockEvent) → ((side : Side) → IsPaidBy 0 side a b) → Works a (Clock event ∷ []) b
+works_clock a b NoEvent h side = h side
+works_clock a b ImTimeIsOver h side = h side
+works_clock a b StopIsRequested h side = h side
 
 -- ---- bytes from one peer
 

@@ -10,6 +10,8 @@ use Rattle.daide_protocol.specs.Events.{Event}
 use Rattle.daide_protocol.specs.Machine.{Sent}
 use Rattle.daide_protocol.specs.Wires.{SessionView, queued, sent_to, sent_bytes, front_of}
 use Rattle.daide_protocol.proofs.WireLemmas.{same_self, sent_bytes-append}
+use Rattle.daide_io.specs.declared.ports.ClockEvent.{ClockEvent}
+use Rattle.daide_io.specs.declared.ports.ClockEvent.TheVariants.{NoEvent, ImTimeIsOver, StopIsRequested}
 use Rattle.daide_io.specs.declared.ports.Pull.{Pull}
 use Rattle.daide_io.specs.declared.ports.Pull.TheVariants.{Got, Idle, Ended}
 use Rattle.daide_io.specs.declared.ports.Put.{Put}
@@ -68,9 +70,10 @@ clock_keeps : (side : Side) (old : SessionView) (answers : List PortCall) (new :
     Keeps side old answers new
 clock_keeps side old answers new h = subst (λ (a : List PortCall). Keeps side old a new) (sym h.1) (go h.0 h.2)
   where
-    go : (im_timer_expired : Bool) → Hears im_timer_expired old new → Keeps side old (Clock im_timer_expired ∷ []) new
-    go true k = none_taken (due old side) (due new side) (goes_due side _ old new k.0)
-    go false k = none_taken (due old side) (due new side) (same_due side old new k)
+    go : (event : ClockEvent) → Hears event old new → Keeps side old (Clock event ∷ []) new
+    go NoEvent k = none_taken (due old side) (due new side) (same_due side old new k)
+    go ImTimeIsOver k = none_taken (due old side) (due new side) (goes_due side _ old new k.0)
+    go StopIsRequested k = none_taken (due old side) (due new side) (goes_due side _ old new k.0)
 
 gets_due : (side from : Side) (pull : Pull) (bytes : List ℕ) (old new : SessionView) → Gets from pull bytes old new →
     due old side ≤ due new side

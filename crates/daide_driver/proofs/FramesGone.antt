@@ -18,6 +18,8 @@ use Rattle.daide_protocol.proofs.WireLemmas.{same_self}
 use Rattle.daide_channels.specs.Receiver.{parts_by}
 use Rattle.daide_channels.specs.Fronts.{AreFresh, ArePartsOf, KeepsFront}
 use Rattle.daide_channels.proofs.PartsLemmas.{below}
+use Rattle.daide_io.specs.declared.ports.ClockEvent.{ClockEvent}
+use Rattle.daide_io.specs.declared.ports.ClockEvent.TheVariants.{NoEvent, ImTimeIsOver, StopIsRequested}
 use Rattle.daide_io.specs.declared.ports.Pull.{Pull}
 use Rattle.daide_io.specs.declared.ports.Pull.TheVariants.{Got, Idle, Ended}
 use Rattle.daide_io.specs.declared.ports.Put.{Put}
@@ -141,9 +143,12 @@ AllAdvance side K = (o : SessionView) (a : List PortCall) (n : SessionView) (k s
 clock_leaves : (side : Side) → AllLeave side AsksClock
 clock_leaves side old answers new k size h left = go h.0 h.2
   where
-    go : (im_timer_expired : Bool) → Hears im_timer_expired old new → HasLeft side k size new
-    go true heard = kept_left side k size old new (sent_to side heard.0.1.effects) (heard.0.1.kept side) (heard.1 side) left
-    go false heard = same_left side k size old new heard left
+    go : (event : ClockEvent) → Hears event old new → HasLeft side k size new
+    go NoEvent heard = same_left side k size old new heard left
+    go ImTimeIsOver heard =
+        kept_left side k size old new (sent_to side heard.0.1.effects) (heard.0.1.kept side) (heard.1 side) left
+    go StopIsRequested heard =
+        kept_left side k size old new (sent_to side heard.0.1.effects) (heard.0.1.kept side) (heard.1 side) left
 
 gets_leaves : (side from : Side) (pull : Pull) (bytes : List ℕ) (old new : SessionView) (k size : ℕ) →
     Gets from pull bytes old new → HasLeft side k size old → HasLeft side k size new

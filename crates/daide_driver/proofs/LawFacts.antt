@@ -5,6 +5,7 @@ use Rattle.std.specs.Prelude.{slice_get}
 use Rattle.daide_frame.specs.declared.side.Side.TheVariants.{Bot, Server}
 use Rattle.daide_protocol.specs.Machine.{Limits}
 use Rattle.daide_protocol.specs.Wires.{SessionView, queued, first_len, sent_bytes, parts_of, holding}
+use Rattle.daide_io.specs.declared.ports.ClockEvent.TheVariants.{NoEvent}
 use Rattle.daide_io.specs.declared.ports.Pull.TheVariants.{Got}
 use Rattle.daide_io.specs.Ports.{PortCall, Clock, Pulled, EvolvesBy}
 use Rattle.daide_channels.specs.Fronts.{AreFresh}
@@ -24,10 +25,10 @@ use Rattle.daide_frame.specs.declared.side.Side.{Side}
 -- ---- relays
 
 -- a read of the clock, and two bytes after it
-joined : RelaysJoin → (a b c : SessionView) (bytes : List ℕ) → RefinesRun a (Clock false ∷ []) b →
-    RefinesRun b (Pulled Bot 512 (Got 2) bytes ∷ []) c → RefinesRun a (Clock false ∷ Pulled Bot 512 (Got 2) bytes ∷ []) c
+joined : RelaysJoin → (a b c : SessionView) (bytes : List ℕ) → RefinesRun a (Clock NoEvent ∷ []) b →
+    RefinesRun b (Pulled Bot 512 (Got 2) bytes ∷ []) c → RefinesRun a (Clock NoEvent ∷ Pulled Bot 512 (Got 2) bytes ∷ []) c
 joined law a b c bytes first second =
-    law a b c (Clock false ∷ []) (Pulled Bot 512 (Got 2) bytes ∷ []) first second
+    law a b c (Clock NoEvent ∷ []) (Pulled Bot 512 (Got 2) bytes ∷ []) first second
 
 -- before any call, whatever the limits
 opens : NewSessionsAreReachable → (limits : Limits) → RefinesRun (untouched limits) [] (untouched limits)

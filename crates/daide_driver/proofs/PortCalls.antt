@@ -10,13 +10,14 @@ use Rattle.daide_frame.specs.declared.side.Side.{Side}
 use Rattle.daide_frame.specs.declared.side.Side.TheVariants.{Bot, Server}
 use Rattle.daide_protocol.specs.declared.note.Note.{Note}
 use Rattle.daide_frame.specs.Side.{other}
-use Rattle.daide_protocol.specs.Events.{Event, Ends, ImTimerExpired, bytes_come}
+use Rattle.daide_protocol.specs.Events.{Event, Ends, ImTimerExpired, OperatorStops, bytes_come}
 use Rattle.daide_protocol.specs.Machine.{Sent, Effect, Runs, is_over}
 use Rattle.daide_protocol.specs.Wires.{SessionView, queued, sent_to, sent_bytes, without}
 use Rattle.daide_protocol.specs.Wires.{Refines, Lost, Wrote, IsFrontOf}
 use Rattle.daide_protocol.proofs.WireLemmas.{sent_bytes-append}
 use Rattle.daide_session.proofs.SessionFronts.{apart}
 use Rattle.daide_session.proofs.WorkLemmas.{paid_same}
+use Rattle.daide_io.specs.declared.ports.ClockEvent.TheVariants.{NoEvent, ImTimeIsOver, StopIsRequested}
 use Rattle.daide_io.specs.declared.ports.Pull.TheVariants.{Got, Idle, Ended}
 use Rattle.daide_io.specs.declared.ports.Put.TheVariants.{Took, Failed}
 use Rattle.daide_io.specs.Ports.{TurnBegins, Clock, Pulled, Offered, taken, has_failed}
@@ -41,8 +42,8 @@ turn_begins a = record {
   work = λ side. paid_same side a a refl refl;
 }
 
-pub clock_pops : (a b : SessionView) (note : Note) → Works a (Clock true ∷ []) b → Refines a (ImTimerExpired ∷ []) note b →
-    RefinesRun a (Clock true ∷ []) b
+pub clock_pops : (a b : SessionView) (note : Note) → Works a (Clock ImTimeIsOver ∷ []) b → Refines a (ImTimerExpired ∷ []) note b →
+    RefinesRun a (Clock ImTimeIsOver ∷ []) b
 clock_pops a b note work g = record {
   sends = record {
     effects = g.effects;
@@ -53,7 +54,19 @@ clock_pops a b note work g = record {
   work = work;
 }
 
-pub clock_runs : (a : SessionView) → Works a (Clock false ∷ []) a → RefinesRun a (Clock false ∷ []) a
+pub clock_stops : (a b : SessionView) (note : Note) → Works a (Clock StopIsRequested ∷ []) b →
+    Refines a (OperatorStops ∷ []) note b → RefinesRun a (Clock StopIsRequested ∷ []) b
+clock_stops a b note work g = record {
+  sends = record {
+    effects = g.effects;
+    run = g.run;
+    wires = λ side. goes_wire a (OperatorStops ∷ []) note b g side;
+  };
+  counts = g.counts;
+  work = work;
+}
+
+pub clock_runs : (a : SessionView) → Works a (Clock NoEvent ∷ []) a → RefinesRun a (Clock NoEvent ∷ []) a
 clock_runs a work = record {
   sends = record {
     effects = [];

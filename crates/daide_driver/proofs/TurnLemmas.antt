@@ -6,6 +6,8 @@ use Rattle.daide_frame.specs.declared.side.Side.{Side}
 use Rattle.daide_frame.specs.declared.side.Side.TheVariants.{Bot, Server}
 use Rattle.daide_protocol.specs.Wires.{SessionView, queued, front_of, first_len, room_of, IsFrontOf}
 use Rattle.daide_protocol.specs.Machine.{Sent}
+use Rattle.daide_io.specs.declared.ports.ClockEvent.{ClockEvent}
+use Rattle.daide_io.specs.declared.ports.ClockEvent.TheVariants.{NoEvent, ImTimeIsOver, StopIsRequested}
 use Rattle.daide_io.specs.declared.ports.Pull.{Pull}
 use Rattle.daide_io.specs.declared.ports.Pull.TheVariants.{Got, Idle, Ended}
 use Rattle.daide_io.specs.declared.ports.Put.{Put}
@@ -17,7 +19,7 @@ use Rattle.std.specs.Prelude.{min}
 use Rattle.daide_driver.specs.Turn.{Then, Hears, AsksClock, Hands, HasNone, HandsFront, Puts, Gets, HasNoRoom}
 use Rattle.daide_driver.specs.Turn.{FillsRoom, Pulls, Turn}
 use Rattle.daide_driver.proofs.Stretches.{relays_append, relays_nil}
-use Rattle.daide_driver.proofs.PortCalls.{clock_pops, clock_runs, got_bytes, was_idle, has_ended}
+use Rattle.daide_driver.proofs.PortCalls.{clock_pops, clock_stops, clock_runs, got_bytes, was_idle, has_ended}
 use Rattle.daide_driver.proofs.PortCalls.{took_bytes, put_failed, filled, none_left}
 
 -- no port call, and no change
@@ -26,11 +28,12 @@ unmoved a b xs e f =
     subst (λ (ys : List PortCall). RefinesRun a ys b) (sym e)
     (subst (λ (c : SessionView). RefinesRun a [] c) (sym f) (relays_nil a))
 
-heard : (im_timer_expired : Bool) (a b : SessionView) → Works a (Clock im_timer_expired ∷ []) b → Hears im_timer_expired a b →
-    RefinesRun a (Clock im_timer_expired ∷ []) b
-heard true a b w h = clock_pops a b h.0.0 w h.0.1
-heard false a b w h = subst (λ (c : SessionView). Works a (Clock false ∷ []) c → RefinesRun a (Clock false ∷ []) c) (sym h)
-    (clock_runs a) w
+heard : (event : ClockEvent) (a b : SessionView) → Works a (Clock event ∷ []) b → Hears event a b →
+    RefinesRun a (Clock event ∷ []) b
+heard NoEvent a b w h = subst (λ (c : SessionView). Works a (Clock NoEvent ∷ []) c → RefinesRun a (Clock NoEvent ∷ []) c)
+    (sym h) (clock_runs a) w
+heard ImTimeIsOver a b w h = clock_pops a b h.0.0 w h.0.1
+heard StopIsRequested a b w h = clock_stops a b h.0.0 w h.0.1
 
 clock_relays : (a : SessionView) (xs : List PortCall) (b : SessionView) → Working AsksClock a xs b → RefinesRun a xs b
 clock_relays a xs b h =

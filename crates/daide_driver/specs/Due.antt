@@ -17,7 +17,7 @@ AreTurns old (answers ∷ turns) new = (mid : SessionView) × Turn old answers m
 -- if this is a put to the wire of this side, the wire accepts at least one byte
 abbrev pub TakesSome : Side → PortCall → Type 0
 TakesSome side TurnBegins = Unit {0}
-TakesSome side (Clock im_timer_expired) = Unit {0}
+TakesSome side (Clock event) = Unit {0}
 TakesSome side (Pulled from buffer pull bytes) = Unit {0}
 TakesSome side (Offered to bytes (Took n)) = same_side side to ≡ true → 0 < n
 TakesSome side (Offered to bytes Failed) = same_side side to ≡ true → ⊥
@@ -46,7 +46,7 @@ DueBytesGo = (side : Side) (turns : List (List PortCall)) (old new : SessionView
 -- if this is a put to the wire of this side, the wire accepts all of it
 abbrev pub TakesAll : Side → PortCall → Type 0
 TakesAll side TurnBegins = Unit {0}
-TakesAll side (Clock im_timer_expired) = Unit {0}
+TakesAll side (Clock event) = Unit {0}
 TakesAll side (Pulled from buffer pull bytes) = Unit {0}
 TakesAll side (Offered to bytes (Took n)) = same_side side to ≡ true → n ≡ length bytes
 TakesAll side (Offered to bytes Failed) = same_side side to ≡ true → ⊥

@@ -7,9 +7,11 @@ use Rattle.daide_grammar.specs.Bounds.{message_steps}
 use Rattle.daide_reader.specs.Reading.{IsRaised}
 use Rattle.daide_protocol.specs.declared.note.Note.{Note}
 use Rattle.daide_frame.specs.Side.{other}
-use Rattle.daide_protocol.specs.Events.{Event, Ends, ImTimerExpired, bytes_come}
+use Rattle.daide_protocol.specs.Events.{Event, Ends, ImTimerExpired, OperatorStops, bytes_come}
 use Rattle.daide_protocol.specs.Wires.{SessionView, queued, first_len, front_of, holding, room_of, IsFrontOf}
 use Rattle.daide_protocol.specs.Wires.{Refines, Lost, Wrote, parts_of, parts_after}
+use Rattle.daide_io.specs.declared.ports.ClockEvent.{ClockEvent}
+use Rattle.daide_io.specs.declared.ports.ClockEvent.TheVariants.{NoEvent, ImTimeIsOver, StopIsRequested}
 use Rattle.daide_io.specs.declared.ports.Pull.{Pull}
 use Rattle.daide_io.specs.declared.ports.Pull.TheVariants.{Got, Idle, Ended}
 use Rattle.daide_io.specs.declared.ports.Put.{Put}
@@ -38,14 +40,15 @@ KeepsBoth old new = (to : Side) → KeepsFront old to new
 
 -- ---- the clock
 
--- the expiry of the IM timer, if it expired
-abbrev pub Hears : Bool → SessionView → SessionView → Type 0
-Hears true old new = AdvancesByEvents old (ImTimerExpired ∷ []) new × KeepsBoth old new
-Hears false old new = new ≡ old
+-- the expiry of the IM timer, or a stop, if the clock reports one
+abbrev pub Hears : ClockEvent → SessionView → SessionView → Type 0
+Hears NoEvent old new = new ≡ old
+Hears ImTimeIsOver old new = AdvancesByEvents old (ImTimerExpired ∷ []) new × KeepsBoth old new
+Hears StopIsRequested old new = AdvancesByEvents old (OperatorStops ∷ []) new × KeepsBoth old new
 
 -- the clock is read once
 abbrev pub AsksClock : SessionView → List PortCall → SessionView → Type 0
-AsksClock old answers new = (im_timer_expired : Bool) × (answers ≡ Clock im_timer_expired ∷ []) × Hears im_timer_expired old new
+AsksClock old answers new = (event : ClockEvent) × (answers ≡ Clock event ∷ []) × Hears event old new
 
 -- ---- the puts
 

@@ -1,6 +1,6 @@
 //! A turn: moves bytes between a session and its two wires.
 //!
-//! The clock is read first, so that a late initial message ends the session before anything is read. Then the queued
+//! The clock is read first, so that a late initial message or a stop ends the session before anything is read. Then the queued
 //! frames are written, so that a side whose answer is sent can be read in the same turn. A turn makes at most one call
 //! for each wire and one for each side, so neither peer can delay the other.
 
@@ -16,21 +16,27 @@ ghost use Rattle.daide_driver.specs.Turn.{AsksClock, Puts, Pulls, AsksAtMost, mo
 ghost use Rattle.daide_driver.specs.Whole.{WholeTurn};
 
 use daide_frame::side::Side;
-use daide_io::ports::{Ports, Pull, Put};
+use daide_io::ports::{ClockEvent, Ports, Pull, Put};
 use daide_session::session::Session;
 use std::alloc::Allocator;
 
 /// The most bytes that a turn reads from a side.
 pub(crate) const BUFFER: usize = 512;
 
-/// Reads the clock, and reports an expired IM timer to the session.
+/// Reads the clock, and reports an expired IM timer or a stop to the session.
 fn ask_clock<A: Allocator, P: Ports>(session: &mut Session<A>, ports: &mut P)
     ensures clock { EvolveTogether P.transition (Working AsksClock) (session.old, ports.old) (session.new, ports.new) }
     ensures asks_nothing { AsksNothing session.old session.new }
     ensures limits { session.new.state.limits ≡ session.old.state.limits }
 {
-    if ports.clock_popped() {
-        session.im_timeout();
+    match ports.clock() {
+        ClockEvent::NoEvent => {}
+        ClockEvent::ImTimeIsOver => {
+            session.im_timeout();
+        }
+        ClockEvent::StopIsRequested => {
+            session.stop();
+        }
     }
 }
 

@@ -7,6 +7,8 @@ use Rattle.daide_frame.specs.declared.side.Side.{Side}
 use Rattle.daide_frame.specs.declared.side.Side.TheVariants.{Bot, Server}
 use Rattle.daide_protocol.specs.declared.ending.Ending.{Ending}
 use Rattle.daide_protocol.specs.declared.ending.Ending.TheVariants as Endings
+use Rattle.daide_io.specs.declared.ports.ClockEvent.{ClockEvent}
+use Rattle.daide_io.specs.declared.ports.ClockEvent.TheVariants.{NoEvent, ImTimeIsOver, StopIsRequested}
 use Rattle.daide_io.specs.declared.system.Cause.TheVariants as Causes
 use Rattle.daide_io.specs.declared.ports.Pull.TheVariants.{Got, Idle, Ended}
 use Rattle.daide_io.specs.declared.ports.Put.TheVariants.{Took, Failed}
@@ -33,7 +35,7 @@ use Rattle.daide_event_loop.proofs.LostWires.{is_lost, lost_waits}
 abbrev pub first_of : List PortCall → Option Ending
 first_of [] = None
 first_of (TurnBegins ∷ answers) = first_of answers
-first_of (Clock im_timer_expired ∷ answers) = first_of answers
+first_of (Clock event ∷ answers) = first_of answers
 first_of (Pulled side buffer pull bytes ∷ answers) = Some (Endings.Ended side)
 first_of (Offered side bytes put ∷ answers) = Some (Endings.Lost side)
 
@@ -80,11 +82,11 @@ module _ {P : Type 0} (port_transition : P → PortCall → P → Type 0) where
         first_synthetic_end = rest.first_synthetic_end ∙ ap (λ (o : Option Ending). option_or o (first_of answers)) h.1.first_synthetic_end;
         turns_left = rest.turns_left;
       }
-  tells (Clock im_timer_expired ∷ answers) old new e h =
+  tells (Clock event ∷ answers) old new e h =
       let left : h.0.turns_left ≡ None = h.1.turns_left ∙ e in
       let rest = tells answers h.0 new left h.2 in
       record {
-        spent = (asked_not h.0.turns_left old.ports (Clock im_timer_expired) h.0.ports left h.1.ports, rest.spent);
+        spent = (asked_not h.0.turns_left old.ports (Clock event) h.0.ports left h.1.ports, rest.spent);
         first_synthetic_end = rest.first_synthetic_end ∙ ap (λ (o : Option Ending). option_or o (first_of answers)) h.1.first_synthetic_end;
         turns_left = rest.turns_left;
       }
@@ -133,7 +135,7 @@ module _ {P : Type 0} (port_transition : P → PortCall → P → Type 0) where
   untold (TurnBegins ∷ answers) turns old new h e =
       let rest = untold answers turns h.0 new h.2 e in
       (rest.0 ∙ h.1.first_synthetic_end, (suc rest.1.0, some_left old.turns_left rest.1.0 (sym h.1.turns_left ∙ rest.1.1)))
-  untold (Clock im_timer_expired ∷ answers) turns old new h e =
+  untold (Clock event ∷ answers) turns old new h e =
       let rest = untold answers turns h.0 new h.2 e in
       (rest.0 ∙ h.1.first_synthetic_end, (rest.1.0, sym h.1.turns_left ∙ rest.1.1))
   untold (Pulled side buffer pull bytes ∷ answers) turns old new h e =
@@ -157,8 +159,8 @@ module _ {P : Type 0} (port_transition : P → PortCall → P → Type 0) where
       let none = spent.turns_left in absurd (cc)
   all_left (TurnBegins ∷ answers) (suc turns) more old new e h k =
       ap (λ (l : List PortCall). TurnBegins ∷ l) (all_left answers turns more h.0 new (h.1.turns_left ∙ ap one_less e) h.2 k)
-  all_left (Clock im_timer_expired ∷ answers) turns more old new e h k =
-      ap (λ (l : List PortCall). Clock im_timer_expired ∷ l) (all_left answers turns more h.0 new (h.1.turns_left ∙ e) h.2 k)
+  all_left (Clock event ∷ answers) turns more old new e h k =
+      ap (λ (l : List PortCall). Clock event ∷ l) (all_left answers turns more h.0 new (h.1.turns_left ∙ e) h.2 k)
   all_left (Pulled side buffer pull bytes ∷ answers) turns more old new e h k =
       ap (λ (l : List PortCall). Pulled side buffer pull bytes ∷ l)
       (all_left answers turns more h.0 new (h.1.turns_left ∙ e) h.2 k)
@@ -176,8 +178,8 @@ module _ {P : Type 0} (port_transition : P → PortCall → P → Type 0) where
   spent_adds (TurnBegins ∷ answers) more (suc turns) old new e h k =
       ap (λ (l : List PortCall). TurnBegins ∷ l)
       (spent_adds answers more turns h.0 new (h.1.turns_left ∙ ap one_less e) h.2 k)
-  spent_adds (Clock im_timer_expired ∷ answers) more turns old new e h k =
-      ap (λ (l : List PortCall). Clock im_timer_expired ∷ l) (spent_adds answers more turns h.0 new (h.1.turns_left ∙ e) h.2 k)
+  spent_adds (Clock event ∷ answers) more turns old new e h k =
+      ap (λ (l : List PortCall). Clock event ∷ l) (spent_adds answers more turns h.0 new (h.1.turns_left ∙ e) h.2 k)
   spent_adds (Pulled side buffer pull bytes ∷ answers) more turns old new e h k =
       ap (λ (l : List PortCall). Pulled side buffer pull bytes ∷ l)
       (spent_adds answers more turns h.0 new (h.1.turns_left ∙ e) h.2 k)
@@ -198,8 +200,8 @@ module _ {P : Type 0} (port_transition : P → PortCall → P → Type 0) where
   last_adds (TurnBegins ∷ answers) more (suc turns) old new e h k =
       ap (λ (l : List PortCall). TurnBegins ∷ l)
       (last_adds answers more turns h.0 new (h.1.turns_left ∙ ap one_less e) h.2 k)
-  last_adds (Clock im_timer_expired ∷ answers) more turns old new e h k =
-      ap (λ (l : List PortCall). Clock im_timer_expired ∷ l) (last_adds answers more turns h.0 new (h.1.turns_left ∙ e) h.2 k)
+  last_adds (Clock event ∷ answers) more turns old new e h k =
+      ap (λ (l : List PortCall). Clock event ∷ l) (last_adds answers more turns h.0 new (h.1.turns_left ∙ e) h.2 k)
   last_adds (Pulled side buffer pull bytes ∷ answers) more turns old new e h k =
       ap (λ (l : List PortCall). Pulled side buffer pull bytes ∷ l)
       (last_adds answers more turns h.0 new (h.1.turns_left ∙ e) h.2 k)
@@ -259,7 +261,7 @@ self (Some one) = is_reported (Some one) one
 first_itself : (answers : List PortCall) (e : Ending) → first_of answers ≡ Some e → is_reported (Some e) e ≡ true
 first_itself [] e f = absurd (cc)
 first_itself (TurnBegins ∷ answers) e f = first_itself answers e f
-first_itself (Clock im_timer_expired ∷ answers) e f = first_itself answers e f
+first_itself (Clock event ∷ answers) e f = first_itself answers e f
 first_itself (Pulled side buffer pull bytes ∷ answers) e f =
     subst (λ (o : Option Ending). self o ≡ true) f (side_itself side)
 first_itself (Offered side bytes put ∷ answers) e f =
@@ -295,8 +297,9 @@ goes_by : (answers : List PortCall) (old : SessionState) (effects : List Effect)
     RefinesBy (first_of answers) old new
 goes_by [] old effects new spent live run = run.1
 goes_by (TurnBegins ∷ answers) old effects new spent live run = goes_by answers old effects new spent.1 live run
-goes_by (Clock true ∷ answers) old effects new spent live run = let f = spent.0 in absurd (cc)
-goes_by (Clock false ∷ answers) old effects new spent live run = goes_by answers old effects new spent.1 live run
+goes_by (Clock ImTimeIsOver ∷ answers) old effects new spent live run = let f = spent.0 in absurd (cc)
+goes_by (Clock StopIsRequested ∷ answers) old effects new spent live run = let f = spent.0 in absurd (cc)
+goes_by (Clock NoEvent ∷ answers) old effects new spent live run = goes_by answers old effects new spent.1 live run
 goes_by (Pulled side buffer (Got n) bytes ∷ answers) old effects new spent live run =
     let f = spent.0 in absurd (cc)
 goes_by (Pulled side buffer Idle bytes ∷ answers) old effects new spent live run =
@@ -321,6 +324,7 @@ lost_is_reported Server (Endings.Lost Server) = refl
 lost_is_reported side (Endings.Final one) = refl
 lost_is_reported side (Endings.Error one) = refl
 lost_is_reported side (Endings.Fault one code) = refl
+lost_is_reported side Endings.Stopped = refl
 
 no_room : (g : SessionView) (side : Side) → is_over g.state.phase ≡ true → room_of g side ≡ 0
 unfolding room_of
@@ -381,12 +385,16 @@ module _ (limits : Limits) (history : List PortCall) (g : SessionView) (ending :
           new) same h in
           subst Other (sym k.3) (puts_other Bot k.1 k.2 k.0 k.4 (λ still. after_put k.0 k.2 still k.5))
 
-      begun : (im_timer_expired : Bool) → t.1 ≡ Clock im_timer_expired ∷ [] → Hears im_timer_expired g t.0 → Other call
-      begun true e h =
-          let all : AreSpent (Clock true ∷ t.2) =
+      begun : (event : ClockEvent) → t.1 ≡ Clock event ∷ [] → Hears event g t.0 → Other call
+      begun ImTimeIsOver e h =
+          let all : AreSpent (Clock ImTimeIsOver ∷ t.2) =
           subst AreSpent (t.3 ∙ ap (λ (l : List PortCall). l ++ t.2) e) spent in
           let f = all.0 in absurd (cc)
-      begun false e h =
+      begun StopIsRequested e h =
+          let all : AreSpent (Clock StopIsRequested ∷ t.2) =
+          subst AreSpent (t.3 ∙ ap (λ (l : List PortCall). l ++ t.2) e) spent in
+          let f = all.0 in absurd (cc)
+      begun NoEvent e h =
           subst Other (sym (t.3 ∙ ap (λ (l : List PortCall). l ++ t.2) e)) (after_clock t.0 t.2 h t.5)
 
 -- ---- a turn

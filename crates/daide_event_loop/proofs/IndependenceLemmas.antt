@@ -6,11 +6,12 @@ use Rattle.std.specs.Prelude.{◌||◌}
 use Rattle.std.proofs.Math.Seq.{take-append_seam, drop-append_seam}
 use Rattle.daide_frame.specs.declared.side.Side.{Side}
 use Rattle.daide_frame.specs.Side.{same_side}
-use Rattle.daide_protocol.specs.Events.{Event, Ends, Loses, ImTimerExpired, bytes_come}
+use Rattle.daide_protocol.specs.Events.{Event, Ends, Loses, ImTimerExpired, OperatorStops, bytes_come}
 use Rattle.daide_protocol.specs.Machine.{Limits, SessionState, Effect, Runs, ending_in, is_over}
 use Rattle.daide_protocol.specs.Summary.{tallied}
 use Rattle.daide_protocol.specs.Wires.{SessionView, queued, sent_to, sent_bytes}
 use Rattle.daide_protocol.proofs.OneRun.{one_run}
+use Rattle.daide_io.specs.declared.ports.ClockEvent.TheVariants.{NoEvent, ImTimeIsOver, StopIsRequested}
 use Rattle.daide_io.specs.declared.ports.Pull.TheVariants.{Got, Idle, Ended}
 use Rattle.daide_io.specs.declared.ports.Put.TheVariants.{Took, Failed}
 use Rattle.daide_io.specs.declared.system.SessionEnd.{SessionEnd}
@@ -20,15 +21,16 @@ use Rattle.daide_driver.specs.Headline.{untouched}
 use Rattle.daide_driver.specs.Record.{Moved}
 use Rattle.daide_driver.specs.Totals.{HasTotals}
 use Rattle.daide_event_loop.specs.Served.{IsEndOf, while_left, cause_of}
-use Rattle.daide_event_loop.specs.Independence.{PortResult, TurnBegan, TimerRead, Received, Handed, result_of, results_of}
+use Rattle.daide_event_loop.specs.Independence.{PortResult, TurnBegan, ClockRead, Received, Handed, result_of, results_of}
 use Rattle.daide_event_loop.specs.Independence.{AreAlike}
 
 -- ---- functions of the results
 
 abbrev event_by : PortResult → List Event
 event_by TurnBegan = []
-event_by (TimerRead true) = ImTimerExpired ∷ []
-event_by (TimerRead false) = []
+event_by (ClockRead ImTimeIsOver) = ImTimerExpired ∷ []
+event_by (ClockRead StopIsRequested) = OperatorStops ∷ []
+event_by (ClockRead NoEvent) = []
 event_by (Received side (Got n) bytes) = bytes_come side bytes
 event_by (Received side Idle bytes) = []
 event_by (Received side Ended bytes) = Ends side ∷ []
@@ -41,8 +43,9 @@ events_by (result ∷ results) = event_by result ++ events_by results
 
 one_event : (call : PortCall) → event_of call ≡ event_by (result_of call)
 one_event TurnBegins = refl
-one_event (Clock true) = refl
-one_event (Clock false) = refl
+one_event (Clock ImTimeIsOver) = refl
+one_event (Clock StopIsRequested) = refl
+one_event (Clock NoEvent) = refl
 one_event (Pulled side buffer (Got n) bytes) = refl
 one_event (Pulled side buffer Idle bytes) = refl
 one_event (Pulled side buffer Ended bytes) = refl
@@ -55,7 +58,7 @@ all_events (call ∷ calls) = rw (one_event call, all_events calls) refl
 
 abbrev fails_by : Side → PortResult → Bool
 fails_by side TurnBegan = false
-fails_by side (TimerRead im_timer_expired) = false
+fails_by side (ClockRead event) = false
 fails_by side (Received from pull bytes) = false
 fails_by side (Handed to (Took n)) = false
 fails_by side (Handed to Failed) = same_side to side
@@ -66,7 +69,7 @@ failed_by side (result ∷ results) = fails_by side result || failed_by side res
 
 one_fails : (side : Side) (call : PortCall) → put_fails side call ≡ fails_by side (result_of call)
 one_fails side TurnBegins = refl
-one_fails side (Clock im_timer_expired) = refl
+one_fails side (Clock event) = refl
 one_fails side (Pulled from buffer pull bytes) = refl
 one_fails side (Offered to bytes (Took n)) = refl
 one_fails side (Offered to bytes Failed) = refl
@@ -80,7 +83,7 @@ abbrev left_by : ℕ → List PortResult → List PortResult
 left_by turns [] = []
 left_by zero (TurnBegan ∷ results) = []
 left_by (suc turns) (TurnBegan ∷ results) = TurnBegan ∷ left_by turns results
-left_by turns (TimerRead im_timer_expired ∷ results) = TimerRead im_timer_expired ∷ left_by turns results
+left_by turns (ClockRead event ∷ results) = ClockRead event ∷ left_by turns results
 left_by turns (Received side pull bytes ∷ results) = Received side pull bytes ∷ left_by turns results
 left_by turns (Handed side put ∷ results) = Handed side put ∷ left_by turns results
 
@@ -88,8 +91,8 @@ all_left : (turns : ℕ) (calls : List PortCall) → results_of (while_left turn
 all_left turns [] = refl
 all_left zero (TurnBegins ∷ calls) = refl
 all_left (suc turns) (TurnBegins ∷ calls) = ap (λ (l : List PortResult). TurnBegan ∷ l) (all_left turns calls)
-all_left turns (Clock im_timer_expired ∷ calls) =
-    ap (λ (l : List PortResult). TimerRead im_timer_expired ∷ l) (all_left turns calls)
+all_left turns (Clock event ∷ calls) =
+    ap (λ (l : List PortResult). ClockRead event ∷ l) (all_left turns calls)
 all_left turns (Pulled side buffer pull bytes ∷ calls) =
     ap (λ (l : List PortResult). Received side pull bytes ∷ l) (all_left turns calls)
 all_left turns (Offered side bytes put ∷ calls) =

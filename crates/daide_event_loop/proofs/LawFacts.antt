@@ -6,6 +6,7 @@ use Rattle.std.proofs.lemmas.List.Elements.{All-weaker, Contains-append_right}
 use Rattle.daide_frame.specs.declared.side.Side.{Side}
 use Rattle.daide_frame.specs.declared.side.Side.TheVariants.{Bot, Server}
 use Rattle.daide_protocol.specs.Wires.{SessionView, room_of}
+use Rattle.daide_io.specs.declared.ports.ClockEvent.TheVariants.{NoEvent, ImTimeIsOver, StopIsRequested}
 use Rattle.daide_io.specs.declared.ports.Pull.TheVariants.{Got, Idle, Ended}
 use Rattle.daide_io.specs.declared.ports.Put.TheVariants.{Took, Failed}
 use Rattle.daide_io.specs.declared.system.Orders.{Orders}
@@ -19,7 +20,8 @@ use Rattle.daide_event_loop.specs.QuotaPorts.{QuotaPortsView, Meters, progress_b
 use Rattle.daide_event_loop.specs.Served.{SessionsAreServed, OrdersAreHeeded, MovesAreAnswered, TurnsAreCounted}
 use Rattle.daide_event_loop.specs.Served.{comes, sum_over_calls, retires, unreached}
 use Rattle.daide_event_loop.specs.Served.{run_limits, IsServed, IsEndOf}
-use Rattle.daide_event_loop.specs.Serving.{ServiceView, may_accept, watches, Round, Rounds, fresh, initial_service, is_done, bots_in_all}
+use Rattle.daide_event_loop.specs.Serving.{ServiceView, may_accept, watches, Round, Rounds, fresh, initial_service, is_done}
+use Rattle.daide_settings.specs.BotsInAll.{bots_in_all}
 use Rattle.daide_event_loop.specs.Independence.{SessionsAreIndependent, HaveSameRules, results_of, Received, Handed}
 use Rattle.daide_event_loop.specs.Waiting.{RunsAreIdleAtWaits, IsIdleAtWait, MakesNoProgress}
 
@@ -27,18 +29,18 @@ module _ {P : Type 0} (port_transition : P → PortCall → P → Type 0) where
   -- with two turns the third to begin is beyond the quota, and the second is not
   spent : TurnsAreCounted port_transition → (ports : P) (now : QuotaPortsView P) →
       EvolvesBy (Meters port_transition) (fresh ports 2)
-      (TurnBegins ∷ Clock false ∷ TurnBegins ∷ Clock false ∷ TurnBegins ∷ []) now → is_none now.turns_left ≡ true
+      (TurnBegins ∷ Clock NoEvent ∷ TurnBegins ∷ Clock NoEvent ∷ TurnBegins ∷ []) now → is_none now.turns_left ≡ true
   spent law ports now h =
-      law ports 2 (TurnBegins ∷ Clock false ∷ TurnBegins ∷ Clock false ∷ TurnBegins ∷ []) now h
+      law ports 2 (TurnBegins ∷ Clock NoEvent ∷ TurnBegins ∷ Clock NoEvent ∷ TurnBegins ∷ []) now h
 
   not_spent : TurnsAreCounted port_transition → (ports : P) (now : QuotaPortsView P) →
-      EvolvesBy (Meters port_transition) (fresh ports 2) (TurnBegins ∷ Clock false ∷ TurnBegins ∷ Clock false ∷ []) now →
+      EvolvesBy (Meters port_transition) (fresh ports 2) (TurnBegins ∷ Clock NoEvent ∷ TurnBegins ∷ Clock NoEvent ∷ []) now →
       is_none now.turns_left ≡ false
-  not_spent law ports now h = law ports 2 (TurnBegins ∷ Clock false ∷ TurnBegins ∷ Clock false ∷ []) now h
+  not_spent law ports now h = law ports 2 (TurnBegins ∷ Clock NoEvent ∷ TurnBegins ∷ Clock NoEvent ∷ []) now h
 
   -- a turn whose only call was to the clock, which had not expired, made no progress, whatever the turn before did
   still : MovesAreAnswered port_transition → (old mid new : SessionView × QuotaPortsView P) → IsBegun (Meters port_transition) old mid →
-      (turn : IsTurned (Meters port_transition) mid new) → turn.exchange.call ≡ Clock false ∷ [] → new.1.made_progress ≡ false
+      (turn : IsTurned (Meters port_transition) mid new) → turn.exchange.call ≡ Clock NoEvent ∷ [] → new.1.made_progress ≡ false
   still law old mid new begins turn is =
       law old mid new begins turn ∙ ap (λ (answers : List PortCall). progress_by answers false) is
 
@@ -96,7 +98,7 @@ module _ {P : Type 0} (port_transition : P → PortCall → P → Type 0) where
 -- ports each of whose pulls returns a byte
 abbrev Gives : PortCall → Type 0
 Gives TurnBegins = Unit {0}
-Gives (Clock im_timer_expired) = Unit {0}
+Gives (Clock event) = Unit {0}
 Gives (Pulled side buffer pull bytes) = pull ≡ Got 1
 Gives (Offered side bytes put) = Unit {0}
 
@@ -155,11 +157,12 @@ module _ {P : Type 0} where
   asked_for_a_bot transition law settings round run ongoing waits may =
       (law settings 0 [] round (initial_service settings) run (refl, refl) ongoing waits).bots may
 
--- an expired timer, a byte, an end and a failure are progress
-progress : (MakesNoProgress (Clock true) → ⊥) × (MakesNoProgress (Pulled Bot 4 (Got 1) (0 ∷ [])) → ⊥)
+-- an expired timer, a stop, a byte, an end and a failure are progress
+progress : (MakesNoProgress (Clock ImTimeIsOver) → ⊥) × (MakesNoProgress (Clock StopIsRequested) → ⊥)
+    × (MakesNoProgress (Pulled Bot 4 (Got 1) (0 ∷ [])) → ⊥)
     × (MakesNoProgress (Pulled Server 4 Ended []) → ⊥) × (MakesNoProgress (Offered Bot (0 ∷ []) (Took 1)) → ⊥)
     × (MakesNoProgress (Offered Server (0 ∷ []) Failed) → ⊥)
-progress = (λ e. absurd (cc), got_one, ended, took_one, failed)
+progress = (λ e. absurd (cc), λ e. absurd (cc), got_one, ended, took_one, failed)
   where
     got_one : MakesNoProgress (Pulled Bot 4 (Got 1) (0 ∷ [])) → ⊥
     got_one e = ⊎_elim (λ (i : Got 1 ≡ Idle). let x = ap is_gain i in absurd (cc))
@@ -197,8 +200,8 @@ alone_or_not : {P Q : Type 0} (port_transition : P → PortCall → P → Type 0
     (alone : IsServed port_transition settings answers now)
     (crowded : IsServed other_transition (crowded_by settings) others then)
     (a b c d : ℕ) →
-    alone.history ≡ TurnBegins ∷ Clock false ∷ Offered Server (a ∷ b ∷ []) (Took 2) ∷ Pulled Bot 4 Idle [] ∷ [] →
-    crowded.history ≡ TurnBegins ∷ Clock false ∷ Offered Server (c ∷ d ∷ []) (Took 2) ∷ Pulled Bot 512 Idle [] ∷ [] →
+    alone.history ≡ TurnBegins ∷ Clock NoEvent ∷ Offered Server (a ∷ b ∷ []) (Took 2) ∷ Pulled Bot 4 Idle [] ∷ [] →
+    crowded.history ≡ TurnBegins ∷ Clock NoEvent ∷ Offered Server (c ∷ d ∷ []) (Took 2) ∷ Pulled Bot 512 Idle [] ∷ [] →
     (a ∷ b ∷ [] ≡ c ∷ d ∷ []) × (now.0.state ≡ then.0.state) × (now.0.summary ≡ then.0.summary)
     × ((end last : SessionEnd) → IsEndOf (run_limits settings) settings.turns alone.history now.0 end →
     IsEndOf (run_limits settings) settings.turns crowded.history then.0 last → end ≡ last)

@@ -15,9 +15,10 @@ use Rattle.daide_protocol.specs.declared.ending.Ending.{Ending}
 use Rattle.daide_protocol.specs.declared.ending.Ending.TheVariants as Endings
 use Rattle.daide_protocol.specs.declared.phase.SessionPhase.{SessionPhase}
 use Rattle.daide_protocol.specs.declared.phase.SessionPhase.TheVariants.{WaitIm, WaitRm, Open, Over}
+use Rattle.daide_io.specs.declared.ports.ClockEvent.TheVariants.{NoEvent, ImTimeIsOver, StopIsRequested}
 use Rattle.daide_io.specs.declared.ports.Pull.TheVariants.{Got, Idle, Ended}
 use Rattle.daide_io.specs.declared.ports.Put.TheVariants.{Took, Failed}
-use Rattle.daide_protocol.specs.Events.{Event, Comes, Ends, Loses, ImTimerExpired, bytes_come}
+use Rattle.daide_protocol.specs.Events.{Event, Comes, Ends, Loses, ImTimerExpired, OperatorStops, bytes_come}
 use Rattle.daide_protocol.proofs.PhaseLemmas.{answer_keeps_ending}
 use Rattle.daide_protocol.specs.Machine.{SessionState, Effect, Limits, Successor, Runs, Sent, coming, with_pending, is_over}
 use Rattle.daide_protocol.specs.Machine.{header_outcome, untimely, answered, im_answered, item_outcome, items_outcome, im_timer_expired}
@@ -39,6 +40,7 @@ is_lost side (Some (Endings.Lost one)) = same_side one side
 is_lost side (Some (Endings.Final one)) = false
 is_lost side (Some (Endings.Error one)) = false
 is_lost side (Some (Endings.Fault one code)) = false
+is_lost side (Some Endings.Stopped) = false
 
 module _ (to : Side) where
   abbrev Not : SessionState → Type 0
@@ -122,12 +124,20 @@ module _ (to : Side) where
       go true o = rw o h
       go false o = rw o apart
 
+  stop_not : (s : SessionState) (v : _) → Not s → Not (event_outcome s OperatorStops v).state
+  stop_not s v h = go (is_over s.phase) refl
+    where
+      go : (b : Bool) → is_over s.phase ≡ b → Not (event_outcome s OperatorStops v).state
+      go true o = rw o h
+      go false o = rw o refl
+
   -- an event that is not a failure of the wire
   abbrev Spares : Event → Type 0
   Spares (Comes side x) = Unit {0}
   Spares (Ends side) = Unit {0}
   Spares (Loses side) = same_side side to ≡ false
   Spares ImTimerExpired = Unit {0}
+  Spares OperatorStops = Unit {0}
 
   event_not : (s : SessionState) (event : Event) (v : _) → Spares event → Not s →
       Not (event_outcome s event v).state
@@ -135,6 +145,7 @@ module _ (to : Side) where
   event_not s (Ends side) v spares h = ends_not s side v h
   event_not s (Loses side) v spares h = loses_not s side v spares h
   event_not s ImTimerExpired v spares h = im_timer_expired_not s.phase s h
+  event_not s OperatorStops v spares h = stop_not s v h
 
   -- ---- along a history
 
@@ -169,10 +180,13 @@ module _ (to : Side) where
       has_failed to history ≡ false → Not old → Runs old (events_of history) effects new → Not new
   history_not [] old effects new kept h run = subst Not (sym run.1) h
   history_not (TurnBegins ∷ history) old effects new kept h run = history_not history old effects new kept h run
-  history_not (Clock true ∷ history) old effects new kept h run =
+  history_not (Clock ImTimeIsOver ∷ history) old effects new kept h run =
       let one = one_not old ImTimerExpired (events_of history) effects new tt h run in
       history_not history one.0 one.1 new kept one.2 one.3
-  history_not (Clock false ∷ history) old effects new kept h run = history_not history old effects new kept h run
+  history_not (Clock StopIsRequested ∷ history) old effects new kept h run =
+      let one = one_not old OperatorStops (events_of history) effects new tt h run in
+      history_not history one.0 one.1 new kept one.2 one.3
+  history_not (Clock NoEvent ∷ history) old effects new kept h run = history_not history old effects new kept h run
   history_not (Pulled side buffer (Got n) bytes ∷ history) old effects new kept h run =
       let one = bytes_not side bytes (events_of history) old effects new h run in
       history_not history one.0 one.1 new kept one.2 one.3

@@ -17,7 +17,8 @@ use Rattle.daide_io.specs.System.{SystemCall, ReportsNews, BeginsTurn, Watches, 
 use Rattle.daide_io.specs.System.{Retires, Notifies, Waits}
 use Rattle.daide_event_loop.specs.declared.admission_counters.AdmissionCounters.{AdmissionCounters}
 use Rattle.daide_event_loop.specs.QuotaPorts.{QuotaPortsView}
-use Rattle.daide_event_loop.specs.Serving.{ServiceView, initial_service, bots_in_all, may_accept, is_done, closed, heeding, opening}
+use Rattle.daide_event_loop.specs.Serving.{ServiceView, initial_service, may_accept, is_done, closed, heeding, opening}
+use Rattle.daide_settings.specs.BotsInAll.{bots_in_all}
 use Rattle.daide_event_loop.specs.Serving.{come, shows_where, AdmitsWhere, MeetsWhere, MeetsBy, last_words, retirement_where}
 use Rattle.daide_event_loop.specs.Serving.{end_of, retirements, watches, wait_where, any_progress, any_moved, Round}
 use Rattle.daide_event_loop.specs.Served.{sum_over_calls, accept_calls, show_calls, orders_with, stop_orders, show_orders, HeedsStops, HeedsOrders}

@@ -14,6 +14,7 @@ use Rattle.daide_protocol.specs.declared.phase.SessionPhase.{SessionPhase}
 use Rattle.daide_protocol.specs.declared.phase.SessionPhase.TheVariants.{WaitIm, Open, Over}
 use Rattle.daide_protocol.specs.Machine.{Limits, Sent, fm_bytes, initial_state, level_in}
 use Rattle.daide_protocol.specs.Wires.{SessionView, sent_bytes}
+use Rattle.daide_io.specs.declared.ports.ClockEvent.TheVariants.{NoEvent, ImTimeIsOver, StopIsRequested}
 use Rattle.daide_io.specs.declared.ports.Pull.TheVariants.{Got, Idle, Ended}
 use Rattle.daide_io.specs.declared.ports.Put.TheVariants.{Took, Failed}
 use Rattle.daide_driver.specs.Headline.{nothing_held}
@@ -24,32 +25,34 @@ use Rattle.daide_event_loop.specs.QuotaPorts.{QuotaPortsView, left_after, progre
 use Rattle.daide_event_loop.specs.Served.{turns_in, while_left}
 use Rattle.daide_settings.specs.declared.settings.Settings.{Settings}
 use Rattle.daide_event_loop.specs.declared.admission_counters.AdmissionCounters.{AdmissionCounters}
-use Rattle.daide_event_loop.specs.Serving.{may_accept, is_served, bots_in_all}
+use Rattle.daide_event_loop.specs.Serving.{may_accept, is_served}
+use Rattle.daide_settings.specs.BotsInAll.{bots_in_all}
 use Rattle.daide_event_loop.specs.Serving.{cause_by, retirements, remaining, heeding, opening}
 use Rattle.daide_io.specs.System.{Begins, Shows, BeginsTurn, Retires, Notifies, no_orders}
 
 -- ---- progress
 
--- zero bytes received or sent are no progress; a byte is, and so are an end, a failure and an expired IM timer
+-- zero bytes received or sent are no progress; a byte is, and so are an end, a failure, an expired IM timer and a stop
 no_bytes_are_no_move : (side : Side) → (progress_after (Pulled side 512 (Got 0) []) false ≡ false)
     × (progress_after (Pulled side 512 Idle []) false ≡ false)
-    × (progress_after (Offered side (0x02 ∷ []) (Took 0)) false ≡ false) × (progress_after (Clock false) false ≡ false)
+    × (progress_after (Offered side (0x02 ∷ []) (Took 0)) false ≡ false) × (progress_after (Clock NoEvent) false ≡ false)
 no_bytes_are_no_move side = (refl, refl, refl, refl)
 
 moves : (side : Side) → (progress_after (Pulled side 512 Ended []) false ≡ true)
-    × (progress_after (Offered side (0x02 ∷ []) Failed) false ≡ true) × (progress_after (Clock true) false ≡ true)
+    × (progress_after (Offered side (0x02 ∷ []) Failed) false ≡ true) × (progress_after (Clock ImTimeIsOver) false ≡ true)
+    × (progress_after (Clock StopIsRequested) false ≡ true)
     × (map (λ n. progress_after (Pulled side 512 (Got n) []) false) (range_with_len 0 513) ≡ false ∷ replicate 512 true)
     × (map (λ n. progress_after (Offered side [] (Took n)) false) (range_with_len 0 513) ≡ false ∷ replicate 512 true)
-moves side = (refl, refl, refl, refl, refl)
+moves side = (refl, refl, refl, refl, refl, refl)
 
 -- progress stays until the next turn begins
 moves_stay : (side : Side) → (progress_after (Pulled side 512 Idle []) true ≡ true)
     × (progress_after (Pulled side 512 (Got 0) []) true ≡ true)
-    × (progress_after (Offered side (0x02 ∷ []) (Took 0)) true ≡ true) × (progress_after (Clock false) true ≡ true)
+    × (progress_after (Offered side (0x02 ∷ []) (Took 0)) true ≡ true) × (progress_after (Clock NoEvent) true ≡ true)
     × (progress_after TurnBegins true ≡ false)
-    × (progress_by (TurnBegins ∷ Clock false ∷ Offered side (0x02 ∷ []) (Took 0) ∷ Pulled side 4 Idle [] ∷ []) true ≡ false)
-    × (progress_by (TurnBegins ∷ Clock false ∷ Offered side (0x02 ∷ []) (Took 1) ∷ Pulled side 4 Idle [] ∷ []) false ≡ true)
-    × (progress_by (TurnBegins ∷ Clock true ∷ Offered side (0x02 ∷ []) (Took 0) ∷ Pulled side 4 Idle [] ∷ []) false ≡ true)
+    × (progress_by (TurnBegins ∷ Clock NoEvent ∷ Offered side (0x02 ∷ []) (Took 0) ∷ Pulled side 4 Idle [] ∷ []) true ≡ false)
+    × (progress_by (TurnBegins ∷ Clock NoEvent ∷ Offered side (0x02 ∷ []) (Took 1) ∷ Pulled side 4 Idle [] ∷ []) false ≡ true)
+    × (progress_by (TurnBegins ∷ Clock ImTimeIsOver ∷ Offered side (0x02 ∷ []) (Took 0) ∷ Pulled side 4 Idle [] ∷ []) false ≡ true)
 moves_stay side = (refl, refl, refl, refl, refl, refl, refl, refl)
 
 -- ---- turns
@@ -57,7 +60,7 @@ moves_stay side = (refl, refl, refl, refl, refl, refl, refl, refl)
 -- only the beginning of a turn takes one from the quota; no other call does
 turns_taken : (side : Side) → (left_after TurnBegins (Some 2) ≡ Some 1) × (left_after TurnBegins (Some 1) ≡ Some 0)
     × (left_after TurnBegins (Some 0) ≡ None) × (left_after TurnBegins None ≡ None)
-    × (left_after (Clock false) (Some 0) ≡ Some 0) × (left_after (Clock true) (Some 1) ≡ Some 1)
+    × (left_after (Clock NoEvent) (Some 0) ≡ Some 0) × (left_after (Clock ImTimeIsOver) (Some 1) ≡ Some 1)
     × (left_after (Pulled side 4 (Got 4) []) (Some 1) ≡ Some 1) × (left_after (Offered side [] Failed) (Some 1) ≡ Some 1)
 turns_taken side = (refl, refl, refl, refl, refl, refl, refl, refl)
 
@@ -72,7 +75,7 @@ first_reported one other = (refl, refl, refl, refl)
 
 -- within the quota the ports' own ends and failures are not recorded
 nothing_reported : (side : Side) → (reported_after (Pulled side 4 Ended []) (Some 0) None ≡ None)
-    × (reported_after (Offered side [] Failed) (Some 0) None ≡ None) × (reported_after (Clock false) None None ≡ None)
+    × (reported_after (Offered side [] Failed) (Some 0) None ≡ None) × (reported_after (Clock NoEvent) None None ≡ None)
 nothing_reported side = (refl, refl, refl)
 
 -- an ending recorded first beyond the quota has spent turns as its cause; any other is the cause itself
@@ -138,9 +141,9 @@ others_stay limits = refl
 
 -- of three turns the third is beyond a quota of two; the system begins a turn with ports within their quota, and with
 -- no others
-turns_counted : (turns_in (TurnBegins ∷ Clock false ∷ TurnBegins ∷ Clock false ∷ TurnBegins ∷ Clock false ∷ []) ≡ 3)
-    × (while_left 2 (TurnBegins ∷ Clock true ∷ TurnBegins ∷ Clock false ∷ TurnBegins ∷ Clock false ∷ [])
-    ≡ TurnBegins ∷ Clock true ∷ TurnBegins ∷ Clock false ∷ [])
+turns_counted : (turns_in (TurnBegins ∷ Clock NoEvent ∷ TurnBegins ∷ Clock NoEvent ∷ TurnBegins ∷ Clock NoEvent ∷ []) ≡ 3)
+    × (while_left 2 (TurnBegins ∷ Clock ImTimeIsOver ∷ TurnBegins ∷ Clock NoEvent ∷ TurnBegins ∷ Clock NoEvent ∷ [])
+    ≡ TurnBegins ∷ Clock ImTimeIsOver ∷ TurnBegins ∷ Clock NoEvent ∷ [])
     × (beginning (ports 4 (Some 1)) (ports 5 (Some 0)) ≡ BeginsTurn 4 5 ∷ [])
     × (beginning (ports 4 (Some 0)) (spent 4 (Lost Bot)) ≡ [])
 turns_counted = (refl, refl, refl, refl)

@@ -14,11 +14,13 @@ use Rattle.daide_protocol.specs.Machine.{Sent, Effect, Limits, SessionState, Run
 use Rattle.daide_protocol.specs.Wires.{SessionView, queued, parts_of, next_part, parts_after, front_of, has_answer}
 use Rattle.daide_protocol.specs.Wires.{room_of, no_frame, is_closed, without, first_len, IsFrontOf, sent_to}
 use Rattle.daide_protocol.proofs.FramesHeard.{waited_for}
+use Rattle.daide_io.specs.declared.ports.ClockEvent.{ClockEvent}
+use Rattle.daide_io.specs.declared.ports.ClockEvent.TheVariants.{NoEvent, ImTimeIsOver, StopIsRequested}
 use Rattle.daide_io.specs.declared.ports.Pull.{Pull}
 use Rattle.daide_io.specs.declared.ports.Pull.TheVariants.{Got, Idle, Ended}
 use Rattle.daide_io.specs.declared.ports.Put.{Put}
 use Rattle.daide_io.specs.declared.ports.Put.TheVariants.{Took, Failed}
-use Rattle.daide_io.specs.Ports.{PortCall, TurnBegins, Clock, Pulled, Offered, EvolvesBy, pulled_len}
+use Rattle.daide_io.specs.Ports.{PortCall, TurnBegins, Clock, Pulled, Offered, EvolvesBy, pulled_len, is_eventful}
 use Rattle.daide_driver.specs.Turn.{Hears, AsksClock, HandsFront, HasNone, Hands, Puts, Gets, HasNoRoom}
 use Rattle.daide_driver.specs.Turn.{FillsRoom, Pulls, Turn, most_pulled}
 use Rattle.daide_event_loop.specs.QuotaPorts.{QuotaPortsView, Meters, EvolvesWhile, IsSpentAnswer, is_gain, is_loss, progress_by}
@@ -46,14 +48,19 @@ no_loss (Took zero) e = refl
 no_loss (Took (suc n)) e = let some = ltb-false 0 (suc n) e in absurd (omega (arith, some))
 no_loss Failed e = absurd (cc)
 
+no_event : (event : ClockEvent) → is_eventful event ≡ false → event ≡ NoEvent
+no_event NoEvent e = refl
+no_event ImTimeIsOver e = absurd (cc)
+no_event StopIsRequested e = absurd (cc)
+
 pub still_calls : (xs : List PortCall) (moved : Bool) → turns_in xs ≡ 0 → progress_by xs moved ≡ false →
     (moved ≡ false) × All MakesNoProgress xs
 still_calls [] moved none e = (e, All-nil MakesNoProgress)
 still_calls (TurnBegins ∷ xs) moved none e = absurd (omega (arith, none))
-still_calls (Clock im_timer_expired ∷ xs) moved none e =
-    let rest = still_calls xs (moved || im_timer_expired) none e in (
-      left_false moved im_timer_expired rest.0,
-      All-cons MakesNoProgress (Clock im_timer_expired) xs (right_false moved im_timer_expired rest.0) rest.1,
+still_calls (Clock event ∷ xs) moved none e =
+    let rest = still_calls xs (moved || is_eventful event) none e in (
+      left_false moved (is_eventful event) rest.0,
+      All-cons MakesNoProgress (Clock event) xs (no_event event (right_false moved (is_eventful event) rest.0)) rest.1,
     )
 still_calls (Pulled side buffer pull bytes ∷ xs) moved none e =
     let rest = still_calls xs (moved || is_gain pull) none e in (
@@ -120,9 +127,10 @@ room_same a b h side =
 
 -- ---- one call
 
-clock_same : (im_timer_expired : Bool) (a b : SessionView) → im_timer_expired ≡ false → Hears im_timer_expired a b → Same a b
-clock_same true a b e h = absurd (cc)
-clock_same false a b e h = same_by a b h
+clock_same : (event : ClockEvent) (a b : SessionView) → event ≡ NoEvent → Hears event a b → Same a b
+clock_same NoEvent a b e h = same_by a b h
+clock_same ImTimeIsOver a b e h = absurd (cc)
+clock_same StopIsRequested a b e h = absurd (cc)
 
 by_sides : (K : Side → Type 0) (side : Side) → K side → K (other side) → (one : Side) → K one
 by_sides K Bot own beside Bot = own
@@ -200,12 +208,12 @@ one_still : (xs : List PortCall) (x : PortCall) → xs ≡ x ∷ [] → All Make
 one_still xs x e h = All-contains MakesNoProgress xs x h (subst (λ (l : List PortCall). Contains l x) (sym e) (only x))
 
 clock_still : (a : SessionView) (xs : List PortCall) (b : SessionView) → AsksClock a xs b → All MakesNoProgress xs →
-    Same a b × Contains xs (Clock false)
+    Same a b × Contains xs (Clock NoEvent)
 clock_still a xs b h still =
     let early = one_still xs (Clock h.0) h.1 still in (
       clock_same h.0 a b early h.2,
-      subst (λ (l : List PortCall). Contains l (Clock false)) (sym (h.1 ∙ ap (λ (t : Bool). Clock t ∷ []) early))
-          (only (Clock false)),
+      subst (λ (l : List PortCall). Contains l (Clock NoEvent)) (sym (h.1 ∙ ap (λ (t : ClockEvent). Clock t ∷ []) early))
+          (only (Clock NoEvent)),
     )
 
 puts_still : (side : Side) (a : SessionView) (xs : List PortCall) (b : SessionView) → Puts side a xs b →
@@ -241,7 +249,7 @@ pulls_still side a xs b h still = ⊎_elim
 -- ---- a whole turn
 
 pub record StillTurn (xs : List PortCall) (b : SessionView) : Type 0 where
-  pub clock : Contains xs (Clock false)
+  pub clock : Contains xs (Clock NoEvent)
   pub pulled : (side : Side) → PullsIfRoom side b xs
   pub offered : (side : Side) → OffersIfQueued side b xs
 
@@ -299,7 +307,7 @@ turn_still a xs b h still =
     let t_to_b = same_then t u b server.0 u_to_b in
     let s_to_b = same_then s t b bot.0 t_to_b in
     record {
-      clock = first (Clock false) clock.1;
+      clock = first (Clock NoEvent) clock.1;
       pulled = by_sides (λ (one : Side). PullsIfRoom one b xs) Bot
           (pulls_later Bot u b m.1 xs fourth u_to_b from_bot.1) (pulls_later Server v b m.2 xs fifth v_to_b from_server.1);
       offered = by_sides (λ (one : Side). OffersIfQueued one b xs) Bot
@@ -324,10 +332,10 @@ module _ {P : Type 0} (port_transition : P → PortCall → P → Type 0) where
       EvolvesBy (Meters port_transition) a xs b → All IsSpentAnswer xs
   spent_calls [] a b e none h = All-nil IsSpentAnswer
   spent_calls (TurnBegins ∷ xs) a b e none h = absurd (omega (arith, none))
-  spent_calls (Clock im_timer_expired ∷ xs) a b e none h =
+  spent_calls (Clock event ∷ xs) a b e none h =
       let left = h.1.turns_left ∙ e in
-      All-cons IsSpentAnswer (Clock im_timer_expired) xs
-      (spent_by (Clock im_timer_expired) a.ports h.0.ports h.0.turns_left left h.1.ports)
+      All-cons IsSpentAnswer (Clock event) xs
+      (spent_by (Clock event) a.ports h.0.ports h.0.turns_left left h.1.ports)
       (spent_calls xs h.0 b left none h.2)
   spent_calls (Pulled side buffer pull bytes ∷ xs) a b e none h =
       let left = h.1.turns_left ∙ e in
@@ -346,10 +354,10 @@ module _ {P : Type 0} (port_transition : P → PortCall → P → Type 0) where
   inner_calls [] a b n e none h =
       (ap (λ (m : QuotaPortsView P). m.ports) h, ap (λ (m : QuotaPortsView P). m.turns_left) h ∙ e)
   inner_calls (TurnBegins ∷ xs) a b n e none h = absurd (omega (arith, none))
-  inner_calls (Clock im_timer_expired ∷ xs) a b n e none h =
+  inner_calls (Clock event ∷ xs) a b n e none h =
       let left = h.1.turns_left ∙ e in
       let rest = inner_calls xs h.0 b n left none h.2 in
-      ((h.0.ports, called_by (Clock im_timer_expired) a.ports h.0.ports h.0.turns_left n left h.1.ports, rest.0), rest.1)
+      ((h.0.ports, called_by (Clock event) a.ports h.0.ports h.0.turns_left n left h.1.ports, rest.0), rest.1)
   inner_calls (Pulled side buffer pull bytes ∷ xs) a b n e none h =
       let left = h.1.turns_left ∙ e in
       let rest = inner_calls xs h.0 b n left none h.2 in

@@ -16,7 +16,7 @@ use Rattle.daide_event_loop.specs.Serving.{fresh}
 turns_append : (xs ys : List PortCall) → turns_in (xs ++ ys) ≡ turns_in xs + turns_in ys
 turns_append [] ys = omega arith
 turns_append (TurnBegins ∷ xs) ys = let rest = turns_append xs ys in omega (arith, rest)
-turns_append (Clock im_timer_expired ∷ xs) ys = turns_append xs ys
+turns_append (Clock event ∷ xs) ys = turns_append xs ys
 turns_append (Pulled side buffer pull bytes ∷ xs) ys = turns_append xs ys
 turns_append (Offered side bytes put ∷ xs) ys = turns_append xs ys
 
@@ -73,7 +73,7 @@ module _ {P : Type 0} (port_transition : P → PortCall → P → Type 0) where
       b.turns_left ≡ None
   stays_spent [] a b e h = ap (λ (m : QuotaPortsView P). m.turns_left) h ∙ e
   stays_spent (TurnBegins ∷ xs) a b e h = stays_spent xs h.0 b (h.1.turns_left ∙ ap one_less e) h.2
-  stays_spent (Clock im_timer_expired ∷ xs) a b e h = stays_spent xs h.0 b (h.1.turns_left ∙ e) h.2
+  stays_spent (Clock event ∷ xs) a b e h = stays_spent xs h.0 b (h.1.turns_left ∙ e) h.2
   stays_spent (Pulled side buffer pull bytes ∷ xs) a b e h = stays_spent xs h.0 b (h.1.turns_left ∙ e) h.2
   stays_spent (Offered side bytes put ∷ xs) a b e h = stays_spent xs h.0 b (h.1.turns_left ∙ e) h.2
 
@@ -85,7 +85,7 @@ module _ {P : Type 0} (port_transition : P → PortCall → P → Type 0) where
       ap is_none (stays_spent xs h.0 b (h.1.turns_left ∙ ap one_less e) h.2) ∙ sym (zero_below (turns_in xs))
   counted_from (TurnBegins ∷ xs) (suc turns) a b e h =
       counted_from xs turns h.0 b (h.1.turns_left ∙ ap one_less e) h.2 ∙ below_alike turns (turns_in xs)
-  counted_from (Clock im_timer_expired ∷ xs) turns a b e h = counted_from xs turns h.0 b (h.1.turns_left ∙ e) h.2
+  counted_from (Clock event ∷ xs) turns a b e h = counted_from xs turns h.0 b (h.1.turns_left ∙ e) h.2
   counted_from (Pulled side buffer pull bytes ∷ xs) turns a b e h = counted_from xs turns h.0 b (h.1.turns_left ∙ e) h.2
   counted_from (Offered side bytes put ∷ xs) turns a b e h = counted_from xs turns h.0 b (h.1.turns_left ∙ e) h.2
 

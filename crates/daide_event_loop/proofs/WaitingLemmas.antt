@@ -587,12 +587,12 @@ module _ {P : Type 0} where
         r.turned.places (none_moved r.turned.places (no_progress round old new r).moved))
 
     -- the calls of a round before those that have ports watched
-    abbrev early : (round : List (SystemCall P)) (old new : ServiceView P) → Round port_transition old round new →
+    abbrev pub early : (round : List (SystemCall P)) (old new : ServiceView P) → Round port_transition old round new →
         List (SystemCall P)
     early round old new r = opening r.orders old.hub.places ++ r.admission ++ r.meeting ++ r.beginnings ++ r.removal
 
     -- a round that ends with a wait watches the ports of each session that is left
-    all_watched : (round : List (SystemCall P)) (old new : ServiceView P)
+    pub all_watched : (round : List (SystemCall P)) (old new : ServiceView P)
         (r : Round port_transition old (round ++ Waits ∷ []) new) →
         round ≡ early (round ++ Waits ∷ []) old new r ++ watches new.hub.places
     all_watched round old new r =

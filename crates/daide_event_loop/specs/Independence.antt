@@ -3,6 +3,7 @@
 use Rattle.std.specs.Prelude.{◌≡◌, ℕ, Bool, List, [], ◌∷◌, length}
 use Rattle.daide_frame.specs.declared.side.Side.{Side}
 use Rattle.daide_protocol.specs.Wires.{SessionView, queued, sent_bytes}
+use Rattle.daide_io.specs.declared.ports.ClockEvent.{ClockEvent}
 use Rattle.daide_io.specs.declared.ports.Pull.{Pull}
 use Rattle.daide_io.specs.declared.ports.Put.{Put}
 use Rattle.daide_io.specs.declared.system.SessionEnd.{SessionEnd}
@@ -12,17 +13,17 @@ use Rattle.daide_settings.specs.declared.settings.Settings.{Settings}
 use Rattle.daide_event_loop.specs.QuotaPorts.{QuotaPortsView}
 use Rattle.daide_event_loop.specs.Served.{run_limits, IsServed, IsEndOf}
 
--- What one step of the ports returned, without what the session handed in: a turn began; whether the IM timer expired;
+-- What one step of the ports returned, without what the session handed in: a turn began; what the clock reported;
 -- the result of a pull, with the bytes received; the result of a put.
 pub data PortResult : Type 0 where
   TurnBegan : PortResult
-  TimerRead : (im_timer_expired : Bool) → PortResult
+  ClockRead : (event : ClockEvent) → PortResult
   Received : (side : Side) → (pull : Pull) → (bytes : List ℕ) → PortResult
   Handed : (side : Side) → (put : Put) → PortResult
 
 abbrev pub result_of : PortCall → PortResult
 result_of TurnBegins = TurnBegan
-result_of (Clock im_timer_expired) = TimerRead im_timer_expired
+result_of (Clock event) = ClockRead event
 result_of (Pulled side buffer pull bytes) = Received side pull bytes
 result_of (Offered side bytes put) = Handed side put
 

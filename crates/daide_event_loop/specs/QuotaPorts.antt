@@ -3,7 +3,8 @@ use Rattle.std.specs.Prelude.{◌≡◌, ℕ, suc, zero, nat_lt, Bool, true, fal
 use Rattle.std.specs.Option.{option_or}
 use Rattle.daide_protocol.specs.declared.ending.Ending.{Ending}
 use Rattle.daide_protocol.specs.declared.ending.Ending.TheVariants as Endings
-use Rattle.daide_io.specs.Ports.{PortCall, TurnBegins, Clock, Pulled, Offered}
+use Rattle.daide_io.specs.declared.ports.ClockEvent.TheVariants.{NoEvent}
+use Rattle.daide_io.specs.Ports.{PortCall, TurnBegins, Clock, Pulled, Offered, is_eventful}
 use Rattle.daide_io.specs.System.{SystemCall, BeginsTurn}
 use Rattle.daide_io.specs.declared.ports.Pull.{Pull}
 use Rattle.daide_io.specs.declared.ports.Pull.TheVariants.{Got, Idle, Ended}
@@ -26,7 +27,7 @@ one_less (Some (suc turns)) = Some turns
 
 abbrev pub left_after : PortCall → Option ℕ → Option ℕ
 left_after TurnBegins left = one_less left
-left_after (Clock im_timer_expired) left = left
+left_after (Clock event) left = left
 left_after (Pulled side buffer pull bytes) left = left
 left_after (Offered side bytes put) left = left
 
@@ -41,10 +42,10 @@ abbrev pub is_loss : Put → Bool
 is_loss (Took count) = nat_lt 0 count
 is_loss Failed = true
 
--- whether the turn made progress since it began: the IM timer expired, or there was a gain or a loss
+-- whether the turn made progress since it began: the IM timer expired, a stop was requested, or there was a gain or a loss
 abbrev pub progress_after : PortCall → Bool → Bool
 progress_after TurnBegins made_progress = false
-progress_after (Clock im_timer_expired) made_progress = made_progress || im_timer_expired
+progress_after (Clock event) made_progress = made_progress || is_eventful event
 progress_after (Pulled side buffer pull bytes) made_progress = made_progress || is_gain pull
 progress_after (Offered side bytes put) made_progress = made_progress || is_loss put
 
@@ -53,10 +54,10 @@ abbrev pub progress_by : List PortCall → Bool → Bool
 progress_by [] made_progress = made_progress
 progress_by (answer ∷ answers) made_progress = progress_by answers (progress_after answer made_progress)
 
--- the results beyond the quota: the IM timer does not expire, both sides have ended, and both wires fail
+-- the results beyond the quota: the clock reports nothing, both sides have ended, and both wires fail
 abbrev pub IsSpentAnswer : PortCall → Type 0
 IsSpentAnswer TurnBegins = Unit {0}
-IsSpentAnswer (Clock im_timer_expired) = im_timer_expired ≡ false
+IsSpentAnswer (Clock event) = event ≡ NoEvent
 IsSpentAnswer (Pulled side buffer pull bytes) = pull ≡ Ended
 IsSpentAnswer (Offered side bytes put) = put ≡ Failed
 
@@ -67,7 +68,7 @@ reported_where None ending told = option_or told (Some ending)
 
 abbrev pub reported_after : PortCall → Option ℕ → Option Ending → Option Ending
 reported_after TurnBegins left told = told
-reported_after (Clock im_timer_expired) left told = told
+reported_after (Clock event) left told = told
 reported_after (Pulled side buffer pull bytes) left told = reported_where left (Endings.Ended side) told
 reported_after (Offered side bytes put) left told = reported_where left (Endings.Lost side) told
 

@@ -19,7 +19,8 @@ use Rattle.daide_io.specs.declared.system.SessionEnd.{SessionEnd}
 use Rattle.daide_event_loop.specs.QuotaPorts.{QuotaPortsView, Meters, progress_by}
 use Rattle.daide_io.specs.System.{SystemCall, Begins, Shows, ReportsNews, BeginsTurn, Watches, Accepts, Connects}
 use Rattle.daide_io.specs.System.{Retires, Notifies, Waits}
-use Rattle.daide_event_loop.specs.Serving.{ServiceView, fresh, initial_service, is_done, bots_in_all, Rounds, Serves}
+use Rattle.daide_event_loop.specs.Serving.{ServiceView, fresh, initial_service, is_done, Rounds, Serves}
+use Rattle.daide_settings.specs.BotsInAll.{bots_in_all}
 
 -- the limits of a run's sessions
 abbrev pub run_limits : Settings → Limits
@@ -50,7 +51,7 @@ abbrev pub while_left : ℕ → List PortCall → List PortCall
 while_left turns [] = []
 while_left zero (TurnBegins ∷ answers) = []
 while_left (suc turns) (TurnBegins ∷ answers) = TurnBegins ∷ while_left turns answers
-while_left turns (Clock im_timer_expired ∷ answers) = Clock im_timer_expired ∷ while_left turns answers
+while_left turns (Clock event ∷ answers) = Clock event ∷ while_left turns answers
 while_left turns (Pulled side buffer pull bytes ∷ answers) = Pulled side buffer pull bytes ∷ while_left turns answers
 while_left turns (Offered side bytes put ∷ answers) = Offered side bytes put ∷ while_left turns answers
 
@@ -245,7 +246,7 @@ MovesAreAnswered {P} transition = (old mid new : SessionView × QuotaPortsView P
 abbrev pub turns_in : List PortCall → ℕ
 turns_in [] = 0
 turns_in (TurnBegins ∷ answers) = suc (turns_in answers)
-turns_in (Clock im_timer_expired ∷ answers) = turns_in answers
+turns_in (Clock event ∷ answers) = turns_in answers
 turns_in (Pulled side buffer pull bytes ∷ answers) = turns_in answers
 turns_in (Offered side bytes put ∷ answers) = turns_in answers
 

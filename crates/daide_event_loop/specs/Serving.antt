@@ -27,6 +27,7 @@ use Rattle.daide_io.specs.declared.system.SessionEnd.{SessionEnd}
 use Rattle.daide_event_loop.specs.QuotaPorts.{QuotaPortsView, Meters, beginning}
 use Rattle.daide_io.specs.System.{SystemCall, Begins, Shows, ReportsNews, BeginsTurn, Watches, Accepts, Connects}
 use Rattle.daide_io.specs.System.{Retires, Notifies, Waits, status_of}
+use Rattle.daide_settings.specs.BotsInAll.{bots_in_all}
 use Rattle.daide_protocol.specs.Machine.{ending_in}
 
 -- the state of a run: the sessions, and the counters
@@ -35,10 +36,6 @@ pub record ServiceView (P : Type 0) : Type 0 where
   pub counters : AdmissionCounters
 
 -- ---- the counters
-
--- the bots of a run in all: as many as the settings say; an endless run has a bot for each number from 1 to 2^32 - 1 (own)
-abbrev pub bots_in_all : Settings → ℕ
-bots_in_all settings = if settings.endless then 4294967295 else settings.sessions
 
 -- one more bot may be accepted beside `count` sessions; a connect under way needs a place too
 abbrev pub may_accept : AdmissionCounters → ℕ → Bool

@@ -4,6 +4,7 @@
 use Rattle.std.specs.Prelude.{◌≡◌, ℕ, ◌<◌, ◌⊎◌, ◌++◌, ◌==◌, min, true, false, List, [], ◌∷◌, length, Contains, All}
 use Rattle.daide_frame.specs.declared.side.Side.{Side}
 use Rattle.daide_protocol.specs.Wires.{SessionView, queued, front_of, room_of, no_frame}
+use Rattle.daide_io.specs.declared.ports.ClockEvent.TheVariants.{NoEvent}
 use Rattle.daide_io.specs.declared.ports.Pull.{Pull}
 use Rattle.daide_io.specs.declared.ports.Pull.TheVariants.{Got, Idle}
 use Rattle.daide_io.specs.declared.ports.Put.TheVariants.{Took}
@@ -17,18 +18,18 @@ use Rattle.daide_event_loop.specs.Serving.{ServiceView, may_accept, watches, Rou
 
 -- ---- a turn without progress
 
--- a call without progress: the IM timer had not expired; a pull returned neither a byte nor an end; a put took no byte,
+-- a call without progress: the clock reported nothing; a pull returned neither a byte nor an end; a put took no byte,
 -- and did not fail
 abbrev pub MakesNoProgress : PortCall → Type 0
 MakesNoProgress TurnBegins = Unit {0}
-MakesNoProgress (Clock im_timer_expired) = im_timer_expired ≡ false
+MakesNoProgress (Clock event) = event ≡ NoEvent
 MakesNoProgress (Pulled side buffer pull bytes) = (pull ≡ Idle) ⊎ (pull ≡ Got 0)
 MakesNoProgress (Offered side bytes put) = put ≡ Took 0
 
 -- a call that a turn makes after it began: a pull has room, and a put has some bytes
 abbrev pub IsOfTurn : PortCall → Type 0
 IsOfTurn TurnBegins = ⊥
-IsOfTurn (Clock im_timer_expired) = Unit {0}
+IsOfTurn (Clock event) = Unit {0}
 IsOfTurn (Pulled side room pull bytes) = 0 < room
 IsOfTurn (Offered side bytes put) = 0 < length bytes
 
@@ -43,7 +44,7 @@ OffersIfQueued side session calls = no_frame (queued session side) ≡ false →
     Contains calls (Offered side (front_of session side) (Took 0))
 
 -- The last turn of a session made no progress. It began with these ports, and by its calls they came to their present
--- value. The IM timer had not expired. Each side for whose bytes the session has room was pulled, and returned none. To
+-- value. The clock reported nothing. Each side for whose bytes the session has room was pulled, and returned none. To
 -- each side for which bytes are queued the front was offered, and none were taken.
 pub record IsIdleSession {P : Type 0} (transition : P → PortCall → P → Type 0)
     (place : SessionView × QuotaPortsView P) : Type 0 where
@@ -56,7 +57,7 @@ pub record IsIdleSession {P : Type 0} (transition : P → PortCall → P → Typ
   pub evolves : EvolvesBy transition begun turn place.1.ports
   pub made : All IsOfTurn turn
   pub still : All MakesNoProgress turn
-  pub clock : Contains turn (Clock false)
+  pub clock : Contains turn (Clock NoEvent)
   pub pulled : (side : Side) → PullsIfRoom side place.0 turn
   pub offered : (side : Side) → OffersIfQueued side place.0 turn
 

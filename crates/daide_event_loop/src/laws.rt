@@ -46,8 +46,8 @@ pub fn sessions_are_independent<P: Ports, Q: Ports>()
     ensures { SessionsAreIndependent P.transition Q.transition }
 {}
 
-/// At each wait a run is idle, and not done (`IsIdleRun`). The last turn of each session made no progress: the IM timer had not
-/// expired, each side for whose bytes it has room returned none, and each wire for which bytes are queued took none
+/// At each wait a run is idle, and not done (`IsIdleRun`). The last turn of each session made no progress: the clock reported
+/// nothing, each side for whose bytes it has room returned none, and each wire for which bytes are queued took none
 /// (`IsIdleSession`). By that turn its ports came to their present value. In the round that waits the system began the
 /// turn, or reported no news for these ports (`IsIdleAtWait`). If one more bot may be accepted, none came; if connects
 /// are under way, none has a result. Right before the wait the system was to watch the ports of each session. So if the

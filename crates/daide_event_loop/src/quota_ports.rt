@@ -5,7 +5,7 @@ ghost use Rattle.daide_io.specs.Ports.{TurnBegins};
 ghost use Rattle.daide_io.specs.System.{TransitsBy};
 
 use daide_frame::side::Side;
-use daide_io::ports::{Ports, Pull, Put};
+use daide_io::ports::{ClockEvent, Ports, Pull, Put};
 use daide_io::system::System;
 use daide_protocol::ending::Ending;
 use std::marker::Model;
@@ -47,7 +47,7 @@ impl<P: Ports> QuotaPorts<P> {
     }
 
     /// Begins a turn, and counts it. Unless the quota is spent, the system begins it with the inner ports. All that is
-    /// due once a turn is done here, so `clock_popped` counts, reads and writes nothing.
+    /// due once a turn is done here, so `clock` counts, reads and writes nothing.
     pub fn begin_turn<S: System<P>>(&mut self, system: &mut S)
         ensures begins { Meters P.transition self.old TurnBegins self.new }
         ensures asked { TransitsBy S.transition system.old (beginning self.old self.new) system.new }
@@ -140,9 +140,16 @@ impl<P: Ports> Ports for QuotaPorts<P> {
         put
     }
 
-    fn clock_popped(&mut self) -> bool {
-        let im_timer_expired = self.turns_left.is_some() && self.ports.clock_popped();
-        self.made_progress = self.made_progress || im_timer_expired;
-        im_timer_expired
+    fn clock(&mut self) -> ClockEvent {
+        let event = match self.turns_left {
+            Some(_turns) => self.ports.clock(),
+            None => ClockEvent::NoEvent,
+        };
+        self.made_progress = self.made_progress
+            || match event {
+                ClockEvent::NoEvent => false,
+                ClockEvent::ImTimeIsOver | ClockEvent::StopIsRequested => true,
+            };
+        event
     }
 }

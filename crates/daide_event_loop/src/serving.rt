@@ -11,7 +11,7 @@ ghost use Rattle.daide_event_loop.specs.Serving.{IsWithinQuotas, Admits, Finishe
 ghost use Rattle.daide_event_loop.specs.Serving.{TurnsAll, any_moved};
 ghost use Rattle.daide_event_loop.specs.Serving.{RemovesClosed, parting};
 ghost use Rattle.daide_event_loop.specs.Serving.{is_reported, cause_by, end_by};
-ghost use Rattle.daide_event_loop.specs.Serving.{watches, wait_where, any_progress, Round, is_done, initial_service, bots_in_all};
+ghost use Rattle.daide_event_loop.specs.Serving.{watches, wait_where, any_progress, Round, is_done, initial_service};
 ghost use Rattle.daide_event_loop.specs.Served.{IsWholeRun};
 ghost use Rattle.daide_event_loop.specs.Serving.{IsServeCause, BreaksOff, GivesUp, arrived};
 
@@ -309,18 +309,6 @@ fn rest<P: Ports, A: Allocator + Copy, S: System<P>>(
     }
 }
 
-/// Returns the number of bots of a run in all: as many as the settings say, or all that have a number if the run is
-/// endless.
-fn bots_in_all(settings: &Settings) -> u32
-    ensures { result ≡ bots_in_all settings.now }
-{
-    if settings.endless {
-        u32::MAX
-    } else {
-        settings.sessions
-    }
-}
-
 impl<P: Ports, A: Memory + Copy> Service<P, A> {
     /// Creates a run with no bot yet. Its only error is that the allocator refused the places.
     pub fn new(alloc: A, settings: &Settings) -> Result<Service<P, A>, AllocError>
@@ -332,7 +320,7 @@ impl<P: Ports, A: Memory + Copy> Service<P, A> {
             hub: Hub::with_limits(alloc, limits, settings.max_sessions, settings.words)?,
             counters: AdmissionCounters {
                 max_sessions: settings.max_sessions,
-                sessions: bots_in_all(settings),
+                sessions: settings.bots_in_all(),
                 turns: settings.turns,
                 connecting: 0,
                 accepted: 0,

@@ -25,6 +25,7 @@ pub use daide_reader::{Reader, Verdict};
 pub use daide_driver::{
     AddFault, Hub, HubError, RelayEnd, Removed, hub, relay, relaying, turn, turn_io,
 };
+pub use daide_io::ports::ClockEvent;
 pub use daide_io::{
     Cause, Connect, Notice, Orders, Ports, Pull, Put, SessionEnd, SessionStatus, System, ports,
     system,

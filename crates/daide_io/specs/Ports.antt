@@ -3,8 +3,10 @@
 use Rattle.std.specs.Prelude.{◌≡◌, ℕ, ◌≤◌, Bool, true, false, ◌||◌, if◌then◌else◌}
 use Rattle.std.specs.Prelude.{List, [], ◌∷◌, ◌++◌, take, Option, Some, IfSome}
 use Rattle.daide_frame.specs.declared.side.Side.{Side}
-use Rattle.daide_protocol.specs.Events.{Event, Ends, Loses, ImTimerExpired, bytes_come}
+use Rattle.daide_protocol.specs.Events.{Event, Ends, Loses, ImTimerExpired, OperatorStops, bytes_come}
 use Rattle.daide_frame.specs.Side.{same_side}
+use Rattle.daide_io.specs.declared.ports.ClockEvent.{ClockEvent}
+use Rattle.daide_io.specs.declared.ports.ClockEvent.TheVariants.{NoEvent, ImTimeIsOver, StopIsRequested}
 use Rattle.daide_io.specs.declared.ports.Pull.{Pull}
 use Rattle.daide_io.specs.declared.ports.Pull.TheVariants.{Got, Idle, Ended}
 use Rattle.daide_io.specs.declared.ports.Put.{Put}
@@ -16,9 +18,15 @@ use Rattle.daide_io.specs.declared.ports.Put.TheVariants.{Took, Failed}
 -- clock; of a pull, with the length of its buffer and the bytes received; of a put, with the bytes offered.
 pub data PortCall : Type 0 where
   TurnBegins : PortCall
-  Clock : (im_timer_expired : Bool) → PortCall
+  Clock : (event : ClockEvent) → PortCall
   Pulled : (side : Side) → (buffer : ℕ) → (pull : Pull) → (bytes : List ℕ) → PortCall
   Offered : (side : Side) → (bytes : List ℕ) → (put : Put) → PortCall
+
+-- the clock reports something
+abbrev pub is_eventful : ClockEvent → Bool
+is_eventful NoEvent = false
+is_eventful ImTimeIsOver = true
+is_eventful StopIsRequested = true
 
 -- the number of bytes of a pull
 abbrev pub pulled_len : Pull → ℕ
@@ -51,11 +59,12 @@ AppendsTo {A} old answers new = IfSome new (λ after. (before : List A) × (old 
 
 -- ---- the events
 
--- the events of a call: the timer, bytes from a side, its end, or a failed wire; the beginning of a turn has none
+-- the events of a call: the timer, a stop, bytes from a side, its end, or a failed wire; the beginning of a turn has none
 abbrev pub event_of : PortCall → List Event
 event_of TurnBegins = []
-event_of (Clock true) = ImTimerExpired ∷ []
-event_of (Clock false) = []
+event_of (Clock NoEvent) = []
+event_of (Clock ImTimeIsOver) = ImTimerExpired ∷ []
+event_of (Clock StopIsRequested) = OperatorStops ∷ []
 event_of (Pulled side buffer (Got n) bytes) = bytes_come side bytes
 event_of (Pulled side buffer Idle bytes) = []
 event_of (Pulled side buffer Ended bytes) = Ends side ∷ []
@@ -71,7 +80,7 @@ events_of (answer ∷ answers) = event_of answer ++ events_of answers
 
 abbrev pub took : Side → PortCall → List ℕ
 took side TurnBegins = []
-took side (Clock im_timer_expired) = []
+took side (Clock event) = []
 took side (Pulled from buffer pull bytes) = []
 took side (Offered to bytes (Took n)) = if same_side to side then take n bytes else []
 took side (Offered to bytes Failed) = []
@@ -83,7 +92,7 @@ taken side (answer ∷ answers) = took side answer ++ taken side answers
 
 abbrev pub put_fails : Side → PortCall → Bool
 put_fails side TurnBegins = false
-put_fails side (Clock im_timer_expired) = false
+put_fails side (Clock event) = false
 put_fails side (Pulled from buffer pull bytes) = false
 put_fails side (Offered to bytes (Took n)) = false
 put_fails side (Offered to bytes Failed) = same_side to side

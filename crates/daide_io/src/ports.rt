@@ -26,7 +26,18 @@ pub enum Put {
     Failed,
 }
 
-/// The wires to a bot and a server, and the clock of the initial message.
+/// The result of a call of the clock: what ends a session although no side sent anything.
+#[derive(Clone, Copy, Debug, PartialEq, Eq)]
+pub enum ClockEvent {
+    /// Nothing.
+    NoEvent,
+    /// The time for the initial message is over.
+    ImTimeIsOver,
+    /// The operator requested that the session end.
+    StopIsRequested,
+}
+
+/// The wires to a bot and a server, and the clock, by which the time for the initial message and a stop come.
 ///
 /// Contracts of a caller speak of the calls with their results. Each implementor defines the effect of a call on
 /// itself: ports with a record append the call to it, and those over two streams say which stream gave or took the
@@ -46,7 +57,8 @@ pub trait Ports: Drop {
         ensures within { IsPutWithin result (length bytes.now) }
         ensures transition { transition self.old (Offered side bytes.now result) self.new };
 
-    /// Returns whether the IM timer has expired. The call itself counts, reads and writes nothing.
-    fn clock_popped(&mut self) -> bool
+    /// Returns whether the IM timer has expired, or the operator stops the session. The call itself counts, reads and
+    /// writes nothing.
+    fn clock(&mut self) -> ClockEvent
         ensures { transition self.old (Clock result) self.new };
 }

@@ -17,7 +17,7 @@ use Rattle.daide_log.specs.declared.heading.Version.{Version}
 use Rattle.daide_log.specs.declared.heading.Version.TheVariants.{Single, Match}
 use Rattle.daide_log.specs.declared.config_line.MatchConfig.{MatchConfig}
 use Rattle.daide_protocol.specs.declared.summary.Summary.{Summary}
-use Rattle.daide_log_lines.specs.LogLine.{LogEvent, Received, EndOf, ImTimerLine, Silence, Parted, is_comment, event_of_line}
+use Rattle.daide_log_lines.specs.LogLine.{LogEvent, Received, EndOf, ImTimerLine, StopLine, Silence, Parted, is_comment, event_of_line}
 use Rattle.daide_log_lines.specs.LogLine.{plain_number, parted_at_space}
 use Rattle.daide_log.specs.ConfigLine.{config_of_line}
 use Rattle.daide_log_lines.specs.MatchLine.{MatchEvent, Of, Quiet, loud, within, event_of_session, match_event_of_parts}
@@ -79,6 +79,7 @@ loud_event None event e = absurd (cc)
 loud_event (Some (Received side bytes)) event e = e
 loud_event (Some (EndOf side)) event e = e
 loud_event (Some ImTimerLine) event e = e
+loud_event (Some StopLine) event e = e
 loud_event (Some Silence) event e = absurd (cc)
 
 within_number : (most : ℕ) (o : Option ℕ) (n : ℕ) → within 1 most o ≡ Some n → (o ≡ Some n) × (0 < n)

@@ -5,6 +5,7 @@ use Rattle.daide_protocol.specs.declared.summary.Summary.{Summary}
 use Rattle.daide_protocol.specs.declared.config.Config.{Config}
 use Rattle.daide_protocol.specs.Config.{limits_with}
 use Rattle.daide_protocol.specs.Machine.{initial_state}
+use Rattle.daide_io.specs.declared.ports.ClockEvent.TheVariants.{ImTimeIsOver, StopIsRequested}
 use Rattle.daide_io.specs.Ports.{PortCall, Clock, EvolvesBy}
 use Rattle.daide_protocol.specs.Summary.{nothing_counted}
 use Rattle.daide_log_lines.specs.declared.fault.LogFault.TheVariants.{BadLine}
@@ -57,20 +58,29 @@ whole_or_failed end is other = absurd (let same : Whole ≡ Failed = sym is ∙ 
 -- ports whose timer expired, and that had no other call
 one_line : {P : Type 0} (transition : P → PortCall → P → Type 0) (failed : Type 0) → PortsAreRecorded transition failed →
     (old new : Recorded P) → old.record_of ≡ begun_record limits [] →
-    EvolvesBy (Records transition failed) old (Clock true ∷ []) new → new.record_of.ending ≡ Whole →
-    HasFront limits [] (Clock true ∷ []) new.record_of
+    EvolvesBy (Records transition failed) old (Clock ImTimeIsOver ∷ []) new → new.record_of.ending ≡ Whole →
+    HasFront limits [] (Clock ImTimeIsOver ∷ []) new.record_of
 one_line transition failed law old new begun calls whole =
-    (law limits [] (Clock true ∷ []) old new (omega arith) begun calls).1
+    (law limits [] (Clock ImTimeIsOver ∷ []) old new (omega arith) begun calls).1
     (whole_or_failed new.record_of.ending whole)
 
 -- the record with times of a session whose ports made no call
 nothing_timed : TimedRecordsAreReported → IsTimedReported limits [] [] [] (initial_state (limits_with limits []))
 nothing_timed law = law limits [] [] [] (initial_state (limits_with limits [])) refl refl tt tt (omega arith) (refl, refl)
 
+-- ports whose session was stopped, and that had no other call
+stop_line : {P : Type 0} (transition : P → PortCall → P → Type 0) (failed : Type 0) → PortsAreRecorded transition failed →
+    (old new : Recorded P) → old.record_of ≡ begun_record limits [] →
+    EvolvesBy (Records transition failed) old (Clock StopIsRequested ∷ []) new → new.record_of.ending ≡ Whole →
+    HasFront limits [] (Clock StopIsRequested ∷ []) new.record_of
+stop_line transition failed law old new begun calls whole =
+    (law limits [] (Clock StopIsRequested ∷ []) old new (omega arith) begun calls).1
+    (whole_or_failed new.record_of.ending whole)
+
 -- ports with times whose timer expired, and that had no other call
 one_timed_line : {P : Type 0} (transition : P → PortCall → P → Type 0) (failed : Type 0) →
     TimedPortsAreRecorded transition failed → (old new : TimedRecorded P) → HasBegun limits [] [] old.record_of →
-    EvolvesBy (TimedRecords transition failed) old (Clock true ∷ []) new → new.record_of.ending ≡ Whole →
-    HasItems limits [] (Clock true ∷ []) new.record_of
+    EvolvesBy (TimedRecords transition failed) old (Clock ImTimeIsOver ∷ []) new → new.record_of.ending ≡ Whole →
+    HasItems limits [] (Clock ImTimeIsOver ∷ []) new.record_of
 one_timed_line transition failed law old new begun calls whole =
-    (law limits [] [] (Clock true ∷ []) old new begun calls).1 (whole_or_failed new.record_of.ending whole)
+    (law limits [] [] (Clock ImTimeIsOver ∷ []) old new begun calls).1 (whole_or_failed new.record_of.ending whole)

@@ -41,7 +41,7 @@ use Rattle.daide_reader.proofs.BodyLemmas.{place_in}
 use Rattle.daide_protocol.specs.declared.config.Config.{Config}
 use Rattle.daide_protocol.specs.declared.phase.SessionPhase.TheVariants.{WaitIm, WaitRm, Open, Over}
 use Rattle.daide_protocol.specs.Config.{limits_with}
-use Rattle.daide_protocol.specs.Events.{Ends, ImTimerExpired}
+use Rattle.daide_protocol.specs.Events.{Ends, ImTimerExpired, OperatorStops}
 use Rattle.daide_protocol.specs.Machine.{Limits, event_outcome, im_timer_expired}
 use Rattle.daide_protocol.specs.Wires.{SessionView, holding, held_after}
 use Rattle.daide_protocol.proofs.LimitsKept.{runs_limits}
@@ -469,6 +469,7 @@ module _ (config : Config) (words : List Word) (old : SessionView) (side : Side)
       IsRightlyReported words config side reported new
   rightly_reported events Notes.Nothing made = tt
   rightly_reported events (Notes.Fault code) made = tt
+  rightly_reported events Notes.Stopped made = tt
   rightly_reported events (Notes.Frame head deed) made = by_cause made.caused
     where
       of_fate : (k : Bool) (before after : SessionState) (bytes : List ℕ) (q : Option Question) →
@@ -524,6 +525,7 @@ module _ (config : Config) (words : List Word) (old : SessionView) (side : Side)
       by_cause (IsCaused.by_timer e bot held) =
           absurd (timer_reported old.state made.move new.state head deed
           (subst (λ (es : List Event). Runs old.state es (made.move ∷ []) new.state) e made.run) made.same)
+      by_cause (IsCaused.by_stop e is) = absurd (cc)
 
   -- ---- the entries of a move
 
@@ -630,6 +632,7 @@ module _ (config : Config) (words : List Word) (old : SessionView) (side : Side)
           ExplainsMove words side f.before (Comes side f.byte) note lines
       of_bytes Notes.Nothing piece f e run held l = l
       of_bytes (Notes.Fault code) piece f e run held l = l ∙ ap (fault_lines code) held
+      of_bytes Notes.Stopped piece f e run held l = l
       of_bytes (Notes.Frame head deed) piece f e run held l =
           of_asked (is_dm head.kind) head deed f.before f.after (Comes side f.byte) refl
           (limits_before (bytes_come side piece) (made.move ∷ []) f.front f.before run f.first) (sym f.last) held
@@ -640,18 +643,27 @@ module _ (config : Config) (words : List Word) (old : SessionView) (side : Side)
           ExplainsMove words side old.state ImTimerExpired note lines
       of_timer Notes.Nothing e run held l = l
       of_timer (Notes.Fault code) e run held l = l ∙ ap (fault_lines code) held
+      of_timer Notes.Stopped e run held l = l
       of_timer (Notes.Frame head deed) e run held l =
           absurd (timer_reported old.state made.move new.state head deed run e)
 
       of_end : (note : Note) → made.move.reported ≡ note → Runs old.state (Ends side ∷ []) (made.move ∷ []) new.state →
           AreLinesBy words config.max_depth side note new lines → ExplainsMove words side old.state (Ends side) note lines
       of_end Notes.Nothing e run l = l
+      of_end Notes.Stopped e run l = l
       of_end (Notes.Fault code) e run l =
           let none : Notes.Nothing ≡ Notes.Fault code = sym (end_reported old.state side made.move new.state run) ∙ e in
           absurd (cc)
       of_end (Notes.Frame head deed) e run l =
           let none : Notes.Nothing ≡ Notes.Frame head deed = sym (end_reported old.state side made.move new.state run) ∙ e in
           absurd (cc)
+
+      of_stop : (note : Note) → note ≡ Notes.Stopped → AreLinesBy words config.max_depth side note new lines →
+          ExplainsMove words side old.state OperatorStops note lines
+      of_stop Notes.Nothing e l = absurd (cc)
+      of_stop Notes.Stopped e l = l
+      of_stop (Notes.Fault code) e l = absurd (cc)
+      of_stop (Notes.Frame head deed) e l = absurd (cc)
 
       own : (event : Event) (state : SessionState) → ExplainsMove words side state event reported lines →
           ExplainsMove words side state event made.move.reported lines
@@ -677,3 +689,8 @@ module _ (config : Config) (words : List Word) (old : SessionView) (side : Side)
           subst (λ (es : List Event). AreShownBy words source side old.state es (made.move ∷ []) new.state
           (shown_as source made.move lines)) (sym e)
           (shown_by_one source ImTimerExpired made.move lines run (own ImTimerExpired old.state (of_timer reported made.same run held are)))
+      by_cause (IsCaused.by_stop e is) =
+          let run = subst Run e made.run in
+          subst (λ (es : List Event). AreShownBy words source side old.state es (made.move ∷ []) new.state
+          (shown_as source made.move lines)) (sym e)
+          (shown_by_one source OperatorStops made.move lines run (own OperatorStops old.state (of_stop reported is are)))

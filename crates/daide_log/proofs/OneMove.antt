@@ -19,12 +19,13 @@ use Rattle.daide_frame.proofs.ListLemmas.{eqb_same}
 use Rattle.daide_frame.proofs.FeedingLemmas.{is_dm, alien_in-push}
 use Rattle.daide_frame.proofs.OneByte.{byte_tells, ByteTells}
 use Rattle.daide_reader.specs.declared.verdict.Verdict.{Verdict}
+use Rattle.daide_protocol.specs.declared.note.Note.TheVariants.{Stopped}
 use Rattle.daide_protocol.specs.declared.phase.SessionPhase.{SessionPhase}
 use Rattle.daide_protocol.specs.declared.phase.SessionPhase.TheVariants.{WaitIm, WaitRm, Open, Over}
-use Rattle.daide_protocol.specs.Events.{Event, ImTimerExpired, bytes_come}
+use Rattle.daide_protocol.specs.Events.{Event, ImTimerExpired, OperatorStops, bytes_come}
 use Rattle.daide_protocol.specs.Machine.{SessionState, Effect, Successor, Runs, coming, with_pending, with_noted}
 use Rattle.daide_protocol.specs.Machine.{items_outcome, is_over, untimely, frame_outcome, answered, header_outcome}
-use Rattle.daide_protocol.specs.Machine.{im_answered, im_timer_expired, level_in}
+use Rattle.daide_protocol.specs.Machine.{im_answered, im_timer_expired, level_in, event_outcome, fm_to}
 use Rattle.daide_protocol.specs.Wires.{note_of}
 use Rattle.daide_protocol.proofs.PieceRuns.{over_stays}
 use Rattle.daide_protocol.proofs.OneRun.{one_run}
@@ -254,3 +255,21 @@ one_move_a_timer s moves new run =
     by_phase WaitRm = refl
     by_phase (Open level) = refl
     by_phase (Over ending) = refl
+
+-- ---- the moves of a stop
+
+-- there is none, or the one of a stop
+pub one_move_a_stop : (s : SessionState) (moves : List Effect) (new : SessionState) → Runs s (OperatorStops ∷ []) moves new →
+    (moves ≡ []) ⊎ ((move : Effect) × (moves ≡ move ∷ []) × (move.reported ≡ Stopped))
+one_move_a_stop s moves new run = by_phase (is_over s.phase) refl
+  where
+    made : moves ≡ (event_outcome s OperatorStops run.3.verdict).effects
+    made = run.5 ∙ ap (λ (m : List Effect). run.1 ++ m) run.4.0 ∙ append-nil run.1
+        ∙ sym (ap (λ (o : Successor). o.effects) run.3.outcome)
+
+    by_phase : (over : Bool) → is_over s.phase ≡ over →
+        (moves ≡ []) ⊎ ((move : Effect) × (moves ≡ move ∷ []) × (move.reported ≡ Stopped))
+    by_phase true over = inl (made ∙ rw over refl)
+    by_phase false over =
+        let move : Effect = record { reported = Stopped; sent = fm_to s.phase Bot ++ fm_to s.phase Server } in
+        inr (move, made ∙ rw over refl, refl)

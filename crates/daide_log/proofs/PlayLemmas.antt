@@ -10,10 +10,10 @@ use Rattle.daide_frame.specs.Frames.{missing}
 use Rattle.daide_protocol.specs.declared.note.Note.{Note}
 use Rattle.daide_protocol.specs.declared.note.Note.TheVariants as Notes
 use Rattle.daide_frame.specs.Side.{other}
-use Rattle.daide_protocol.specs.Events.{Event, Ends, ImTimerExpired, bytes_come}
+use Rattle.daide_protocol.specs.Events.{Event, Ends, ImTimerExpired, OperatorStops, bytes_come}
 use Rattle.daide_protocol.specs.Machine.{SessionState, Effect, Successor, Sent, Runs, coming, fm_to, is_over, event_outcome}
 use Rattle.daide_protocol.specs.Wires.{SessionView, Refines, ReceivesBytes, Holding, HoldsTheSame, holding, sent_to, queued}
-use Rattle.daide_protocol.specs.Wires.{room_of, is_awaited}
+use Rattle.daide_protocol.specs.Wires.{room_of, is_awaited, note_of, note_or}
 use Rattle.daide_protocol.proofs.OneRun.{runs_join}
 use Rattle.daide_protocol.proofs.PieceRuns.{over_stays}
 use Rattle.daide_protocol.proofs.WireLemmas.{bytes_come-append}
@@ -29,7 +29,7 @@ use Rattle.daide_protocol.specs.Summary.{HasRoom, IsMoreBy}
 use Rattle.daide_protocol.proofs.GrowthLemmas.{no_more, more_by, more_then, less_room, room_after}
 use Rattle.daide_log.specs.Reporting.{IsIdle, IsOneEffect, ReportsEvents, IsMade, IsReportedWith, IsReady, IsUnder}
 use Rattle.daide_log.specs.Reporting.{IsCaused}
-use Rattle.daide_log.proofs.OneMove.{one_move_a_piece, one_move_a_timer}
+use Rattle.daide_log.proofs.OneMove.{one_move_a_piece, one_move_a_timer, one_move_a_stop}
 
 -- ---- one piece
 
@@ -120,6 +120,36 @@ timer_silent old new reported g e =
     subst (λ (moves : List Effect). Runs old.state (ImTimerExpired ∷ []) moves new.state)
     (no_move g.effects reported (subst (IsOneEffect g.effects) (sym g.note)
     (one_move_a_timer old.state g.effects new.state g.run)) e) g.run
+
+stop_noted : (move : Effect) → move.reported ≡ Notes.Stopped → note_of (move ∷ []) ≡ Notes.Stopped
+stop_noted move is = ap (λ (n : Note). note_or n Notes.Nothing) is
+
+-- a stop
+pub stop_made : (old new : SessionView) (reported : Note) → Refines old (OperatorStops ∷ []) reported new →
+    (reported ≡ Notes.Nothing → ⊥) → IsMade old (OperatorStops ∷ []) Bot reported new
+stop_made old new reported g some = by_moves (one_move_a_stop old.state g.effects new.state g.run)
+  where
+    by_moves : (g.effects ≡ []) ⊎ ((move : Effect) × (g.effects ≡ move ∷ []) × (move.reported ≡ Notes.Stopped)) →
+        IsMade old (OperatorStops ∷ []) Bot reported new
+    by_moves (inl none) = absurd (some (g.note ∙ ap note_of none))
+    by_moves (inr (move, only, is)) =
+        let same : move.reported ≡ reported = is ∙ sym (g.note ∙ ap note_of only ∙ stop_noted move is) in
+        record {
+          move = move;
+          run = subst (λ (moves : List Effect). Runs old.state (OperatorStops ∷ []) moves new.state) only g.run;
+          same = same;
+          caused = IsCaused.by_stop refl (sym same ∙ is);
+        }
+
+pub stop_silent : (old new : SessionView) (reported : Note) → Refines old (OperatorStops ∷ []) reported new →
+    reported ≡ Notes.Nothing → Runs old.state (OperatorStops ∷ []) [] new.state
+stop_silent old new reported g e = by_moves (one_move_a_stop old.state g.effects new.state g.run)
+  where
+    by_moves : (g.effects ≡ []) ⊎ ((move : Effect) × (g.effects ≡ move ∷ []) × (move.reported ≡ Notes.Stopped)) →
+        Runs old.state (OperatorStops ∷ []) [] new.state
+    by_moves (inl none) = subst (λ (moves : List Effect). Runs old.state (OperatorStops ∷ []) moves new.state) none g.run
+    by_moves (inr (move, only, is)) =
+        let no : Notes.Nothing ≡ Notes.Stopped = sym e ∙ (g.note ∙ ap note_of only ∙ stop_noted move is) in absurd (cc)
 
 -- a side's end
 end_effects : (old new : SessionView) (side : Side) (g : Refines old (Ends side ∷ []) Notes.Nothing new) →

@@ -16,7 +16,7 @@ use Rattle.daide_frame.specs.declared.side.Side.TheVariants.{Bot, Server}
 use Rattle.daide_grammar.proofs.Alike.{alike}
 use Rattle.daide_log_lines.specs.LogLine.{IsUnbroken, without_cr, longest_line, plain_number}
 use Rattle.daide_log_lines.specs.LogLine.{with_first, parted_at_space}
-use Rattle.daide_log_lines.specs.LogLine.{LogEvent, Received, EndOf, ImTimerLine, Silence, decoded, parse_received, event_of_line}
+use Rattle.daide_log_lines.specs.LogLine.{LogEvent, Received, EndOf, ImTimerLine, StopLine, Silence, decoded, parse_received, event_of_line}
 use Rattle.daide_log_lines.specs.MatchLine.{Of, loud, event_of_session, match_event_of_line}
 use Rattle.daide_log.specs.Report.{name_of_side}
 use Rattle.daide_log.specs.RecordText.{event_text}
@@ -117,6 +117,7 @@ abbrev pub IsWritable : LogEvent → Type 0
 IsWritable (Received side bytes) = IsBytes bytes × (0 < length bytes) × (length bytes ≤ 1024)
 IsWritable (EndOf side) = Unit {0}
 IsWritable ImTimerLine = Unit {0}
+IsWritable StopLine = Unit {0}
 IsWritable Silence = ⊥
 
 traffic_back : (side : Side) (bytes : List ℕ) → IsWritable (Received side bytes) →
@@ -138,12 +139,14 @@ event_back (Received Server bytes) h = traffic_back Server bytes h
 event_back (EndOf Bot) h = refl
 event_back (EndOf Server) h = refl
 event_back ImTimerLine h = refl
+event_back StopLine h = refl
 event_back Silence h = absurd h
 
 loud_back : (event : LogEvent) → IsWritable event → loud (Some event) ≡ Some event
 loud_back (Received side bytes) h = refl
 loud_back (EndOf side) h = refl
 loud_back ImTimerLine h = refl
+loud_back StopLine h = refl
 loud_back Silence h = absurd h
 
 pub line_back : (event : LogEvent) → IsWritable event → match_event_of_line 1 (codes "1 " ++ event_text event) ≡ Some (Of 1 event)
@@ -163,6 +166,7 @@ event_plain (Received side bytes) h =
 event_plain (EndOf Bot) h = refl
 event_plain (EndOf Server) h = refl
 event_plain ImTimerLine h = refl
+event_plain StopLine h = refl
 event_plain Silence h = absurd h
 
 pub line_plain : (event : LogEvent) → IsWritable event → list_all is_plain (codes "1 " ++ event_text event) ≡ true
@@ -185,6 +189,7 @@ event_short (Received side bytes) h =
 event_short (EndOf Bot) h = omega arith
 event_short (EndOf Server) h = omega arith
 event_short ImTimerLine h = omega arith
+event_short StopLine h = omega arith
 event_short Silence h = absurd h
 
 pub line_short : (event : LogEvent) → IsWritable event → length (codes "1 " ++ event_text event) ≤ longest_line

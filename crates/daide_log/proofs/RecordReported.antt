@@ -23,11 +23,12 @@ use Rattle.daide_protocol.specs.Machine.{SessionState, Effect, Successor, Transi
 use Rattle.daide_protocol.proofs.OneRun.{one_run}
 use Rattle.daide_protocol.proofs.PieceRuns.{over_stays}
 use Rattle.daide_reader.specs.declared.verdict.Verdict.{Verdict}
+use Rattle.daide_io.specs.declared.ports.ClockEvent.TheVariants.{NoEvent, ImTimeIsOver, StopIsRequested}
 use Rattle.daide_io.specs.declared.ports.Pull.TheVariants.{Got, Idle, Ended}
 use Rattle.daide_io.specs.declared.ports.Put.TheVariants.{Took, Failed}
 use Rattle.daide_io.specs.Ports.{PortCall, TurnBegins, Clock, Pulled, Offered, event_of, events_of}
 use Rattle.daide_log_lines.specs.LogLine.{most_lines}
-use Rattle.daide_log_lines.specs.LogLine.{LogEvent, Received, EndOf, ImTimerLine}
+use Rattle.daide_log_lines.specs.LogLine.{LogEvent, Received, EndOf, ImTimerLine, StopLine}
 use Rattle.daide_log_lines.specs.MatchLine.{Of}
 use Rattle.daide_log.specs.declared.heading.Version.TheVariants.{Match}
 use Rattle.daide_log.specs.Heading.{Preamble, Unnamed, Named, Headed, append_word, heading_after}
@@ -130,8 +131,9 @@ pub record GoesAsLogged (old : SessionState) (answer : PortCall) (moves : List E
 same_goes : (answer : PortCall) (old new : SessionState) (moves : List Effect) → Runs old (event_of answer) moves new →
     GoesAsLogged old answer moves new
 same_goes TurnBegins old new moves r = record { logged = new; runs = r; alike = inl refl }
-same_goes (Clock true) old new moves r = record { logged = new; runs = r; alike = inl refl }
-same_goes (Clock false) old new moves r = record { logged = new; runs = r; alike = inl refl }
+same_goes (Clock ImTimeIsOver) old new moves r = record { logged = new; runs = r; alike = inl refl }
+same_goes (Clock StopIsRequested) old new moves r = record { logged = new; runs = r; alike = inl refl }
+same_goes (Clock NoEvent) old new moves r = record { logged = new; runs = r; alike = inl refl }
 same_goes (Pulled side buffer (Got n) []) old new moves r = record { logged = new; runs = r; alike = inl refl }
 same_goes (Pulled side buffer (Got n) (byte ∷ came)) old new moves r =
     record { logged = new; runs = r; alike = inl refl }
@@ -231,9 +233,11 @@ pub answer_reported : (answer : PortCall) (bytes : List ℕ) (number : ℕ) (rep
     (reported ++ entries_of (source_in Match (number + 1) 1) (side_of_answer answer) moves) (Playing Match (new ∷ []))
 answer_reported TurnBegins bytes number reported old new moves piece fits h r =
     quiet_reported bytes number reported Bot old new moves h r
-answer_reported (Clock true) bytes number reported old new moves piece fits h r =
+answer_reported (Clock ImTimeIsOver) bytes number reported old new moves piece fits h r =
     event_reported ImTimerLine bytes number reported old new moves tt fits h r
-answer_reported (Clock false) bytes number reported old new moves piece fits h r =
+answer_reported (Clock StopIsRequested) bytes number reported old new moves piece fits h r =
+    event_reported StopLine bytes number reported old new moves tt fits h r
+answer_reported (Clock NoEvent) bytes number reported old new moves piece fits h r =
     quiet_reported bytes number reported Bot old new moves h r
 answer_reported (Pulled side buffer (Got n) []) bytes number reported old new moves piece fits h r =
     quiet_reported bytes number reported side old new moves h r

@@ -12,7 +12,7 @@ use Rattle.daide_frame.specs.Head.{parse_head}
 use Rattle.daide_frame.specs.InitialMessage.{im_of}
 use Rattle.daide_frame.specs.Frames.{is_alien, first_items, last_items}
 use Rattle.daide_protocol.specs.declared.note.Deed.TheVariants.{Relayed, Dropped, Prn, Huh}
-use Rattle.daide_protocol.specs.declared.note.Note.TheVariants.{Nothing, Frame, Fault}
+use Rattle.daide_protocol.specs.declared.note.Note.TheVariants.{Nothing, Frame, Fault, Stopped}
 use Rattle.daide_protocol.specs.declared.phase.SessionPhase.{SessionPhase}
 use Rattle.daide_protocol.specs.declared.ending.Ending.{Ending}
 use Rattle.daide_protocol.specs.declared.ending.Ending.TheVariants as Endings
@@ -21,7 +21,7 @@ use Rattle.daide_protocol.specs.Machine.{SessionState}
 use Rattle.daide_protocol.specs.declared.config.Config.{Config}
 use Rattle.daide_protocol.specs.Config.{limits_of}
 use Rattle.daide_log_lines.specs.declared.fault.LogFault.TheVariants.{BadLine}
-use Rattle.daide_log_lines.specs.LogLine.{LogEvent, Received, EndOf, ImTimerLine, without_cr, plain_number, parted_at_space}
+use Rattle.daide_log_lines.specs.LogLine.{LogEvent, Received, EndOf, ImTimerLine, StopLine, without_cr, plain_number, parted_at_space}
 use Rattle.daide_log_lines.specs.LogLine.{event_of_line}
 use Rattle.daide_log_lines.specs.MatchLine.{Of}
 use Rattle.daide_log.specs.declared.heading.Version.TheVariants.{Single}
@@ -59,8 +59,9 @@ moves_reported : (move_line (of_line 3) Bot (Frame (record { kind = Im; len = 4 
     × (move_line (of_line 1000000) Server (Fault InvalidToken) ≡ codes "1000000 server fault 0E" ++ 10 ∷ [])
     × (move_line (of_line 3) Bot (Fault ImTimeout) ≡ codes "3 bot fault 01" ++ 10 ∷ [])
     × (move_line (of_line 3) Server Nothing ≡ codes "3 server end" ++ 10 ∷ [])
+    × (move_line (of_line 3) Bot Stopped ≡ codes "3 operator stop" ++ 10 ∷ [])
 unfolding of_line move_line source_text reported_text digits encode_with
-moves_reported = (refl, refl, refl, refl, refl, refl, refl)
+moves_reported = (refl, refl, refl, refl, refl, refl, refl, refl)
 
 counts_reported : summary_line (record { relayed = 4; prn = 1; huh = 0; faults = 0 })
     ≡ codes "relayed 4 prn 1 huh 0 faults 0" ++ 10 ∷ []
@@ -132,6 +133,17 @@ unfolding event_of_line move_line source_text reported_text summary_line digits 
 timer_alone =
     one_line (codes "timer") ImTimerLine
     (record { state = session_ended (Endings.Fault Bot ImTimeout); reported = Fault ImTimeout ∷ [] }) refl (omega arith)
+    refl refl
+
+-- a stop ends the session, and is counted nowhere
+stop_alone : IsReport (opening_lines ++ codes "stop" ++ 10 ∷ [])
+    ((codes "3 operator stop" ++ 10 ∷ []) ++ codes "relayed 0 prn 0 huh 0 faults 0" ++ 10 ∷ [])
+    (Ok (record { relayed = 0; prn = 0; huh = 0; faults = 0 }))
+unfolding event_of_line move_line source_text reported_text summary_line digits encode_with entries_by played verdict_on
+    has_no_feed
+stop_alone =
+    one_line (codes "stop") StopLine
+    (record { state = session_ended Endings.Stopped; reported = Stopped ∷ [] }) refl (omega arith)
     refl refl
 
 -- the end of the server ends the session

@@ -28,7 +28,7 @@ use Rattle.daide_protocol.specs.declared.ending.Ending.{Ending}
 use Rattle.daide_protocol.specs.declared.ending.Ending.TheVariants as Endings
 use Rattle.daide_protocol.specs.declared.summary.Summary.{Summary}
 use Rattle.daide_protocol.specs.Answers.{answer_body}
-use Rattle.daide_protocol.specs.Events.{Event, Comes, Ends, Loses, ImTimerExpired}
+use Rattle.daide_protocol.specs.Events.{Event, Comes, Ends, Loses, ImTimerExpired, OperatorStops}
 use Rattle.daide_protocol.specs.Machine.{SessionState, Effect, Question, Transition, coming, question, side2_of, ending_in}
 use Rattle.daide_protocol.specs.Summary.{count_note}
 use Rattle.daide_frame.specs.Side.{same_side}
@@ -119,6 +119,7 @@ bytes_at state side (Comes from byte) = (coming state side).pending ++ byte ∷ 
 bytes_at state side (Ends from) = (coming state side).pending
 bytes_at state side (Loses from) = (coming state side).pending
 bytes_at state side ImTimerExpired = (coming state side).pending
+bytes_at state side OperatorStops = (coming state side).pending
 
 -- the lines that explain a side's move, which this event caused in this state
 abbrev pub ExplainsMove : List Word → Side → SessionState → Event → Note → List ℕ → Type 0
@@ -126,6 +127,7 @@ ExplainsMove words side before event Notes.Nothing lines = lines ≡ []
 ExplainsMove words side before event (Notes.Frame head deed) lines =
     ExplainsFrame words before.limits.max_depth (question before event) (drop 4 (bytes_at before side event)) deed lines
 ExplainsMove words side before event (Notes.Fault code) lines = lines ≡ fault_lines code (bytes_at before side event)
+ExplainsMove words side before event Notes.Stopped lines = lines ≡ []
 
 -- ---- the entries
 
@@ -177,6 +179,7 @@ is_at_fault side (Some (Endings.Ended at)) = false
 is_at_fault side (Some (Endings.Lost at)) = false
 is_at_fault side (Some (Endings.Final at)) = false
 is_at_fault side (Some (Endings.Error at)) = false
+is_at_fault side (Some Endings.Stopped) = false
 
 -- an incomplete frame: how many of its bytes were received, and its size, once its header is complete
 pub record Part : Type 0 where

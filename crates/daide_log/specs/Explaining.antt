@@ -39,6 +39,7 @@ IsRightlyReported words config side Notes.Nothing new = ⊤
 IsRightlyReported words config side (Notes.Frame head deed) new =
     MatchBool (is_dm head.kind) (IsRightFate words config side deed new) ⊤
 IsRightlyReported words config side (Notes.Fault code) new = ⊤
+IsRightlyReported words config side Notes.Stopped new = ⊤
 
 -- the lines for a move, from the held frame
 abbrev pub AreLinesBy : List Word → ℕ → Side → Note → SessionView → List ℕ → Type 0
@@ -49,6 +50,7 @@ AreLinesBy words max_depth side (Notes.Frame head deed) new lines =
     (verdict_by deed) lines)
     (lines ≡ [])
 AreLinesBy words max_depth side (Notes.Fault code) new lines = lines ≡ fault_lines code (holding new side).held
+AreLinesBy words max_depth side Notes.Stopped new lines = lines ≡ []
 
 -- ---- incomplete frames
 

@@ -22,10 +22,10 @@ use Rattle.daide_log.specs.Recording.{Written, Recorded, Records, IsPiece}
 
 -- ---- moves, by the port calls that caused them
 
--- the side of a call; the timer is the one for the bot's first message
+-- the side of a call; the timer is the one for the bot's first message, and a stop has no side of its own
 abbrev pub side_of_answer : PortCall → Side
 side_of_answer TurnBegins = Bot
-side_of_answer (Clock im_timer_expired) = Bot
+side_of_answer (Clock event) = Bot
 side_of_answer (Pulled side buffer pull bytes) = side
 side_of_answer (Offered side bytes put) = side
 

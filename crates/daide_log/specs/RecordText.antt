@@ -9,10 +9,11 @@ use Rattle.daide_grammar.specs.Level.{level_number}
 use Rattle.daide_words.specs.declared.word.Word.{Word}
 use Rattle.daide_words.specs.WordNames.{operand_name, slot_name}
 use Rattle.daide_protocol.specs.declared.config.Config.{Config}
+use Rattle.daide_io.specs.declared.ports.ClockEvent.TheVariants.{NoEvent, ImTimeIsOver, StopIsRequested}
 use Rattle.daide_io.specs.declared.ports.Pull.TheVariants.{Got, Idle, Ended}
 use Rattle.daide_io.specs.declared.ports.Put.TheVariants.{Took, Failed}
 use Rattle.daide_io.specs.Ports.{PortCall, TurnBegins, Clock, Pulled, Offered}
-use Rattle.daide_log_lines.specs.LogLine.{LogEvent, Received, EndOf, ImTimerLine, Silence}
+use Rattle.daide_log_lines.specs.LogLine.{LogEvent, Received, EndOf, ImTimerLine, StopLine, Silence}
 use Rattle.daide_log.specs.Report.{name_of_side}
 
 -- ---- the event of a port call
@@ -22,12 +23,13 @@ abbrev pub piece_of : Side → List ℕ → Option LogEvent
 piece_of side [] = None
 piece_of side (byte ∷ bytes) = Some (Received side (byte ∷ bytes))
 
--- an expired timer, bytes received, or an end; a failed write is recorded as the end of its side; the beginning of a
+-- an expired timer, a stop, bytes received, or an end; a failed write is recorded as the end of its side; the beginning of a
 -- turn has no event
 abbrev pub reported_by : PortCall → Option LogEvent
 reported_by TurnBegins = None
-reported_by (Clock true) = Some ImTimerLine
-reported_by (Clock false) = None
+reported_by (Clock ImTimeIsOver) = Some ImTimerLine
+reported_by (Clock StopIsRequested) = Some StopLine
+reported_by (Clock NoEvent) = None
 reported_by (Pulled side buffer (Got n) bytes) = piece_of side bytes
 reported_by (Pulled side buffer Idle bytes) = None
 reported_by (Pulled side buffer Ended bytes) = Some (EndOf side)
@@ -41,6 +43,7 @@ unfoldable pub event_text : LogEvent → List ℕ
 event_text (Received side bytes) = name_of_side side ++ 32 ∷ encode_upper bytes
 event_text (EndOf side) = codes "end " ++ name_of_side side
 event_text ImTimerLine = codes "timer"
+event_text StopLine = codes "stop"
 event_text Silence = []
 
 -- the line of an event of session 1

@@ -2,10 +2,11 @@
 use Rattle.std.specs.Prelude.{◌≡◌, ◌⊎◌, ⊤, ℕ, ◌+◌, ◌-◌, ◌<◌, ◌≤◌, min, Bool, true, false, List, [], length, Option, Some, None}
 use Rattle.std.specs.Io.KnownBytes.{Appends, Keeps}
 use Rattle.hex.specs.Hex.{IsBytes}
+use Rattle.daide_io.specs.declared.ports.ClockEvent.TheVariants.{NoEvent, ImTimeIsOver, StopIsRequested}
 use Rattle.daide_io.specs.Ports.{PortCall, TurnBegins, Clock, Pulled, Offered}
 use Rattle.daide_io.specs.declared.ports.Pull.TheVariants as pulls
 use Rattle.daide_io.specs.declared.ports.Put.TheVariants as puts
-use Rattle.daide_log_lines.specs.LogLine.{LogEvent, EndOf, ImTimerLine, most_lines, longest_line, longest_piece}
+use Rattle.daide_log_lines.specs.LogLine.{LogEvent, EndOf, ImTimerLine, StopLine, most_lines, longest_line, longest_piece}
 use Rattle.daide_log_lines.specs.Output.{page_size}
 use Rattle.daide_log.specs.declared.record.RecordEnd.{RecordEnd}
 use Rattle.daide_log.specs.declared.record.RecordEnd.TheVariants.{Whole, Failed, Full}
@@ -79,12 +80,14 @@ abbrev pub line_event : RecordedEvent → Option LogEvent
 line_event (events.Received side bytes) = piece_of side bytes.now
 line_event (events.EndOf side) = Some (EndOf side)
 line_event events.ImTimer = Some ImTimerLine
+line_event events.Stop = Some StopLine
 
 -- its bytes fit a line
 abbrev pub FitsLine : RecordedEvent → Type 0
 FitsLine (events.Received side bytes) = length bytes.now ≤ longest_piece
 FitsLine (events.EndOf side) = ⊤
 FitsLine events.ImTimer = ⊤
+FitsLine events.Stop = ⊤
 
 -- ---- ports
 
@@ -97,10 +100,11 @@ pub record Recorded (P : Type 0) : Type 0 where
 -- Whether bytes move, after a call. A pull shows it, and so does an event that ends the session.
 abbrev pub activity_after : PortCall → Activity → Activity
 activity_after TurnBegins before = before
-activity_after (Clock true) before = Ended
-activity_after (Clock false) Ended = Idle
-activity_after (Clock false) Moving = Moving
-activity_after (Clock false) Idle = Idle
+activity_after (Clock ImTimeIsOver) before = Ended
+activity_after (Clock StopIsRequested) before = Ended
+activity_after (Clock NoEvent) Ended = Idle
+activity_after (Clock NoEvent) Moving = Moving
+activity_after (Clock NoEvent) Idle = Idle
 activity_after (Pulled side buffer (pulls.Got n) bytes) before = Moving
 activity_after (Pulled side buffer pulls.Idle bytes) before = Idle
 activity_after (Pulled side buffer pulls.Ended bytes) before = Ended
@@ -111,10 +115,11 @@ activity_after (Offered side bytes puts.Failed) before = Ended
 -- nothing.
 abbrev pub is_written_at : PortCall → Activity → Bool
 is_written_at TurnBegins before = false
-is_written_at (Clock true) before = false
-is_written_at (Clock false) Moving = false
-is_written_at (Clock false) Idle = false
-is_written_at (Clock false) Ended = true
+is_written_at (Clock ImTimeIsOver) before = false
+is_written_at (Clock StopIsRequested) before = false
+is_written_at (Clock NoEvent) Moving = false
+is_written_at (Clock NoEvent) Idle = false
+is_written_at (Clock NoEvent) Ended = true
 is_written_at (Pulled side buffer (pulls.Got n) bytes) before = false
 is_written_at (Pulled side buffer pulls.Idle bytes) Moving = false
 is_written_at (Pulled side buffer pulls.Idle bytes) Idle = true
@@ -125,14 +130,14 @@ is_written_at (Offered side bytes put) before = false
 -- the same call of the inner ports; a pull passes on at most as many bytes of the buffer as fit a line
 abbrev pub asked_within : PortCall → PortCall
 asked_within TurnBegins = TurnBegins
-asked_within (Clock im_timer_expired) = Clock im_timer_expired
+asked_within (Clock event) = Clock event
 asked_within (Pulled side buffer pull bytes) = Pulled side (min buffer longest_piece) pull bytes
 asked_within (Offered side bytes put) = Offered side bytes put
 
 -- the bytes that a pull returned fit a line
 abbrev pub IsPiece : PortCall → Type 0
 IsPiece TurnBegins = ⊤
-IsPiece (Clock im_timer_expired) = ⊤
+IsPiece (Clock event) = ⊤
 IsPiece (Pulled side buffer pull bytes) = IsBytes bytes × (length bytes ≤ longest_piece)
 IsPiece (Offered side bytes put) = ⊤
 

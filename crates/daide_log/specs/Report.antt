@@ -9,13 +9,13 @@ use Rattle.daide_frame.specs.Kind.{name_of_kind}
 use Rattle.daide_protocol.specs.declared.note.Deed.{Deed}
 use Rattle.daide_protocol.specs.declared.note.Deed.TheVariants.{Relayed, Dropped, Prn, Huh}
 use Rattle.daide_protocol.specs.declared.note.Note.{Note}
-use Rattle.daide_protocol.specs.declared.note.Note.TheVariants.{Nothing, Frame, Fault}
-use Rattle.daide_protocol.specs.Events.{Event, Ends, ImTimerExpired, bytes_come}
+use Rattle.daide_protocol.specs.declared.note.Note.TheVariants.{Nothing, Frame, Fault, Stopped}
+use Rattle.daide_protocol.specs.Events.{Event, Ends, ImTimerExpired, OperatorStops, bytes_come}
 use Rattle.daide_protocol.specs.Machine.{Effect}
 use Rattle.daide_protocol.specs.Summary.{count_note, summary_text}
 use Rattle.daide_log.specs.declared.report.ReportKey.{ReportKey}
 use Rattle.daide_protocol.specs.declared.summary.Summary.{Summary}
-use Rattle.daide_log_lines.specs.LogLine.{LogEvent, Received, EndOf, ImTimerLine, Silence}
+use Rattle.daide_log_lines.specs.LogLine.{LogEvent, Received, EndOf, ImTimerLine, StopLine, Silence}
 
 -- ---- the events of a log's line
 
@@ -24,13 +24,15 @@ abbrev pub events_of_line : LogEvent → List Event
 events_of_line (Received side bytes) = bytes_come side bytes
 events_of_line (EndOf side) = Ends side ∷ []
 events_of_line ImTimerLine = ImTimerExpired ∷ []
+events_of_line StopLine = OperatorStops ∷ []
 events_of_line Silence = []
 
--- the side of these events; the timer is the one for the bot's first message
+-- the side of these events; the timer is the one for the bot's first message, and a stop has no side of its own
 abbrev pub side_of : LogEvent → Side
 side_of (Received side bytes) = side
 side_of (EndOf side) = side
 side_of ImTimerLine = Bot
+side_of StopLine = Bot
 side_of Silence = Bot
 
 -- ---- words
@@ -50,11 +52,19 @@ deed_text Dropped = codes "drop"
 deed_text Prn = codes "prn"
 deed_text (Huh place) = codes "huh " ++ decimal place
 
--- a move: a frame with its kind, its length and what was done with it, or a fault with its code, or an end
+-- a move: a frame with its kind, its length and what was done with it, or a fault with its code, an end or a stop
 abbrev pub move_text : Note → List ℕ
 move_text Nothing = codes "end"
 move_text (Frame head deed) = name_of_kind head.kind ++ 32 ∷ decimal head.len ++ 32 ∷ deed_text deed
 move_text (Fault code) = codes "fault " ++ code_digits code
+move_text Stopped = codes "stop"
+
+-- who made a move: a side, or the operator
+abbrev pub author_text : Side → Note → List ℕ
+author_text side Nothing = name_of_side side
+author_text side (Frame head deed) = name_of_side side
+author_text side (Fault code) = name_of_side side
+author_text side Stopped = codes "operator"
 
 -- ---- the lines
 
@@ -67,9 +77,9 @@ session_text (Some session) = decimal session ++ 32 ∷ []
 unfoldable pub source_text : ReportKey → List ℕ
 source_text source = decimal source.line ++ 32 ∷ session_text source.session
 
--- one move of a side's, after its key
+-- one move, after its key
 unfoldable pub reported_text : Side → Note → List ℕ
-reported_text side reported = name_of_side side ++ 32 ∷ move_text reported ++ 10 ∷ []
+reported_text side reported = author_text side reported ++ 32 ∷ move_text reported ++ 10 ∷ []
 
 unfoldable pub move_line : ReportKey → Side → Note → List ℕ
 move_line source side reported = source_text source ++ reported_text side reported

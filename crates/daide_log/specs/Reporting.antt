@@ -5,7 +5,7 @@ use Rattle.daide_frame.specs.declared.side.Side.{Side}
 use Rattle.daide_protocol.specs.declared.note.Note.{Note}
 use Rattle.daide_protocol.specs.declared.note.Note.TheVariants as Notes
 use Rattle.daide_frame.specs.declared.side.Side.TheVariants.{Bot}
-use Rattle.daide_protocol.specs.Events.{Event, Ends, ImTimerExpired, bytes_come}
+use Rattle.daide_protocol.specs.Events.{Event, Ends, ImTimerExpired, OperatorStops, bytes_come}
 use Rattle.daide_protocol.specs.Machine.{SessionState, Effect, Runs, coming}
 use Rattle.daide_protocol.specs.Wires.{SessionView, ReceivesBytes, holding, room_of}
 use Rattle.daide_protocol.specs.Summary.{count_note}
@@ -44,7 +44,7 @@ ReportsEvents form source side old events new before after written_before writte
 
 -- ---- one move
 
--- The cause of a session's move: a side's bytes, that side's end, or the timer, which is the bot's.
+-- The cause of a session's move: a side's bytes, that side's end, the timer, which is the bot's, or a stop.
 pub data IsCaused (old : SessionView) (events : List Event) (side : Side) (reported : Note) (new : SessionView) : Type 0 where
   by_bytes : (piece : List ℕ) → events ≡ bytes_come side piece → length piece ≤ room_of old side →
       (holding old side).held ≡ (coming old.state side).pending → ReceivesBytes old side piece reported new →
@@ -52,6 +52,7 @@ pub data IsCaused (old : SessionView) (events : List Event) (side : Side) (repor
   by_end : events ≡ Ends side ∷ [] → IsCaused old events side reported new
   by_timer : events ≡ ImTimerExpired ∷ [] → side ≡ Bot → (holding new side).held ≡ (coming old.state side).pending →
       IsCaused old events side reported new
+  by_stop : events ≡ OperatorStops ∷ [] → reported ≡ Notes.Stopped → IsCaused old events side reported new
 
 -- These events cause one move of the session, with this note; the session still holds its frame.
 pub record IsMade (old : SessionView) (events : List Event) (side : Side) (reported : Note) (new : SessionView) : Type 0 where

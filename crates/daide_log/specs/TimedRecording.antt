@@ -55,7 +55,7 @@ TakesTimedCall failed old (Some event) new =
 -- the present time changes only when a turn begins
 abbrev pub KeepsTime : PortCall → Option Moment → Option Moment → Type 0
 KeepsTime TurnBegins old new = ⊤
-KeepsTime (Clock im_timer_expired) old new = new ≡ old
+KeepsTime (Clock event) old new = new ≡ old
 KeepsTime (Pulled side buffer pull bytes) old new = new ≡ old
 KeepsTime (Offered side bytes put) old new = new ≡ old
 

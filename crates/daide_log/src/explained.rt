@@ -262,7 +262,7 @@ fn write_lines<A: Allocator, B: Allocator + Copy>(
         × (text.new.items ≡ text.old.items ++ lines)) }
 {
     match reported {
-        Note::Nothing => Ok(()),
+        Note::Nothing | Note::Stopped => Ok(()),
         Note::Frame(frame, deed) => {
             if is_message(frame.kind) {
                 return write_held(head, session, side, deed, text);

@@ -16,7 +16,7 @@ ghost use Rattle.daide_log.specs.Progress.{Judges, states_of};
 
 use crate::heading::Version;
 use crate::page::Unreported;
-use crate::play::{end, feed_all, time_out};
+use crate::play::{end, feed_all, halt, time_out};
 use crate::report::ReportKey;
 use crate::report_builder::ReportBuilder;
 use crate::style::Style;
@@ -38,7 +38,7 @@ pub(crate) fn as_fault(reported: Result<(), Unreported>) -> Result<(), LogFault>
     }
 }
 
-/// Judges an event. Feeds its bytes, which are at the front of the buffer, or reports its end or the timer to the
+/// Judges an event. Feeds its bytes, which are at the front of the buffer, or reports its end, the timer or a stop to the
 /// session, and reports the session's moves.
 pub fn judge<A: Allocator, W: Write, S: Style>(
     session: &mut Session<A>,
@@ -66,6 +66,7 @@ pub fn judge<A: Allocator, W: Write, S: Style>(
         }
         ParsedEvent::EndOf(side) => as_fault(end(session, side, source, account)),
         ParsedEvent::ImTimerLine => as_fault(time_out(session, source, account)),
+        ParsedEvent::StopLine => as_fault(halt(session, source, account)),
         ParsedEvent::Silence => Ok(()),
     }
 }

@@ -4,7 +4,7 @@ ghost use Rattle.std.specs.Prelude.{◌≡◌, ◌≤◌, ℕ, List, ◌∷◌, 
 ghost use Rattle.std.specs.Io.KnownBytes.{Appends};
 ghost use Rattle.daide_frame.specs.declared.side.Side.{Side};
 ghost use Rattle.daide_log_lines.specs.Output.{IsSameWriter, all_of};
-ghost use Rattle.daide_protocol.specs.Events.{Event, Ends, ImTimerExpired, bytes_come};
+ghost use Rattle.daide_protocol.specs.Events.{Event, Ends, ImTimerExpired, OperatorStops, bytes_come};
 ghost use Rattle.daide_protocol.specs.Machine.{coming};
 ghost use Rattle.daide_protocol.specs.Wires.{SessionView, holding, room_of};
 ghost use Rattle.daide_protocol.specs.Summary.{count_note};
@@ -173,4 +173,31 @@ pub fn time_out<A: Allocator, W: Write, S: Style>(
     let written = tell(session, source, Side::Bot, reported, account);
     take_answers(session);
     written
+}
+
+/// Reports that the operator stopped the session.
+pub fn halt<A: Allocator, W: Write, S: Style>(
+    session: &mut Session<A>,
+    source: ReportKey,
+    account: &mut ReportBuilder<'_, '_, W, S>,
+) -> Result<(), Unreported>
+    requires ready { IsReady account.old.head.limits.config (words_of account.old.head.words) session.old }
+    requires room { HasRoom 1 account.old.summary }
+    ensures ready { IsReady account.old.head.limits.config (words_of account.old.head.words) session.new }
+    ensures few { IsMoreBy 1 account.old.summary account.new.summary }
+    ensures reported { OnOk result (ReportsEvents (S.form (words_of account.old.head.words)) source Side.Bot session.old.state (OperatorStops ∷ []) session.new.state
+        account.old.summary account.new.summary (all_of W.contents account.old.output)
+        (all_of W.contents account.new.output)) }
+    ensures refused { IfErr result (IsCauseIn (S.form (words_of account.old.head.words))) }
+    ensures same_head { account.new.head ≡ account.old.head }
+    ensures same_writer { IsSameWriter account.old.output account.new.output }
+{
+    let reported = session.stop();
+    if let Note::Nothing = reported {
+        take_answers(session);
+        return Ok(());
+    }
+    let listed = tell(session, source, Side::Bot, reported, account);
+    take_answers(session);
+    listed
 }

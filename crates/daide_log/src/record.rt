@@ -35,6 +35,8 @@ pub enum RecordedEvent<'a> {
     EndOf(Side),
     /// The IM timer expired.
     ImTimer,
+    /// The operator stopped the session.
+    Stop,
 }
 
 impl RecordedEvent<'_> {
@@ -47,6 +49,7 @@ impl RecordedEvent<'_> {
             RecordedEvent::Received(_, bytes) => bytes.is_empty(),
             RecordedEvent::EndOf(_) => false,
             RecordedEvent::ImTimer => false,
+            RecordedEvent::Stop => false,
         }
     }
 }

@@ -79,6 +79,7 @@ pub fn put_event(event: RecordedEvent<'_>, line: &mut Page)
         RecordedEvent::Received(side, bytes) => put_piece(side, bytes, line),
         RecordedEvent::EndOf(side) => put_end(side, line),
         RecordedEvent::ImTimer => put(b"1 timer\n", line),
+        RecordedEvent::Stop => put(b"1 stop\n", line),
     }
 }
 

@@ -7,7 +7,7 @@ ghost use Rattle.daide_io.specs.System.{BeginsTurn};
 use crate::record::{Record, RecordEnd, RecordedEvent};
 use crate::sink::Sink;
 use daide_frame::Side;
-use daide_io::ports::{Ports, Pull, Put};
+use daide_io::ports::{ClockEvent, Ports, Pull, Put};
 use daide_io::system::System;
 use daide_log_lines::event_line::MOST;
 use std::marker::Model;
@@ -19,11 +19,11 @@ pub enum Activity {
     Moving,
     /// The last pull returned nothing.
     Idle,
-    /// A side ended or failed, or the IM timer expired, and nothing was returned since.
+    /// A side ended or failed, the IM timer expired, or the operator stopped the session, and nothing was returned since.
     Ended,
 }
 
-/// Ports that record what they return to a session: bytes received, ends, the IM timer, and a failed wire as the end of
+/// Ports that record what they return to a session: bytes received, ends, the IM timer, stops, and a failed wire as the end of
 /// its side. They return what the inner ports return, which get at most 1,024 bytes of a buffer (`asked_within`).
 ///
 /// Each call adds to the record the line of what it returned, or nothing (`RecordsEvent`). A whole record takes it
@@ -165,13 +165,17 @@ impl<P: Ports, W: Sink + Drop> Ports for Recording<P, W> {
         put
     }
 
-    fn clock_popped(&mut self) -> bool {
-        let im_timer_expired = self.ports.clock_popped();
-        if im_timer_expired {
-            self.record_event(RecordedEvent::ImTimer, Activity::Ended);
-        } else if self.activity == Activity::Ended {
-            self.pause();
+    fn clock(&mut self) -> ClockEvent {
+        let event = self.ports.clock();
+        match event {
+            ClockEvent::NoEvent => {
+                if self.activity == Activity::Ended {
+                    self.pause();
+                }
+            }
+            ClockEvent::ImTimeIsOver => self.record_event(RecordedEvent::ImTimer, Activity::Ended),
+            ClockEvent::StopIsRequested => self.record_event(RecordedEvent::Stop, Activity::Ended),
         }
-        im_timer_expired
+        event
     }
 }

@@ -174,21 +174,28 @@ fn put_frame(head: Head, deed: Deed, line: &mut Page)
     }
 }
 
-/// Appends a side's move, and a line feed.
+/// Appends a move with its author, a side or the operator, and a line feed.
 #[tactic(auto, unfolding(crate::specs::Report::reported_text))]
 fn put_reported(side: Side, reported: Note, line: &mut Page)
     requires { length line.old.items + 86 ≤ page_size }
     ensures { line.new.items ≡ line.old.items ++ reported_text side reported }
 {
-    put_side(side, line);
     match reported {
-        Note::Nothing => put(b"end\n", line),
-        Note::Frame(head, deed) => put_frame(head, deed, line),
+        Note::Nothing => {
+            put_side(side, line);
+            put(b"end\n", line);
+        }
+        Note::Frame(head, deed) => {
+            put_side(side, line);
+            put_frame(head, deed, line);
+        }
         Note::Fault(code) => {
+            put_side(side, line);
             put(b"fault ", line);
             put(&code.digits(), line);
             line.push(b'\n');
         }
+        Note::Stopped => put(b"operator stop\n", line),
     }
 }
 

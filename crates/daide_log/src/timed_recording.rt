@@ -11,7 +11,7 @@ use crate::record::{Record, RecordEnd, RecordedEvent};
 use crate::recording::Activity;
 use crate::sink::Sink;
 use daide_frame::Side;
-use daide_io::ports::{Ports, Pull, Put};
+use daide_io::ports::{ClockEvent, Ports, Pull, Put};
 use daide_io::system::System;
 use daide_log_lines::event_line::MOST;
 use std::marker::Model;
@@ -201,13 +201,17 @@ impl<P: Ports, W: Sink + Drop> Ports for TimedRecording<P, W> {
         put
     }
 
-    fn clock_popped(&mut self) -> bool {
-        let im_timer_expired = self.ports.clock_popped();
-        if im_timer_expired {
-            self.record_event(RecordedEvent::ImTimer, Activity::Ended);
-        } else if self.activity == Activity::Ended {
-            self.pause();
+    fn clock(&mut self) -> ClockEvent {
+        let event = self.ports.clock();
+        match event {
+            ClockEvent::NoEvent => {
+                if self.activity == Activity::Ended {
+                    self.pause();
+                }
+            }
+            ClockEvent::ImTimeIsOver => self.record_event(RecordedEvent::ImTimer, Activity::Ended),
+            ClockEvent::StopIsRequested => self.record_event(RecordedEvent::Stop, Activity::Ended),
         }
-        im_timer_expired
+        event
     }
 }

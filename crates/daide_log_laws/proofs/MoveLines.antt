@@ -16,10 +16,10 @@ use Rattle.daide_frame.specs.Kind.{name_of_kind}
 use Rattle.daide_protocol.specs.declared.note.Deed.{Deed}
 use Rattle.daide_protocol.specs.declared.note.Deed.TheVariants.{Relayed, Dropped, Prn, Huh}
 use Rattle.daide_protocol.specs.declared.note.Note.{Note}
-use Rattle.daide_protocol.specs.declared.note.Note.TheVariants.{Nothing, Frame, Fault}
+use Rattle.daide_protocol.specs.declared.note.Note.TheVariants.{Nothing, Frame, Fault, Stopped}
 use Rattle.daide_protocol.specs.declared.summary.Summary.{Summary}
 use Rattle.daide_log.specs.declared.report.ReportKey.{ReportKey}
-use Rattle.daide_log.specs.Report.{name_of_side, deed_text, move_text, session_text, source_text, reported_text, move_line}
+use Rattle.daide_log.specs.Report.{name_of_side, author_text, deed_text, move_text, session_text, source_text, reported_text, move_line}
 use Rattle.daide_log.specs.Report.{size_text, part_line, cut_line, summary_line}
 use Rattle.daide_log.proofs.RecordLines.{is_plain, both_all, plain_unbroken}
 use Rattle.daide_log_laws.specs.Added.{without_added, is_added_line}
@@ -125,31 +125,38 @@ move_plain (Frame head deed) =
     both (name_of_kind head.kind ++ 32 ∷ decimal head.len) (32 ∷ deed_text deed)
     (both (name_of_kind head.kind) (32 ∷ decimal head.len) (kind_plain head.kind) (decimal_plain head.len)) (deed_plain deed)
 move_plain (Fault code) = both (codes "fault ") (code_digits code) refl (code_plain code)
+move_plain Stopped = refl
+
+author_plain : (side : Side) (reported : Note) → IsPlain (author_text side reported)
+author_plain side Nothing = side_plain side
+author_plain side (Frame head deed) = side_plain side
+author_plain side (Fault code) = side_plain side
+author_plain side Stopped = refl
 
 move_front : ReportKey → Side → Note → List ℕ
 move_front source side reported =
-    (decimal source.line ++ 32 ∷ session_text source.session) ++ (name_of_side side ++ 32 ∷ move_text reported)
+    (decimal source.line ++ 32 ∷ session_text source.session) ++ (author_text side reported ++ 32 ∷ move_text reported)
 
 front_plain : (source : ReportKey) (side : Side) (reported : Note) → IsPlain (move_front source side reported)
 unfolding move_front
 front_plain source side reported =
-    both (decimal source.line ++ 32 ∷ session_text source.session) (name_of_side side ++ 32 ∷ move_text reported)
+    both (decimal source.line ++ 32 ∷ session_text source.session) (author_text side reported ++ 32 ∷ move_text reported)
     (both (decimal source.line) (32 ∷ session_text source.session) (decimal_plain source.line) (session_plain source.session))
-    (both (name_of_side side) (32 ∷ move_text reported) (side_plain side) (move_plain reported))
+    (both (author_text side reported) (32 ∷ move_text reported) (author_plain side reported) (move_plain reported))
 
 front_stays : (source : ReportKey) (side : Side) (reported : Note) → is_added_line (move_front source side reported ++ 10 ∷ []) ≡ false
 unfolding move_front
 front_stays source side reported =
     let number = decimal_begins source.line in
     ap (λ (l : List ℕ).
-    is_added_line (((l ++ 32 ∷ session_text source.session) ++ (name_of_side side ++ 32 ∷ move_text reported)) ++ 10 ∷ [])) number.same
+    is_added_line (((l ++ 32 ∷ session_text source.session) ++ (author_text side reported ++ 32 ∷ move_text reported)) ++ 10 ∷ [])) number.same
     ∙ digit_stays number.first
-    (((number.rest ++ 32 ∷ session_text source.session) ++ (name_of_side side ++ 32 ∷ move_text reported)) ++ 10 ∷ []) number.digit
+    (((number.rest ++ 32 ∷ session_text source.session) ++ (author_text side reported ++ 32 ∷ move_text reported)) ++ 10 ∷ []) number.digit
 
 move_is : (source : ReportKey) (side : Side) (reported : Note) → move_line source side reported ≡ move_front source side reported ++ 10 ∷ []
 unfolding move_line source_text reported_text move_front
 move_is source side reported =
-    sym (append_assoc (decimal source.line ++ 32 ∷ session_text source.session) (name_of_side side ++ 32 ∷ move_text reported)
+    sym (append_assoc (decimal source.line ++ 32 ∷ session_text source.session) (author_text side reported ++ 32 ∷ move_text reported)
     (10 ∷ []))
 
 pub move_stays : (source : ReportKey) (side : Side) (reported : Note) (tail : List ℕ) →

@@ -148,3 +148,4 @@ lines_whole words side before event (Notes.Frame head deed) lines h =
     frame_whole words before.limits.max_depth (question before event) (drop 4 (bytes_at before side event)) deed lines h
 lines_whole words side before event (Notes.Fault code) lines e =
     subst IsWhole (sym e) (fault_whole code (bytes_at before side event))
+lines_whole words side before event Notes.Stopped lines e = inl e

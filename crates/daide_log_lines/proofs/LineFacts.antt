@@ -8,7 +8,7 @@ use Rattle.daide_grammar.specs.declared.level.Level.TheVariants.{L20}
 use Rattle.daide_words.specs.declared.slot.Slot.TheVariants.{Press}
 use Rattle.daide_words.specs.declared.operand.Operand.TheVariants.{Power}
 use Rattle.daide_words.specs.declared.word.Word.{Word}
-use Rattle.daide_log_lines.specs.LogLine.{LogEvent, Received, EndOf, ImTimerLine, Silence, without_cr, is_name, plain_number}
+use Rattle.daide_log_lines.specs.LogLine.{LogEvent, Received, EndOf, ImTimerLine, StopLine, Silence, without_cr, is_name, plain_number}
 use Rattle.daide_log_lines.specs.LogLine.{parted_at_space, event_of_line, IsUnbroken, MayBeginLine}
 use Rattle.daide_log_lines.specs.MatchLine.{Of, Quiet, match_event_of_line}
 use Rattle.daide_log_lines.specs.WordLine.{word_of_line}
@@ -56,8 +56,10 @@ other_lines : (event_of_line (codes "end bot") ≡ Some (EndOf Bot))
     × (event_of_line (codes "timer") ≡ Some ImTimerLine) × (event_of_line [] ≡ Some Silence)
     × (event_of_line (codes "# bot 0") ≡ Some Silence) × (event_of_line (codes "timer ") ≡ None)
     × (event_of_line (codes "end") ≡ None) × (event_of_line (codes " ") ≡ None)
+    × (event_of_line (codes "stop") ≡ Some StopLine) × (event_of_line (codes "stop ") ≡ None)
+    × (event_of_line (codes "stop bot") ≡ None) × (event_of_line (codes "Stop") ≡ None)
 unfolding event_of_line
-other_lines = (refl, refl, refl, refl, refl, refl, refl, refl)
+other_lines = (refl, refl, refl, refl, refl, refl, refl, refl, refl, refl, refl, refl)
 
 -- one carriage return is removed, at the end only
 carriage_returns : (without_cr (codes "timer" ++ 13 ∷ []) ≡ codes "timer") × (without_cr (13 ∷ []) ≡ [])
@@ -117,6 +119,7 @@ words = (refl, refl, refl, refl, refl, refl, refl, refl, refl)
 
 match_events : (match_event_of_line 2 (codes "2 timer") ≡ Some (Of 2 ImTimerLine))
     × (match_event_of_line 2 (codes "1 end bot") ≡ Some (Of 1 (EndOf Bot)))
+    × (match_event_of_line 2 (codes "2 stop") ≡ Some (Of 2 StopLine)) × (match_event_of_line 2 (codes "stop") ≡ None)
     × (match_event_of_line 2 (codes "1 server 0100") ≡ Some (Of 1 (Received Server (1 ∷ 0 ∷ []))))
     × (match_event_of_line 2 [] ≡ Some Quiet) × (match_event_of_line 2 (codes "# 3 timer") ≡ Some Quiet)
     × (match_event_of_line 2 (codes "3 timer") ≡ None) × (match_event_of_line 2 (codes "0 timer") ≡ None)
@@ -124,4 +127,4 @@ match_events : (match_event_of_line 2 (codes "2 timer") ≡ Some (Of 2 ImTimerLi
     × (match_event_of_line 2 (codes "1 #") ≡ None) × (match_event_of_line 2 (codes "1") ≡ None)
     × (match_event_of_line 2 (codes "timer") ≡ None) × (match_event_of_line 2 (codes "1  timer") ≡ None)
 unfolding match_event_of_line parted_at_space plain_number event_of_line decode_pairs
-match_events = (refl, refl, refl, refl, refl, refl, refl, refl, refl, refl, refl, refl, refl)
+match_events = (refl, refl, refl, refl, refl, refl, refl, refl, refl, refl, refl, refl, refl, refl, refl)

@@ -81,6 +81,7 @@ pub data LogEvent : Type 0 where
   Received : (side : Side) → (bytes : List ℕ) → LogEvent  -- bytes of a side came
   EndOf : (side : Side) → LogEvent  -- a side's stream ended
   ImTimerLine : LogEvent  -- the time for the IM is over
+  StopLine : LogEvent  -- the operator stopped the session
   Silence : LogEvent  -- nothing
 
 abbrev pub decoded : Side → Result (List ℕ) FromHexError → Option LogEvent
@@ -101,6 +102,7 @@ abbrev pub event_of_word : List ℕ → Option LogEvent
 event_of_word line =
     if is_comment line then Some Silence
     else if bytes_eq line (codes "timer") then Some ImTimerLine
+    else if bytes_eq line (codes "stop") then Some StopLine
     else if bytes_eq line (codes "end bot") then Some (EndOf Bot)
     else if bytes_eq line (codes "end server") then Some (EndOf Server)
     else None
@@ -110,7 +112,7 @@ event_by (Some digits) server line = parse_received Bot digits
 event_by None (Some digits) line = parse_received Server digits
 event_by None None line = event_of_word line
 
--- the event of a line: `bot HEX`, `server HEX`, `end bot`, `end server`, `timer`, or none; any other line is no log
--- line
+-- the event of a line: `bot HEX`, `server HEX`, `end bot`, `end server`, `timer`, `stop`, or none; any other line is no
+-- log line
 unfoldable pub event_of_line : List ℕ → Option LogEvent
 event_of_line line = event_by (strip_prefix (codes "bot ") line) (strip_prefix (codes "server ") line) line

@@ -1,7 +1,7 @@
 -- The forms of the lines of a match's log, by their bytes alone: docs/FORMATS.md, "The log, version 2". (own)
 use Rattle.std.specs.Prelude.{ℕ, Bool, ◌&&◌, nat_le, if◌then◌else◌, List, codes, Option, Some, None}
 use Rattle.std.specs.Str.{bytes_eq}
-use Rattle.daide_log_lines.specs.LogLine.{Parted, LogEvent, Received, EndOf, ImTimerLine, Silence}
+use Rattle.daide_log_lines.specs.LogLine.{Parted, LogEvent, Received, EndOf, ImTimerLine, StopLine, Silence}
 use Rattle.daide_log_lines.specs.LogLine.{plain_number, parted_at_space, is_comment, event_of_line}
 
 -- ---- the first line
@@ -29,6 +29,7 @@ loud None = None
 loud (Some (Received side bytes)) = Some (Received side bytes)
 loud (Some (EndOf side)) = Some (EndOf side)
 loud (Some ImTimerLine) = Some ImTimerLine
+loud (Some StopLine) = Some StopLine
 loud (Some Silence) = None
 
 abbrev pub event_of_session : Option ℕ → Option LogEvent → Option MatchEvent

@@ -19,6 +19,8 @@ pub enum ParsedEvent {
     EndOf(Side),
     /// The IM timer expired.
     ImTimerLine,
+    /// The operator stopped the session.
+    StopLine,
     /// A comment or an empty line: no event.
     Silence,
 }
@@ -50,6 +52,9 @@ fn read_word(line: &[u8], bytes: &[u8; MOST]) -> Option<ParsedEvent>
     }
     if line == b"timer".as_slice() {
         return Some(ParsedEvent::ImTimerLine);
+    }
+    if line == b"stop".as_slice() {
+        return Some(ParsedEvent::StopLine);
     }
     if line == b"end bot".as_slice() {
         return Some(ParsedEvent::EndOf(Side::Bot));

@@ -12,13 +12,13 @@ use Rattle.daide_reader.specs.declared.verdict.Verdict.{Verdict}
 use Rattle.daide_protocol.specs.declared.phase.SessionPhase.{SessionPhase}
 use Rattle.daide_protocol.specs.declared.phase.SessionPhase.TheVariants.{WaitIm, WaitRm, Open, Over}
 use Rattle.daide_frame.specs.Side.{other, same_side}
-use Rattle.daide_protocol.specs.Events.{Event, Comes, Ends, Loses, ImTimerExpired}
+use Rattle.daide_protocol.specs.Events.{Event, Comes, Ends, Loses, ImTimerExpired, OperatorStops}
 use Rattle.daide_protocol.specs.Machine.{Coming, SessionState, Effect, Successor, Transition}
 use Rattle.daide_protocol.specs.Machine.{with_coming, with_pending, is_over, untimely, header_outcome}
 use Rattle.daide_protocol.specs.Machine.{answered}
 use Rattle.daide_protocol.specs.Machine.{im_answered, item_outcome, items_outcome, im_timer_expired, event_outcome, nothing}
 use Rattle.daide_protocol.specs.Machine.{question}
-use Rattle.daide_protocol.specs.Machine.{end}
+use Rattle.daide_protocol.specs.Machine.{end, stop}
 use Rattle.daide_protocol.specs.declared.ending.Ending.{Ending}
 use Rattle.daide_protocol.specs.declared.ending.Ending.TheVariants.{Ended, Lost}
 
@@ -30,6 +30,7 @@ is_own side (Comes from byte) = same_side from side
 is_own side (Ends from) = false
 is_own side (Loses from) = false
 is_own side ImTimerExpired = false
+is_own side OperatorStops = false
 
 -- an outcome with another input from a side
 abbrev pub put : Side → Coming → Successor → Successor
@@ -137,6 +138,14 @@ ends_commute Bot s c ending from false o = rw o (end_commutes Bot from ending s 
 ends_commute Server s c ending from true o = rw o refl
 ends_commute Server s c ending from false o = rw o (end_commutes Server from ending s c)
 
+stops_commute : (side : Side) (s : SessionState) (c : Coming) (b : Bool) → is_over s.phase ≡ b →
+    (if is_over (with_coming s side c).phase then nothing (with_coming s side c) else stop (with_coming s side c))
+    ≡ put side c (if is_over s.phase then nothing s else stop s)
+stops_commute Bot s c true o = rw o refl
+stops_commute Bot s c false o = rw o refl
+stops_commute Server s c true o = rw o refl
+stops_commute Server s c false o = rw o refl
+
 pub event_commutes : (side : Side) (s : SessionState) (c : Coming) (event : Event) (v : Verdict) →
     is_own side event ≡ false → event_outcome (with_coming s side c) event v ≡ put side c (event_outcome s event v)
 event_commutes Bot s c (Comes Bot x) v e = absurd (cc)
@@ -159,6 +168,7 @@ event_commutes side s c (Ends from) v e = ends_commute side s c (Ended from) fro
 event_commutes side s c (Loses from) v e = ends_commute side s c (Lost from) from (is_over s.phase) refl
 event_commutes Bot s c ImTimerExpired v e = timer_commutes Bot s c s.phase
 event_commutes Server s c ImTimerExpired v e = timer_commutes Server s c s.phase
+event_commutes side s c OperatorStops v e = stops_commute side s c (is_over s.phase) refl
 
 question_commutes : (side : Side) (s : SessionState) (c : Coming) (event : Event) → is_own side event ≡ false →
     question (with_coming s side c) event ≡ question s event
@@ -169,6 +179,7 @@ question_commutes Server s c (Comes Bot x) e = refl
 question_commutes side s c (Ends from) e = refl
 question_commutes side s c (Loses from) e = refl
 question_commutes side s c ImTimerExpired e = refl
+question_commutes side s c OperatorStops e = refl
 
 pub step_beside : (side : Side) (s : SessionState) (c : Coming) (event : Event) (effects : List Effect)
     (m : SessionState) →

@@ -8,10 +8,10 @@ use Rattle.daide_frame.specs.declared.side.Side.{Side}
 use Rattle.daide_frame.specs.declared.side.Side.TheVariants.{Bot, Server}
 use Rattle.daide_protocol.specs.declared.note.Note.{Note}
 use Rattle.daide_frame.specs.Side.{other, same_side}
-use Rattle.daide_protocol.specs.Events.{Event, Ends, Loses, ImTimerExpired, bytes_come}
+use Rattle.daide_protocol.specs.Events.{Event, Ends, Loses, ImTimerExpired, OperatorStops, bytes_come}
 use Rattle.daide_protocol.specs.Machine.{Limits, Sent, SessionState, Effect, Runs, is_over, initial_state}
 use Rattle.daide_protocol.specs.Wires.{SessionView, IsNew, Refines, Lost, Wrote, queued, sent_to, sent_bytes, without}
-use Rattle.daide_protocol.specs.Calls.{Call, Feeds, Stops, TimesOut, Fails, Puts, first_bytes, IsCall, AreCalls}
+use Rattle.daide_protocol.specs.Calls.{Call, Feeds, Stops, TimesOut, Terminates, Fails, Puts, first_bytes, IsCall, AreCalls}
 use Rattle.daide_protocol.specs.Calls.{events_of_calls, taken_by, some_call_fails, Delivers}
 use Rattle.daide_protocol.proofs.OneRun.{one_run, runs_join}
 use Rattle.daide_protocol.proofs.PieceRuns.{over_stays}
@@ -110,6 +110,7 @@ call_shut old (Feeds from piece) new side shut (reported, goes) =
     goes_shut old (bytes_come from piece) reported new side shut goes
 call_shut old (Stops from) new side shut (reported, goes) = goes_shut old (Ends from ∷ []) reported new side shut goes
 call_shut old TimesOut new side shut (reported, goes) = goes_shut old (ImTimerExpired ∷ []) reported new side shut goes
+call_shut old Terminates new side shut (reported, goes) = goes_shut old (OperatorStops ∷ []) reported new side shut goes
 call_shut old (Fails to) new side shut lost = lost_shut old to new side shut lost
 call_shut old (Puts to bytes) new side shut (front, wrote) = wrote_shut old to (length bytes) new side shut wrote
 
@@ -129,6 +130,7 @@ nothing_taken side (call ∷ calls) old new shut (mid, one, more) =
     go (Feeds from piece) one ih = ih
     go (Stops from) one ih = ih
     go TimesOut one ih = ih
+    go Terminates one ih = ih
     go (Fails to) one ih = ih
     go (Puts to bytes) ((rest, front), wrote) ih = (here (same_side to side) refl, ih.1)
       where
@@ -277,6 +279,11 @@ first_call old mid new TimesOut calls (reported, goes) are d =
     (then_runs old mid (ImTimerExpired ∷ []) reported goes calls new d)
     (tallied_then goes.effects d.effects old.summary mid.summary new.summary goes.counts d.counts)
     (goes_on calls old mid new (ImTimerExpired ∷ []) reported goes d)
+first_call old mid new Terminates calls (reported, goes) are d =
+    by_wires old (Terminates ∷ calls) new (goes.effects ++ d.effects)
+    (then_runs old mid (OperatorStops ∷ []) reported goes calls new d)
+    (tallied_then goes.effects d.effects old.summary mid.summary new.summary goes.counts d.counts)
+    (goes_on calls old mid new (OperatorStops ∷ []) reported goes d)
 first_call old mid new (Fails to) calls lost are d =
     by_wires old (Fails to ∷ calls) new (lost.effects ++ d.effects)
     (runs_join (Loses to ∷ []) (events_of_calls calls) old.state mid.state new.state lost.effects d.effects lost.run d.run)

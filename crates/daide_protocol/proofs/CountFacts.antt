@@ -13,7 +13,7 @@ use Rattle.daide_protocol.specs.declared.phase.Phase.{Phase}
 use Rattle.daide_protocol.specs.declared.phase.Phase.TheVariants.{WaitIm, WaitRm, Open}
 use Rattle.daide_protocol.specs.declared.summary.Summary.{Summary}
 use Rattle.daide_protocol.specs.Answers.{answer_bytes}
-use Rattle.daide_protocol.specs.Events.{Event, Ends, Loses, ImTimerExpired, bytes_come}
+use Rattle.daide_protocol.specs.Events.{Event, Ends, Loses, ImTimerExpired, OperatorStops, bytes_come}
 use Rattle.daide_protocol.specs.Machine.{SessionState, initial_state}
 use Rattle.daide_protocol.specs.Counts.{frames_counted}
 use Rattle.daide_protocol.proofs.SomeRun.{in_phase, outcome_of}
@@ -82,8 +82,9 @@ faults :
 unfolding last_items first_items parse_head is_alien
 faults = (refl, refl, refl, refl, refl, refl)
 
--- an end is not counted
+-- neither an end nor a stop is counted
 ends :
     (counts_by Open (Ends Bot ∷ []) ≡ of 0 0 0 0) × (counts_by Open (Ends Server ∷ []) ≡ of 0 0 0 0)
     × (counts_by Open (Loses Bot ∷ []) ≡ of 0 0 0 0) × (counts_by Open (Loses Server ∷ []) ≡ of 0 0 0 0)
-ends = (refl, refl, refl, refl)
+    × (counts_by WaitIm (OperatorStops ∷ []) ≡ of 0 0 0 0) × (counts_by Open (OperatorStops ∷ []) ≡ of 0 0 0 0)
+ends = (refl, refl, refl, refl, refl, refl)

@@ -21,7 +21,7 @@ use Rattle.daide_protocol.specs.declared.phase.SessionPhase.TheVariants.{WaitIm,
 use Rattle.daide_protocol.specs.declared.summary.Summary.{Summary}
 use Rattle.daide_protocol.specs.Answers.{answer_body, answer_bytes, answer_head}
 use Rattle.daide_frame.specs.Side.{other}
-use Rattle.daide_protocol.specs.Events.{Event, Comes, Ends, Loses, ImTimerExpired}
+use Rattle.daide_protocol.specs.Events.{Event, Comes, Ends, Loses, ImTimerExpired, OperatorStops}
 use Rattle.daide_protocol.specs.Machine.{SessionState, Sent, Effect, Successor, Runs, coming, with_pending, is_over, em_to}
 use Rattle.daide_protocol.specs.Machine.{fm_to, deed_of, destination, is_sent, reply_to, header_outcome, untimely}
 use Rattle.daide_protocol.specs.Machine.{answered, im_answered, item_outcome, items_outcome, im_timer_expired, event_outcome}
@@ -55,6 +55,7 @@ counted_plus (Notes.Frame head (Deeds.Huh place)) s t =
     same_counts _ _ _ _ _ _ _ _ (omega arith) (omega arith) (omega arith) (omega arith)
 counted_plus (Notes.Fault code) s t =
     same_counts _ _ _ _ _ _ _ _ (omega arith) (omega arith) (omega arith) (omega arith)
+counted_plus Notes.Stopped s t = same_counts _ _ _ _ _ _ _ _ (omega arith) (omega arith) (omega arith) (omega arith)
 
 number_to-append : (side : Side) (test : Sent → Bool) (a b : List Effect) →
     number_to side test (a ++ b) ≡ number_to side test a + number_to side test b
@@ -106,6 +107,13 @@ fm_counted (Open level) Bot = refl
 fm_counted (Open level) Server = refl
 fm_counted (Over ending) Bot = refl
 fm_counted (Over ending) Server = refl
+
+fms_counted : (phase : SessionPhase) →
+    IsCounted (record { reported = Notes.Stopped; sent = fm_to phase Bot ++ fm_to phase Server })
+fms_counted WaitIm = refl
+fms_counted WaitRm = refl
+fms_counted (Open level) = refl
+fms_counted (Over ending) = refl
 
 fault_counted : (phase : SessionPhase) (side : Side) (code : Code) →
     IsCounted (record { reported = Notes.Fault code; sent = em_to side code ∷ fm_to phase (other side) })
@@ -209,6 +217,11 @@ event_counted s (Loses side) v = go (is_over s.phase) refl
     go true o = rw o tt
     go false o = rw o (fm_counted s.phase (other side), tt)
 event_counted s ImTimerExpired v = im_timer_expired_counted s.phase s
+event_counted s OperatorStops v = go (is_over s.phase) refl
+  where
+    go : (b : Bool) → is_over s.phase ≡ b → AreCounted (event_outcome s OperatorStops v).effects
+    go true o = rw o tt
+    go false o = rw o (fms_counted s.phase, tt)
 
 -- ---- a run
 

@@ -13,7 +13,7 @@ use Rattle.daide_grammar.specs.declared.level.Level.{Level}
 use Rattle.daide_reader.specs.declared.verdict.Verdict.{Verdict}
 use Rattle.daide_protocol.specs.declared.phase.SessionPhase.{SessionPhase}
 use Rattle.daide_protocol.specs.declared.phase.SessionPhase.TheVariants.{WaitIm, WaitRm, Open, Over}
-use Rattle.daide_protocol.specs.Events.{Event, Comes, Ends, Loses, ImTimerExpired}
+use Rattle.daide_protocol.specs.Events.{Event, Comes, Ends, Loses, ImTimerExpired, OperatorStops}
 use Rattle.daide_protocol.specs.Machine.{SessionState, Effect, Successor, Transition, Runs, coming, with_pending, with_noted}
 use Rattle.daide_protocol.specs.Machine.{is_over, level_in, ending_in, header_outcome, untimely, frame_outcome, answered, im_answered, items_outcome, im_timer_expired}
 use Rattle.daide_protocol.specs.Machine.{event_outcome}
@@ -109,6 +109,7 @@ event_ends s (Comes side byte) v o = rw o (byte_ends s side ((coming s side).pen
 event_ends s (Ends side) v o = rw o (λ h. refl)
 event_ends s (Loses side) v o = rw o (λ h. refl)
 event_ends s ImTimerExpired v o = timer_ends s.phase s refl o
+event_ends s OperatorStops v o = rw o (λ h. refl)
 
 step_ends : (s : SessionState) (event : Event) (moves : List Effect) (new : SessionState) → Transition s event moves new →
     is_over s.phase ≡ false → is_over new.phase ≡ true → ending_in new.phase ≡ ending_at s event

@@ -11,13 +11,13 @@ use Rattle.daide_frame.specs.Frames.{is_alien, first_items, last_items}
 use Rattle.daide_frame.specs.InitialMessage.{im_of}
 use Rattle.daide_grammar.specs.declared.level.Level.TheVariants.{L0, L60}
 use Rattle.daide_protocol.specs.declared.ending.Ending.{Ending}
-use Rattle.daide_protocol.specs.declared.ending.Ending.TheVariants.{Ended, Lost, Final, Error, Fault}
+use Rattle.daide_protocol.specs.declared.ending.Ending.TheVariants.{Ended, Lost, Final, Error, Fault, Stopped}
 use Rattle.daide_protocol.specs.declared.note.Deed.TheVariants as Deeds
 use Rattle.daide_protocol.specs.declared.note.Note.TheVariants as Notes
 use Rattle.daide_protocol.specs.declared.phase.Phase.{Phase}
 use Rattle.daide_protocol.specs.declared.phase.Phase.TheVariants.{WaitIm, WaitRm, Open}
 use Rattle.daide_protocol.specs.declared.summary.Summary.{Summary}
-use Rattle.daide_protocol.specs.Events.{Event, Ends, Loses, ImTimerExpired, bytes_come}
+use Rattle.daide_protocol.specs.Events.{Event, Ends, Loses, ImTimerExpired, OperatorStops, bytes_come}
 use Rattle.daide_protocol.specs.Machine.{SessionState, ending_in, initial_state}
 use Rattle.daide_protocol.specs.Summary.{count_note, counted_on}
 use Rattle.daide_protocol.proofs.SomeRun.{in_phase, outcome_of}
@@ -73,6 +73,11 @@ error_messages :
 unfolding last_items first_items parse_head is_alien
 error_messages = (refl, refl, refl, refl, refl, refl)
 
+stops :
+    (ending_by WaitIm (OperatorStops ∷ []) ≡ Some Stopped) × (ending_by WaitRm (OperatorStops ∷ []) ≡ Some Stopped)
+    × (ending_by Open (OperatorStops ∷ []) ≡ Some Stopped)
+stops = (refl, refl, refl)
+
 -- the codes 01 to 0E, in their order
 each_code :
     (ending_by WaitIm (ImTimerExpired ∷ []) ≡ Some (Fault Bot Codes.ImTimeout))
@@ -99,12 +104,14 @@ each_code = (refl, refl, refl, refl, refl, refl, refl, refl, refl, refl, refl, r
 first_stays :
     (ending_by Open (Ends Bot ∷ Loses Server ∷ ImTimerExpired ∷ Ends Server ∷ []) ≡ Some (Ended Bot))
     × (ending_by WaitIm (ImTimerExpired ∷ Ends Bot ∷ Loses Bot ∷ []) ≡ Some (Fault Bot Codes.ImTimeout))
+    × (ending_by Open (OperatorStops ∷ Ends Bot ∷ Loses Server ∷ []) ≡ Some Stopped)
+    × (ending_by Open (Loses Server ∷ OperatorStops ∷ []) ≡ Some (Lost Server))
     × (ending_by Open (bytes_come Server fm ++ Ends Bot ∷ []) ≡ Some (Final Server))
     × (ending_by Open (bytes_come Bot em ++ Loses Bot ∷ bytes_come Server fm) ≡ Some (Error Bot))
     -- and an event that ends nothing has no ending
     × (ending_by WaitRm (ImTimerExpired ∷ []) ≡ None) × (ending_by Open (bytes_come Bot (0x03 ∷ 0x00 ∷ 0x00 ∷ [])) ≡ None)
 unfolding last_items first_items parse_head is_alien
-first_stays = (refl, refl, refl, refl, refl, refl)
+first_stays = (refl, refl, refl, refl, refl, refl, refl, refl)
 
 -- ---- each kind of note is counted only in its field
 
@@ -117,8 +124,8 @@ counts_apart : (a b c d place : ℕ) (head : Head) (code : Code) →
     × (count_note (Notes.Frame head (Deeds.Huh place)) (of a b c d) ≡ of a b (c + 1) d)
     × (count_note (Notes.Fault code) (of a b c d) ≡ of a b c (d + 1))
     × (count_note (Notes.Frame head Deeds.Dropped) (of a b c d) ≡ of a b c d)
-    × (count_note Notes.Nothing (of a b c d) ≡ of a b c d)
-counts_apart a b c d place head code = (refl, refl, refl, refl, refl, refl)
+    × (count_note Notes.Nothing (of a b c d) ≡ of a b c d) × (count_note Notes.Stopped (of a b c d) ≡ of a b c d)
+counts_apart a b c d place head code = (refl, refl, refl, refl, refl, refl, refl)
 
 -- a session's counts wrap at 2^64
 counts_wrap : (head : Head) (code : Code) →

@@ -16,14 +16,14 @@ use Rattle.daide_reader.specs.declared.verdict.Verdict.TheVariants.{Relay, Prn, 
 use Rattle.daide_protocol.specs.declared.phase.SessionPhase.{SessionPhase}
 use Rattle.daide_protocol.specs.declared.phase.SessionPhase.TheVariants.{WaitIm, WaitRm, Open, Over}
 use Rattle.daide_protocol.specs.Answers.{answer_bytes}
-use Rattle.daide_protocol.specs.Events.{Event, Comes, Ends, Loses, ImTimerExpired}
+use Rattle.daide_protocol.specs.Events.{Event, Comes, Ends, Loses, ImTimerExpired, OperatorStops}
 use Rattle.daide_protocol.specs.Machine.{Limits, SessionState, Effect, Successor, Transition, Runs, IsCorrectVerdict}
 use Rattle.daide_protocol.specs.Machine.{coming, with_pending, with_noted, is_over, untimely, answered, im_answered}
 use Rattle.daide_protocol.specs.Machine.{frame_outcome, items_outcome, reply_to, asked_by, question_of, event_outcome, im_timer_expired}
 use Rattle.daide_protocol.specs.Machine.{initial_state, header_outcome, question, level_in}
 use Rattle.daide_frame.specs.Side.{same_side}
 use Rattle.daide_protocol.specs.Heard.{bytes_from, heard_at, items_heard}
-use Rattle.daide_protocol.specs.Fates.{EventCause, Frame, End, Came, checked_frame, frame_cause, fault_or}
+use Rattle.daide_protocol.specs.Fates.{EventCause, Frame, End, Stop, Came, checked_frame, frame_cause, fault_or}
 use Rattle.daide_protocol.specs.Fates.{items_cause, cause_at, timeout_in, came_in_phase, came_in}
 use Rattle.daide_protocol.specs.Fates.{is_passed_on, is_answered_prn, is_answered_huh, HaveFates, frames_among}
 use Rattle.daide_protocol.specs.Fates.{whole_frame_from, frames_from}
@@ -155,6 +155,12 @@ event_fates s (Loses side) v r = go (is_over s.phase) refl
     go true o = rw o refl
     go false o = rw o (refl, refl)
 event_fates s ImTimerExpired v r = timer_fates s.limits s.phase s
+event_fates s OperatorStops v r = go (is_over s.phase) refl
+  where
+    go : (b : Bool) → is_over s.phase ≡ b →
+        HaveFates s.limits (came_in_phase s.phase (cause_at s OperatorStops)) (event_outcome s OperatorStops v).effects
+    go true o = rw o refl
+    go false o = rw o (refl, refl)
 
 step_fates : (s : SessionState) (event : Event) (effects : List Effect) (m : SessionState) → Transition s event effects m →
     HaveFates s.limits (came_in_phase s.phase (cause_at s event)) effects
@@ -209,6 +215,7 @@ over_causes s ImTimerExpired o = by_phase s.phase o
     by_phase WaitRm e = refl
     by_phase (Open level) e = refl
     by_phase (Over ending) e = refl
+over_causes s OperatorStops o = rw o refl
 
 -- there is no input once the session is over
 over_comes : (s : SessionState) (events : List Event) (effects : List Effect) (new : SessionState)
@@ -355,6 +362,12 @@ event_comes side s ImTimerExpired v = go s.phase
     go WaitRm = inl refl
     go (Open level) = inl refl
     go (Over ending) = inl refl
+event_comes side s OperatorStops v = go (is_over s.phase)
+  where
+    go : (b : Bool) →
+        ComeHere side [] (came_in_phase s.phase (if b then None else Some Stop)) (event_outcome s OperatorStops v).state
+    go true = inl refl
+    go false = inl refl
 
 -- a run's frames are those among its inputs, and then those after its end
 abbrev AreFrames : Side → (s : SessionState) (events : List Event) (effects : List Effect) (new : SessionState) →

@@ -17,11 +17,11 @@ use Rattle.daide_protocol.specs.declared.ending.Ending.TheVariants.{Ended, Lost}
 use Rattle.daide_protocol.specs.declared.phase.SessionPhase.{SessionPhase}
 use Rattle.daide_protocol.specs.declared.phase.SessionPhase.TheVariants.{WaitIm, WaitRm, Open, Over}
 use Rattle.daide_frame.specs.Side.{other}
-use Rattle.daide_protocol.specs.Events.{Event, Comes, Ends, Loses, ImTimerExpired}
+use Rattle.daide_protocol.specs.Events.{Event, Comes, Ends, Loses, ImTimerExpired, OperatorStops}
 use Rattle.daide_protocol.specs.Machine.{Limits, SessionState, Effect, Successor, Transition, Runs, initial_state, coming}
 use Rattle.daide_frame.specs.Head.{is_im}
 use Rattle.daide_protocol.specs.Machine.{with_pending, is_over, fault, end, header_outcome, untimely, answered}
-use Rattle.daide_protocol.specs.Machine.{im_answered, frame_outcome, item_outcome, items_outcome, im_timer_expired, event_outcome}
+use Rattle.daide_protocol.specs.Machine.{im_answered, frame_outcome, item_outcome, items_outcome, im_timer_expired, stop, event_outcome}
 use Rattle.daide_protocol.specs.Heard.{bytes_from, heard_at, items_heard}
 use Rattle.daide_protocol.proofs.OneRun.{one_run}
 use Rattle.daide_protocol.proofs.WireLemmas.{same_self}
@@ -290,6 +290,7 @@ hears_nothing side s (Comes from x) o = rw o refl
 hears_nothing side s (Ends from) o = refl
 hears_nothing side s (Loses from) o = refl
 hears_nothing side s ImTimerExpired o = refl
+hears_nothing side s OperatorStops o = refl
 
 pub over_hears : (side : Side) (s : SessionState) (events : List Event) (effects : List Effect) (new : SessionState)
     (run : Runs s events effects new) →
@@ -432,6 +433,12 @@ lost s side effects m t o =
     let came : event_outcome s (Loses side) t.verdict ≡ end s (Lost side) side = rw o refl in
     ap (λ (q : Successor). is_over q.state.phase) (sym t.outcome ∙ came)
 
+pub stopped : (s : SessionState) (effects : List Effect) (m : SessionState) → Transition s OperatorStops effects m →
+    is_over s.phase ≡ false → is_over m.phase ≡ true
+stopped s effects m t o =
+    let came : event_outcome s OperatorStops t.verdict ≡ stop s = rw o refl in
+    ap (λ (q : Successor). is_over q.state.phase) (sym t.outcome ∙ came)
+
 is_heard : (side : Side) (k : ℕ) (s : SessionState) (events : List Event) (effects : List Effect) (new : SessionState)
     (run : Runs s events effects new) →
     IsHeard side k s events effects new run
@@ -469,6 +476,8 @@ is_heard side k s (e ∷ events) effects new run =
         (λ (h : run.0 ≡ s). passes side k s ImTimerExpired events effects new run refl refl
         (ap (λ (q : SessionState). q.limits) h) (ap (λ (q : SessionState). (coming q side).pending) h) (later k))
         (pops s run.1 run.0 run.3)
+    go false o OperatorStops run later =
+        ends_here side k s OperatorStops events effects new run refl (stopped s run.1 run.0 run.3 o)
 
 pub frames_heard : (side : Side) (limits : Limits) (events : List Event) (effects : List Effect) (new : SessionState)
     (run : Runs (initial_state limits) events effects new) →
@@ -532,6 +541,7 @@ step_waits s ImTimerExpired effects m t o p wait = ⊎_elim
     (λ (h : is_over m.phase ≡ true). absurd (not_both (is_over m.phase) h p))
     (λ (h : m ≡ s). subst IsWaitedFor (sym h) wait)
     (pops s effects m t)
+step_waits s OperatorStops effects m t o p wait = absurd (not_both (is_over m.phase) (stopped s effects m t o) p)
 
 pub run_waits : (s : SessionState) (events : List Event) (effects : List Effect) (new : SessionState) →
     Runs s events effects new →

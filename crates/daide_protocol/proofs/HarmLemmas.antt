@@ -21,7 +21,7 @@ use Rattle.daide_protocol.specs.declared.note.Note.TheVariants as Notes
 use Rattle.daide_protocol.specs.declared.ending.Ending.TheVariants as Endings
 use Rattle.daide_protocol.specs.declared.phase.SessionPhase.TheVariants.{Over}
 use Rattle.daide_frame.specs.Side.{other}
-use Rattle.daide_protocol.specs.Events.{Event, Comes, Ends, Loses, ImTimerExpired}
+use Rattle.daide_protocol.specs.Events.{Event, Comes, Ends, Loses, ImTimerExpired, OperatorStops}
 use Rattle.daide_protocol.specs.Machine.{Coming, Limits, SessionState, Sent, Effect, Successor, Question, Transition, Runs}
 use Rattle.daide_protocol.specs.Machine.{coming, with_coming, with_pending, with_noted, is_over, untimely}
 use Rattle.daide_protocol.specs.Machine.{answered, level_in}
@@ -288,6 +288,7 @@ one_event Server c (Comes Bot x) events s b m run p f later =
 one_event side c (Ends from) events s b m run p f later = passes_on side c (Ends from) events s b m run refl later
 one_event side c (Loses from) events s b m run p f later = passes_on side c (Loses from) events s b m run refl later
 one_event side c ImTimerExpired events s b m run p f later = passes_on side c ImTimerExpired events s b m run refl later
+one_event side c OperatorStops events s b m run p f later = passes_on side c OperatorStops events s b m run refl later
 
 between_runs : (side : Side) (c : Coming) (events : List Event) (s : SessionState) (b : List Effect)
     (m : SessionState) (run : Runs s events b m) → frames_among (items_heard side s events b m run) ≡ [] →
@@ -575,6 +576,7 @@ too Server s n (Comes Bot x) effects m t o may = beside_too Server s n (Comes Bo
 too side s n (Ends from) effects m t o may = beside_too side s n (Ends from) effects m refl t may
 too side s n (Loses from) effects m t o may = beside_too side s n (Loses from) effects m refl t may
 too side s n ImTimerExpired effects m t o may = beside_too side s n ImTimerExpired effects m refl t may
+too side s n OperatorStops effects m t o may = beside_too side s n OperatorStops effects m refl t may
 
 abbrev RunsToo : Side → SessionState → Level → List Event → List Effect → SessionState → Type 0
 RunsToo side s n events effects m = (l : Level) × Runs (with_noted s side n) events effects (with_noted m side l)

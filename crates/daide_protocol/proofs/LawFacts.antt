@@ -24,7 +24,7 @@ use Rattle.daide_protocol.specs.declared.ending.Ending.TheVariants as Endings
 use Rattle.daide_protocol.specs.declared.note.Note.TheVariants as Notes
 use Rattle.daide_protocol.specs.declared.phase.Phase.TheVariants.{Over}
 use Rattle.daide_protocol.specs.declared.phase.SessionPhase.TheVariants as SessionPhases
-use Rattle.daide_protocol.specs.Events.{Event, Comes, Ends, ImTimerExpired, bytes_come}
+use Rattle.daide_protocol.specs.Events.{Event, Comes, Ends, ImTimerExpired, OperatorStops, bytes_come}
 use Rattle.daide_protocol.specs.Machine.{SessionState, Sent, Effect, Transition, Runs, initial_state, is_over, em_to}
 use Rattle.daide_protocol.specs.Machine.{ending_in, is_dm, plain_phase, with_pending}
 use Rattle.daide_protocol.specs.Summary.{nothing_counted, tallied}
@@ -32,7 +32,7 @@ use Rattle.daide_protocol.specs.Wires.{SessionView, IsNew, queued, sent_to, sent
 use Rattle.daide_protocol.specs.Calls.{AreCalls, Feeds, Puts, Fails}
 use Rattle.daide_protocol.specs.Heard.{items_heard}
 use Rattle.daide_protocol.specs.Ended.{ending_at}
-use Rattle.daide_protocol.specs.Fates.{EachMessageHasOneFate, Came, HaveFates, Timeout, came_in}
+use Rattle.daide_protocol.specs.Fates.{EachMessageHasOneFate, Came, HaveFates, Timeout, Stop, came_in}
 use Rattle.daide_protocol.specs.Passing.{OnlyMessagesPass, IsFrame, MayBeSent, no_message, passed, within_prn, within_huh}
 use Rattle.daide_protocol.specs.Passing.{HasCome}
 use Rattle.daide_protocol.specs.Harm.{ASideHarmsItselfAlone, HasRefused}
@@ -51,9 +51,11 @@ each_event : EachEventHasATransition →
     ((effects : List Effect) × (new : SessionState)
     × Transition (with_pending open_at_0 Bot (0x02 ∷ 0x00 ∷ 0x00 ∷ 0x02 ∷ 0x48 ∷ [])) (Comes Bot 0x0F) effects new)
     × ((effects : List Effect) × (new : SessionState) × Transition (standing usual Over L0) ImTimerExpired effects new)
+    × ((effects : List Effect) × (new : SessionState) × Transition open_at_0 OperatorStops effects new)
 each_event law = (
   law (with_pending open_at_0 Bot (0x02 ∷ 0x00 ∷ 0x00 ∷ 0x02 ∷ 0x48 ∷ [])) (Comes Bot 0x0F) refl,
   law (standing usual Over L0) ImTimerExpired refl,
+  law open_at_0 OperatorStops refl,
 )
 
 -- so a whole session has a run
@@ -122,12 +124,12 @@ one_piece_or_two law one other one_new other_new first second calls more =
 
 -- ---- ends and counts
 
--- an IM and the timer do nothing once a session is over
+-- an IM, the timer and a stop do nothing once a session is over
 after_the_end : NothingAfterTheEnd → (effects : List Effect) (new : SessionState) →
-    Runs (standing usual Over L0) (bytes_come Bot im ++ ImTimerExpired ∷ []) effects new →
+    Runs (standing usual Over L0) (bytes_come Bot im ++ ImTimerExpired ∷ OperatorStops ∷ []) effects new →
     (effects ≡ []) × (new ≡ standing usual Over L0)
 after_the_end law effects new run =
-    law (standing usual Over L0) new (bytes_come Bot im ++ ImTimerExpired ∷ []) effects refl run
+    law (standing usual Over L0) new (bytes_come Bot im ++ ImTimerExpired ∷ OperatorStops ∷ []) effects refl run
 
 -- if there is one event, it is the one that ended the session
 ended_by : (before : List Event) (event : Event) (after : List Event) (moves : List Effect) (old : SessionState) →
@@ -150,6 +152,21 @@ timer_ends law effects new run over =
       ended.ending ∙ ended_by ended.before ended.event ended.after ended.moves_before ended.old ended.events_are
           ended.run_before,
     )
+
+-- a stop ends a session that is not over, and is its ending
+stop_ends : EndingIsKnown → (effects : List Effect) (new : SessionState) →
+    Runs (initial_state usual) (OperatorStops ∷ []) effects new → is_over new.phase ≡ true →
+    ending_in new.phase ≡ Some Endings.Stopped
+stop_ends law effects new run over =
+    let ended = (law usual (OperatorStops ∷ []) effects new run).1 over in
+    ended.ending ∙ stopped_by ended.before ended.event ended.after ended.old ended.events_are
+  where
+    stopped_by : (before : List Event) (event : Event) (after : List Event) (old : SessionState) →
+        OperatorStops ∷ [] ≡ before ++ event ∷ after → ending_at old event ≡ Some Endings.Stopped
+    stopped_by [] event after old is =
+        let same : OperatorStops ≡ event = cc in ap (ending_at old) (sym same)
+    stopped_by (first ∷ []) event after old is = absurd cc
+    stopped_by (first ∷ second ∷ before) event after old is = absurd cc
 
 -- IM, RM, OBS, OFF and FM were relayed, and GOF ( got PRN
 counts : CountsAreTheMoves → tallied (outcome_of (initial_state usual) session_events).effects nothing_counted
@@ -191,6 +208,14 @@ timer_has_one_fate : EachMessageHasOneFate → (effects : List Effect) (new : Se
     (run : Runs (initial_state usual) (ImTimerExpired ∷ []) effects new) → (effect : Effect) ×
     (effects ≡ effect ∷ []) × (effect.sent ≡ em_to Bot ImTimeout ∷ [])
 timer_has_one_fate law effects new run = one_effect effects (law usual (ImTimerExpired ∷ []) effects new run).fates
+
+-- at a stop of an open session each side gets an FM, and nothing else is sent
+one_effect_of_a_stop : (effects : List Effect) →
+    HaveFates usual (record { phase = SessionPhases.Open L0; cause = Stop } ∷ []) effects →
+    (effect : Effect) × (effects ≡ effect ∷ [])
+    × (effect.sent ≡ record { to = Bot; answers = None; bytes = fm } ∷ record { to = Server; answers = None; bytes = fm } ∷ [])
+one_effect_of_a_stop [] h = absurd h
+one_effect_of_a_stop (effect ∷ more) h = (effect, ap (λ (e : List Effect). effect ∷ e) h.1, h.0)
 
 -- an OBS that a bot gets is one that the server sent, and may send at the recorded level
 abbrev IsSaid : List Came → List ℕ → Type 0

@@ -4,7 +4,7 @@ use Rattle.daide_frame.specs.Frames.{last_items}
 use Rattle.daide_reader.specs.declared.verdict.Verdict.{Verdict}
 use Rattle.daide_protocol.specs.declared.phase.SessionPhase.{SessionPhase}
 use Rattle.daide_protocol.specs.declared.phase.SessionPhase.TheVariants.{WaitIm, WaitRm, Open, Over}
-use Rattle.daide_protocol.specs.Events.{Event, Comes, Ends, Loses, ImTimerExpired}
+use Rattle.daide_protocol.specs.Events.{Event, Comes, Ends, Loses, ImTimerExpired, OperatorStops}
 use Rattle.daide_protocol.specs.Machine.{SessionState, Effect, Successor, Runs, event_outcome, with_pending, coming}
 use Rattle.daide_protocol.specs.Machine.{is_over, im_timer_expired}
 use Rattle.daide_protocol.proofs.FramesHeard.{items_limits}
@@ -38,6 +38,11 @@ event_limits s (Loses side) v = go (is_over s.phase) refl
     go true e = rw e refl
     go false e = rw e refl
 event_limits s ImTimerExpired v = im_timer_expired_limits s.phase s
+event_limits s OperatorStops v = go (is_over s.phase) refl
+  where
+    go : (b : Bool) → is_over s.phase ≡ b → (event_outcome s OperatorStops v).state.limits ≡ s.limits
+    go true e = rw e refl
+    go false e = rw e refl
 
 -- a run does not change its limits
 pub runs_limits : (events : List Event) (old new : SessionState) (effects : List Effect) → Runs old events effects new →

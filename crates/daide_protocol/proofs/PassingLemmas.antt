@@ -33,11 +33,11 @@ use Rattle.daide_protocol.specs.declared.phase.SessionPhase.TheVariants.{WaitIm,
 use Rattle.daide_protocol.specs.Bounds.{longest_body}
 use Rattle.daide_protocol.specs.Answers.{answer_body, answer_bytes}
 use Rattle.daide_frame.specs.Side.{other, same_side}
-use Rattle.daide_protocol.specs.Events.{Event, Comes, Ends, Loses, ImTimerExpired}
+use Rattle.daide_protocol.specs.Events.{Event, Comes, Ends, Loses, ImTimerExpired, OperatorStops}
 use Rattle.daide_protocol.specs.Machine.{Limits, SessionState, Sent, Effect, Runs, coming, is_over, untimely, is_dm}
 use Rattle.daide_protocol.specs.Machine.{may_reach, fm_bytes, em_bytes, fm_to, em_to, side2_of, initial_state, level_in}
 use Rattle.daide_protocol.specs.Wires.{frames_to, sent_to}
-use Rattle.daide_protocol.specs.Fates.{EventCause, Frame, Fault, End, Timeout, Came, checked_frame, frame_cause, fault_or}
+use Rattle.daide_protocol.specs.Fates.{EventCause, Frame, Fault, End, Timeout, Stop, Came, checked_frame, frame_cause, fault_or}
 use Rattle.daide_protocol.specs.Fates.{items_cause, cause_at, timeout_in, came_in_phase, came_in, passed_on, given_back}
 use Rattle.daide_protocol.specs.Fates.{IsMessageFate, is_passed_on, is_answered_prn, is_answered_huh, IsFrameFate}
 use Rattle.daide_protocol.specs.Fates.{IsFate}
@@ -57,6 +57,7 @@ IsGood cap (Frame side noted head body) = IsWholeFrame cap head body
 IsGood cap (Fault side code) = Unit {0}
 IsGood cap (End side) = Unit {0}
 IsGood cap Timeout = Unit {0}
+IsGood cap Stop = Unit {0}
 
 abbrev pub AreGood : ℕ → List Came → Type 0
 AreGood cap [] = Unit {0}
@@ -120,6 +121,11 @@ event_good s ImTimerExpired = go s.phase
     go WaitRm = tt
     go (Open level) = tt
     go (Over ending) = tt
+event_good s OperatorStops = go (is_over s.phase)
+  where
+    go : (b : Bool) → AreGood s.limits.cap (came_in_phase s.phase (if b then None else Some Stop))
+    go true = tt
+    go false = (tt, tt)
 
 pub run_good : (s : SessionState) (events : List Event) (effects : List Effect) (new : SessionState)
     (run : Runs s events effects new) →
@@ -213,6 +219,10 @@ module _ (limits : Limits) (small : limits.cap ≤ longest_body) (all : List Cam
           EachTo May to (if b then record { to = side; answers = None; bytes = fm_bytes } ∷ [] else [])
       go true = (λ e. no_message Fm [] refl fm_frame, tt)
       go false = tt
+
+  each_may : (some more : List Sent) → EachTo May to some → EachTo May to more → EachTo May to (some ++ more)
+  each_may [] more h k = k
+  each_may (frame ∷ some) more h k = (h.0, each_may some more h.1 k)
 
   em_may : (side : Side) (code : Code) (frames : List Sent) → EachTo May to frames →
       EachTo May to (em_to side code ∷ frames)
@@ -350,6 +360,8 @@ module _ (limits : Limits) (small : limits.cap ≤ longest_body) (all : List Cam
       subst (EachTo May to) (sym e) (em_may side code (fm_to phase (other side)) (fm_may phase (other side)))
   cause_may phase (End side) sent w come e = subst (EachTo May to) (sym e) (fm_may phase (other side))
   cause_may phase Timeout sent w come e = subst (EachTo May to) (sym e) (em_may Bot ImTimeout [] tt)
+  cause_may phase Stop sent w come e = subst (EachTo May to) (sym e)
+      (each_may (fm_to phase Bot) (fm_to phase Server) (fm_may phase Bot) (fm_may phase Server))
 
   all_may : (came : List Came) (effects : List Effect) → AreGood limits.cap came →
       ((side : Side) (noted : Level) (body : List ℕ) → HasCome came side noted body → HasCome all side noted body) →

@@ -9,7 +9,7 @@ use Rattle.daide_reader.specs.declared.verdict.Verdict.{Verdict}
 use Rattle.daide_reader.specs.declared.verdict.Verdict.TheVariants.{Relay}
 use Rattle.daide_protocol.specs.declared.phase.SessionPhase.{SessionPhase}
 use Rattle.daide_protocol.specs.declared.phase.SessionPhase.TheVariants.{WaitIm, WaitRm, Open, Over}
-use Rattle.daide_protocol.specs.Events.{Event, Comes, Ends, Loses, ImTimerExpired, bytes_come}
+use Rattle.daide_protocol.specs.Events.{Event, Comes, Ends, Loses, ImTimerExpired, OperatorStops, bytes_come}
 use Rattle.daide_protocol.specs.Machine.{Limits, SessionState, Successor, Question, Transition, Runs, coming, with_pending}
 use Rattle.daide_protocol.specs.Machine.{items_outcome, asked_by, question, IsCorrectVerdict, event_outcome, nothing, is_over}
 use Rattle.daide_protocol.specs.Machine.{im_timer_expired}
@@ -28,12 +28,14 @@ over_outcome s (Comes side byte) v h = rw h refl
 over_outcome s (Ends side) v h = rw h refl
 over_outcome s (Loses side) v h = rw h refl
 over_outcome s ImTimerExpired v h = timer_over s.phase s h
+over_outcome s OperatorStops v h = rw h refl
 
 over_asks : (s : SessionState) (e : Event) → is_over s.phase ≡ true → question s e ≡ None
 over_asks s (Comes side byte) h = rw h refl
 over_asks s (Ends side) h = refl
 over_asks s (Loses side) h = refl
 over_asks s ImTimerExpired h = refl
+over_asks s OperatorStops h = refl
 
 -- once over, a session is unchanged
 pub over_stays : (s : SessionState) (es : List Event) → is_over s.phase ≡ true → Runs s es [] s

@@ -17,7 +17,7 @@ use Rattle.daide_protocol.specs.declared.phase.Phase.{Phase}
 use Rattle.daide_protocol.specs.declared.phase.Phase.TheVariants.{WaitIm, WaitRm, Open, Over}
 use Rattle.daide_protocol.specs.declared.note.Deed.TheVariants as Deeds
 use Rattle.daide_protocol.specs.declared.note.Note.TheVariants as Notes
-use Rattle.daide_protocol.specs.Events.{Event, Comes, Ends, Loses, ImTimerExpired, bytes_come}
+use Rattle.daide_protocol.specs.Events.{Event, Comes, Ends, Loses, ImTimerExpired, OperatorStops, bytes_come}
 use Rattle.daide_protocol.specs.Answers.{answer_bytes}
 use Rattle.daide_protocol.specs.Machine.{Limits, SessionState, Effect, Successor, Runs, initial_state, level_in, plain_phase, with_coming}
 use Rattle.daide_protocol.specs.Machine.{question}
@@ -416,3 +416,17 @@ timer_within_the_im :
     Plays (initial_state usual) (bytes_come Bot (take 5 im) ++ ImTimerExpired ∷ bytes_come Bot (drop 5 im)) (em 0x01) [] Over L0
 unfolding last_items first_items parse_head is_alien
 timer_within_the_im = computed refl refl refl refl refl
+
+-- a stop in the middle of the IM, of the bot's message and of the server's: nothing of it is sent but an FM to each side
+-- that may be reached, and the rest of the bytes does nothing
+stops_within_a_frame :
+    Plays (initial_state usual) (bytes_come Bot (take 5 im) ++ OperatorStops ∷ bytes_come Bot (drop 5 im)) fm [] Over L0
+    × Plays open_at_0 (bytes_come Bot (0x02 ∷ 0x00 ∷ 0x00 ∷ 0x02 ∷ 0x48 ∷ []) ++ OperatorStops ∷ bytes_come Bot (0x0F ∷ []))
+    fm fm Over L0
+    × Plays open_at_0 (bytes_come Server (0x02 ∷ 0x00 ∷ []) ++ OperatorStops ∷ Ends Bot ∷ OperatorStops ∷ []) fm fm Over L0
+unfolding last_items first_items parse_head is_alien
+stops_within_a_frame = (
+  computed refl refl refl refl refl,
+  computed refl refl refl refl refl,
+  computed refl refl refl refl refl,
+)

@@ -20,8 +20,8 @@ use Rattle.daide_protocol.specs.declared.phase.Phase.TheVariants.{WaitIm, WaitRm
 use Rattle.daide_protocol.specs.declared.note.Deed.TheVariants as Deeds
 use Rattle.daide_protocol.specs.declared.note.Note.TheVariants as Notes
 use Rattle.daide_protocol.specs.declared.ending.Ending.{Ending}
-use Rattle.daide_protocol.specs.declared.ending.Ending.TheVariants.{Ended, Final, Error, Fault}
-use Rattle.daide_protocol.specs.Events.{Comes, Ends, Loses, ImTimerExpired}
+use Rattle.daide_protocol.specs.declared.ending.Ending.TheVariants.{Ended, Final, Error, Fault, Stopped}
+use Rattle.daide_protocol.specs.Events.{Comes, Ends, Loses, ImTimerExpired, OperatorStops}
 use Rattle.daide_protocol.specs.Answers.{prn_open, huh_open, err_bytes, close_bytes, answer_body, answer_bytes}
 use Rattle.daide_protocol.specs.declared.hlo.LvlScan.TheVariants.{NoToken, NoHlo, NoNumber, Number}
 use Rattle.daide_protocol.specs.HloLevel.{first_level, lvl_scan_of, level_reported}
@@ -261,6 +261,21 @@ module _ (limits : Limits) where
       × (event_outcome (standing limits Open) ImTimerExpired Relay ≡ nothing (standing limits Open))
       × (event_outcome (standing limits Over) ImTimerExpired Relay ≡ nothing (standing limits Over))
   im_timeout_later = (refl, refl, refl)
+
+  -- a stop: before the IM the bot alone gets an FM, then each side gets one; once over, it does nothing
+  stop_before_the_im : let stopped = event_outcome (standing limits WaitIm) OperatorStops Relay in
+      (wire Bot stopped ≡ fm) × (wire Server stopped ≡ []) × (stopped.state ≡ over Stopped (initial_state limits))
+      × (note_of stopped.effects ≡ Notes.Stopped)
+  stop_before_the_im = (refl, refl, refl, refl)
+
+  stop_later : let waits = event_outcome (standing limits WaitRm) OperatorStops Relay in
+      let opened = event_outcome (standing limits Open) OperatorStops Relay in
+      (wire Bot waits ≡ fm) × (wire Server waits ≡ fm) × (wire Bot opened ≡ fm) × (wire Server opened ≡ fm)
+      × (waits.state ≡ over Stopped (initial_state limits)) × (opened.state ≡ over Stopped (initial_state limits))
+  stop_later = (refl, refl, refl, refl, refl, refl)
+
+  stopped_once_over : event_outcome (standing limits Over) OperatorStops Relay ≡ nothing (standing limits Over)
+  stopped_once_over = refl
 
   -- ---- messages
 

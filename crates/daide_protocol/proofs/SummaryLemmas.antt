@@ -28,3 +28,4 @@ counted_reduced (Notes.Frame head Deeds.Dropped) s = refl
 counted_reduced (Notes.Frame head Deeds.Prn) s = rw (one_more_mod s.prn) refl
 counted_reduced (Notes.Frame head (Deeds.Huh place)) s = rw (one_more_mod s.huh) refl
 counted_reduced (Notes.Fault code) s = rw (one_more_mod s.faults) refl
+counted_reduced Notes.Stopped s = refl

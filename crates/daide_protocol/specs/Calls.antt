@@ -3,7 +3,7 @@
 use Rattle.std.specs.Prelude.{◌≡◌, ℕ, Bool, true, false, ◌||◌, List, [], ◌∷◌, ◌++◌, length, if◌then◌else◌}
 use Rattle.daide_frame.specs.declared.side.Side.{Side}
 use Rattle.daide_protocol.specs.declared.note.Note.{Note}
-use Rattle.daide_protocol.specs.Events.{Event, Ends, Loses, ImTimerExpired, bytes_come}
+use Rattle.daide_protocol.specs.Events.{Event, Ends, Loses, ImTimerExpired, OperatorStops, bytes_come}
 use Rattle.daide_protocol.specs.Machine.{Sent, Effect, Runs}
 use Rattle.daide_protocol.specs.Summary.{tallied}
 use Rattle.daide_frame.specs.Side.{same_side}
@@ -14,6 +14,7 @@ pub data Call : Type 0 where
   Feeds : (side : Side) → (piece : List ℕ) → Call  -- `feed`: bytes of a side came
   Stops : (side : Side) → Call  -- `ended`: a side's stream ended
   TimesOut : Call  -- `im_timeout`: the time for the IM is over
+  Terminates : Call  -- `stop`: the operator stopped the session
   Fails : (side : Side) → Call  -- `lost`: the wire toward a side failed
   Puts : (side : Side) → (bytes : List ℕ) → Call  -- `wrote`: the wire toward a side took these bytes
 
@@ -27,6 +28,7 @@ abbrev pub IsCall : SessionView → Call → SessionView → Type 0
 IsCall old (Feeds side piece) new = (reported : Note) × Refines old (bytes_come side piece) reported new
 IsCall old (Stops side) new = (reported : Note) × Refines old (Ends side ∷ []) reported new
 IsCall old TimesOut new = (reported : Note) × Refines old (ImTimerExpired ∷ []) reported new
+IsCall old Terminates new = (reported : Note) × Refines old (OperatorStops ∷ []) reported new
 IsCall old (Fails side) new = Lost old side new
 IsCall old (Puts side bytes) new =
     ((rest : List ℕ) × (first_bytes (queued old side) ≡ bytes ++ rest)) × Wrote old side (length bytes) new
@@ -42,6 +44,7 @@ events_of_calls [] = []
 events_of_calls (Feeds side piece ∷ calls) = bytes_come side piece ++ events_of_calls calls
 events_of_calls (Stops side ∷ calls) = Ends side ∷ events_of_calls calls
 events_of_calls (TimesOut ∷ calls) = ImTimerExpired ∷ events_of_calls calls
+events_of_calls (Terminates ∷ calls) = OperatorStops ∷ events_of_calls calls
 events_of_calls (Fails side ∷ calls) = Loses side ∷ events_of_calls calls
 events_of_calls (Puts side bytes ∷ calls) = events_of_calls calls
 
@@ -51,6 +54,7 @@ taken_by side [] = []
 taken_by side (Feeds from piece ∷ calls) = taken_by side calls
 taken_by side (Stops from ∷ calls) = taken_by side calls
 taken_by side (TimesOut ∷ calls) = taken_by side calls
+taken_by side (Terminates ∷ calls) = taken_by side calls
 taken_by side (Fails to ∷ calls) = taken_by side calls
 taken_by side (Puts to bytes ∷ calls) = if same_side to side then bytes ++ taken_by side calls else taken_by side calls
 
@@ -60,6 +64,7 @@ some_call_fails side [] = false
 some_call_fails side (Feeds from piece ∷ calls) = some_call_fails side calls
 some_call_fails side (Stops from ∷ calls) = some_call_fails side calls
 some_call_fails side (TimesOut ∷ calls) = some_call_fails side calls
+some_call_fails side (Terminates ∷ calls) = some_call_fails side calls
 some_call_fails side (Fails to ∷ calls) = same_side to side || some_call_fails side calls
 some_call_fails side (Puts to bytes ∷ calls) = some_call_fails side calls
 

@@ -1,5 +1,5 @@
 -- What ends a session, by docs/PROTOCOL.md, "The session": the end of a stream or the loss of a wire, an FM, an EM, a
--- fault, and the expiry of the IM timer.
+-- fault, the expiry of the IM timer, and a stop by the operator.
 use Rattle.std.specs.Prelude.{◌≡◌, false, List, ◌∷◌, ◌++◌, Option, Some, None}
 use Rattle.daide_frame.specs.declared.side.Side.{Side}
 use Rattle.daide_frame.specs.declared.side.Side.TheVariants.{Bot}
@@ -8,9 +8,9 @@ use Rattle.daide_frame.specs.declared.head.Kind.TheVariants.{Im, Rm, Dm, Fm, Em}
 use Rattle.daide_frame.specs.declared.code.Code.TheVariants.{ImTimeout}
 use Rattle.daide_protocol.specs.declared.ending.Ending.{Ending}
 use Rattle.daide_protocol.specs.declared.ending.Ending.TheVariants as Endings
-use Rattle.daide_protocol.specs.Events.{Event, Comes, Ends, Loses, ImTimerExpired}
+use Rattle.daide_protocol.specs.Events.{Event, Comes, Ends, Loses, ImTimerExpired, OperatorStops}
 use Rattle.daide_protocol.specs.Machine.{SessionState, Effect, Transition, Runs, is_over, ending_in}
-use Rattle.daide_protocol.specs.Fates.{EventCause, Frame, Fault, End, Timeout, cause_at}
+use Rattle.daide_protocol.specs.Fates.{EventCause, Frame, Fault, End, Timeout, Stop, cause_at}
 
 -- a whole frame from a side ends the session if it is an FM or an EM
 abbrev pub frame_ending : Kind → Side → Option Ending
@@ -21,13 +21,14 @@ frame_ending Fm side = Some (Endings.Final side)
 frame_ending Em side = Some (Endings.Error side)
 
 -- The ending by a frame or a fault, if it ends the session. An expired IM timer is a fault of the bot. The end of a
--- stream has no cause here.
+-- stream and a stop have no cause here.
 abbrev pub cause_ending : Option EventCause → Option Ending
 cause_ending None = None
 cause_ending (Some (Frame side noted head body)) = frame_ending head.kind side
 cause_ending (Some (Fault side code)) = Some (Endings.Fault side code)
 cause_ending (Some (End side)) = None
 cause_ending (Some Timeout) = Some (Endings.Fault Bot ImTimeout)
+cause_ending (Some Stop) = None
 
 -- the ending by an event, if it ends a session that is not over
 abbrev pub ending_at : SessionState → Event → Option Ending
@@ -35,6 +36,7 @@ ending_at state (Comes side byte) = cause_ending (cause_at state (Comes side byt
 ending_at state (Ends side) = Some (Endings.Ended side)
 ending_at state (Loses side) = Some (Endings.Lost side)
 ending_at state ImTimerExpired = cause_ending (cause_at state ImTimerExpired)
+ending_at state OperatorStops = Some Endings.Stopped
 
 -- The first event that ended a run. Before it the session was not over. It made the state that the session has had
 -- since, and its ending is the recorded one.

@@ -8,6 +8,7 @@ pub data Event : Type 0 where
   Ends : (side : Side) → Event  -- a side's stream ended
   Loses : (side : Side) → Event  -- the wire toward a side failed
   ImTimerExpired : Event  -- the time for the IM is over
+  OperatorStops : Event  -- the operator stopped the session
 
 -- the bytes from a side, one event each
 abbrev pub bytes_come : Side → List ℕ → List Event

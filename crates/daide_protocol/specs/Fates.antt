@@ -3,7 +3,7 @@ use Rattle.std.specs.Prelude.{◌≡◌, ℕ, false, List, [], ◌∷◌, ◌++�
 use Rattle.std.specs.Prelude.{if◌then◌else◌}
 use Rattle.daide_token.specs.Token.{tokens_of}
 use Rattle.daide_frame.specs.declared.side.Side.{Side}
-use Rattle.daide_frame.specs.declared.side.Side.TheVariants.{Bot}
+use Rattle.daide_frame.specs.declared.side.Side.TheVariants.{Bot, Server}
 use Rattle.daide_frame.specs.declared.head.Kind.{Kind}
 use Rattle.daide_frame.specs.declared.head.Kind.TheVariants.{Im, Rm, Dm, Fm, Em}
 use Rattle.daide_frame.specs.declared.head.Head.{Head}
@@ -21,7 +21,7 @@ use Rattle.daide_protocol.specs.declared.phase.SessionPhase.{SessionPhase}
 use Rattle.daide_protocol.specs.declared.phase.SessionPhase.TheVariants.{WaitIm}
 use Rattle.daide_protocol.specs.Answers.{answer_bytes}
 use Rattle.daide_frame.specs.Side.{other, same_side}
-use Rattle.daide_protocol.specs.Events.{Event, Comes, Ends, Loses, ImTimerExpired}
+use Rattle.daide_protocol.specs.Events.{Event, Comes, Ends, Loses, ImTimerExpired, OperatorStops}
 use Rattle.daide_protocol.specs.Machine.{Limits, SessionState, Sent, Effect, Runs, coming, level_in, is_over, untimely, em_to}
 use Rattle.daide_protocol.specs.Machine.{fm_to, may_reach, side2_of, initial_state}
 use Rattle.daide_protocol.specs.Heard.{bytes_from}
@@ -38,6 +38,8 @@ pub data EventCause : Type 0 where
   End : (side : Side) → EventCause
   -- the IM timer expired
   Timeout : EventCause
+  -- the operator stopped the session
+  Stop : EventCause
 
 -- an input, with the phase in which it arrives
 pub record Came : Type 0 where
@@ -77,6 +79,7 @@ cause_at state (Comes side byte) =
 cause_at state (Ends side) = if is_over state.phase then None else Some (End side)
 cause_at state (Loses side) = if is_over state.phase then None else Some (End side)
 cause_at state ImTimerExpired = timeout_in state.phase
+cause_at state OperatorStops = if is_over state.phase then None else Some Stop
 
 abbrev pub came_in_phase : SessionPhase → Option EventCause → List Came
 came_in_phase phase None = []
@@ -126,12 +129,13 @@ IsFrameFate Em limits phase side noted head body sent =
     sent ≡ (if may_reach phase (other side) then passed_on side head body ∷ [] else [])
 
 -- A side with a fault gets an EM, and the other side an FM. At an end the other side gets an FM. At the expiry of the
--- IM timer the bot gets an EM. No FM is sent to the server before the IM.
+-- IM timer the bot gets an EM. At a stop each side gets an FM. No FM is sent to the server before the IM.
 abbrev pub IsFate : Limits → SessionPhase → EventCause → List Sent → Type 0
 IsFate limits phase (Frame side noted head body) sent = IsFrameFate head.kind limits phase side noted head body sent
 IsFate limits phase (Fault side code) sent = sent ≡ em_to side code ∷ fm_to phase (other side)
 IsFate limits phase (End side) sent = sent ≡ fm_to phase (other side)
 IsFate limits phase Timeout sent = sent ≡ em_to Bot ImTimeout ∷ []
+IsFate limits phase Stop sent = sent ≡ fm_to phase Bot ++ fm_to phase Server
 
 -- one effect for each input, in their order
 abbrev pub HaveFates : Limits → List Came → List Effect → Type 0
@@ -152,6 +156,7 @@ whole_frame_from side (Frame from noted head body) = if same_side from side then
 whole_frame_from side (Fault from code) = []
 whole_frame_from side (End from) = []
 whole_frame_from side Timeout = []
+whole_frame_from side Stop = []
 
 -- the whole frames from a side among the inputs
 abbrev pub frames_from : Side → List Came → List FrameEvent

@@ -6,7 +6,7 @@ use Rattle.daide_protocol.specs.declared.note.Deed.TheVariants as Deeds
 use Rattle.daide_protocol.specs.declared.note.Note.{Note}
 use Rattle.daide_protocol.specs.declared.note.Note.TheVariants as Notes
 use Rattle.daide_frame.specs.Side.{other, same_side}
-use Rattle.daide_protocol.specs.Events.{Event, Comes, Ends, Loses, ImTimerExpired}
+use Rattle.daide_protocol.specs.Events.{Event, Comes, Ends, Loses, ImTimerExpired, OperatorStops}
 use Rattle.daide_protocol.specs.Machine.{Limits, SessionState, Effect, Transition, Runs, coming, with_noted, initial_state}
 use Rattle.daide_protocol.specs.Wires.{sent_to}
 use Rattle.daide_protocol.specs.Heard.{items_heard}
@@ -20,6 +20,7 @@ without_bytes side (Comes from byte ∷ events) =
 without_bytes side (Ends from ∷ events) = Ends from ∷ without_bytes side events
 without_bytes side (Loses from ∷ events) = Loses from ∷ without_bytes side events
 without_bytes side (ImTimerExpired ∷ events) = ImTimerExpired ∷ without_bytes side events
+without_bytes side (OperatorStops ∷ events) = OperatorStops ∷ without_bytes side events
 
 -- an effect reports that a message got PRN or HUH
 abbrev pub IsRefusal : Note → Type 0
@@ -29,6 +30,7 @@ IsRefusal (Notes.Frame head Deeds.Dropped) = ⊥
 IsRefusal (Notes.Frame head Deeds.Prn) = Unit {0}
 IsRefusal (Notes.Frame head (Deeds.Huh place)) = Unit {0}
 IsRefusal (Notes.Fault code) = ⊥
+IsRefusal Notes.Stopped = ⊥
 
 -- A run in which a side's message is refused. Before its first byte nothing of the side's next frame is pending. Its
 -- bytes arrive, perhaps with bytes from the other side between them, and no frame from the side is completed. With one

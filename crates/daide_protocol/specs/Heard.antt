@@ -2,7 +2,7 @@
 use Rattle.std.specs.Prelude.{ℕ, List, [], ◌∷◌, ◌++◌, if◌then◌else◌}
 use Rattle.daide_frame.specs.declared.side.Side.{Side}
 use Rattle.daide_frame.specs.Frames.{FrameEvent, last_items}
-use Rattle.daide_protocol.specs.Events.{Event, Comes, Ends, Loses, ImTimerExpired}
+use Rattle.daide_protocol.specs.Events.{Event, Comes, Ends, Loses, ImTimerExpired, OperatorStops}
 use Rattle.daide_protocol.specs.Machine.{SessionState, Effect, Runs, coming, is_over}
 use Rattle.daide_frame.specs.Side.{same_side}
 
@@ -14,6 +14,7 @@ bytes_from side (Comes from byte ∷ events) =
 bytes_from side (Ends from ∷ events) = bytes_from side events
 bytes_from side (Loses from ∷ events) = bytes_from side events
 bytes_from side (ImTimerExpired ∷ events) = bytes_from side events
+bytes_from side (OperatorStops ∷ events) = bytes_from side events
 
 -- the frame events from a side that a state uses at an event: none once it is over
 abbrev pub heard_at : Side → SessionState → Event → List FrameEvent
@@ -23,6 +24,7 @@ heard_at side state (Comes from byte) =
 heard_at side state (Ends from) = []
 heard_at side state (Loses from) = []
 heard_at side state ImTimerExpired = []
+heard_at side state OperatorStops = []
 
 -- the frame events from a side that a run uses, in their order
 abbrev pub items_heard : (side : Side) (old : SessionState) (events : List Event) (effects : List Effect)

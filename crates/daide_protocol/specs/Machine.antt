@@ -38,7 +38,7 @@ use Rattle.daide_protocol.specs.declared.note.Note.TheVariants as Notes
 use Rattle.daide_protocol.specs.declared.ending.Ending.{Ending}
 use Rattle.daide_protocol.specs.declared.ending.Ending.TheVariants as Endings
 use Rattle.daide_frame.specs.Side.{other}
-use Rattle.daide_protocol.specs.Events.{Event, Comes, Ends, Loses, ImTimerExpired}
+use Rattle.daide_protocol.specs.Events.{Event, Comes, Ends, Loses, ImTimerExpired, OperatorStops}
 use Rattle.daide_protocol.specs.Answers.{answer_bytes}
 use Rattle.daide_protocol.specs.HloLevel.{level_reported}
 
@@ -163,6 +163,12 @@ abbrev pub end : SessionState → Ending → Side → Successor
 end state ending side =
     one_effect (record state { phase = Over ending }) Notes.Nothing (fm_to state.phase (other side))
 
+-- the operator stopped the session: an FM to each side (own)
+abbrev pub stop : SessionState → Successor
+stop state =
+    one_effect (record state { phase = Over Endings.Stopped }) Notes.Stopped
+    (fm_to state.phase Bot ++ fm_to state.phase Server)
+
 -- ---- a header
 
 -- The code for a header that is not permitted now, by phase, side and kind; every other header is permitted. That an RM
@@ -282,6 +288,7 @@ event_outcome state (Ends side) verdict =
 event_outcome state (Loses side) verdict =
     if is_over state.phase then nothing state else end state (Endings.Lost side) side
 event_outcome state ImTimerExpired verdict = im_timer_expired state.phase state
+event_outcome state OperatorStops verdict = if is_over state.phase then nothing state else stop state
 
 -- ---- the verdict
 

@@ -23,6 +23,7 @@ counted_by more (Notes.Frame head (Deeds.Huh place)) s =
     record { relayed = s.relayed; prn = s.prn; huh = more s.huh; faults = s.faults }
 counted_by more (Notes.Fault code) s =
     record { relayed = s.relayed; prn = s.prn; huh = s.huh; faults = more s.faults }
+counted_by more Notes.Stopped s = s
 
 -- in unbounded numbers
 abbrev pub count_note : Note → Summary → Summary

@@ -40,6 +40,7 @@ abbrev pub note_or : Note → Note → Note
 note_or Notes.Nothing later = later
 note_or (Notes.Frame head deed) later = Notes.Frame head deed
 note_or (Notes.Fault code) later = Notes.Fault code
+note_or Notes.Stopped later = Notes.Stopped
 
 -- the first report of some effects other than Nothing
 abbrev pub note_of : List Effect → Note
@@ -203,6 +204,7 @@ held_after (Notes.Frame head Deeds.Dropped) bytes = []
 held_after (Notes.Frame head Deeds.Prn) bytes = bytes
 held_after (Notes.Frame head (Deeds.Huh place)) bytes = bytes
 held_after (Notes.Fault code) bytes = bytes
+held_after Notes.Stopped bytes = bytes
 
 -- the count before the current message: the total at the time when a message's header was completed
 abbrev pub counts_from : Option Head → Option Head → Holding → ℕ

@@ -15,4 +15,6 @@ pub enum Ending {
     Error(Side),
     /// This side made a fault. A late initial message is the bot's fault.
     Fault(Side, Code),
+    /// The operator stopped the session.
+    Stopped,
 }

@@ -15,13 +15,15 @@ pub enum Deed {
     Huh(u16),
 }
 
-/// What bytes or the timer caused.
+/// What bytes, the timer or a stop caused.
 #[derive(Clone, Copy, PartialEq, Eq)]
 pub enum Note {
-    /// No frame was completed, and there was no fault.
+    /// No frame was completed, there was no fault, and no stop ended the session.
     Nothing,
     /// A frame with this header was completed.
     Frame(Head, Deed),
     /// A fault, which ended the session.
     Fault(Code),
+    /// The operator stopped the session.
+    Stopped,
 }

@@ -15,7 +15,7 @@ pub enum Phase {
     WaitRm,
     /// The RM was relayed: diplomacy messages (DM) are judged, and relayed or returned.
     Open,
-    /// After an end, a fault, an FM or an EM: no frame is processed any more.
+    /// After an end, a fault, an FM, an EM or a stop: no frame is processed any more.
     Over,
 }
 

@@ -36,7 +36,7 @@ impl Summary {
         }
     }
 
-    /// Counts an effect, modulo 2^64. Dropped frames and ends are not counted.
+    /// Counts an effect, modulo 2^64. Dropped frames, ends and stops are not counted.
     pub fn count(&mut self, reported: Note)
         ensures modulo { self.new ≡ counted_on reported self.old }
         ensures counted { HasRoom 1 self.old → self.new ≡ count_note reported self.old }
@@ -47,7 +47,7 @@ impl Summary {
             Note::Frame(_, Deed::Prn) => self.prn = self.prn.wrapping_add(1),
             Note::Frame(_, Deed::Huh(_)) => self.huh = self.huh.wrapping_add(1),
             Note::Fault(_) => self.faults = self.faults.wrapping_add(1),
-            Note::Nothing | Note::Frame(_, Deed::Dropped) => {}
+            Note::Nothing | Note::Frame(_, Deed::Dropped) | Note::Stopped => {}
         }
     }
 

@@ -1,6 +1,6 @@
 -- A session at a wait that is idle and calm sleeps.
-use Rattle.std.proofs.Common.{◌≡◌, ℕ, ◌<◌, Bool, true, false, List, [], ◌∷◌, ◌++◌, length, refl, sym, ap, ◌∙◌, subst, arith}
-use Rattle.std.proofs.Common.{◌⊎◌, inl, inr, ⊎_elim, Option}
+use Rattle.std.proofs.Common.{◌≡◌, ℕ, ◌<◌, Bool, true, false, List, [], ◌∷◌, length, refl, sym, ap, ◌∙◌, subst, arith}
+use Rattle.std.proofs.Common.{inl, inr, ⊎_elim, Option}
 use Rattle.std.specs.Prelude.{◌||◌, ◌&&◌, not, All, Contains, min}
 use Rattle.std.specs.declared.time.Duration.{Duration}
 use Rattle.std.proofs.lemmas.List.Elements.{All-weaker, All-contains, All-contains_itself}
@@ -15,11 +15,10 @@ use Rattle.daide_event_loop.specs.Serving.{watches}
 use Rattle.daide_event_loop.specs.Waiting.{IsIdleAtWait}
 use Rattle.daide_event_loop.proofs.WaitingLemmas.{idle_run}
 use Rattle.daide_sockets.specs.declared.socket.Socket.{Socket}
-use Rattle.daide_sockets.specs.Lingering.{IsWriting}
 use Rattle.daide_sockets.specs.Sockets.{has_socket_work, is_some_byte}
 use Rattle.daide_sockets.specs.Table.{Table, IsNoTime, is_reported_at}
-use Rattle.daide_sockets.specs.Wakeups.{SessionSockets, Wakes, may_go_on, may_session_go_on}
-use Rattle.daide_run_laws.specs.NoLostWakeups.{socket_at, Sleeps, WaitsAsleep, NoWakeupIsLost}
+use Rattle.daide_sockets.specs.Wakeups.{SessionSockets, Wakes, may_go_on}
+use Rattle.daide_run_laws.specs.NoLostWakeups.{socket_at, Sleeps, NoWakeupIsLost}
 use Rattle.daide_run_laws.proofs.TurnSettled.{PortsSettle, quiet_found, full_found}
 use Rattle.daide_run_laws.proofs.Watched.{IsCalm, watched_calm, transits_split}
 

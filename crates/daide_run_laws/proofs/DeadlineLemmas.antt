@@ -33,7 +33,8 @@ use Rattle.daide_sockets.specs.Wakeups.{SessionSockets, Wakes, may_go_on, sessio
 use Rattle.daide_run_laws.specs.FreedPlaces.{IsTimed, HasDeadline, NoSessionWaitsForEver}
 use Rattle.daide_run_laws.proofs.TurnSettled.{PortsSettle}
 use Rattle.daide_run_laws.proofs.Watched.{IsCalm, watched_calm, transits_split}
-use Rattle.daide_run_laws.proofs.TimedSessions.{PortsSetTimers, own, IsTimedNow, begins_timed, history_timed}
+use Rattle.daide_run_laws.proofs.BegunSessions.{set_time, seconds_last, begun_with, begins_with_both}
+use Rattle.daide_run_laws.proofs.TimedSessions.{PortsSetTimers, own, BeginsTimed, IsTimedNow, begins_timed, history_timed}
 use Rattle.daide_run_laws.proofs.Deadlines.{IsAwake, IsHeld, IsStalling, awake_found, awake_stays, held_found, held_stays, due_there, kept_from}
 
 -- ---- what a session waits for
@@ -153,15 +154,15 @@ module _ {P S : Type 0} (port_transition : P → PortCall → P → Type 0) (tim
   one_deadline : (settings : Settings) (answers round : List (SystemCall P)) (place : SessionView × QuotaPortsView P)
       (table : Table) (time : Option Duration) → IsIdleAtWait port_transition round place →
       IsCalm table table.reading time (timers place.1.ports).sockets → is_closed place.0 ≡ false → (idle stall : Duration) →
-      IsTimed port_transition timers settings answers idle stall place →
-      HasDeadline idle stall table time (timers place.1.ports)
-  one_deadline settings answers round place table time waits calm going idle stall timed =
+      (timed : IsTimed port_transition timers settings answers idle stall place) →
+      BeginsTimed idle stall (timers timed.session.ports) → HasDeadline idle stall table time (timers place.1.ports)
+  one_deadline settings answers round place table time waits calm going idle stall timed begins =
       let run = timed.session.stands.0.sends.run in
       let some = waits_for_some (run_limits settings) (events_of timed.session.history) timed.session.stands.0.sends.effects
       place.0 run going in
       let now : IsTimedNow idle stall (timers place.1.ports) =
       history_timed idle stall port_transition timers keeps timed.session.history (fresh timed.session.ports settings.turns) place.1
-      timed.session.answered timed.clock (begins_timed idle stall (timers timed.session.ports) timed.begins) in
+      timed.session.answered timed.clock (begins_timed idle stall (timers timed.session.ports) begins) in
       let due = one_due idle stall place waits.idle (no_tries place table time calm) now some in
       record {
         due = due.0;
@@ -181,7 +182,8 @@ module _ {P S : Type 0} (port_transition : P → PortCall → P → Type 0) (tim
 
   pub no_session_waits : {N C : Type 0} (network : N → NetworkCall C → N → Type 0) →
       NoSessionWaitsForEver port_transition timers network
-  no_session_waits network = λ settings n before round mid run first old new rounds ongoing waits trace rests.
+  no_session_waits network = λ settings n before round mid run first old new begun after idles stalls times rounds ongoing waits
+      sessions trace rests.
       let view : P → SessionSockets S = λ ports. (timers ports).sockets in
       let answers = before ++ round ++ Waits ∷ [] in
       let idle = idle_run port_transition settings n before round mid run rounds ongoing waits in
@@ -191,20 +193,33 @@ module _ {P S : Type 0} (port_transition : P → PortCall → P → Type 0) (tim
       (subst (λ (l : List (SystemCall P)). TransitsBy (Wakes network view) last.0 l old) idle.watched last.2) in
       let going = all_open (round ++ Waits ∷ []) mid run waits in
       let time = rests.1.time in
+      let one = set_time settings.idle_seconds begun.times.0 times.0 idles in
+      let other = set_time settings.stall_seconds begun.times.1 times.1 stalls in
+      let both : begun.times ≡ (Some one.0, Some other.0) =
+      ap (λ (t : Option Duration). (t, begun.times.1)) one.1 ∙ ap (λ (t : Option Duration). (Some one.0, t)) other.1 in
+      let begins : (place : SessionView × QuotaPortsView P) →
+      (timed : IsTimed port_transition timers settings answers one.0 other.0 place) →
+      BeginsTimed one.0 other.0 (timers timed.session.ports) =
+      λ place timed. let at = begun_with network timers timed.session.ports answers begun after sessions timed.session.came in
+      begins_with_both one.0 other.0 begun.times at.0 timed.start (timers timed.session.ports) both
+      (seconds_last settings.idle_seconds one.0 one.2 idles) timed.begun at.1 in
       let calms : SessionView × QuotaPortsView P → Type 0 = λ place. IsCalm old.1 old.1.reading time (view place.1.ports) in
       record {
+        idle = one.0;
+        stall = other.0;
+        idle_lasts = one.2;
+        stall_lasts = other.2;
         others = rests.0;
         rests = rests.1;
         deadlines = ⊎_elim (λ (none : IsNoTime time). inl none)
             (λ (calm : All (λ (place : SessionView × QuotaPortsView P). IsCalm old.1 old.1.reading time (view place.1.ports)) places).
             inr (All-weaker (Contains places)
-            (λ (place : SessionView × QuotaPortsView P). (one other : Duration) →
-            IsTimed port_transition timers settings answers one other place →
-            HasDeadline one other old.1 time (timers place.1.ports))
-            (λ place there one other timed. one_deadline settings answers idle.early place old.1 time
+            (λ (place : SessionView × QuotaPortsView P). IsTimed port_transition timers settings answers one.0 other.0 place →
+            HasDeadline one.0 other.0 old.1 time (timers place.1.ports))
+            (λ place there timed. one_deadline settings answers idle.early place old.1 time
             (All-contains (IsIdleAtWait port_transition idle.early) places place idle.sessions there)
             (All-contains calms places place calm there)
             (not_true (is_closed place.0) (All-contains (λ (p : SessionView × QuotaPortsView P). not (is_closed p.0) ≡ true) places place going there))
-            one other timed) places (All-contains_itself places)))
+            one.0 other.0 timed (begins place timed)) places (All-contains_itself places)))
             (watched_calm network view places watched.0 old rests.0 time watched.2 rests.1.lasts);
       }

@@ -99,7 +99,7 @@ module _ {S : Type 0} where
   step_reading : (call : PortCall) (old new : SessionTimers S) → IsOfTurn call → SetsTimers call old new →
       new.sockets.reading ≡ old.sockets.reading
   step_reading TurnBegins old new made h = absurd made
-  step_reading (Clock im_timer_expired) old new made h = ap (λ (s : SessionTimers S). s.sockets.reading) h.1
+  step_reading (Clock event) old new made h = ap (λ (s : SessionTimers S). s.sockets.reading) h.1
   step_reading (Pulled side room pull bytes) old new made h = h.0.reading
   step_reading (Offered side bytes put) old new made h = h.0.reading
 
@@ -207,7 +207,7 @@ module _ {S : Type 0} where
   pub held_stays : (side : Side) (call : PortCall) (old new : SessionTimers S) → SettlesTimers call old new →
       SetsTimers call old new → MakesNoProgress call → IsOfTurn call → IsHeld side old → IsHeld side new
   held_stays side TurnBegins old new s h still made held = absurd made
-  held_stays side (Clock im_timer_expired) old new s h still made held =
+  held_stays side (Clock event) old new s h still made held =
       subst (λ (t : SessionTimers S). IsHeld side t) (sym h.1) held
   held_stays Bot (Pulled Bot room pull bytes) old new s h still made held =
       held_by old new Bot (Pulled Bot room pull bytes) made h s.0.tries_again

@@ -1,5 +1,5 @@
 -- The laws of `laws`, used at single values. A fact takes only the law, so that a weaker law does not check.
-use Rattle.std.proofs.Common.{◌≡◌, ◌<◌, ◌+◌, ◌-◌, ◌≤◌, true, false, List, [], ◌∷◌, ◌++◌, refl, ap, subst, ⊎_elim, arith, Option, Some, None}
+use Rattle.std.proofs.Common.{◌≡◌, ◌<◌, ◌+◌, ◌-◌, ◌≤◌, true, false, List, [], ◌∷◌, ◌++◌, length, refl, ap, subst, ⊎_elim, arith, Option, Some, None}
 use Rattle.std.specs.Prelude.{All, Contains}
 use Rattle.std.specs.Duration.{as_nanos}
 use Rattle.std.specs.Time.{instant_nanos}
@@ -13,15 +13,16 @@ use Rattle.daide_io.specs.Ports.{PortCall}
 use Rattle.daide_io.specs.System.{SystemCall, Waits, TransitsBy}
 use Rattle.daide_settings.specs.declared.settings.Settings.{Settings}
 use Rattle.daide_event_loop.specs.QuotaPorts.{QuotaPortsView}
-use Rattle.daide_event_loop.specs.Serving.{ServiceView, Round, initial_service, is_done, fresh}
+use Rattle.daide_event_loop.specs.Serving.{ServiceView, Round, initial_service, is_done, may_accept, heeding, fresh}
 use Rattle.daide_event_loop.specs.Served.{IsServed}
 use Rattle.daide_sockets.specs.InTime.{IsAtMost}
 use Rattle.daide_sockets.specs.Table.{Table, IsNoTime}
-use Rattle.daide_sockets.specs.Timers.{SessionTimers, BeginsAt}
+use Rattle.daide_sockets.specs.Scheduling.{RunState, Schedules, AwaitsBots}
+use Rattle.daide_sockets.specs.Timers.{SessionTimers}
 use Rattle.daide_sockets.specs.Wakeups.{SessionSockets, Wakes, session_due}
-use Rattle.daide_run_laws.specs.FreedPlaces.{ClockGoesOn, IsTimed, HasDeadline, WaitsByDeadlines, deliveries}
+use Rattle.daide_run_laws.specs.FreedPlaces.{AreTimesOf, ClockGoesOn, IsTimed, HasDeadline, WaitsByDeadlines, deliveries}
 use Rattle.daide_run_laws.specs.FreedPlaces.{overdue_turns, CameFrom, IsQuietFor, NoSessionWaitsForEver, TimeoutsStay, DeadlinesPassSeldom}
-use Rattle.daide_run_laws.specs.NoLostWakeups.{Sleeps, WaitsAsleep, NoWakeupIsLost}
+use Rattle.daide_run_laws.specs.NoLostWakeups.{Sleeps, WaitsAsleep, NoWakeupIsLost, NoBotWaits}
 
 module _ {P S N C : Type 0} (port_transition : P → PortCall → P → Type 0) (transition : N → NetworkCall C → N → Type 0)
     (view : P → SessionSockets S) (law : NoWakeupIsLost port_transition view transition) (settings : Settings) (round : List (SystemCall P)) (run : ServiceView P)
@@ -62,18 +63,19 @@ module _ {P S N C : Type 0} (port_transition : P → PortCall → P → Type 0) 
       (λ (all : All (λ (p : SessionView × QuotaPortsView P). Sleeps old.1 asleep.rests.time p.0 (view p.1.ports)) run.hub.places).
       let most = rw is at ((one all).in_time now due reading deadline) in omega (arith, most, seven)) asleep.asleep
 
-module _ {P S : Type 0} (port_transition : P → PortCall → P → Type 0) (timers : P → SessionTimers S)
-    (law : DeadlinesPassSeldom port_transition timers) (settings : Settings) (answers : List (SystemCall P))
-    (place : SessionView × QuotaPortsView P) (session : IsServed port_transition settings answers place) (idle stall : Duration)
-    (begins : BeginsAt None (None, None) (timers session.ports))
+module _ {P S N C : Type 0} (port_transition : P → PortCall → P → Type 0) (transition : N → NetworkCall C → N → Type 0)
+    (timers : P → SessionTimers S) (law : DeadlinesPassSeldom port_transition timers transition) (settings : Settings)
+    (answers : List (SystemCall P)) (place : SessionView × QuotaPortsView P)
+    (session : IsServed port_transition settings answers place) (idle stall : Duration) (begun last : RunState N S)
+    (sessions : TransitsBy (Schedules transition timers) begun answers last)
     (clock : ClockGoesOn port_transition timers idle stall session.history (fresh session.ports settings.turns) place.1 session.answered)
   where
-    -- without a byte from a peer a session, here one without timeouts, has at most five turns that begin at or past its deadline
+    -- without a byte from a peer a session has at most five turns that begin at or past its deadline
     five_at_most : deliveries session.history ≡ 0 →
         overdue_turns port_transition timers session.history (fresh session.ports settings.turns) place.1 session.answered ≤ 5
     five_at_most none =
-        let all = law settings answers (fresh session.ports settings.turns) session.history place idle stall None (None, None)
-        (record { session = session; early = []; history = refl; before = refl; since = session.answered }) begins clock in
+        let all = law settings answers (fresh session.ports settings.turns) session.history place idle stall begun last
+        (record { session = session; early = []; history = refl; before = refl; since = session.answered }) sessions clock in
         let least = all.0 in
         let most = all.1 in
         omega (arith, least, most, none)
@@ -89,34 +91,53 @@ module _ {P S : Type 0} (port_transition : P → PortCall → P → Type 0) (tim
 
 module _ {P S N C : Type 0} (port_transition : P → PortCall → P → Type 0) (transition : N → NetworkCall C → N → Type 0)
     (timers : P → SessionTimers S) (law : NoSessionWaitsForEver port_transition timers transition) (settings : Settings)
-    (round : List (SystemCall P)) (run : ServiceView P) (first old new : N × Table)
+    (round : List (SystemCall P)) (run : ServiceView P) (first old new : N × Table) (begun last : RunState N S)
+    (sevens : settings.idle_seconds ≡ 7) (others : settings.stall_seconds ≡ 7) (times : AreTimesOf settings begun.times)
     (ongoing : is_done (initial_service {P = P} settings) ≡ false)
     (waits : Round port_transition (initial_service settings) (round ++ Waits ∷ []) run)
+    (sessions : TransitsBy (Schedules transition timers) begun (round ++ Waits ∷ []) last)
     (trace : TransitsBy (Wakes transition (λ (p : P). (timers p).sockets)) first round old)
     (wait : Wakes transition (λ (p : P). (timers p).sockets) old Waits new)
-    (place : SessionView × QuotaPortsView P) (there : Contains run.hub.places place) (idle stall : Duration)
-    (timed : IsTimed port_transition timers settings (round ++ Waits ∷ []) idle stall place) where
+    (place : SessionView × QuotaPortsView P) (there : Contains run.hub.places place) where
   by_deadlines : WaitsByDeadlines port_transition timers transition settings (round ++ Waits ∷ []) run.hub.places old new
-  by_deadlines = law settings 0 [] round (initial_service settings) run first old new (refl, refl) ongoing waits trace wait
+  by_deadlines = law settings 0 [] round (initial_service settings) run first old new begun last
+      (λ e. absurd (omega (arith, e, sevens))) (λ e. absurd (omega (arith, e, others))) times (refl, refl) ongoing waits sessions
+      trace wait
 
-  -- with both timeouts of seven nanoseconds, and a reading as of its last turn, the wait lasts at most as long
-  ends_within_seven : (time : Duration) (at : Instant) → as_nanos idle ≡ 7 → as_nanos stall ≡ 7 →
+  -- with both timeouts of seven seconds, and a reading as of its last turn, the wait lasts at most as long
+  ends_within_seven : (time : Duration) (at : Instant) →
+      IsTimed port_transition timers settings (round ++ Waits ∷ []) by_deadlines.idle by_deadlines.stall place →
       old.1.reading ≡ Some at → (timers place.1.ports).sockets.reading ≡ Some at → by_deadlines.rests.time ≡ Some time →
-      as_nanos time ≤ 7
-  ends_within_seven time at seven other read begun is = ⊎_elim
+      as_nanos time ≤ 7000000000
+  ends_within_seven time at timed read begun_at is = ⊎_elim
       (λ (none : IsNoTime by_deadlines.rests.time). let zero_time = rw is at none in omega (arith, zero_time))
-      (λ (all : All (λ (p : SessionView × QuotaPortsView P). (one two : Duration) →
-      IsTimed port_transition timers settings (round ++ Waits ∷ []) one two p →
-      HasDeadline one two old.1 by_deadlines.rests.time (timers p.1.ports)) run.hub.places).
-      let own = All-contains (λ (p : SessionView × QuotaPortsView P). (one two : Duration) →
-      IsTimed port_transition timers settings (round ++ Waits ∷ []) one two p →
-      HasDeadline one two old.1 by_deadlines.rests.time (timers p.1.ports)) run.hub.places place all there idle stall timed in
-      let same : own.now ≡ at = one_instant own.now at (timers place.1.ports).sockets.reading own.reading begun in
+      (λ (all : All (λ (p : SessionView × QuotaPortsView P).
+      IsTimed port_transition timers settings (round ++ Waits ∷ []) by_deadlines.idle by_deadlines.stall p →
+      HasDeadline by_deadlines.idle by_deadlines.stall old.1 by_deadlines.rests.time (timers p.1.ports)) run.hub.places).
+      let own = All-contains (λ (p : SessionView × QuotaPortsView P).
+      IsTimed port_transition timers settings (round ++ Waits ∷ []) by_deadlines.idle by_deadlines.stall p →
+      HasDeadline by_deadlines.idle by_deadlines.stall old.1 by_deadlines.rests.time (timers p.1.ports)) run.hub.places place all
+      there timed in
+      let same : own.now ≡ at = one_instant own.now at (timers place.1.ports).sockets.reading own.reading begun_at in
       let nanos = ap instant_nanos same in
       let within = own.within in
+      let idle = by_deadlines.idle_lasts in
+      let stall = by_deadlines.stall_lasts in
       let most : as_nanos time ≤ instant_nanos own.due - instant_nanos at =
       subst (λ (t : Option Duration). IsAtMost t (instant_nanos own.due - instant_nanos at)) is (own.ends at read) in
-      omega (arith, most, within, nanos, seven, other)) by_deadlines.deadlines
+      omega (arith, most, within, nanos, idle, stall, sevens, others)) by_deadlines.deadlines
     where
       one_instant : (a b : Instant) (reading : Option Instant) → reading ≡ Some a → reading ≡ Some b → a ≡ b
       one_instant a b reading e f = cc
+
+module _ {P S N C : Type 0} (port_transition : P → PortCall → P → Type 0) (transition : N → NetworkCall C → N → Type 0)
+    (timers : P → SessionTimers S) (law : NoBotWaits port_transition timers transition) (round : List (SystemCall P))
+    (mid run : ServiceView P) (first old new : RunState N S) (waits : Round port_transition mid (round ++ Waits ∷ []) run)
+    (may : may_accept (heeding waits.orders mid.counters) (length mid.hub.places) ≡ true)
+    (trace : TransitsBy (Schedules transition timers) first round old) (wait : Schedules transition timers old Waits new) where
+  awaited : AwaitsBots transition old new
+  awaited = law [] round mid run first old new waits may trace wait
+
+  -- while the listener is ready and no pause is under way, the wait takes no time
+  ready_listener : old.acceptor.resumes_at ≡ None → old.acceptor.readiness.may_read ≡ true → IsNoTime awaited.rests.time
+  ready_listener goes_on ready = awaited.awaits (rw (goes_on, ready) refl)

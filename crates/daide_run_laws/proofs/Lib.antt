@@ -2,7 +2,9 @@ pub mod TurnSettled
 pub mod RecordedPorts
 pub mod Watched
 pub mod AsleepLemmas
+pub mod AwaitedLemmas
 pub mod TimedSessions
+pub mod BegunSessions
 pub mod Deadlines
 pub mod DeadlineLemmas
 pub mod OverdueLemmas

@@ -8,8 +8,10 @@ use Rattle.std.specs.declared.time.Duration.{Duration}
 use Rattle.std.specs.declared.time.Instant.{Instant}
 use Rattle.daide_frame.specs.declared.side.Side.{Side}
 use Rattle.daide_frame.specs.declared.side.Side.TheVariants.{Bot, Server}
+use Rattle.daide_io.specs.declared.ports.ClockEvent.{ClockEvent}
 use Rattle.daide_io.specs.declared.ports.Pull.{Pull}
 use Rattle.daide_io.specs.declared.ports.Put.{Put}
+use Rattle.daide_io.specs.Network.{NetworkCall}
 use Rattle.daide_io.specs.Ports.{PortCall, TurnBegins, Clock, Pulled, Offered, EvolvesBy}
 use Rattle.daide_event_loop.specs.QuotaPorts.{QuotaPortsView, Meters, EvolvesWhile}
 use Rattle.daide_event_loop.specs.Serving.{fresh}
@@ -21,6 +23,7 @@ use Rattle.daide_sockets.specs.Times.{IsStallEnd, has_stalled, is_past}
 use Rattle.daide_sockets.specs.Wakeups.{session_due}
 use Rattle.daide_run_laws.specs.FreedPlaces.{IsLater, ClockGoesOn, one_if, peer_timeouts_left, timeouts_left}
 use Rattle.daide_run_laws.specs.FreedPlaces.{is_overdue, overdue_turns, deliveries, DeadlinesPassSeldom}
+use Rattle.daide_run_laws.proofs.BegunSessions.{begun_with}
 use Rattle.daide_run_laws.proofs.TimedSessions.{PortsSetTimers, own, KeepsStall, step_stall, made_or_spent}
 
 -- ---- counts
@@ -265,9 +268,9 @@ module _ {S : Type 0} where
       let peers = past_counted new.sockets.reading (due old.sockets.bot) (due old.sockets.server) in
       omega (arith, bot, server, im, all, peers)
 
-  clock_left : (im_timer_expired : Bool) (old new : SessionTimers S) → SetsTimers (Clock im_timer_expired) old new →
+  clock_left : (event : ClockEvent) (old new : SessionTimers S) → SetsTimers (Clock event) old new →
       timeouts_left new ≤ timeouts_left old
-  clock_left im_timer_expired old new h = let same = ap timeouts_left h.1 in omega (arith, same)
+  clock_left event old new h = let same = ap timeouts_left h.1 in omega (arith, same)
 
   pulled_left : (side : Side) (room : ℕ) (pull : Pull) (bytes : List ℕ) (old new : SessionTimers S) →
       SetsTimers (Pulled side room pull bytes) old new → timeouts_left new ≤ timeouts_left old + one_if (is_got pull)
@@ -360,11 +363,11 @@ module _ {P S : Type 0} (port_transition : P → PortCall → P → Type 0) (tim
       let first = begins_left a h.0 h.1 set clock.0 in
       let rest = overdue_left calls h.0 b h.2 clock.1 (set_then TurnBegins a h.0 h.1 set) in
       omega (arith, first, rest)
-  overdue_left (Clock im_timer_expired ∷ calls) a b h clock set =
-      let first = other_left (Clock im_timer_expired) 0 a h.0 h.1
-      (λ (t : SetsTimers (Clock im_timer_expired) (timers a.ports) (timers h.0.ports)).
-      let least = clock_left im_timer_expired (timers a.ports) (timers h.0.ports) t in omega (arith, least)) in
-      let rest = overdue_left calls h.0 b h.2 clock (set_then (Clock im_timer_expired) a h.0 h.1 set) in
+  overdue_left (Clock event ∷ calls) a b h clock set =
+      let first = other_left (Clock event) 0 a h.0 h.1
+      (λ (t : SetsTimers (Clock event) (timers a.ports) (timers h.0.ports)).
+      let least = clock_left event (timers a.ports) (timers h.0.ports) t in omega (arith, least)) in
+      let rest = overdue_left calls h.0 b h.2 clock (set_then (Clock event) a h.0 h.1 set) in
       omega (arith, first, rest)
   overdue_left (Pulled side room pull bytes ∷ calls) a b h clock set =
       let first = other_left (Pulled side room pull bytes) (one_if (is_got pull)) a h.0 h.1
@@ -378,12 +381,14 @@ module _ {P S : Type 0} (port_transition : P → PortCall → P → Type 0) (tim
       let rest = overdue_left calls h.0 b h.2 clock (set_then (Offered side bytes put) a h.0 h.1 set) in
       omega (arith, first, rest)
 
-pub deadlines_pass_seldom : {P S : Type 0} (port_transition : P → PortCall → P → Type 0) (timers : P → SessionTimers S) →
-    PortsSetTimers port_transition timers → DeadlinesPassSeldom port_transition timers
-deadlines_pass_seldom port_transition timers keeps =
-    λ settings answers mid late place idle stall start times from begins clock. (
+pub deadlines_pass_seldom : {P S N C : Type 0} (port_transition : P → PortCall → P → Type 0) (timers : P → SessionTimers S) →
+    PortsSetTimers port_transition timers → (network : N → NetworkCall C → N → Type 0) →
+    DeadlinesPassSeldom port_transition timers network
+deadlines_pass_seldom port_transition timers keeps network =
+    λ settings answers mid late place idle stall begun last from sessions clock.
+    let at = begun_with network timers from.session.ports answers begun last sessions from.session.came in (
       overdue_left port_transition timers keeps idle stall late mid place.1 from.since clock
           (set_by port_transition timers keeps idle stall from.early (fresh from.session.ports settings.turns) mid from.before
-          (begins_stall start times (timers from.session.ports) begins)),
+          (begins_stall at.0 begun.times (timers from.session.ports) at.1)),
       at_most_five (timers mid.ports),
     )

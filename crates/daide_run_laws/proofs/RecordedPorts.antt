@@ -10,7 +10,7 @@ use Rattle.daide_sockets.specs.Wakeups.{Settles}
 pub settles_within : {S : Type 0} (call : PortCall) (old new : Socket S × Socket S) →
     Settles (asked_within call) old new → Settles call old new
 settles_within TurnBegins old new h = h
-settles_within (Clock im_timer_expired) old new h = h
+settles_within (Clock event) old new h = h
 settles_within (Pulled side room pull bytes) old new h = (
   record {
     key = h.0.key;
@@ -26,6 +26,6 @@ settles_within (Offered side bytes put) old new h = h
 pub times_within : {S : Type 0} (call : PortCall) (old new : SessionTimers S) →
     SetsTimers (asked_within call) old new → SetsTimers call old new
 times_within TurnBegins old new h = h
-times_within (Clock im_timer_expired) old new h = h
+times_within (Clock event) old new h = h
 times_within (Pulled side room pull bytes) old new h = h
 times_within (Offered side bytes put) old new h = h

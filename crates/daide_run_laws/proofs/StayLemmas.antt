@@ -75,7 +75,7 @@ module _ {S : Type 0} where
       begun_stays new.sockets.reading old.sockets.bot new.sockets.bot h.3 same
   call_stays Server TurnBegins old new h quiet same =
       begun_stays new.sockets.reading old.sockets.server new.sockets.server h.4 same
-  call_stays side (Clock im_timer_expired) old new h quiet same =
+  call_stays side (Clock event) old new h quiet same =
       same_timeouts (own old side) (own new side) (ap (λ (s : SessionTimers S). own s side) h.1)
   call_stays Bot (Pulled Bot room pull bytes) old new h quiet same =
       pulled_stays old.sockets.reading old.idle_time pull old.sockets.bot new.sockets.bot h.1 (quiet refl)

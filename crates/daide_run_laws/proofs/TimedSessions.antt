@@ -1,5 +1,5 @@
 -- The timers of a session, by the calls of its ports.
-use Rattle.std.proofs.Common.{◌≡◌, ◌⊎◌, ℕ, ◌+◌, ◌≤◌, Bool, true, false, List, [], ◌∷◌, refl, sym, ap, ◌∙◌, subst, arith, inl, inr, ⊎_elim}
+use Rattle.std.proofs.Common.{◌≡◌, ◌⊎◌, ℕ, ◌+◌, ◌≤◌, ◌<◌, Bool, true, false, List, [], ◌∷◌, refl, sym, ap, ◌∙◌, subst, arith, inl, inr, ⊎_elim}
 use Rattle.std.proofs.Common.{Option, Some, None}
 use Rattle.std.specs.Duration.{as_nanos}
 use Rattle.std.specs.Time.{instant_nanos, FitsClock}
@@ -11,10 +11,10 @@ use Rattle.daide_io.specs.declared.ports.Pull.{Pull}
 use Rattle.daide_io.specs.Ports.{PortCall, TurnBegins, Clock, Pulled, Offered, EvolvesBy}
 use Rattle.daide_event_loop.specs.QuotaPorts.{QuotaPortsView, Meters, EvolvesWhile}
 use Rattle.daide_sockets.specs.declared.socket.Socket.{Socket}
-use Rattle.daide_sockets.specs.Timers.{SessionTimers, KeepsTimers, PullsInTime, SetsTimers, is_got}
+use Rattle.daide_sockets.specs.Timers.{SessionTimers, BeginsAt, KeepsTimers, PullsInTime, SetsTimers, is_got}
 use Rattle.daide_sockets.specs.Times.{IsAfter, IsStallEnd}
 use Rattle.daide_run_laws.specs.NoLostWakeups.{socket_at}
-use Rattle.daide_run_laws.specs.FreedPlaces.{HasTimeouts, IsReading, BeginsTimed, IsLater, ClockGoesOn}
+use Rattle.daide_run_laws.specs.FreedPlaces.{HasTimeouts, IsReading, IsLater, ClockGoesOn}
 
 -- the calls of ports do to the timers of their session what `SetsTimers` says
 abbrev pub PortsSetTimers : {P S : Type 0} → (P → PortCall → P → Type 0) → (P → SessionTimers S) → Type 0
@@ -73,7 +73,7 @@ module _ {S : Type 0} where
       KeepsStall new.sockets.reading (own old side) (own new side)
   step_stall TurnBegins old new h Bot = kept_stall new.sockets.reading old.sockets.bot new.sockets.bot h.3.kept
   step_stall TurnBegins old new h Server = kept_stall new.sockets.reading old.sockets.server new.sockets.server h.4.kept
-  step_stall (Clock im_timer_expired) old new h side =
+  step_stall (Clock event) old new h side =
       same_stall new.sockets.reading (own old side) (own new side) (ap (λ (s : SessionTimers S). own s side) h.1)
   step_stall (Pulled Bot room pull bytes) old new h Bot =
       at_stall old.sockets.reading new.sockets.reading old.sockets.bot new.sockets.bot h.0.reading
@@ -108,7 +108,7 @@ module _ {S : Type 0} where
       KeepsSilence new.sockets.reading old.idle_time (own old side) (own new side)
   step_silence TurnBegins old new h Bot = inl h.3.kept.silent_from
   step_silence TurnBegins old new h Server = inl h.4.kept.silent_from
-  step_silence (Clock im_timer_expired) old new h side = inl (ap (λ (s : SessionTimers S). (own s side).silent_from) h.1)
+  step_silence (Clock event) old new h side = inl (ap (λ (s : SessionTimers S). (own s side).silent_from) h.1)
   step_silence (Pulled Bot room pull bytes) old new h Bot =
       at_silence old.sockets.reading new.sockets.reading old.idle_time old.sockets.bot new.sockets.bot h.0.reading
       (pulled_silence old.sockets.reading old.idle_time pull old.sockets.bot new.sockets.bot h.1)
@@ -124,7 +124,7 @@ module _ {S : Type 0} where
 
   pub step_idle_time : (call : PortCall) (old new : SessionTimers S) → SetsTimers call old new → new.idle_time ≡ old.idle_time
   step_idle_time TurnBegins old new h = h.0
-  step_idle_time (Clock im_timer_expired) old new h = ap (λ (s : SessionTimers S). s.idle_time) h.1
+  step_idle_time (Clock event) old new h = ap (λ (s : SessionTimers S). s.idle_time) h.1
   step_idle_time (Pulled side room pull bytes) old new h = h.0.idle_time
   step_idle_time (Offered side bytes put) old new h = h.0.idle_time
 
@@ -165,6 +165,13 @@ end_there reading set now time moment read is fits h =
 
 same_instant : (a b : Instant) (reading : Option Instant) → reading ≡ Some a → reading ≡ Some b → a ≡ b
 same_instant a b reading e f = cc
+
+-- a session as it begins, at a reading of the clock, with both timeouts
+pub record BeginsTimed {S : Type 0} (idle stall : Duration) (session : SessionTimers S) : Type 0 where
+  pub idle_lasts : 0 < as_nanos idle
+  pub now : Instant
+  pub reading : IsReading idle stall session.sockets.reading now
+  pub begins : BeginsAt (Some now) (Some idle, Some stall) session
 
 module _ {S : Type 0} (idle stall : Duration) where
   stall_set : (session : SessionTimers S) → BeginsTimed idle stall session → (side : Side) →
@@ -291,11 +298,11 @@ module _ {S : Type 0} (idle stall : Duration) where
         (⊎_elim (λ (t : SetsTimers TurnBegins (timers a.ports) (timers h.0.ports)).
         timed_step TurnBegins (timers a.ports) (timers h.0.ports) t k clock.0)
         (λ (e : h.0.ports ≡ a.ports). spent_timed a h.0 e k) (made_or_spent TurnBegins a h.0 h.1))
-    history_timed (Clock im_timer_expired ∷ calls) a b h clock k =
+    history_timed (Clock event ∷ calls) a b h clock k =
         history_timed calls h.0 b h.2 clock
-        (⊎_elim (λ (t : SetsTimers (Clock im_timer_expired) (timers a.ports) (timers h.0.ports)).
+        (⊎_elim (λ (t : SetsTimers (Clock event) (timers a.ports) (timers h.0.ports)).
         subst (λ (s : SessionTimers S). IsTimedNow idle stall s) (sym t.1) k)
-        (λ (e : h.0.ports ≡ a.ports). spent_timed a h.0 e k) (made_or_spent (Clock im_timer_expired) a h.0 h.1))
+        (λ (e : h.0.ports ≡ a.ports). spent_timed a h.0 e k) (made_or_spent (Clock event) a h.0 h.1))
     history_timed (Pulled side room pull bytes ∷ calls) a b h clock k =
         history_timed calls h.0 b h.2 clock
         (⊎_elim (λ (t : SetsTimers (Pulled side room pull bytes) (timers a.ports) (timers h.0.ports)).

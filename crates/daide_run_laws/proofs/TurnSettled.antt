@@ -1,7 +1,7 @@
 -- What the sockets of a session know after a turn that made no progress.
 use Rattle.std.proofs.Common.{◌≡◌, ℕ, zero, suc, ◌<◌, Bool, true, false, List, [], ◌∷◌, length, get_or}
 use Rattle.std.proofs.Common.{refl, sym, ◌∙◌, subst, arith, ◌⊎◌, inl, inr, ⊎_elim}
-use Rattle.std.specs.Prelude.{Contains, All}
+use Rattle.std.specs.Prelude.{All}
 use Rattle.std.proofs.lemmas.List.Elements.{All-head, All-tail}
 use Rattle.daide_frame.specs.declared.side.Side.{Side}
 use Rattle.daide_frame.specs.declared.side.Side.TheVariants.{Bot, Server}
@@ -59,7 +59,7 @@ module _ {S : Type 0} where
   quiet_step : (side : Side) (call : PortCall) (old new : Socket S × Socket S) → Settles call old new →
       MakesNoProgress call → IsOfTurn call → IsQuiet (stream_of old side) → IsQuiet (stream_of new side)
   quiet_step side TurnBegins old new h still made q = absurd made
-  quiet_step side (Clock im_timer_expired) old new h still made q =
+  quiet_step side (Clock event) old new h still made q =
       subst (λ (pair : Socket S × Socket S). IsQuiet (stream_of pair side)) (sym h) q
   quiet_step Bot (Pulled Bot room pull bytes) old new h still made q = quiet_pulled room pull old.0 new.0 h.0 still made
   quiet_step Bot (Pulled Server room pull bytes) old new h still made q = quiet_stays old.0 new.0 h.1 q
@@ -73,7 +73,7 @@ module _ {S : Type 0} where
   full_step : (side : Side) (call : PortCall) (old new : Socket S × Socket S) → Settles call old new → IsOfTurn call →
       IsFull (stream_of old side) → IsFull (stream_of new side)
   full_step side TurnBegins old new h made f = absurd made
-  full_step side (Clock im_timer_expired) old new h made f =
+  full_step side (Clock event) old new h made f =
       subst (λ (pair : Socket S × Socket S). IsFull (stream_of pair side)) (sym h) f
   full_step Bot (Pulled Bot room pull bytes) old new h made f = full_pulled room pull old.0 new.0 h.0 f
   full_step Bot (Pulled Server room pull bytes) old new h made f = full_stays old.0 new.0 h.1 f

@@ -1,5 +1,5 @@
 -- The sessions that a wait watches, and its time.
-use Rattle.std.proofs.Common.{◌≡◌, ℕ, ◌-◌, Bool, true, false, List, [], ◌∷◌, ◌++◌, refl, sym, ap, ◌∙◌, subst, ◌⊎◌, inl, inr, ⊎_elim}
+use Rattle.std.proofs.Common.{◌≡◌, ◌-◌, Bool, true, false, List, [], ◌∷◌, ◌++◌, refl, sym, ap, ◌∙◌, subst, ◌⊎◌, inl, inr, ⊎_elim}
 use Rattle.std.proofs.Common.{Option, Some}
 use Rattle.std.specs.Prelude.{◌||◌, All}
 use Rattle.std.specs.Time.{instant_nanos}

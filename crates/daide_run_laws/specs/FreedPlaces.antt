@@ -1,6 +1,6 @@
 -- Every place is freed: the deadline that each session of a run over sockets has when the run waits, and how often its
 -- deadlines can pass. (own)
-use Rattle.std.specs.Prelude.{◌≡◌, ◌≤◌, ◌<◌, ◌⊎◌, ℕ, ◌+◌, ◌-◌, ◌++◌, ◌&&◌, ◌||◌, not, max, Bool, true, false, List, [], ◌∷◌, length}
+use Rattle.std.specs.Prelude.{◌≡◌, ◌≢◌, ◌≤◌, ◌<◌, ◌⊎◌, ℕ, ◌+◌, ◌-◌, ◌++◌, ◌&&◌, ◌||◌, not, max, Bool, true, false, List, [], ◌∷◌, length}
 use Rattle.std.specs.Prelude.{Option, Some, is_some, All}
 use Rattle.std.specs.Duration.{as_nanos}
 use Rattle.std.specs.Time.{instant_nanos, FitsClock}
@@ -21,8 +21,9 @@ use Rattle.daide_sockets.specs.declared.socket.Socket.{Socket}
 use Rattle.daide_sockets.specs.InTime.{IsAtMost}
 use Rattle.daide_sockets.specs.Sockets.{due_after}
 use Rattle.daide_sockets.specs.Table.{Table, IsNoTime}
-use Rattle.daide_sockets.specs.Timers.{SessionTimers, BeginsAt, is_got}
-use Rattle.daide_sockets.specs.Times.{is_past}
+use Rattle.daide_sockets.specs.Scheduling.{RunState, Schedules}
+use Rattle.daide_sockets.specs.Timers.{SessionTimers, is_got}
+use Rattle.daide_sockets.specs.Times.{IsSeconds, IsIdleTime, is_past}
 use Rattle.daide_sockets.specs.Wakeups.{Wakes, RestsOnce, session_due}
 use Rattle.daide_run_laws.specs.NoLostWakeups.{socket_at}
 
@@ -40,12 +41,9 @@ pub record IsReading (idle stall : Duration) (reading : Option Instant) (now : I
   pub idle_fits : FitsClock (instant_nanos now + as_nanos idle)
   pub stall_fits : FitsClock (instant_nanos now + as_nanos stall)
 
--- A session as it begins, at a reading of the clock, with both timeouts.
-pub record BeginsTimed {S : Type 0} (idle stall : Duration) (session : SessionTimers S) : Type 0 where
-  pub idle_lasts : 0 < as_nanos idle
-  pub now : Instant
-  pub reading : IsReading idle stall session.sockets.reading now
-  pub begins : BeginsAt (Some now) (Some idle, Some stall) session
+-- the timeouts of a run's peers are those of its settings
+abbrev pub AreTimesOf : Settings → Option Duration × Option Duration → Type 0
+AreTimesOf settings times = IsIdleTime settings.idle_seconds times.0 × IsIdleTime settings.stall_seconds times.1
 
 -- a reading of the clock that is not before another
 pub record IsLater (idle stall : Duration) (reading later : Option Instant) : Type 0 where
@@ -77,7 +75,7 @@ held_len socket = length socket.stream.write_buffer
 -- a call of the ports moves no byte of a side's peer, though it may move some of the other's
 abbrev pub MovesNoByte : Side → PortCall → Type 0
 MovesNoByte side TurnBegins = Unit {0}
-MovesNoByte side (Clock im_timer_expired) = Unit {0}
+MovesNoByte side (Clock event) = Unit {0}
 MovesNoByte side (Pulled from room pull bytes) = same_side from side ≡ true → is_got pull ≡ false
 MovesNoByte side (Offered to bytes put) = same_side to side ≡ true → (put ≡ Took 0) × (0 < length bytes)
 
@@ -109,7 +107,7 @@ timeouts_left session = peer_timeouts_left session.sockets.reading session.socke
 abbrev pub deliveries : List PortCall → ℕ
 deliveries [] = 0
 deliveries (TurnBegins ∷ calls) = deliveries calls
-deliveries (Clock im_timer_expired ∷ calls) = deliveries calls
+deliveries (Clock event ∷ calls) = deliveries calls
 deliveries (Pulled side room pull bytes ∷ calls) = one_if (is_got pull) + deliveries calls
 deliveries (Offered side bytes put ∷ calls) = deliveries calls
 
@@ -124,15 +122,16 @@ module _ {P S : Type 0} (transition : P → PortCall → P → Type 0) (timers :
   ClockGoesOn idle stall (TurnBegins ∷ calls) old new by =
       IsLater idle stall (timers old.ports).sockets.reading (timers by.0.ports).sockets.reading
       × ClockGoesOn idle stall calls by.0 new by.2
-  ClockGoesOn idle stall (Clock im_timer_expired ∷ calls) old new by = ClockGoesOn idle stall calls by.0 new by.2
+  ClockGoesOn idle stall (Clock event ∷ calls) old new by = ClockGoesOn idle stall calls by.0 new by.2
   ClockGoesOn idle stall (Pulled side room pull bytes ∷ calls) old new by = ClockGoesOn idle stall calls by.0 new by.2
   ClockGoesOn idle stall (Offered side bytes put ∷ calls) old new by = ClockGoesOn idle stall calls by.0 new by.2
 
-  -- a session of a run whose peers have these timeouts, while the clock goes on
+  -- a session of a run that began at a reading of the clock, while the clock goes on
   pub record IsTimed (settings : Settings) (answers : List (SystemCall P)) (idle stall : Duration)
       (place : SessionView × QuotaPortsView P) : Type 0 where
     pub session : IsServed transition settings answers place
-    pub begins : BeginsTimed idle stall (timers session.ports)
+    pub start : Instant
+    pub begun : IsReading idle stall (timers session.ports).sockets.reading start
     pub clock : ClockGoesOn idle stall session.history (fresh session.ports settings.turns) place.1 session.answered
 
   -- A session of a run had ports of this value, and came from there to its present value by these calls.
@@ -147,20 +146,27 @@ module _ {P S : Type 0} (transition : P → PortCall → P → Type 0) (timers :
   -- ---- a wait
 
   -- The network is polled once, for the time of a wait that watches others beside the sessions. For no time, or else each
-  -- session that is timed has a deadline.
+  -- session, while the clock goes on, has a deadline, by the timeouts of the settings.
   pub record WaitsByDeadlines {N C : Type 0} (network : N → NetworkCall C → N → Type 0) (settings : Settings)
       (answers : List (SystemCall P)) (places : List (SessionView × QuotaPortsView P)) (old new : N × Table) : Type 0 where
+    pub idle : Duration
+    pub stall : Duration
+    pub idle_lasts : IsSeconds settings.idle_seconds idle
+    pub stall_lasts : IsSeconds settings.stall_seconds stall
     pub others : List (Bool × Option Instant)
     pub rests : RestsOnce network others old.0 old.1 new.0 new.1
-    pub deadlines : IsNoTime rests.time ⊎ All (λ place. (idle stall : Duration) → IsTimed settings answers idle stall place →
+    pub deadlines : IsNoTime rests.time ⊎ All (λ place. IsTimed settings answers idle stall place →
         HasDeadline idle stall old.1 rests.time (timers place.1.ports)) places
 
-  -- In each round of a run over sockets that ends with a wait, the run waits by deadlines.
+  -- In each round of a run over sockets that ends with a wait, the run waits by deadlines, if its settings have both
+  -- timeouts. Its sockets began with those of the settings.
   abbrev pub NoSessionWaitsForEver : {N C : Type 0} → (N → NetworkCall C → N → Type 0) → Type 0
   NoSessionWaitsForEver {N} network = (settings : Settings) (n : ℕ) (before round : List (SystemCall P))
-      (mid run : ServiceView P) (first old new : N × Table) →
+      (mid run : ServiceView P) (first old new : N × Table) (begun last : RunState N S) →
+      settings.idle_seconds ≢ 0 → settings.stall_seconds ≢ 0 → AreTimesOf settings begun.times →
       Rounds transition n (initial_service settings) before mid → is_done mid ≡ false →
       Round transition mid (round ++ Waits ∷ []) run →
+      TransitsBy (Schedules network timers) begun (before ++ round ++ Waits ∷ []) last →
       TransitsBy (Wakes network (λ ports. (timers ports).sockets)) first (before ++ round) old →
       Wakes network (λ ports. (timers ports).sockets) old Waits new →
       WaitsByDeadlines network settings (before ++ round ++ Waits ∷ []) run.hub.places old new
@@ -196,17 +202,17 @@ module _ {P S : Type 0} (transition : P → PortCall → P → Type 0) (timers :
       EvolvesBy (Meters transition) old calls new → ℕ
   overdue_turns [] old new by = 0
   overdue_turns (TurnBegins ∷ calls) old new by = one_if (is_overdue old by.0) + overdue_turns calls by.0 new by.2
-  overdue_turns (Clock im_timer_expired ∷ calls) old new by = overdue_turns calls by.0 new by.2
+  overdue_turns (Clock event ∷ calls) old new by = overdue_turns calls by.0 new by.2
   overdue_turns (Pulled side room pull bytes ∷ calls) old new by = overdue_turns calls by.0 new by.2
   overdue_turns (Offered side bytes put ∷ calls) old new by = overdue_turns calls by.0 new by.2
 
   -- Take a session of a run, from any of its calls on. Each turn that begins at or past its deadline takes one of the
   -- timeouts that are left, and each pull that returns bytes gives back at most one.
-  abbrev pub DeadlinesPassSeldom : Type 0
-  DeadlinesPassSeldom = (settings : Settings) (answers : List (SystemCall P)) (mid : QuotaPortsView P) (late : List PortCall)
-      (place : SessionView × QuotaPortsView P) (idle stall : Duration) (start : Option Instant)
-      (times : Option Duration × Option Duration) → (from : CameFrom settings answers mid late place) →
-      BeginsAt start times (timers from.session.ports) → ClockGoesOn idle stall late mid place.1 from.since →
+  abbrev pub DeadlinesPassSeldom : {N C : Type 0} → (N → NetworkCall C → N → Type 0) → Type 0
+  DeadlinesPassSeldom {N} network = (settings : Settings) (answers : List (SystemCall P)) (mid : QuotaPortsView P)
+      (late : List PortCall) (place : SessionView × QuotaPortsView P) (idle stall : Duration) (begun last : RunState N S) →
+      (from : CameFrom settings answers mid late place) → TransitsBy (Schedules network timers) begun answers last →
+      ClockGoesOn idle stall late mid place.1 from.since →
       (overdue_turns late mid place.1 from.since + timeouts_left (timers place.1.ports)
       ≤ timeouts_left (timers mid.ports) + deliveries late)
       × (timeouts_left (timers mid.ports) ≤ 5)

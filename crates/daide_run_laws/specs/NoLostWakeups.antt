@@ -1,5 +1,5 @@
 -- No wake-up is lost: what each session of a run over sockets waits for when the run waits. (own)
-use Rattle.std.specs.Prelude.{◌≡◌, ◌⊎◌, ℕ, ◌-◌, ◌<◌, ◌++◌, Bool, true, false, List, [], ◌∷◌, Option, Some, All}
+use Rattle.std.specs.Prelude.{◌≡◌, ◌⊎◌, ℕ, ◌-◌, ◌<◌, ◌++◌, Bool, true, false, List, [], ◌∷◌, length, Option, Some, All}
 use Rattle.std.specs.Time.{instant_nanos}
 use Rattle.std.specs.declared.time.Duration.{Duration}
 use Rattle.std.specs.declared.time.Instant.{Instant}
@@ -10,12 +10,14 @@ use Rattle.daide_io.specs.Ports.{PortCall}
 use Rattle.daide_io.specs.System.{SystemCall, Waits, TransitsBy}
 use Rattle.daide_settings.specs.declared.settings.Settings.{Settings}
 use Rattle.daide_event_loop.specs.QuotaPorts.{QuotaPortsView}
-use Rattle.daide_event_loop.specs.Serving.{ServiceView, Round, Rounds, initial_service, is_done}
+use Rattle.daide_event_loop.specs.Serving.{ServiceView, Round, Rounds, initial_service, is_done, may_accept, heeding}
 use Rattle.daide_buffered_io.specs.Streams.{stream_of}
 use Rattle.daide_sockets.specs.declared.socket.Socket.{Socket}
 use Rattle.daide_sockets.specs.InTime.{IsAtMost}
 use Rattle.daide_sockets.specs.Lingering.{IsWriting}
+use Rattle.daide_sockets.specs.Scheduling.{RunState, Schedules, AwaitsBots}
 use Rattle.daide_sockets.specs.Table.{Table, IsNoTime, is_reported_at}
+use Rattle.daide_sockets.specs.Timers.{SessionTimers}
 use Rattle.daide_sockets.specs.Wakeups.{SessionSockets, Wakes, RestsOnce, session_due}
 
 -- the socket of a side
@@ -53,3 +55,13 @@ NoWakeupIsLost {P} {S} {N} port_transition view transition = (settings : Setting
     Rounds port_transition n (initial_service settings) before mid → is_done mid ≡ false → Round port_transition mid (round ++ Waits ∷ []) run →
     TransitsBy (Wakes transition view) first (before ++ round) old → Wakes transition view old Waits new →
     WaitsAsleep transition view run.hub.places old new
+
+-- Take a round of a run over sockets that ends with a wait, and in which one more bot may be accepted. The wait takes no
+-- time while an accept is due; `timers` is the content of ports.
+abbrev pub NoBotWaits : {P S N C : Type 0} → (P → PortCall → P → Type 0) → (P → SessionTimers S) →
+    (N → NetworkCall C → N → Type 0) → Type 0
+NoBotWaits {P} {S} {N} port_transition timers transition = (before round : List (SystemCall P)) (mid run : ServiceView P)
+    (first old new : RunState N S) → (rounds : Round port_transition mid (round ++ Waits ∷ []) run) →
+    may_accept (heeding rounds.orders mid.counters) (length mid.hub.places) ≡ true →
+    TransitsBy (Schedules transition timers) first (before ++ round) old → Schedules transition timers old Waits new →
+    AwaitsBots transition old new

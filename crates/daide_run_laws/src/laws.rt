@@ -2,12 +2,12 @@
 
 ghost use Rattle.daide_sockets.specs.Timers.{timers_of};
 ghost use Rattle.daide_run_laws.specs.FreedPlaces.{NoSessionWaitsForEver, TimeoutsStay, DeadlinesPassSeldom};
-ghost use Rattle.daide_run_laws.specs.NoLostWakeups.{NoWakeupIsLost};
+ghost use Rattle.daide_run_laws.specs.NoLostWakeups.{NoWakeupIsLost, NoBotWaits};
 
 use daide_io::duplex::Duplex;
 use daide_io::network::Network;
 use daide_io::ports::Ports;
-use daide_log::{Recording, Sink};
+use daide_log::{Sink, TimedRecording};
 use daide_sockets::ports::SocketPorts;
 
 /// No wake-up is lost. At each wait of a run over sockets the network is polled once, and what it reports is in the rows.
@@ -32,7 +32,7 @@ pub fn no_wakeup_is_lost<S: Duplex + Drop, N: Network>()
 
 /// The same of a run that records its sessions: the ports are those around which a record is, over any two streams.
 pub fn no_wakeup_is_lost_beside_records<S: Duplex + Drop, N: Network, W: Sink + Drop>()
-    ensures { NoWakeupIsLost ⟦<Recording<SocketPorts<'static, S>, W> as Ports>⟧.transition (λ ports. record {
+    ensures { NoWakeupIsLost ⟦<TimedRecording<SocketPorts<'static, S>, W> as Ports>⟧.transition (λ ports. record {
       bot = ports.ports.bot;
       server = ports.ports.server;
       reading = ports.ports.idle.reading;
@@ -40,21 +40,37 @@ pub fn no_wakeup_is_lost_beside_records<S: Duplex + Drop, N: Network, W: Sink + 
     }) N.transition }
 {}
 
-/// No session waits for ever. Take a session of a run over sockets that began with an idle timeout and a stall timeout
-/// (`BeginsTimed`), and a clock that goes on: each turn of the session begins at a reading that is not before the one of
-/// the turn before (`ClockGoesOn`). At each wait of the run that is not for no time at all, the session has a nearest
-/// deadline. It is at most the longer of its two timeouts after the reading of its last turn, and the poll ends by it
+/// No bot waits. Take a round of a run over sockets that ends with a wait, and in which one more bot may be accepted. The wait
+/// takes no time while an accept is due: while the listener is ready and no pause of accepts is under way, or the pause is
+/// over. In the round an accept was made, if one was due and the sockets had room for a bot (`AsksListener`).
+pub fn no_bot_waits<S: Duplex + Drop, N: Network>()
+    ensures { NoBotWaits ⟦<SocketPorts<'static, S> as Ports>⟧.transition timers_of N.transition }
+{}
+
+/// The same of a run that records its sessions.
+pub fn no_bot_waits_beside_records<S: Duplex + Drop, N: Network, W: Sink + Drop>()
+    ensures { NoBotWaits ⟦<TimedRecording<SocketPorts<'static, S>, W> as Ports>⟧.transition (λ ports. timers_of ports.ports)
+        N.transition }
+{}
+
+/// No session waits for ever. Take a run over sockets whose settings have an idle timeout and a stall timeout, a session of
+/// it, and a clock that goes on: the session begins at a reading, and each of its turns at a reading that is not before the
+/// one of the turn before (`ClockGoesOn`). At each wait of the run that is not for no time at all, the session has a nearest
+/// deadline. It is at most the longer of the two timeouts after the reading of its last turn, and the poll ends by it
 /// (`HasDeadline`). What its peers do is in no premise.
 ///
-/// Not said: that a connect returns ports that begin so. That is by `PendingConnection::join`, from the settings. That a
-/// session has a turn once its deadline is past is by `Sockets::has_news`.
+/// The calls of the run have their effect on the network and the table (`Wakes`), and schedule (`Schedules`), as the sockets'
+/// own `transition` says: so each session began with the timeouts of the run, which are those of the settings
+/// (`Sockets::new`: `idle_time`, `stall_time`).
+///
+/// Not said: that a session has a turn once its deadline is past. That is by `Sockets::has_news`.
 pub fn no_session_waits_for_ever<S: Duplex + Drop, N: Network>()
     ensures { NoSessionWaitsForEver ⟦<SocketPorts<'static, S> as Ports>⟧.transition timers_of N.transition }
 {}
 
 /// The same of a run that records its sessions.
 pub fn no_session_waits_for_ever_beside_records<S: Duplex + Drop, N: Network, W: Sink + Drop>()
-    ensures { NoSessionWaitsForEver ⟦<Recording<SocketPorts<'static, S>, W> as Ports>⟧.transition
+    ensures { NoSessionWaitsForEver ⟦<TimedRecording<SocketPorts<'static, S>, W> as Ports>⟧.transition
         (λ ports. timers_of ports.ports) N.transition }
 {}
 
@@ -67,22 +83,22 @@ pub fn timeouts_stay<S: Duplex + Drop>()
 
 /// The same of a run that records its sessions.
 pub fn timeouts_stay_beside_records<S: Duplex + Drop, W: Sink + Drop>()
-    ensures { TimeoutsStay ⟦<Recording<SocketPorts<'static, S>, W> as Ports>⟧.transition (λ ports. timers_of ports.ports) }
+    ensures { TimeoutsStay ⟦<TimedRecording<SocketPorts<'static, S>, W> as Ports>⟧.transition (λ ports. timers_of ports.ports) }
 {}
 
 /// The deadlines of a session pass seldom. Of its turns between two pulls that return bytes of a peer, at most five begin
 /// at or past the deadline that it had: one for the initial message, one for the silence of each peer, and one for the
 /// stall of each. Each such turn uses up one of these timeouts, and a pull that returns bytes gives back at most one
 /// (`timeouts_left`). So, with `no_session_waits_for_ever`, a session whose peers send nothing waits for at most five
-/// deadlines, and leaves its place. It holds of each session, whichever of its timeouts are set.
+/// deadlines, and leaves its place. It holds of each session of a run, whichever timeouts its settings have.
 ///
 /// Not said: how long a peer may go on that takes a byte before each stall timeout is over.
-pub fn deadlines_pass_seldom<S: Duplex + Drop>()
-    ensures { DeadlinesPassSeldom ⟦<SocketPorts<'static, S> as Ports>⟧.transition timers_of }
+pub fn deadlines_pass_seldom<S: Duplex + Drop, N: Network>()
+    ensures { DeadlinesPassSeldom ⟦<SocketPorts<'static, S> as Ports>⟧.transition timers_of N.transition }
 {}
 
 /// The same of a run that records its sessions.
-pub fn deadlines_pass_seldom_beside_records<S: Duplex + Drop, W: Sink + Drop>()
-    ensures { DeadlinesPassSeldom ⟦<Recording<SocketPorts<'static, S>, W> as Ports>⟧.transition
-        (λ ports. timers_of ports.ports) }
+pub fn deadlines_pass_seldom_beside_records<S: Duplex + Drop, N: Network, W: Sink + Drop>()
+    ensures { DeadlinesPassSeldom ⟦<TimedRecording<SocketPorts<'static, S>, W> as Ports>⟧.transition
+        (λ ports. timers_of ports.ports) N.transition }
 {}

@@ -154,42 +154,34 @@ fn are_undelayed(ports: SocketPorts<'_, Connection>) -> bool {
     is_undelayed(bot.connection()) && is_undelayed(server.connection())
 }
 
-/// The same for the first bot, and whether the third row then has no deadline.
-fn are_first_undelayed(system: &mut HostSockets<'_, '_>) -> (bool, bool) {
+/// The same for the first bot.
+fn are_first_undelayed(system: &mut HostSockets<'_, '_>) -> bool {
     match first_ports(system) {
-        Some(ports) => (are_undelayed(ports), system.table().due(2).is_none()),
-        None => (false, false),
+        Some(ports) => are_undelayed(ports),
+        None => false,
     }
 }
 
 /// The same for the first bot at a listener of its own, with these server addresses.
-fn sends_at_once(
-    rt: &HostRuntime,
-    pool: &Pool,
-    servers: &[SocketAddr],
-) -> Result<(bool, bool), Fail> {
+fn sends_at_once(rt: &HostRuntime, pool: &Pool, servers: &[SocketAddr]) -> Result<bool, Fail> {
     let settings = plain_settings(rt.alloc())?;
     let (listener, _bot) = door_with_bot(rt)?;
     let mut told = Vec::new(rt.alloc());
     match sockets_of(rt, pool, (listener, servers), &settings, &mut told) {
         Some(mut system) => Ok(are_first_undelayed(&mut system)),
-        None => Ok((false, false)),
+        None => Ok(false),
     }
 }
 
 /// The system does not delay a short frame until the frame before it was acknowledged. The server is at the second of
-/// two addresses, and its connect uses the row of the connect to the first. Once it is connected, the row has no
-/// deadline.
+/// two addresses, and its connect uses the row of the connect to the first.
 #[test]
 fn small_writes_are_not_delayed(rt: HostRuntime) -> Result<(), Fail> {
     let nobody = TcpListener::bind(&rt, any_port())?.local_addr()?;
     let server = TcpListener::bind(&rt, any_port())?;
     let pool = Pool::new(rt.alloc());
-    let told = sends_at_once(&rt, &pool, &[nobody, server.local_addr()?])?;
-    holds(
-        told == (true, true),
-        "the bot's and the server's, and no moment",
-    )
+    let at_once = sends_at_once(&rt, &pool, &[nobody, server.local_addr()?])?;
+    holds(at_once, "the bot's and the server's")
 }
 
 /// Returns the state of a connect that has just begun.

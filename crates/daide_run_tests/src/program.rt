@@ -5,23 +5,24 @@ use daide_commands::gateway::GatewayFault;
 use daide_commands::running::RunFault;
 use daide_commands::terminal::Asking;
 use daide_gate::ServeFault;
-use daide_gate::settings::SettingsError;
+use daide_gate::settings::{Key, SettingsError};
 use daide_test_support::fakes::FailsAtWrite;
 use daide_test_support::rows::{holds, same};
 use std::alloc::AllocError;
 use std::cell::Cell;
 use std::fmt::Display;
 use std::io;
-use std::io::{Eprint, IsTerminal, Read};
+use std::io::{Eprint, ErrorKind, IsTerminal, Read};
 use std::test::Fail;
 
 /// A fault of a run | its text.
+#[rattlefmt::skip]
 const FAULTS: &[(RunFault, &str)] = &[
-    (RunFault::Unreadable, "settings could not be read"),
+    (RunFault::Unreadable(ErrorKind::NotFound), "settings could not be read"),
     (RunFault::Memory, "out of memory"),
-    (RunFault::Record, "record could not be written"),
+    (RunFault::Record(ErrorKind::PermissionDenied), "record could not be written"),
     (RunFault::Settings(SettingsError::Memory), "out of memory"),
-    (RunFault::Gateway(GatewayFault::Listen), "cannot listen"),
+    (RunFault::Gateway(GatewayFault::Listen(Key::Listen, ErrorKind::AddrInUse)), "cannot listen"),
     (RunFault::Gateway(GatewayFault::Memory), "out of memory"),
     (
         RunFault::Gateway(GatewayFault::Serve(ServeFault::Memory)),

@@ -1,11 +1,12 @@
-//! The log lines of sessions, and of faults of their records: the text of each.
+//! The log lines of sessions, of a run's capacity, and of faults of records: the text of each.
 
 use daide_commands::RecordNotice;
 use daide_frame::code::Code;
 use daide_frame::side::Side;
 use daide_gate::{Cause, SessionEnd, Summary};
 use daide_protocol::ending::Ending;
-use daide_sockets::session_notice::{SessionNotice, Why, why_of};
+use daide_sockets::capacity::{Capacity, CapacityNotice, full_notice, pause_notice};
+use daide_sockets::session_notice::{Lasted, SessionNotice, Why, why_of};
 use daide_sockets::timed::Timed;
 use daide_test_support::rows::{holds, same};
 use std::alloc::Global;
@@ -24,8 +25,9 @@ const CAUSES: &[(Why, &str)] = &[
     (Why::Ended(Cause::Session(Ending::Error(Side::Bot))), "EM of bot"),
     (Why::Ended(Cause::Session(Ending::Error(Side::Server))), "EM of server"),
     (Why::Ended(Cause::Session(Ending::Fault(Side::Bot, Code::ImTimeout))), "no IM in time"),
-    (Why::Ended(Cause::Session(Ending::Fault(Side::Bot, Code::SecondIm))), "fault 06 of bot"),
-    (Why::Ended(Cause::Session(Ending::Fault(Side::Server, Code::InvalidToken))), "fault 0E of server"),
+    (Why::Ended(Cause::Session(Ending::Fault(Side::Bot, Code::SecondIm))), "fault 06 of bot: second IM"),
+    (Why::Ended(Cause::Session(Ending::Fault(Side::Server, Code::InvalidToken))), "fault 0E of server: invalid token"),
+    (Why::Ended(Cause::Session(Ending::Stopped)), "stopped by the operator"),
     (Why::Ended(Cause::TurnsSpent), "turns spent"),
     (Why::Silent(Side::Bot), "bot silent"),
     (Why::Silent(Side::Server), "server silent"),
@@ -78,6 +80,7 @@ const TIMES: &[(Ending, Timed, Timed, Why)] = &[
     (Ending::Lost(Side::Server), STALLED, Timed::NONE, Why::Ended(Cause::Session(Ending::Lost(Side::Server)))),
     (Ending::Ended(Side::Bot), STALLED, Timed::NONE, Why::Ended(Cause::Session(Ending::Ended(Side::Bot)))),
     (Ending::Ended(Side::Bot), STALLED_END, Timed::NONE, Why::Stalled(Side::Bot, 60)),
+    (Ending::Stopped, SILENT, STALLED, Why::Ended(Cause::Session(Ending::Stopped))),
 ];
 
 /// The log line names a side's silence instead of its end, and its stall instead of its loss.
@@ -89,6 +92,14 @@ fn times_are_named_in_place_of_the_event(_rt: HostRuntime) -> Result<(), Fail> {
     }
     Ok(())
 }
+
+/// A session that lasted 12,499 milliseconds.
+const TIMED: Lasted = Lasted {
+    milliseconds: Some(12_499),
+};
+
+/// A session whose time is unknown.
+const UNTIMED: Lasted = Lasted { milliseconds: None };
 
 /// Three complete lines.
 #[test]
@@ -104,17 +115,75 @@ fn lines_of_a_session(rt: HostRuntime) -> Result<(), Fail> {
     };
     let bot = "127.0.0.1:50000".parse()?;
     let began = SessionNotice::Began { number: 7, bot }.to_string(rt.alloc())?;
-    let ended = SessionNotice::of_end(7, end, (Timed::NONE, Timed::NONE), 60).to_string(
+    let ended = SessionNotice::of_end((7, TIMED), end, (Timed::NONE, Timed::NONE), 60).to_string(
         rt.alloc(),
     )?;
-    let alone = SessionNotice::of_no_server(8).to_string(rt.alloc())?;
+    let alone = SessionNotice::of_no_server(8, UNTIMED).to_string(rt.alloc())?;
     let lines = (began.as_str(), ended.as_str(), alone.as_str());
     let want = (
         "session 7 began: bot at 127.0.0.1:50000",
-        "session 7 ended: FM of bot; relayed 4 prn 3 huh 2 faults 1",
+        "session 7 ended after 12.4 s: FM of bot; relayed 4 prn 3 huh 2 faults 1",
         "session 8 ended: no server; relayed 0 prn 0 huh 0 faults 0",
     );
     same(&lines, &want, &"lines")
+}
+
+/// A line of a run's capacity | its text.
+#[rattlefmt::skip]
+const CAPACITIES: &[(Option<CapacityNotice>, &str)] = &[
+    (Some(CapacityNotice::Full(16)), "full: 16 of 16 sessions; further bots wait"),
+    (Some(CapacityNotice::NoLongerFull), "no longer full"),
+    (Some(CapacityNotice::Paused), "bots wait: the system has no descriptor or no memory for another one"),
+    (Some(CapacityNotice::Resumed), "bots are accepted again"),
+    (None, ""),
+];
+
+/// Returns whether the line has this text, which is empty if there is no line.
+fn is_logged_as(alloc: Global, notice: Option<CapacityNotice>, text: &str) -> Result<bool, Fail> {
+    let Some(notice) = notice else {
+        return Ok(text.is_empty());
+    };
+    let told = notice.to_string(alloc)?;
+    Ok(told.as_str() == text)
+}
+
+#[test]
+fn capacities_have_their_texts(rt: HostRuntime) -> Result<(), Fail> {
+    for (notice, text) in CAPACITIES {
+        holds(is_logged_as(rt.alloc(), *notice, text)?, text)?;
+    }
+    Ok(())
+}
+
+/// The bots present, of two at once | whether accepts pause | the number of bots accepted | the line about a full run |
+/// the line about a pause. Each row is a wait after that of the row before.
+#[rattlefmt::skip]
+const WAITS: &[(usize, bool, u32, Option<CapacityNotice>, Option<CapacityNotice>)] = &[
+    (1, false, 1, None, None),
+    (2, false, 2, Some(CapacityNotice::Full(2)), None),
+    (2, false, 3, None, None),
+    (1, true, 3, Some(CapacityNotice::NoLongerFull), Some(CapacityNotice::Paused)),
+    (1, false, 3, None, None),
+    (1, true, 3, None, None),
+    (2, false, 4, Some(CapacityNotice::Full(2)), Some(CapacityNotice::Resumed)),
+];
+
+/// A run has one line when it becomes full, and one when a pause begins, whatever later waits see of the same.
+#[test]
+fn capacity_is_logged_once(_rt: HostRuntime) -> Result<(), Fail> {
+    let mut before = Capacity::NEW;
+    for (present, is_paused, came, full, pause) in WAITS {
+        let after = before.after(*present, 2, *is_paused, *came);
+        let told = full_notice(2, before.is_full, after.is_full);
+        same(&told, full, came)?;
+        same(
+            &pause_notice(before.paused_at, after.paused_at),
+            pause,
+            came,
+        )?;
+        before = after;
+    }
+    Ok(())
 }
 
 /// A fault of a record | its text.

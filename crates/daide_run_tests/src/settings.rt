@@ -44,6 +44,11 @@ fn refusal(alloc: Global, input: &mut impl Read) -> Option<SettingsTextFault> {
     read_text(alloc, input).err()
 }
 
+/// A text that is refused for this reason.
+fn unreadable(kind: ErrorKind) -> Option<SettingsTextFault> {
+    Some(SettingsTextFault::Unreadable(kind))
+}
+
 /// Returns why a settings text is refused if a read fails with this kind of error.
 fn refusal_at(alloc: Global, kind: ErrorKind) -> Option<SettingsTextFault> {
     refusal(alloc, &mut Fails(kind))
@@ -54,25 +59,25 @@ fn settings_have_a_longest_text(rt: HostRuntime) -> Result<(), Fail> {
     let mut text = vec![in rt.alloc(); b'#'; 65_536]?;
     same(&refusal(rt.alloc(), &mut text.as_slice()), &None, &65_536)?;
     text.push(b'#')?;
-    let unreadable = Some(SettingsTextFault::Unreadable);
     same(
         &refusal(rt.alloc(), &mut text.as_slice()),
-        &unreadable,
+        &unreadable(ErrorKind::FileTooLarge),
         &65_537,
     )
 }
 
 #[test]
 fn settings_that_cannot_be_read(rt: HostRuntime) -> Result<(), Fail> {
-    let unreadable = Some(SettingsTextFault::Unreadable);
     let mut not_text = b"listen = '\xff'".as_slice();
-    same(&refusal(rt.alloc(), &mut not_text), &unreadable, &"no text")?;
-    let other = refusal_at(rt.alloc(), ErrorKind::Other);
-    same(&other, &unreadable, &"another error")?;
-    let waits = refusal_at(rt.alloc(), ErrorKind::WouldBlock);
-    same(&waits, &unreadable, &"a read that would wait")?;
-    let reset = refusal_at(rt.alloc(), ErrorKind::ConnectionReset);
-    same(&reset, &unreadable, &"a reset")?;
+    let not_utf8 = unreadable(ErrorKind::InvalidData);
+    same(&refusal(rt.alloc(), &mut not_text), &not_utf8, &"no text")?;
+    for kind in [
+        ErrorKind::Other,
+        ErrorKind::WouldBlock,
+        ErrorKind::ConnectionReset,
+    ] {
+        same(&refusal_at(rt.alloc(), kind), &unreadable(kind), &kind)?;
+    }
     let memory = refusal_at(rt.alloc(), ErrorKind::OutOfMemory);
     same(&memory, &Some(SettingsTextFault::Memory), &"want of memory")
 }
@@ -92,7 +97,11 @@ fn told_within(alloc: Global, size: usize) -> Result<Option<RunFault>, Fail> {
 #[test]
 fn want_of_memory_for_settings_is_told(rt: HostRuntime) -> Result<(), Fail> {
     let other = told_at(rt.alloc(), ErrorKind::Other);
-    same(&other, &Some(RunFault::Unreadable), &"another error")?;
+    same(
+        &other,
+        &Some(RunFault::Unreadable(ErrorKind::Other)),
+        &"another error",
+    )?;
     let memory = told_at(rt.alloc(), ErrorKind::OutOfMemory);
     same(&memory, &Some(RunFault::Memory), &"want of memory")?;
     same(&told_within(rt.alloc(), 0)?, &Some(RunFault::Memory), &0)?;

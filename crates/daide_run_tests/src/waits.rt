@@ -2,12 +2,15 @@
 
 use crate::wires::{Wire, WirePorts, still_poller};
 use daide_buffered_io::pool::Pool;
-use daide_io::ports::Ports;
+use daide_io::ports::{ClockEvent, Ports};
 use daide_sockets::ports::SocketPorts;
 use daide_sockets::socket::Socket;
 use daide_sockets::table::SocketTable;
 use daide_test_support::rows::same;
 use std::test::Fail;
+
+/// The results of two queries of the clock.
+type Events = (ClockEvent, ClockEvent);
 
 /// Returns the ports of a session in the second and the third row, which has nothing to do.
 fn idle_ports(pool: &Pool) -> WirePorts<'_> {
@@ -17,19 +20,19 @@ fn idle_ports(pool: &Pool) -> WirePorts<'_> {
     )
 }
 
-/// Begins a turn, and returns the results of two timer queries in it.
-fn popped_in_turn(ports: &mut WirePorts<'_>, table: &mut SocketTable) -> (bool, bool) {
+/// Begins a turn, and returns the results of two queries of the clock in it.
+fn events_in_turn(ports: &mut WirePorts<'_>, table: &mut SocketTable) -> Events {
     ports.begin_turn(table);
-    (ports.clock_popped(), ports.clock_popped())
+    (ports.clock(), ports.clock())
 }
 
-/// Returns the results of timer queries before and in two turns, where the deadline is past.
-fn told_of(pool: &Pool, table: &mut SocketTable) -> (bool, (bool, bool), (bool, bool)) {
+/// Returns the results of queries of the clock before and in two turns, where the deadline is past.
+fn told_of(pool: &Pool, table: &mut SocketTable) -> (ClockEvent, Events, Events) {
     let now = table.now();
     let mut ports = idle_ports(pool).of_session(1, now, now, (None, None));
-    let before = ports.clock_popped();
-    let first = popped_in_turn(&mut ports, table);
-    (before, first, popped_in_turn(&mut ports, table))
+    let before = ports.clock();
+    let first = events_in_turn(&mut ports, table);
+    (before, first, events_in_turn(&mut ports, table))
 }
 
 /// An expired IM timer is returned in one turn, however often it is queried there, and not before a turn begins.
@@ -39,7 +42,11 @@ fn moment_is_told_once(rt: HostRuntime) -> Result<(), Fail> {
     let told = told_of(&Pool::new(rt.alloc()), &mut poller.table);
     same(
         &told,
-        &(false, (true, true), (false, false)),
+        &(
+            ClockEvent::NoEvent,
+            (ClockEvent::ImTimeIsOver, ClockEvent::ImTimeIsOver),
+            (ClockEvent::NoEvent, ClockEvent::NoEvent),
+        ),
         &"told in one turn, and told no more",
     )
 }

@@ -1,5 +1,5 @@
 -- The channels carry out the moves of an outcome.
-use Rattle.std.proofs.Common.{◌≡◌, ℕ, Bool, true, false, cond, List, [], ◌∷◌, ◌++◌, Option, Some, refl, sym, ap}
+use Rattle.std.proofs.Common.{◌≡◌, ℕ, Bool, true, false, cond, List, [], ◌∷◌, ◌++◌, Option, Some, None, refl, sym, ap}
 use Rattle.std.proofs.Common.{◌∙◌, subst, append_assoc, append-nil, ◌<◌, ◌≤◌, length, arith}
 use Rattle.daide_frame.specs.declared.side.Side.{Side}
 use Rattle.daide_frame.specs.declared.side.Side.TheVariants.{Bot, Server}
@@ -7,11 +7,12 @@ use Rattle.daide_frame.specs.declared.code.Code.{Code}
 use Rattle.daide_protocol.specs.declared.ending.Ending.{Ending}
 use Rattle.daide_protocol.specs.declared.ending.Ending.TheVariants as Endings
 use Rattle.daide_protocol.specs.declared.note.Note.TheVariants as Notes
-use Rattle.daide_protocol.specs.declared.phase.SessionPhase.TheVariants.{Over}
+use Rattle.daide_protocol.specs.declared.phase.SessionPhase.{SessionPhase}
+use Rattle.daide_protocol.specs.declared.phase.SessionPhase.TheVariants.{WaitIm, WaitRm, Open, Over}
 use Rattle.daide_protocol.specs.declared.summary.Summary.{Summary}
 use Rattle.daide_protocol.specs.Summary.{counted_on}
 use Rattle.daide_frame.specs.Side.{other, same_side}
-use Rattle.daide_protocol.specs.Machine.{Sent, Coming, fault, fm_to, em_to, coming, is_over}
+use Rattle.daide_protocol.specs.Machine.{Sent, Coming, fault, fm_to, em_to, stop, coming, is_over}
 use Rattle.std.specs.Prelude.{◌==◌}
 use Rattle.daide_frame.specs.Frames.{missing}
 use Rattle.daide_protocol.specs.Wires.{SessionView, queued, frames_to, is_awaited, room_of}
@@ -102,6 +103,39 @@ failed old mid new protocol closed counts side code keeps post queue_final count
 
     fm : List Sent
     fm = fm_to protocol.phase (other side)
+
+-- the bot may be reached in every phase
+fm_to_bot : (phase : SessionPhase) → final_frame_to Bot None ∷ [] ≡ fm_to phase Bot
+fm_to_bot WaitIm = refl
+fm_to_bot WaitRm = refl
+fm_to_bot (Open level) = refl
+fm_to_bot (Over ending) = refl
+
+pub halted : (old mid new : Channels) (protocol closed : ProtocolState) → KeepsSides old new →
+    mid.queued ≡ posted old.queued (final_frame_to Bot None) → closed ≡ ended_by Endings.Stopped protocol →
+    ((wire : Side) → at new.queued wire ≡ at mid.queued wire ++ frames_to wire (fm_to protocol.phase Server)) →
+    Emits (view_of old protocol) (stop (state_of old protocol)) (view_of new closed)
+halted old mid new protocol closed keeps post queue_final close = record {
+  state = rw (keeps.cap, keeps.rules, keeps.sides, queue_final) refl;
+  counts = ap (λ (s : ProtocolState). s.summary) queue_final;
+  sent = λ wire. waiting_at new closed wire
+      ∙ (close wire
+      ∙ (ap (λ (w : PerSide (List Sent)). at w wire ++ frames_to wire fm) post
+      ∙ (ap (λ (x : List Sent). x ++ frames_to wire fm) (posted_at old.queued own wire)
+      ∙ (append_assoc (at old.queued wire) (frames_to wire (own ∷ [])) (frames_to wire fm)
+      ∙ (ap (λ (x : List Sent). at old.queued wire ++ x)
+      (sym (frames_to-cons wire own fm)
+      ∙ (ap (λ (x : List Sent). frames_to wire (x ++ fm)) (fm_to_bot protocol.phase)
+      ∙ sym (append-nil (frames_to wire (fm_to protocol.phase Bot ++ fm)))))
+      ∙ ap (λ (x : List Sent). x ++ (frames_to wire (fm_to protocol.phase Bot ++ fm) ++ []))
+      (sym (waiting_at old protocol wire)))))));
+}
+  where
+    own : Sent
+    own = final_frame_to Bot None
+
+    fm : List Sent
+    fm = fm_to protocol.phase Server
 
 -- ---- the room
 

@@ -30,7 +30,7 @@ use Rattle.daide_frame.specs.Side.{other, same_side}
 use Rattle.daide_protocol.specs.Machine.{Limits, Sent, Effect, initial_state, reply_to}
 use Rattle.daide_protocol.specs.Wires.{sent_to, sent_bytes}
 use Rattle.daide_protocol.specs.Heard.{bytes_from}
-use Rattle.daide_protocol.specs.Fates.{EventCause, Frame, Fault, End, Timeout, Came, came_in, whole_frame_from, frames_among}
+use Rattle.daide_protocol.specs.Fates.{EventCause, Frame, Fault, End, Timeout, Stop, Came, came_in, whole_frame_from, frames_among}
 use Rattle.daide_protocol.specs.Fates.{frames_from, IsJudged, IsMessageFate, is_passed_on, is_answered_prn}
 use Rattle.daide_protocol.specs.Fates.{is_answered_huh, IsFrameFate, IsFate, HaveFates}
 use Rattle.daide_protocol.specs.Passing.{IsFrame, MayBeSent, no_message, passed, within_prn, within_huh}
@@ -306,6 +306,7 @@ module _ (limits : Limits) (small : limits.cap ≤ longest_body) (one : List Cam
   cause_fate phase (Fault side code) sent g f next = tt
   cause_fate phase (End side) sent g f next = tt
   cause_fate phase Timeout sent g f next = tt
+  cause_fate phase Stop sent g f next = tt
 
   each_part : (a b : List FrameEvent) → EachNext (a ++ b) → EachNext a × EachNext b
   each_part [] b n = (tt, n)

@@ -22,12 +22,12 @@ use Rattle.daide_reader.specs.declared.verdict.Verdict.{Verdict}
 use Rattle.daide_reader.specs.declared.verdict.Verdict.TheVariants.{Relay, Prn, Huh}
 use Rattle.daide_protocol.specs.declared.phase.SessionPhase.{SessionPhase}
 use Rattle.daide_protocol.specs.declared.phase.SessionPhase.TheVariants.{WaitIm, WaitRm, Open, Over}
-use Rattle.daide_protocol.specs.Events.{Event, Comes, Ends, Loses, ImTimerExpired}
+use Rattle.daide_protocol.specs.Events.{Event, Comes, Ends, Loses, ImTimerExpired, OperatorStops}
 use Rattle.daide_protocol.specs.Machine.{Limits, SessionState, Sent, Effect, Successor, Transition, Runs, IsCorrectVerdict}
 use Rattle.daide_protocol.specs.Machine.{with_pending, with_noted, is_over, untimely, level_in, phase_after, reply_to, answered}
 use Rattle.daide_protocol.specs.Machine.{im_answered, frame_outcome, header_outcome, items_outcome, im_timer_expired, event_outcome, asked_by}
 use Rattle.daide_protocol.specs.Machine.{question_of, question, initial_state}
-use Rattle.daide_protocol.specs.Fates.{EventCause, Frame, Fault, End, Timeout, Came, checked_frame, frame_cause, fault_or}
+use Rattle.daide_protocol.specs.Fates.{EventCause, Frame, Fault, End, Timeout, Stop, Came, checked_frame, frame_cause, fault_or}
 use Rattle.daide_protocol.specs.Fates.{items_cause, cause_at, timeout_in, came_in_phase, came_in, IsJudged, HaveFates}
 use Rattle.daide_protocol.proofs.FrameShapes.{refused}
 use Rattle.daide_protocol.proofs.FramesHeard.{not_both}
@@ -188,6 +188,7 @@ LevelAt limits level (Frame Server noted head body) sent then =
 LevelAt limits level (Fault side code) sent then = then ≡ level
 LevelAt limits level (End side) sent then = then ≡ level
 LevelAt limits level Timeout sent then = then ≡ level
+LevelAt limits level Stop sent then = then ≡ level
 
 -- from one level to another, by the causes received and their moves
 abbrev pub HaveLevels : Limits → Level → List Came → List Effect → Level → Type 0
@@ -502,6 +503,8 @@ event_follows s (Ends side) v o h r =
 event_follows s (Loses side) v o h r =
     rw o (over_follows s.limits (level_in s.phase) _ _ refl ((level_in s.phase), refl, (refl, refl)))
 event_follows s ImTimerExpired v o h r = timer_follows s.phase s h
+event_follows s OperatorStops v o h r =
+    rw o (over_follows s.limits (level_in s.phase) _ _ refl ((level_in s.phase), refl, (refl, refl)))
 
 step_follows : (s : SessionState) (event : Event) (effects : List Effect) (m : SessionState) → Transition s event effects m →
     is_over s.phase ≡ false → Ready s →

@@ -26,7 +26,7 @@ use Rattle.daide_protocol.specs.Machine.{Limits, Sent, Effect, initial_state, is
 use Rattle.daide_protocol.specs.Machine.{side2_of, level_in}
 use Rattle.daide_frame.specs.Side.{same_side}
 use Rattle.daide_protocol.specs.Wires.{frames_to, sent_to}
-use Rattle.daide_protocol.specs.Fates.{EventCause, Frame, Fault, End, Timeout, Came, came_in, frames_from, IsJudged, IsFate}
+use Rattle.daide_protocol.specs.Fates.{EventCause, Frame, Fault, End, Timeout, Stop, Came, came_in, frames_from, IsJudged, IsFate}
 use Rattle.daide_protocol.specs.Fates.{HaveFates}
 use Rattle.daide_protocol.specs.Passing.{IsFrame, HasCome, IsWithinPrn, IsWithinHuh, MayBeSent, no_message, passed}
 use Rattle.daide_protocol.specs.Passing.{within_prn, within_huh}
@@ -46,6 +46,7 @@ is_message (Frame Server noted head body) = is_dm head.kind
 is_message (Fault side code) = false
 is_message (End side) = false
 is_message Timeout = false
+is_message Stop = false
 
 module _ (words : Words) (free : are_free words ≡ true) (limits : Limits) (same : limits.words ≡ words)
     (small : limits.cap ≤ longest_body) (all : List Came) where
@@ -205,6 +206,8 @@ module _ (words : Words) (free : are_free words ≡ true) (limits : Limits) (sam
       quiet_cause level next phase (End side) sent rest h refl good fate come later
   cause_sent level next phase Timeout sent rest h good fate come later =
       quiet_cause level next phase Timeout sent rest h refl good fate come later
+  cause_sent level next phase Stop sent rest h good fate come later =
+      quiet_cause level next phase Stop sent rest h refl good fate come later
 
   all_sent : (level queue_final : Level) (came : List Came) (effects : List Effect) → HaveLevels limits level came effects queue_final →
       AreGood limits.cap came → HaveFates limits came effects →
@@ -275,6 +278,8 @@ module _ (words : Words) (free : are_free words ≡ true) (limits : Limits) (sam
   cause_heard level next phase (End side) moves more sent h good first at =
       (tt, (sent, first, subst (λ (l : Level). AreSentAt l sent) (sym h) at))
   cause_heard level next phase Timeout moves more sent h good first at =
+      (tt, (sent, first, subst (λ (l : Level). AreSentAt l sent) (sym h) at))
+  cause_heard level next phase Stop moves more sent h good first at =
       (tt, (sent, first, subst (λ (l : Level). AreSentAt l sent) (sym h) at))
 
   all_heard : (level queue_final : Level) (came : List Came) (effects : List Effect) (sent : List Sent) →

@@ -11,14 +11,14 @@ use Rattle.daide_frame.specs.Frames.{FrameEvent, Begun, Whole, Wrong, last_items
 use Rattle.daide_reader.specs.declared.verdict.Verdict.{Verdict}
 use Rattle.daide_protocol.specs.declared.phase.SessionPhase.{SessionPhase}
 use Rattle.daide_protocol.specs.declared.phase.SessionPhase.TheVariants.{WaitIm, WaitRm, Open, Over}
-use Rattle.daide_protocol.specs.Events.{Event, Comes, Ends, Loses, ImTimerExpired}
+use Rattle.daide_protocol.specs.Events.{Event, Comes, Ends, Loses, ImTimerExpired, OperatorStops}
 use Rattle.daide_protocol.specs.Machine.{Sent, Effect, Successor, SessionState, Transition, Runs, coming, with_pending, is_over}
 use Rattle.daide_protocol.specs.Machine.{header_outcome, untimely, answered, im_answered, destination, is_sent}
 use Rattle.daide_protocol.specs.Machine.{reply_to, item_outcome, items_outcome, im_timer_expired, event_outcome}
 use Rattle.daide_frame.specs.Side.{same_side}
 use Rattle.daide_protocol.specs.Wires.{sent_to}
 use Rattle.daide_protocol.proofs.WireLemmas.{sent_to-append}
-use Rattle.daide_protocol.proofs.FramesHeard.{not_both, over_for_good, ended, lost}
+use Rattle.daide_protocol.proofs.FramesHeard.{not_both, over_for_good, ended, lost, stopped}
 use Rattle.daide_channels.specs.Channels.{is_final_frame, has_final_frame}
 
 -- the moves send no final frame to either wire
@@ -137,6 +137,7 @@ step_sends s ImTimerExpired effects m t o p =
     timer WaitRm s q wire = refl
     timer (Open level) s q wire = refl
     timer (Over ending) s q wire = refl
+step_sends s OperatorStops effects m t o p = absurd (not_both (is_over m.phase) (stopped s effects m t o) p)
 
 pub run_sends : (s : SessionState) (events : List Event) (effects : List Effect) (new : SessionState) →
     Runs s events effects new → is_over new.phase ≡ false → NoEnd effects

@@ -18,7 +18,7 @@ use Rattle.daide_protocol.specs.declared.phase.SessionPhase.TheVariants.{WaitIm}
 use Rattle.daide_frame.specs.Side.{other}
 use Rattle.daide_protocol.specs.Events.{Event, ImTimerExpired}
 use Rattle.daide_protocol.specs.Machine.{Sent, Successor, SessionState, Question, Runs, IsCorrectVerdict, question, coming}
-use Rattle.daide_protocol.specs.Machine.{is_over, fault, im_timer_expired, event_outcome, initial_state}
+use Rattle.daide_protocol.specs.Machine.{is_over, fault, im_timer_expired, event_outcome, initial_state, stop}
 use Rattle.daide_protocol.specs.Wires.{SessionView, queued, sent_to, note_of, without, IsNew, Refines, Wrote, Holding, holding}
 use Rattle.daide_protocol.proofs.FramesHeard.{not_both, over_for_good, run_waits}
 use Rattle.daide_protocol.specs.declared.ending.Ending.{Ending}
@@ -32,7 +32,7 @@ use Rattle.daide_channels.specs.Receiver.{ReaderLimits}
 use Rattle.daide_channels.specs.Channels.{Channels, IsQuiet, is_final_frame, has_final_frame, side_holding}
 use Rattle.daide_protocol.specs.Config.{limits_with}
 use Rattle.daide_session.specs.Session.{IsConsistentSession, state_of, view_of, Dropped}
-use Rattle.daide_session.specs.FrameEvents.{Emits, stopped}
+use Rattle.daide_session.specs.FrameEvents.{Emits, stopped, terminated}
 use Rattle.daide_session.proofs.EmitsLemmas.{waiting_at}
 use Rattle.daide_session.proofs.OpenRuns.{run_sends, has_final_frame-append}
 use Rattle.daide_session.proofs.FrameEventsLemmas.{holding_at}
@@ -69,6 +69,16 @@ stop_note s ending side = go (is_over s.phase) refl
     go : (b : Bool) → is_over s.phase ≡ b → Notes.Nothing ≡ note_of (stopped s ending side).effects
     go true e = rw e refl
     go false e = rw e refl
+
+-- a stop of a session that is over, and of one that is not
+pub nothing_note : (s : SessionState) → is_over s.phase ≡ true → Notes.Nothing ≡ note_of (terminated s).effects
+nothing_note s e = rw e refl
+
+pub stopped_note : (s : SessionState) → is_over s.phase ≡ false → Notes.Stopped ≡ note_of (terminated s).effects
+stopped_note s e = rw e refl
+
+pub terminated_is : (s : SessionState) → is_over s.phase ≡ false → terminated s ≡ stop s
+terminated_is s e = rw e refl
 
 pub stopped_over : (s : SessionState) (ending : Ending) (side : Side) →
     is_over (stopped s ending side).state.phase ≡ true

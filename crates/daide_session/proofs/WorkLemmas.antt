@@ -225,6 +225,7 @@ held_after_less cap (Notes.Frame head Deeds.Dropped) bytes = omega (arith, nothi
 held_after_less cap (Notes.Frame head Deeds.Prn) bytes = omega arith
 held_after_less cap (Notes.Frame head (Deeds.Huh place)) bytes = omega arith
 held_after_less cap (Notes.Fault code) bytes = omega arith
+held_after_less cap Notes.Stopped bytes = omega arith
 
 -- a side's held bytes before a piece, after it, and after the effect of its last byte
 pub fed_paid : (side : Side) (a b : SessionView) (mid : Holding) (piece : List ℕ) (note : Note) →

@@ -14,7 +14,7 @@ use Rattle.daide_protocol.specs.declared.note.Note.{Note}
 use Rattle.daide_protocol.specs.declared.note.Note.TheVariants as Notes
 use Rattle.daide_protocol.specs.declared.ending.Ending.{Ending}
 use Rattle.daide_frame.specs.Side.{other}
-use Rattle.daide_protocol.specs.Machine.{SessionState, Successor, IsCorrectVerdict, asked_by, items_outcome, is_over, level_in, nothing, end}
+use Rattle.daide_protocol.specs.Machine.{SessionState, Successor, IsCorrectVerdict, asked_by, items_outcome, is_over, level_in, nothing, end, stop}
 use Rattle.daide_protocol.specs.Summary.{tallied}
 use Rattle.daide_protocol.specs.Wires.{SessionView, Holding, queued, holding, sent_to, note_of, held_after, is_dm_head}
 use Rattle.daide_session.specs.declared.protocol_state.ProtocolState.{ProtocolState}
@@ -36,6 +36,10 @@ pub record KeepsSides (old new : Channels) : Type 0 where
 -- a side's end, by its stream or its wire
 abbrev pub stopped : SessionState → Ending → Side → Successor
 stopped s ending side = if is_over s.phase then nothing s else end s ending side
+
+-- a stop by the operator
+abbrev pub terminated : SessionState → Successor
+terminated s = if is_over s.phase then nothing s else stop s
 
 -- the check of a whole frame: only an IM has one
 abbrev pub check_of : Kind → List ℕ → Result (Unit {0}) Code

@@ -17,7 +17,7 @@ use Rattle.daide_protocol.specs.Events.{Event}
 use Rattle.daide_protocol.specs.Machine.{Limits, SessionState, Sent, Effect, Runs, initial_state, reply_to}
 use Rattle.daide_protocol.specs.Wires.{sent_to, sent_bytes}
 use Rattle.daide_protocol.specs.Heard.{bytes_from}
-use Rattle.daide_protocol.specs.Fates.{EventCause, Frame, Fault, End, Timeout, Came, came_in, frames_from}
+use Rattle.daide_protocol.specs.Fates.{EventCause, Frame, Fault, End, Timeout, Stop, Came, came_in, frames_from}
 use Rattle.daide_session.specs.InARow.{IsVerdictAtOneLevel, IsVerdictOfNext}
 
 -- the bytes that the next received from the first are a front of the bytes that the first sent to it, in any pieces,
@@ -41,6 +41,7 @@ IsFateAtNext Is to (Frame side noted head body) sent =
 IsFateAtNext Is to (Fault side code) sent = Unit {0}
 IsFateAtNext Is to (End side) sent = Unit {0}
 IsFateAtNext Is to Timeout sent = Unit {0}
+IsFateAtNext Is to Stop sent = Unit {0}
 
 -- the inputs of the next, each with its move
 abbrev pub HaveFatesAtNext : (Level → List ℕ → Verdict → Type 0) → Side → List Came → List Effect → Type 0

@@ -1,4 +1,4 @@
-//! The protocol state of a session, and how the session ends: by a side's fault, or by a side's end.
+//! The protocol state of a session, and how the session ends: by a side's fault, a side's end, or a stop.
 //!
 //! Only this module and `frame_events` change the phase, and count moves.
 
@@ -9,12 +9,12 @@ ghost use Rattle.daide_protocol.specs.declared.phase.SessionPhase.TheVariants.{O
 ghost use Rattle.daide_protocol.specs.declared.note.Note.TheVariants as Notes;
 ghost use Rattle.daide_frame.specs.Side.{other as other_side};
 ghost use Rattle.daide_protocol.specs.Machine.{fault, fm_to, is_over as is_over_phase};
-ghost use Rattle.daide_protocol.specs.Wires.{frames_to};
+ghost use Rattle.daide_protocol.specs.Wires.{frames_to, note_of};
 ghost use Rattle.daide_frame.specs.PerSide.{at};
 ghost use Rattle.daide_channels.specs.Channels.{has_final_frame};
 ghost use Rattle.daide_channels.specs.Fronts.{KeepsFronts};
 ghost use Rattle.daide_session.specs.Session.{state_of, view_of, IsConsistentSession};
-ghost use Rattle.daide_session.specs.FrameEvents.{Emits, KeepsSides, stopped};
+ghost use Rattle.daide_session.specs.FrameEvents.{Emits, KeepsSides, stopped, terminated};
 
 use daide_channels::channels::Channels;
 use daide_frame::code::Code;
@@ -88,6 +88,24 @@ pub fn on_peer_closed<A: Allocator>(
         return;
     }
     terminate(channels, protocol, side, ending);
+}
+
+/// Handles a stop by the operator: queues an FM for each side that an FM may be sent to, and ends the session. Has no
+/// effect if the session is over.
+pub fn on_stop<A: Allocator>(channels: &mut Channels<A>, protocol: &mut ProtocolState) -> Note
+    requires { IsConsistentSession (view_of channels.old protocol.old) }
+    ensures note { result ≡ note_of (terminated (state_of channels.old protocol.old)).effects }
+    ensures moves { Emits (view_of channels.old protocol.old) (terminated (state_of channels.old protocol.old))
+        (view_of channels.new protocol.new) }
+    ensures keeps { KeepsSides channels.old channels.new }
+    ensures fronts { KeepsFronts channels.old channels.new }
+{
+    if protocol.is_over() {
+        return Note::Nothing;
+    }
+    channels.queue_final(Side::Bot, None);
+    terminate(channels, protocol, Side::Bot, Ending::Stopped);
+    Note::Stopped
 }
 
 /// Handles a side's fault: queues an EM for it and an FM for the other side, and ends the session.

@@ -8,7 +8,7 @@ use crate::relays::{NEVER, sent};
 use crate::script::WIDEST;
 use daide_driver::relaying::{RelayEnd, relay};
 use daide_frame::side::Side::{self, Bot, Server};
-use daide_io::ports::{Ports, Pull, Put};
+use daide_io::ports::{ClockEvent, Ports, Pull, Put};
 use daide_session::session::Session;
 use daide_test_support::memory_ports::{MemoryPorts, Script, ScriptedRead};
 use daide_test_support::rows::holds;
@@ -202,8 +202,8 @@ impl Ports for Breaking {
         self.ports.put(side, &bytes[..1])
     }
 
-    fn clock_popped(&mut self) -> bool {
-        false
+    fn clock(&mut self) -> ClockEvent {
+        ClockEvent::NoEvent
     }
 }
 

@@ -42,6 +42,7 @@ const LATER: &[Act] = &[
     Act::Ends(Server),
     Act::Ends(Bot),
     Act::Loses(Server),
+    Act::OperatorStops,
 ];
 
 /// The event that ends the session | its ending | its counts.
@@ -64,6 +65,7 @@ const ENDINGS: &[(Act, Ending, [u64; 4])] = &[
         Ending::Fault(Server, Code::SecondRm),
         [3, 1, 2, 1],
     ),
+    (Act::OperatorStops, Ending::Stopped, [3, 1, 2, 0]),
 ];
 
 /// Checks the ending and the counts after an event, and that later events do not change them.
@@ -86,13 +88,19 @@ fn first_event_that_ends_a_session_is_told(rt: HostRuntime) -> Result<(), Fail> 
     Ok(())
 }
 
-/// Before the IM: the timer, and an FM that is dropped and not counted.
+/// Before the IM: the timer, a stop, and an FM that is dropped and not counted.
 const FIRST: &[&[Act]] = &[
     &[
         Act::ImTimerExpired,
         Act::Sees(Look::Ending(Some(Ending::Fault(Bot, Code::ImTimeout)), [0, 0, 0, 1])),
         Act::Ends(Bot),
         Act::Sees(Look::Ending(Some(Ending::Fault(Bot, Code::ImTimeout)), [0, 0, 0, 1])),
+    ],
+    &[
+        Act::OperatorStops,
+        Act::Sees(Look::Ending(Some(Ending::Stopped), [0, 0, 0, 0])),
+        Act::ImTimerExpired,
+        Act::Sees(Look::Ending(Some(Ending::Stopped), [0, 0, 0, 0])),
     ],
     &[
         Act::Says(Bot, FM),

@@ -4,7 +4,7 @@ use crate::relays::{NEVER, OPENS, QUIET, assert_sent};
 use crate::script::{WIDEST, bytes_of};
 use daide_driver::hub::{AddFault, Hub, HubError};
 use daide_frame::side::Side::{self, Bot, Server};
-use daide_io::ports::{Ports, Pull, Put};
+use daide_io::ports::{ClockEvent, Ports, Pull, Put};
 use daide_protocol::config::{Config, ConfigError};
 use daide_test_support::memory_ports::{Acceptance, MemoryPorts, Script, ScriptedRead};
 use daide_test_support::rows::{holds, same};
@@ -127,8 +127,8 @@ impl Ports for Feeding {
         self.ports.put(side, bytes)
     }
 
-    fn clock_popped(&mut self) -> bool {
-        self.ports.clock_popped()
+    fn clock(&mut self) -> ClockEvent {
+        self.ports.clock()
     }
 }
 
@@ -234,7 +234,7 @@ fn add_to_full(alloc: Global, hub: &mut Hub<Feeding>, seat: Seat) -> Result<(), 
     match hub.add(ports_of(alloc, seat)?) {
         Ok(_) => Err(Fail::new("a full hub")),
         Err((fault, mut ports)) => {
-            let is_same = ports.clock_popped();
+            let is_same = ports.clock() == ClockEvent::ImTimeIsOver;
             holds(fault == AddFault::Full && is_same, "the very ports")
         }
     }
@@ -496,7 +496,7 @@ impl Growths {
             }
             Err((fault, mut ports)) => {
                 self.no_session = true;
-                let is_same = ports.clock_popped();
+                let is_same = ports.clock() == ClockEvent::ImTimeIsOver;
                 holds(
                     fault == AddFault::Memory && hub.count() == 0 && is_same,
                     "refused",

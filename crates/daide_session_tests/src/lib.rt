@@ -20,7 +20,11 @@ mod endings;
 #[cfg(test)]
 mod growths;
 #[cfg(test)]
+mod harness;
+#[cfg(test)]
 mod hubs;
+#[cfg(test)]
+mod orders;
 #[cfg(test)]
 mod ranges;
 #[cfg(test)]

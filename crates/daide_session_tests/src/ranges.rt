@@ -6,7 +6,7 @@ use crate::relays::{NEVER, QUIET};
 use crate::script::{WIDEST, bytes_of, script_of};
 use daide_driver::hub::{AddFault, Hub};
 use daide_frame::side::Side::{self, Bot, Server};
-use daide_io::ports::Ports;
+use daide_io::ports::{ClockEvent, Ports};
 use daide_protocol::config::Config;
 use daide_session::session::Session;
 use daide_test_support::memory_ports::MemoryPorts;
@@ -52,7 +52,7 @@ fn assert_full(alloc: Global, hub: &mut Hub<MemoryPorts<'static>>) -> Result<(),
     match hub.add(MemoryPorts::new(alloc, QUIET, QUIET, 0)) {
         Ok(_) => Err(Fail::new("a full hub")),
         Err((fault, mut ports)) => {
-            let is_same = ports.clock_popped();
+            let is_same = ports.clock() == ClockEvent::ImTimeIsOver;
             holds(fault == AddFault::Full && is_same, "the very ports")
         }
     }

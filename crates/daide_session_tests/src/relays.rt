@@ -3,6 +3,7 @@
 use crate::script::{WIDEST, assert_bytes};
 use daide_frame::side::Side::{self, Bot, Server};
 use daide_gate::{Phase, Ports, Pull, Put, RelayEnd, Session, relay};
+use daide_io::ports::ClockEvent::{self, ImTimeIsOver, NoEvent, StopIsRequested};
 use daide_test_support::memory_ports::{Acceptance, Call, MemoryPorts, Script, ScriptedRead};
 use daide_test_support::rows::{holds, same};
 use linked_list_allocator::LocalHeap;
@@ -45,11 +46,11 @@ pub fn assert_sent(
     assert_bytes(alloc, bytes.as_slice(), want)
 }
 
-/// An expected call of the ports: a timer query and its result; a pull with the side, the length of the buffer, and the
+/// An expected call of the ports: a query of the clock and its result; a pull with the side, the length of the buffer, and the
 /// result; a put with the side, the whole front, and the result.
 #[derive(Clone, Copy)]
 enum Asks {
-    Clock(bool),
+    Clock(ClockEvent),
     Pull(Side, usize, Pull),
     Put(Side, &'static [u8], Put),
 }
@@ -58,7 +59,7 @@ enum Asks {
 fn is_wanted(call: &Call, want: Asks) -> bool {
     match call {
         Call::TurnBegins => false,
-        Call::Clock(popped) => matches!(want, Asks::Clock(pops) if pops == *popped),
+        Call::Clock(event) => matches!(want, Asks::Clock(reported) if reported == *event),
         Call::Pulled(from, buffer, came, _) => {
             matches!(want, Asks::Pull(side, len, pull) if side == *from && len == *buffer && pull == *came)
         }
@@ -102,7 +103,19 @@ fn end_of(alloc: Global, ports: &mut MemoryPorts<'_>, turns: u64) -> Result<Rela
 /// Checks the end and the calls of a relay of a new session.
 fn assert_relay(alloc: Global, row: &Relay) -> Result<(), Fail> {
     let mut ports = MemoryPorts::new(alloc, row.bot, row.server, row.quiet);
-    let end = end_of(alloc, &mut ports, row.turns)?;
+    assert_calls(alloc, &mut ports, row)
+}
+
+/// The same with a stop at the query of the clock after this many more.
+fn assert_stopped(alloc: Global, row: &Relay, queries: u64) -> Result<(), Fail> {
+    let mut ports = MemoryPorts::new(alloc, row.bot, row.server, row.quiet);
+    ports.stop_after(queries);
+    assert_calls(alloc, &mut ports, row)
+}
+
+/// Checks the end and the calls of a relay of a new session over these ports.
+fn assert_calls(alloc: Global, ports: &mut MemoryPorts<'_>, row: &Relay) -> Result<(), Fail> {
+    let end = end_of(alloc, ports, row.turns)?;
     same(&end, &row.end, &"the end")?;
     holds(
         are_wanted(ports.calls().unwrap_or(&[]), row.asks),
@@ -136,7 +149,7 @@ const ENDS_AT_ONCE: Relay = Relay {
     quiet: NEVER,
     turns: 1,
     end: RelayEnd::Closed,
-    asks: &[Asks::Clock(false), Asks::Pull(Bot, 4, Pull::Ended)],
+    asks: &[Asks::Clock(NoEvent), Asks::Pull(Bot, 4, Pull::Ended)],
 };
 
 #[test]
@@ -152,13 +165,13 @@ const LATE: Relay = Relay {
     turns: 9,
     end: RelayEnd::Closed,
     asks: &[
-        Asks::Clock(false),
+        Asks::Clock(NoEvent),
         Asks::Pull(Bot, 4, Pull::Idle),
         Asks::Pull(Server, 4, Pull::Idle),
-        Asks::Clock(false),
+        Asks::Clock(NoEvent),
         Asks::Pull(Bot, 4, Pull::Idle),
         Asks::Pull(Server, 4, Pull::Idle),
-        Asks::Clock(true),
+        Asks::Clock(ImTimeIsOver),
         Asks::Put(Bot, &[4, 0, 0, 2, 0, 1], Put::Took(6)),
     ],
 };
@@ -166,6 +179,27 @@ const LATE: Relay = Relay {
 #[test]
 fn late_initial_message_is_told_to_the_bot_alone(rt: HostRuntime) -> Result<(), Fail> {
     assert_relay(rt.alloc(), &LATE)
+}
+
+/// The operator stops the session before its second turn, which sends the bot alone a whole FM.
+const STOPPED: Relay = Relay {
+    bot: QUIET,
+    server: QUIET,
+    quiet: NEVER,
+    turns: 9,
+    end: RelayEnd::Closed,
+    asks: &[
+        Asks::Clock(NoEvent),
+        Asks::Pull(Bot, 4, Pull::Idle),
+        Asks::Pull(Server, 4, Pull::Idle),
+        Asks::Clock(StopIsRequested),
+        Asks::Put(Bot, &[3, 0, 0, 0], Put::Took(4)),
+    ],
+};
+
+#[test]
+fn stop_sends_the_bot_alone_a_final_message(rt: HostRuntime) -> Result<(), Fail> {
+    assert_stopped(rt.alloc(), &STOPPED, 1)
 }
 
 /// A bot whose first put fails.
@@ -195,23 +229,23 @@ const WHOLE_FRONTS: Relay = Relay {
     turns: 9,
     end: RelayEnd::Closed,
     asks: &[
-        Asks::Clock(false),
+        Asks::Clock(NoEvent),
         Asks::Pull(Bot, 4, Pull::Got(4)),
         Asks::Pull(Server, 4, Pull::Idle),
-        Asks::Clock(false),
+        Asks::Clock(NoEvent),
         Asks::Pull(Bot, 4, Pull::Got(4)),
         Asks::Pull(Server, 4, Pull::Idle),
-        Asks::Clock(false),
+        Asks::Clock(NoEvent),
         Asks::Put(Server, &[0, 0, 0, 4], Put::Took(4)),
         Asks::Pull(Server, 4, Pull::Idle),
-        Asks::Clock(false),
+        Asks::Clock(NoEvent),
         Asks::Put(Server, &[0, 1, 0xDA, 0x10], Put::Took(4)),
         Asks::Pull(Bot, 4, Pull::Idle),
         Asks::Pull(Server, 4, Pull::Idle),
-        Asks::Clock(false),
+        Asks::Clock(NoEvent),
         Asks::Pull(Bot, 4, Pull::Idle),
         Asks::Pull(Server, 4, Pull::Got(4)),
-        Asks::Clock(false),
+        Asks::Clock(NoEvent),
         Asks::Put(Bot, &[1, 0, 0, 0], Put::Failed),
         Asks::Put(Server, &[3, 0, 0, 0], Put::Took(4)),
     ],
@@ -242,30 +276,30 @@ const LONG_PULLS: Relay = Relay {
     turns: 8,
     end: RelayEnd::TurnsSpent,
     asks: &[
-        Asks::Clock(false),
+        Asks::Clock(NoEvent),
         Asks::Pull(Bot, 4, Pull::Got(4)),
         Asks::Pull(Server, 4, Pull::Idle),
-        Asks::Clock(false),
+        Asks::Clock(NoEvent),
         Asks::Pull(Bot, 4, Pull::Got(4)),
         Asks::Pull(Server, 4, Pull::Idle),
-        Asks::Clock(false),
+        Asks::Clock(NoEvent),
         Asks::Put(Server, &[0, 0, 0, 4], Put::Took(4)),
         Asks::Pull(Server, 4, Pull::Idle),
-        Asks::Clock(false),
+        Asks::Clock(NoEvent),
         Asks::Put(Server, &[0, 1, 0xDA, 0x10], Put::Took(4)),
         Asks::Pull(Bot, 4, Pull::Idle),
         Asks::Pull(Server, 4, Pull::Idle),
-        Asks::Clock(false),
+        Asks::Clock(NoEvent),
         Asks::Pull(Bot, 4, Pull::Idle),
         Asks::Pull(Server, 4, Pull::Got(4)),
-        Asks::Clock(false),
+        Asks::Clock(NoEvent),
         Asks::Put(Bot, &[1, 0, 0, 0], Put::Took(4)),
         Asks::Pull(Bot, 4, Pull::Got(4)),
         Asks::Pull(Server, 4, Pull::Idle),
-        Asks::Clock(false),
+        Asks::Clock(NoEvent),
         Asks::Pull(Bot, 512, Pull::Got(512)),
         Asks::Pull(Server, 4, Pull::Idle),
-        Asks::Clock(false),
+        Asks::Clock(NoEvent),
         Asks::Pull(Bot, 88, Pull::Got(88)),
         Asks::Pull(Server, 4, Pull::Idle),
     ],
@@ -400,8 +434,8 @@ impl<'a, A: Allocator + Copy> Ports for Watching<'a, A> {
         put
     }
 
-    fn clock_popped(&mut self) -> bool {
-        self.ports.clock_popped()
+    fn clock(&mut self) -> ClockEvent {
+        self.ports.clock()
     }
 }
 

@@ -35,6 +35,8 @@ pub enum Act {
     Loses(Side),
     /// The IM timer expires. All queued bytes are taken.
     ImTimerExpired,
+    /// The operator stops the session. All queued bytes are taken.
+    OperatorStops,
     /// The state of the session is this.
     Sees(Look),
 }
@@ -367,6 +369,9 @@ impl Script {
             Act::ImTimerExpired => {
                 self.session.im_timeout();
             }
+            Act::OperatorStops => {
+                self.session.stop();
+            }
             _ => {}
         }
         self.deliver()
@@ -379,7 +384,9 @@ impl Script {
             Act::Sends(side, text) => self.send(alloc, side, text),
             Act::Tells(side, text, note) => self.tell(alloc, side, text, note),
             Act::Takes(side, most) => self.take(side, most),
-            Act::Ends(_) | Act::Loses(_) | Act::ImTimerExpired => self.hear(act),
+            Act::Ends(_) | Act::Loses(_) | Act::ImTimerExpired | Act::OperatorStops => {
+                self.hear(act)
+            }
             Act::Stops(side) => holds(self.session.ended(side), "an end is told once"),
             Act::Sees(look) => self.look(alloc, look),
         }

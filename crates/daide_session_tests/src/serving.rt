@@ -1,244 +1,24 @@
 //! Whole runs in memory: the calls of the system, in order, and the service that each bot gets.
 
-ghost use Rattle.std.specs.Prelude.{◌≡◌};
-ghost use Rattle.daide_session_tests.specs.Retired.{KeepsRetired};
-
+use crate::harness::{
+    ENDING, ENDS, ENDS_LATER, Event, Fate, Harness, Limits, OPENS_ALONE, Scene, assert_run,
+    settings, stage_after,
+};
 use crate::hubs::{Growths, NO_GROWTHS};
-use crate::relays::{NEVER, QUIET, assert_sent};
+use crate::relays::{QUIET, assert_sent};
 use crate::script::counts_of;
 use daide_frame::code::Code;
 use daide_frame::side::Side::{Bot, Server};
 use daide_gate::serving::{ServeFault, Service, serve};
 use daide_gate::settings::{Settings, read_settings};
-use daide_gate::system::{Cause, Connect, Notice, Orders, SessionEnd, SessionStatus, System};
-use daide_gate::{Level, Phase, Summary};
+use daide_gate::system::{Cause, Notice};
 use daide_protocol::ending::Ending;
-use daide_test_support::memory_ports::{Acceptance, Call, MemoryPorts, Script, ScriptedRead};
+use daide_test_support::memory_ports::{Acceptance, MemoryPorts, Script, ScriptedRead};
 use daide_test_support::rows::{holds, same};
 use linked_list_allocator::LocalHeap;
 use std::alloc::Global;
 use std::fmt::Display;
 use std::test::Fail;
-
-/// The result of a connect, in a script.
-#[derive(Clone, Copy)]
-enum Fate {
-    Ready,
-    Failed,
-    Pending,
-}
-
-/// A call of the system, with its result.
-#[derive(Clone, Copy, PartialEq, Eq)]
-enum Event {
-    Begun,
-    Shown,
-    News,
-    NoNews,
-    TurnBegun,
-    Watched,
-    Came,
-    NoneCame,
-    Ready,
-    Failed,
-    Pending,
-    Retired,
-    ParsedEvent(Notice),
-    Waited,
-}
-
-/// The script of a run. After the last accept each further one returns a bot; after the last fate each connect
-/// succeeds; after the last report there is news each time; after the last orders there are none.
-#[derive(Clone, Copy)]
-struct Scene {
-    accepts: &'static [bool],
-    fates: &'static [Fate],
-    news: &'static [bool],
-    orders: &'static [Orders],
-    bot: Script<'static>,
-}
-
-/// A system that plays a scene. Its server is quiet.
-#[derive(Drop)]
-struct Harness {
-    alloc: Global,
-    scene: Scene,
-    accepts: usize,
-    fates: usize,
-    news: usize,
-    orders: usize,
-    /// The number of bots that are connected, and the greatest number of them so far.
-    held: usize,
-    most: usize,
-    events: Vec<Event>,
-    retired: Vec<MemoryPorts<'static>>,
-    /// The ends of the sessions, in the order of their retirement.
-    ends: Vec<SessionEnd>,
-    /// Each status that was shown, and how many turns were begun with its ports.
-    shown: Vec<(usize, SessionStatus)>,
-}
-
-impl Harness {
-    /// Creates a system before the first bot.
-    fn new(alloc: Global, scene: Scene) -> Harness {
-        Harness {
-            alloc,
-            scene,
-            accepts: 0,
-            fates: 0,
-            news: 0,
-            orders: 0,
-            held: 0,
-            most: 0,
-            events: Vec::new(alloc),
-            retired: Vec::new(alloc),
-            ends: Vec::new(alloc),
-            shown: Vec::new(alloc),
-        }
-    }
-
-    /// Records a call of the system, if there is memory.
-    fn note(&mut self, event: Event)
-        ensures { self.new ≡ record self.old { events = self.new.events } }
-    {
-        let _ = self.events.push(event);
-    }
-}
-
-/// Returns how many turns were begun with these ports.
-fn turns_begun(ports: &MemoryPorts<'static>) -> usize {
-    let mut turns = 0_usize;
-    for call in ports.calls().unwrap_or(&[]) {
-        if matches!(call, Call::TurnBegins) {
-            turns = turns.saturating_add(1);
-        }
-    }
-    turns
-}
-
-impl System<MemoryPorts<'static>> for Harness {
-    ghost transition = { λ old answer new. KeepsRetired old.retired.items answer new.retired.items };
-
-    fn begin_round(&mut self) -> Orders {
-        self.note(Event::Begun);
-        let orders = self.scene.orders.get(self.orders);
-        self.orders = self.orders.saturating_add(1);
-        orders.copied().unwrap_or(Orders::NONE)
-    }
-
-    fn show(&mut self, ports: &MemoryPorts<'static>, status: SessionStatus) {
-        self.note(Event::Shown);
-        let _ = self.shown.push((turns_begun(ports), status));
-    }
-
-    fn has_news(&mut self, _ports: &MemoryPorts<'static>) -> bool {
-        let news = self.scene.news.get(self.news).is_none_or(|news| *news);
-        self.news = self.news.saturating_add(1);
-        self.note(if news { Event::News } else { Event::NoNews });
-        news
-    }
-
-    fn begin_turn(&mut self, ports: &mut MemoryPorts<'static>) {
-        self.note(Event::TurnBegun);
-        ports.begin_turn();
-    }
-
-    fn watch(&mut self, _ports: &MemoryPorts<'static>) {
-        self.note(Event::Watched);
-    }
-
-    fn accept(&mut self) -> bool {
-        let came = self
-            .scene
-            .accepts
-            .get(self.accepts)
-            .is_none_or(|came| *came);
-        self.accepts = self.accepts.saturating_add(1);
-        if came {
-            self.held = self.held.saturating_add(1);
-            self.most = self.most.max(self.held);
-            self.note(Event::Came);
-        } else {
-            self.note(Event::NoneCame);
-        }
-        came
-    }
-
-    fn connected(&mut self) -> Connect<MemoryPorts<'static>> {
-        let fate = self.scene.fates.get(self.fates);
-        self.fates = self.fates.saturating_add(1);
-        match fate {
-            None | Some(Fate::Ready) => {
-                self.note(Event::Ready);
-                Connect::Ready(MemoryPorts::new(self.alloc, self.scene.bot, QUIET, NEVER))
-            }
-            Some(Fate::Failed) => {
-                self.held = self.held.saturating_sub(1);
-                self.note(Event::Failed);
-                Connect::Failed
-            }
-            Some(Fate::Pending) => {
-                self.note(Event::Pending);
-                Connect::Pending
-            }
-        }
-    }
-
-    fn retire(&mut self, ports: MemoryPorts<'static>, end: SessionEnd) {
-        self.held = self.held.saturating_sub(1);
-        self.note(Event::Retired);
-        let _ = self.retired.push(ports);
-        let _ = self.ends.push(end);
-    }
-
-    fn tell(&mut self, notice: Notice) {
-        self.note(Event::ParsedEvent(notice));
-    }
-
-    fn wait(&mut self) {
-        self.note(Event::Waited);
-    }
-}
-
-/// A bot that ends at once.
-const ENDS: Script<'static> = Script {
-    pulls: &[ScriptedRead::End],
-    puts: &[],
-};
-
-/// A bot that sends nothing in its first turn, and ends in its second.
-const ENDS_LATER: Script<'static> = Script {
-    pulls: &[ScriptedRead::Idle, ScriptedRead::End],
-    puts: &[],
-};
-
-/// A bot that sends its IM, and nothing more.
-const OPENS_ALONE: Script<'static> = Script {
-    pulls: &[ScriptedRead::Bytes(&[0, 0, 0, 4, 0, 1, 0xDA, 0x10])],
-    puts: &[],
-};
-
-/// One bot that ends, and whose server accepts the connect.
-const ENDING: Scene = Scene {
-    accepts: &[],
-    fates: &[],
-    news: &[],
-    orders: &[],
-    bot: ENDS,
-};
-
-/// The settings `max_sessions`, `sessions` and `turns`.
-type Limits = (usize, u32, u64);
-
-/// Returns settings with these limits.
-fn settings(alloc: Global, limits: Limits) -> Result<Settings, Fail> {
-    let (max_sessions, sessions, turns) = limits;
-    let text = format!(in alloc;
-        "listen = \"a\"\nserver = \"b\"\nmax_body = 512
-        max_sessions = {max_sessions}\nsessions = {sessions}\nturns = {turns}\n"
-    )?;
-    Ok(read_settings(alloc, text.as_str())?)
-}
 
 /// A scene | its limits | the calls of the system.
 const RUNS: &[(Scene, Limits, &[Event])] = &[
@@ -282,7 +62,7 @@ const RUNS: &[(Scene, Limits, &[Event])] = &[
             Event::Begun,
             Event::Came,
             Event::Failed,
-            Event::ParsedEvent(Notice::CannotReach),
+            Event::Told(Notice::CannotReach),
         ],
     ),
     // one session at once: the next bot is accepted after the first is retired
@@ -333,7 +113,7 @@ const RUNS: &[(Scene, Limits, &[Event])] = &[
             Event::Waited,
             Event::Begun,
             Event::Failed,
-            Event::ParsedEvent(Notice::CannotReach),
+            Event::Told(Notice::CannotReach),
             Event::Begun,
             Event::Came,
             Event::Ready,
@@ -398,7 +178,7 @@ const RUNS: &[(Scene, Limits, &[Event])] = &[
             Event::Waited,
             Event::Begun,
             Event::News,
-            Event::ParsedEvent(Notice::TurnsSpent),
+            Event::Told(Notice::TurnsSpent),
             Event::Retired,
         ],
     ),
@@ -432,7 +212,7 @@ const RUNS: &[(Scene, Limits, &[Event])] = &[
             Event::Waited,
             Event::Begun,
             Event::News,
-            Event::ParsedEvent(Notice::TurnsSpent),
+            Event::Told(Notice::TurnsSpent),
             Event::Retired,
         ],
     ),
@@ -469,210 +249,10 @@ const RUNS: &[(Scene, Limits, &[Event])] = &[
     ),
 ];
 
-/// A bot that sends nothing in its first three turns, and ends in its fourth.
-const ENDS_IN_ITS_FOURTH_TURN: Script<'static> = Script {
-    pulls: &[
-        ScriptedRead::Idle,
-        ScriptedRead::Idle,
-        ScriptedRead::Idle,
-        ScriptedRead::End,
-    ],
-    puts: &[],
-};
-
-const STOP: Orders = Orders {
-    stops_accepting: true,
-    shows_sessions: false,
-};
-
-const SHOW: Orders = Orders {
-    stops_accepting: false,
-    shows_sessions: true,
-};
-
-/// A scene with orders | its limits | the calls of the system.
-const ORDERED_RUNS: &[(Scene, Limits, &[Event])] = &[
-    // an order to stop before the first bot: the run is over, and does not wait
-    (
-        Scene {
-            accepts: &[],
-            fates: &[],
-            news: &[],
-            orders: &[STOP],
-            bot: ENDS,
-        },
-        (16, 9, 9),
-        &[Event::Begun],
-    ),
-    // with one session open and one connect pending: both go on to their ends, and no bot is accepted
-    (
-        Scene {
-            accepts: &[],
-            fates: &[Fate::Ready, Fate::Pending, Fate::Ready],
-            news: &[],
-            orders: &[Orders::NONE, Orders::NONE, STOP],
-            bot: ENDS_IN_ITS_FOURTH_TURN,
-        },
-        (16, 9, 9),
-        &[
-            Event::Begun,
-            Event::Came,
-            Event::Ready,
-            Event::TurnBegun,
-            Event::Begun,
-            Event::Came,
-            Event::Pending,
-            Event::News,
-            Event::TurnBegun,
-            Event::Begun,
-            Event::Ready,
-            Event::News,
-            Event::TurnBegun,
-            Event::TurnBegun,
-            Event::Begun,
-            Event::News,
-            Event::TurnBegun,
-            Event::News,
-            Event::TurnBegun,
-            Event::Retired,
-            Event::Begun,
-            Event::News,
-            Event::TurnBegun,
-            Event::Watched,
-            Event::Waited,
-            Event::Begun,
-            Event::News,
-            Event::TurnBegun,
-            Event::Retired,
-        ],
-    ),
-    // with one connect pending, which fails: until then the run waits
-    (
-        Scene {
-            accepts: &[],
-            fates: &[Fate::Pending, Fate::Pending, Fate::Failed],
-            news: &[],
-            orders: &[Orders::NONE, STOP],
-            bot: ENDS,
-        },
-        (16, 9, 9),
-        &[
-            Event::Begun,
-            Event::Came,
-            Event::Pending,
-            Event::Begun,
-            Event::Pending,
-            Event::Waited,
-            Event::Begun,
-            Event::Failed,
-            Event::ParsedEvent(Notice::CannotReach),
-        ],
-    ),
-    // an order to show without a session, and with one
-    (
-        Scene {
-            accepts: &[],
-            fates: &[],
-            news: &[],
-            orders: &[SHOW, SHOW],
-            bot: ENDS_LATER,
-        },
-        (1, 1, 9),
-        &[
-            Event::Begun,
-            Event::Came,
-            Event::Ready,
-            Event::TurnBegun,
-            Event::Begun,
-            Event::Shown,
-            Event::News,
-            Event::TurnBegun,
-            Event::Retired,
-        ],
-    ),
-];
-
-/// Returns the system after a whole run of a scene with these limits.
-fn stage_after(alloc: Global, scene: Scene, limits: Limits) -> Result<Harness, Fail> {
-    let settings = settings(alloc, limits)?;
-    let mut stage = Harness::new(alloc, scene);
-    serve(alloc, &settings, &mut stage)?;
-    Ok(stage)
-}
-
-/// Checks the calls of a run of a scene with these limits.
-fn assert_run(alloc: Global, scene: Scene, limits: Limits, want: &[Event]) -> Result<(), Fail> {
-    let stage = stage_after(alloc, scene, limits)?;
-    holds(stage.events.as_slice() == want, "the events")
-}
-
 #[test]
 fn system_is_asked_round_by_round(rt: HostRuntime) -> Result<(), Fail> {
     for (scene, limits, want) in RUNS {
         assert_run(rt.alloc(), *scene, *limits, want)?;
-    }
-    Ok(())
-}
-
-#[test]
-fn orders_are_heeded_round_by_round(rt: HostRuntime) -> Result<(), Fail> {
-    for (scene, limits, want) in ORDERED_RUNS {
-        assert_run(rt.alloc(), *scene, *limits, want)?;
-    }
-    Ok(())
-}
-
-/// Three bots that send their IM, header and body in a turn each. A round accepts one of them, and the fourth and the
-/// fifth round show all.
-const SHOWN: Scene = Scene {
-    orders: &[Orders::NONE, Orders::NONE, Orders::NONE, SHOW, SHOW],
-    bot: OPENS_ALONE,
-    ..ENDING
-};
-
-/// Turns begun | the phase | relayed frames | bytes queued for the server. An IM is relayed once its second part is
-/// read, and the server takes a part a turn.
-const STATUSES: &[(usize, Phase, u64, usize)] = &[
-    (3, Phase::WaitRm, 1, 4),
-    (2, Phase::WaitRm, 1, 8),
-    (1, Phase::WaitIm, 0, 0),
-    (4, Phase::WaitRm, 1, 0),
-    (3, Phase::WaitRm, 1, 4),
-    (2, Phase::WaitRm, 1, 8),
-];
-
-/// Checks a status that was shown, of a session without a level, a refusal and bytes for its bot.
-fn assert_status(
-    shown: &(usize, SessionStatus),
-    want: &(usize, Phase, u64, usize),
-) -> Result<(), Fail> {
-    let (turns, phase, relayed, queued_to_server) = *want;
-    let status = SessionStatus {
-        phase,
-        level: Level::L0,
-        summary: Summary {
-            relayed,
-            prn: 0,
-            huh: 0,
-            faults: 0,
-        },
-        queued_to_bot: 0,
-        queued_to_server,
-    };
-    holds(*shown == (turns, status), "the status")
-}
-
-#[test]
-fn each_session_is_shown_in_order(rt: HostRuntime) -> Result<(), Fail> {
-    let settings = settings(rt.alloc(), (3, 3, 9))?;
-    let mut stage = Harness::new(rt.alloc(), SHOWN);
-    let mut service = Service::<MemoryPorts<'static>, Global>::new(rt.alloc(), &settings)?;
-    for _round in 0..5 {
-        service.round(&mut stage)?;
-    }
-    same(&stage.shown.len(), &STATUSES.len(), &"shown")?;
-    for (shown, want) in stage.shown.iter().zip(STATUSES) {
-        assert_status(shown, want)?;
     }
     Ok(())
 }
@@ -696,7 +276,7 @@ const SPENT: &[Event] = &[
     Event::Begun,
     Event::News,
     Event::Begun,
-    Event::ParsedEvent(Notice::TurnsSpent),
+    Event::Told(Notice::TurnsSpent),
     Event::Retired,
 ];
 
@@ -804,7 +384,7 @@ fn each_of_many_bots_is_served(rt: HostRuntime) -> Result<(), Fail> {
         !stage
             .events
             .iter()
-            .any(|event| matches!(event, Event::ParsedEvent(_))),
+            .any(|event| matches!(event, Event::Told(_))),
         "nothing is told",
     )
 }

@@ -1,6 +1,8 @@
 //! The worked examples of sessions, by their names in docs/EXAMPLES.md.
 
-use crate::script::Act::{Ends, ImTimerExpired, Loses, Says, Sees, Sends, Stops, Takes, Tells};
+use crate::script::Act::{
+    Ends, ImTimerExpired, Loses, OperatorStops, Says, Sees, Sends, Stops, Takes, Tells,
+};
 use crate::script::{
     Act, IM, Look, RM, Scene, WIDEST, assert_acts, assert_scenes, assert_scenes_within, bytes_of,
     script_of,
@@ -569,10 +571,19 @@ const ENDS_IN_THE_OPEN: &[Scene] = &[
         "04 00 00 02 00 01",
         "",
     ),
+    (&[OperatorStops, OperatorStops], FM, FM),
+    (&[Says(Bot, "02 00 00 04  48 03 40"), OperatorStops], FM, FM),
+    (&[Says(Server, "03 00 00 00"), OperatorStops], FM, ""),
 ];
 
 const ENDS_AT_FIRST: &[Scene] = &[
     (&[ImTimerExpired, ImTimerExpired], "04 00 00 02 00 01", ""),
+    (&[OperatorStops, ImTimerExpired, Says(Bot, IM)], FM, ""),
+    (
+        &[Says(Bot, IM), OperatorStops],
+        FM,
+        "00 00 00 04  00 01 DA 10  03 00 00 00",
+    ),
     (&[Ends(Bot)], "", ""),
     (&[Ends(Server)], FM, ""),
     (&[Says(Bot, "03 00 00 00"), Says(Server, RM)], "", ""),
@@ -592,6 +603,26 @@ fn assert_timer(session: &mut Session) -> Result<(), Fail> {
     holds(session.im_timeout() == Note::Nothing, "not twice")?;
     holds(session.is_over() && !session.ended(Bot), "over")?;
     holds(session.room(Bot) == 0 && session.room(Server) == 0, "room")
+}
+
+/// Checks that a stop ends a new session once, and sends the bot alone a final message.
+fn assert_stop(session: &mut Session) -> Result<(), Fail> {
+    holds(session.stop() == Note::Stopped, "once")?;
+    holds(session.stop() == Note::Nothing, "not twice")?;
+    holds(
+        session.is_over() && session.im_timeout() == Note::Nothing,
+        "over",
+    )?;
+    holds(
+        session.front(Bot).len() == 4 && session.front(Server).is_empty(),
+        "the bot alone",
+    )
+}
+
+#[test]
+fn stop_ends_a_session_once(rt: HostRuntime) -> Result<(), Fail> {
+    let mut session = Session::new(rt.alloc(), WIDEST)?;
+    assert_stop(&mut session)
 }
 
 #[test]

@@ -2,4 +2,5 @@ pub mod WordSettings
 pub mod Ranges
 pub mod Settings
 pub mod Given
+pub mod BotsInAll
 pub mod Judged

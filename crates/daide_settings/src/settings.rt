@@ -5,6 +5,7 @@
 
 mod address;
 mod allow;
+mod bots;
 mod control_path;
 mod judged;
 mod key;

@@ -1,14 +1,13 @@
--- The time of a wait, against each row, and against each session that it watches.
-use Rattle.std.proofs.Common.{◌≡◌, ◌≤◌, ℕ, zero, suc, ◌-◌, Bool, true, false, List, [], ◌∷◌, Option, Some, None, refl, sym, ap, ◌∙◌, subst, arith}
-use Rattle.std.specs.Prelude.{◌||◌, nat_le, if◌then◌else◌, slice_get, All}
+-- The time of a wait, against each session that it watches.
+use Rattle.std.proofs.Common.{◌≡◌, ◌≤◌, ℕ, ◌-◌, Bool, true, false, List, [], ◌∷◌, Option, Some, None, refl, sym, ap, ◌∙◌, subst, arith}
+use Rattle.std.specs.Prelude.{◌||◌, nat_le, if◌then◌else◌, All}
 use Rattle.std.proofs.lemmas.List.Elements.{All-nil, All-cons}
 use Rattle.std.specs.Time.{instant_nanos}
 use Rattle.std.specs.declared.time.Duration.{Duration}
 use Rattle.std.specs.declared.time.Instant.{Instant}
-use Rattle.daide_sockets.specs.declared.table.Row.{Row}
-use Rattle.daide_sockets.specs.Table.{Table, watching, nearest, earlier, any_work, has_pending, IsUntil, IsNoTime, IsWaitTime}
+use Rattle.daide_sockets.specs.Table.{Table, watching, earlier, has_pending, IsUntil, IsNoTime, IsWaitTime}
 use Rattle.daide_sockets.specs.Table.{IsWaitTimeIf}
-use Rattle.daide_sockets.specs.InTime.{IsAtMost, IsInTime, IsInTimeFor, watching_all, WaitsAreInTime}
+use Rattle.daide_sockets.specs.InTime.{IsAtMost, IsInTimeFor, watching_all, WaitsAreInTime}
 
 -- a moment that is no later than another
 abbrev IsBy : Option Instant → Instant → Type 0
@@ -33,42 +32,9 @@ earlier_right (Some a) (Some b) due h = by (nat_le (instant_nanos a) (instant_na
     by true e = grind (arith, e, h)
     by false e = h
 
-nearest_keeps : (found : Option Instant) (rows : List Row) (due : Instant) → IsBy found due → IsBy (nearest found rows) due
-nearest_keeps found [] due h = h
-nearest_keeps found (row ∷ rows) due h = nearest_keeps (earlier found row.due) rows due (earlier_left found row.due due h)
-
-abbrev row_of : Row → Option Row → Row
-row_of row None = row
-row_of row (Some other) = other
-
-nearest_by : (found : Option Instant) (rows : List Row) (key : ℕ) (row : Row) (due : Instant) →
-    slice_get rows key ≡ Some row → row.due ≡ Some due → IsBy (nearest found rows) due
-nearest_by found [] zero row due e f = absurd (cc)
-nearest_by found [] (suc key) row due e f = absurd (cc)
-nearest_by found (first ∷ rows) zero row due e f =
-    let same : first ≡ row = ap (row_of row) e in
-    let here : first.due ≡ Some due = ap (λ (r : Row). r.due) same ∙ f in
-    nearest_keeps (earlier found first.due) rows due
-    (earlier_right found first.due due (subst (λ (m : Option Instant). IsBy m due) (sym here) (omega arith)))
-nearest_by found (first ∷ rows) (suc key) row due e f = nearest_by (earlier found first.due) rows key row due e f
-
 or_true : (b : Bool) → (b || true) ≡ true
 or_true true = refl
 or_true false = refl
-
-work_keeps : (rows : List Row) → any_work true rows ≡ true
-work_keeps [] = refl
-work_keeps (row ∷ rows) = work_keeps rows
-
-work_seen : (found : Bool) (rows : List Row) (key : ℕ) (row : Row) → slice_get rows key ≡ Some row → row.has_work ≡ true →
-    any_work found rows ≡ true
-work_seen found [] zero row e f = absurd (cc)
-work_seen found [] (suc key) row e f = absurd (cc)
-work_seen found (first ∷ rows) zero row e f =
-    let same : first ≡ row = ap (row_of row) e in
-    let here : first.has_work ≡ true = ap (λ (r : Row). r.has_work) same ∙ f in
-    ap (λ (b : Bool). any_work (found || b) rows) here ∙ ap (λ (b : Bool). any_work b rows) (or_true found) ∙ work_keeps rows
-work_seen found (first ∷ rows) (suc key) row e f = work_seen (found || first.has_work) rows key row e f
 
 no_time : (time : Option Duration) (n : ℕ) → IsNoTime time → IsAtMost time n
 no_time None n h = absurd h
@@ -86,25 +52,6 @@ until_by now due (Some read) (Some moment) None h e k = absurd h
 until_by now due (Some read) (Some moment) (Some time) h e k =
     let same : instant_nanos read ≡ instant_nanos now = ap (nanos_of now) e in
     omega (arith, h, same, k)
-
-rows_in_time : (table : Table) (time : Option Duration) (key : ℕ) (row : Row) → IsWaitTime table time →
-    slice_get table.rows key ≡ Some row → IsInTime table time row
-rows_in_time table time key row lasts there = by (has_pending table) refl lasts
-  where
-    by : (pending : Bool) → has_pending table ≡ pending → IsWaitTimeIf pending table time → IsInTime table time row
-    by true e h = record {
-      deadline = λ now due f g. no_time time (instant_nanos due - instant_nanos now) h;
-      work = λ f. h;
-    }
-    by false e h = record {
-      deadline = λ now due f g. until_by now due table.reading (nearest table.watched_due table.rows) time h f
-          (nearest_by table.watched_due table.rows key row due there g);
-      work = λ f. absurd (not_both (sym (ap (λ (b : Bool). table.has_news || b)
-          (work_seen table.watched_work table.rows key row there f) ∙ or_true table.has_news) ∙ e));
-    }
-      where
-        not_both : true ≡ false → ⊥
-        not_both h = absurd (cc)
 
 -- ---- the sessions that are watched
 
@@ -133,8 +80,7 @@ at_once : (table : Table) (time : Option Duration) → IsWaitTime table time →
 at_once table time lasts h = by (has_pending table) refl lasts
   where
     pending : has_pending table ≡ true
-    pending = ap (λ (b : Bool). table.has_news || any_work b table.rows) h
-        ∙ ap (λ (b : Bool). table.has_news || b) (work_keeps table.rows) ∙ or_true table.has_news
+    pending = ap (λ (b : Bool). table.has_news || b) h ∙ or_true table.has_news
 
     by : (now : Bool) → has_pending table ≡ now → IsWaitTimeIf now table time → IsNoTime time
     by true e h = h
@@ -146,9 +92,7 @@ by_due table time now due read lasts h = by (has_pending table) lasts
   where
     by : (pending : Bool) → IsWaitTimeIf pending table time → IsAtMost time (instant_nanos due - instant_nanos now)
     by true k = no_time time (instant_nanos due - instant_nanos now) k
-    by false k =
-        until_by now due table.reading (nearest table.watched_due table.rows) time k read
-        (nearest_keeps table.watched_due table.rows due h)
+    by false k = until_by now due table.reading table.watched_due time k read h
 
 -- a wait that watches these, and then others
 pub sessions_in_time_beside : (table : Table) (watched others : List (Bool × Option Instant)) (time : Option Duration) →
@@ -186,4 +130,4 @@ pub sessions_in_time : (table : Table) (watched : List (Bool × Option Instant))
 sessions_in_time table watched time lasts = sessions_in_time_beside table watched [] time lasts
 
 pub waits_in_time : WaitsAreInTime
-waits_in_time = record { sessions = sessions_in_time; sockets = rows_in_time }
+waits_in_time = sessions_in_time

@@ -1,6 +1,6 @@
 -- The laws of `laws`, each used once. A fact takes only its law, so that a weaker law does not check.
 use Rattle.std.proofs.Common.{◌≡◌, ℕ, ◌+◌, ◌≤◌, Bool, true, false, List, [], ◌∷◌, Option, Some, None, length, refl, ap, ◌∙◌, subst, arith}
-use Rattle.std.specs.Prelude.{slice_get, ◌||◌}
+use Rattle.std.specs.Prelude.{◌||◌, All}
 use Rattle.std.proofs.lemmas.List.Elements.{All-contains, All-head, All-tail}
 use Rattle.std.specs.Duration.{as_nanos}
 use Rattle.std.specs.Time.{instant_nanos}
@@ -14,7 +14,7 @@ use Rattle.daide_sockets.specs.Lingering.{ClosingStream}
 use Rattle.daide_sockets.specs.Beside.{WaitsAreInTimeBeside, may_close_on, closing_due, may_connect, others_watched}
 use Rattle.daide_sockets.specs.Accounted.{SocketsAreAccounted}
 use Rattle.daide_sockets.specs.PairedOnce.{SessionsComeOnce, is_same}
-use Rattle.daide_sockets.specs.declared.table.Row.{Row}
+use Rattle.daide_sockets.specs.ClosingTime.{ReadingsGoOn, overdue_looks, IsClosingInTime, ClosingSocketsLeave}
 use Rattle.daide_sockets.specs.Table.{Table, IsWaitTime}
 use Rattle.daide_sockets.specs.InTime.{WaitsAreInTime, IsInTimeFor, watching_all}
 use Rattle.daide_sockets.specs.Control.{has_work_at}
@@ -39,31 +39,12 @@ never_twice to_give taken calls law pair old new a b none no_arrivals goes first
     let other : is_same (pair b).number 5 ≡ 1 = ap (λ (m : ℕ). is_same m 5) second in
     absurd (omega (arith, most, one, other))
 
--- beside a row with work a wait takes no time
-never_blocks : WaitsAreInTime → (table : Table) (time : Duration) (row : Row) → IsWaitTime table (Some time) →
-    slice_get table.rows 3 ≡ Some row → row.has_work ≡ true → as_nanos time ≡ 0
-never_blocks law table time row lasts there work = (law.sockets table (Some time) 3 row lasts there).work work
-
--- a deadline five nanoseconds after the reading ends a wait within them
-within_five : WaitsAreInTime → (table : Table) (time : Duration) (row : Row) (now due : Instant) →
-    IsWaitTime table (Some time) → slice_get table.rows 3 ≡ Some row → table.reading ≡ Some now → row.due ≡ Some due →
-    instant_nanos due ≡ instant_nanos now + 5 → as_nanos time ≤ 5
-within_five law table time row now due lasts there reading deadline five =
-    let most = (law.sockets table (Some time) 3 row lasts there).deadline now due reading deadline in
-    omega (arith, most, five)
-
--- with a deadline no wait is for ever
-never_for_ever : WaitsAreInTime → (table : Table) (row : Row) (now due : Instant) → IsWaitTime table None →
-    slice_get table.rows 3 ≡ Some row → table.reading ≡ Some now → row.due ≡ Some due → ⊥
-never_for_ever law table row now due lasts there reading deadline =
-    (law.sockets table None 3 row lasts there).deadline now due reading deadline
-
 -- of three sessions that a wait watches, the second has work: the wait takes no time
 watched_work : WaitsAreInTime → (table : Table) (time : Duration) →
     IsWaitTime (watching_all table ((false, None) ∷ (true, None) ∷ (false, None) ∷ [])) (Some time) → as_nanos time ≡ 0
 watched_work law table time lasts =
     let watched = (false, None) ∷ (true, None) ∷ (false, None) ∷ [] in
-    let all = law.sessions table watched (Some time) lasts in
+    let all = law table watched (Some time) lasts in
     (All-contains (λ (s : Bool × Option Instant). IsInTimeFor table.reading (Some time) s.0 s.1) watched (true, None) all
     (1, omega arith, refl)).work refl
 
@@ -73,7 +54,7 @@ watched_deadline : WaitsAreInTime → (table : Table) (time : Duration) (now lat
     instant_nanos due ≡ instant_nanos now + 7 → as_nanos time ≤ 7
 watched_deadline law table time now late due reading lasts seven =
     let watched = (false, Some late) ∷ (false, Some due) ∷ [] in
-    let all = law.sessions table watched (Some time) lasts in
+    let all = law table watched (Some time) lasts in
     let most = (All-contains (λ (s : Bool × Option Instant). IsInTimeFor table.reading (Some time) s.0 s.1) watched
     (false, Some due) all (1, omega arith, refl)).deadline now due reading refl in
     omega (arith, most, seven)
@@ -84,7 +65,7 @@ watched_not_for_ever : WaitsAreInTime → (table : Table) (now due : Instant) �
 watched_not_for_ever law table now due reading lasts =
     let watched = (false, Some due) ∷ [] in
     (All-contains (λ (s : Bool × Option Instant). IsInTimeFor table.reading None s.0 s.1) watched (false, Some due)
-    (law.sessions table watched None lasts) (0, omega arith, refl)).deadline now due reading refl
+    (law table watched None lasts) (0, omega arith, refl)).deadline now due reading refl
 
 -- while a byte is buffered for a closing stream that is writable, a wait takes no time
 closing_goes_out : {S : Type 0} → WaitsAreInTimeBeside S → (table : Table) (time : Duration) (closing : ClosingStream S) →
@@ -138,3 +119,26 @@ control_is_accepted S law table control listener time free there ready lasts =
     ((law table control [] (Some time) lasts).listener listener (ap (λ (p : Option (ControlConnection S)).
     is_place_free p || has_free (control.slots.second ∷ control.slots.third ∷ control.slots.fourth ∷ [])) free) there).work
     ready
+
+-- While the only socket that closes is advanced, and with a stall timeout of seven seconds, its deadline is at most as long
+-- after it was advanced last, and it was advanced at most once at or past one.
+closing_within_seven : {P S : Type 0} (to_give taken : S → Option (List ℕ)) (calls : S → Option (List StreamCall)) →
+    ClosingSocketsLeave to_give taken calls P → (pair : P → Paired S) (old new : RunSockets S) (stall : Duration)
+    (closing : ClosingStream S) → as_nanos stall ≡ 7000000000 → old.closing.streams ≡ [] →
+    old.closing.stall_time ≡ Some stall → new.closing.streams ≡ closing ∷ [] →
+    TransitsBy (Transits to_give taken calls pair) old (Accepts true ∷ Connects Failed ∷ []) new →
+    (in_time : IsClosingInTime to_give taken calls stall closing)
+    × (overdue_looks to_give taken calls in_time.since.readings in_time.since.first closing in_time.since.looks ≤ 1)
+    × ((last : Instant) → ReadingsGoOn stall in_time.since.start in_time.since.readings last → (due : Instant)
+    × (closing_due closing ≡ Some due) × (instant_nanos due ≤ instant_nanos last + 7000000000))
+closing_within_seven {S = S} to_give taken calls law pair old new stall closing seven none set one goes =
+    let own = All-head (IsClosingInTime to_give taken calls stall) closing []
+    (subst (λ (l : List (ClosingStream S)). All (IsClosingInTime to_give taken calls stall) l) one
+    (law pair old new (Accepts true ∷ Connects Failed ∷ []) stall none set goes)) in (
+      own,
+      own.overdue,
+      λ last clock.
+          let at = own.deadline last clock in
+          let within = at.2 in
+          (at.0, at.1, omega (arith, within, seven)),
+    )

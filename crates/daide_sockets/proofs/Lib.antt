@@ -6,6 +6,9 @@ pub mod InTimeLemmas
 mod BesideLemmas
 mod FinishingLemmas
 mod AccountedLemmas
+mod ClosingTimeLemmas
+pub mod SchedulingLemmas
 mod AcceptLemmas
 pub mod ControlInTimeLemmas
+mod CapacityFacts
 mod LawFacts

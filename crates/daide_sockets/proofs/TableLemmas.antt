@@ -1,26 +1,12 @@
 -- Walks along the rows of a table, and along the events of a poll.
 use Rattle.std.proofs.Common.{◌≡◌, ℕ, zero, suc, ◌+◌, ◌<◌, ◌≤◌, Bool, true, false, List, [], ◌∷◌, ◌++◌, length, drop, get_or}
-use Rattle.std.proofs.Common.{Option, refl, ap, sym, ◌∙◌, arith}
+use Rattle.std.proofs.Common.{refl, ap, sym, ◌∙◌, arith}
 use Rattle.std.specs.Prelude.{slice_set, if◌then◌else◌}
 use Rattle.std.proofs.Math.Seq.{drop-cons}
-use Rattle.std.specs.Prelude.{◌||◌}
-use Rattle.std.specs.declared.time.Instant.{Instant}
 use Rattle.daide_io.specs.declared.network.SocketEvent.{SocketEvent}
 use Rattle.daide_sockets.specs.declared.table.Row.{Row}
-use Rattle.daide_sockets.specs.Table.{nearest, earlier, any_work, with_events, with_event}
+use Rattle.daide_sockets.specs.Table.{with_events, with_event}
 use Rattle.daide_sockets.specs.Table.{Table, taken_row, row_at, first_free, with_taken, changed, no_report, report_at, TakesRow}
-
-pub next_nearest : (found : Option Instant) (rows : List Row) (i : ℕ) (row : Row) → i < length rows →
-    row ≡ get_or rows i row → nearest found (drop i rows) ≡ nearest (earlier found row.due) (drop (suc i) rows)
-next_nearest found rows i row lt is =
-    ap (λ (l : List Row). nearest found l) (drop-cons rows i row lt)
-    ∙ ap (λ (r : Row). nearest (earlier found r.due) (drop (suc i) rows)) (sym is)
-
-pub next_work : (found : Bool) (rows : List Row) (i : ℕ) (row : Row) → i < length rows →
-    row ≡ get_or rows i row → any_work found (drop i rows) ≡ any_work (found || row.has_work) (drop (suc i) rows)
-next_work found rows i row lt is =
-    ap (λ (l : List Row). any_work found l) (drop-cons rows i row lt)
-    ∙ ap (λ (r : Row). any_work (found || r.has_work) (drop (suc i) rows)) (sym is)
 
 pub next_noted : (rows : List Row) (news : List SocketEvent) (i : ℕ) (event : SocketEvent) → i < length news →
     event ≡ get_or news i event → with_events rows (drop i news) ≡ with_events (with_event rows event) (drop (suc i) news)

@@ -4,11 +4,13 @@ use Rattle.std.specs.declared.time.Duration.{Duration}
 use Rattle.std.specs.declared.time.Instant.{Instant}
 use Rattle.daide_buffered_io.specs.declared.readiness.Readiness.{Readiness}
 use Rattle.daide_buffered_io.specs.Buffers.{Buffer}
+use Rattle.daide_sockets.specs.declared.admission.Acceptor.{Acceptor}
+use Rattle.daide_sockets.specs.Accepting.{is_accept_due}
 use Rattle.daide_sockets.specs.InTime.{IsInTimeFor, watching_all}
 use Rattle.daide_sockets.specs.Lingering.{ClosingStream}
 use Rattle.daide_sockets.specs.Pairing.{Arriving, ConnectRow}
 use Rattle.daide_sockets.specs.Sockets.{is_some_byte}
-use Rattle.daide_sockets.specs.Table.{Table, IsWaitTime, earlier, merged, report_at}
+use Rattle.daide_sockets.specs.Table.{Table, IsWaitTime, merged, report_at}
 
 -- ---- a closing stream
 
@@ -22,9 +24,11 @@ may_step known stream = if is_some_byte stream.write_buffer && not stream.has_fa
 abbrev pub may_close_on : {S : Type 0} → Table → ClosingStream S → Bool
 may_close_on table closing = may_step (merged closing.known (report_at table closing.key)) closing.stream
 
--- the nearest deadline of a closing stream: of its peer's stall timeout, and of its release
+-- the deadline of a closing stream: of its peer's stall timeout while buffered bytes may be written, and then of its
+-- release
 abbrev pub closing_due : {S : Type 0} → ClosingStream S → Option Instant
-closing_due closing = earlier closing.stalls_at closing.released_at
+closing_due closing = if is_some_byte closing.stream.write_buffer && not closing.stream.has_failed then closing.stalls_at
+    else closing.released_at
 
 -- each closing stream, as a wait watches it
 abbrev pub closings_watched : {S : Type 0} → Table → List (ClosingStream S) → List (Bool × Option Instant)
@@ -45,17 +49,28 @@ arrivals_watched table [] = []
 arrivals_watched table (arrival ∷ others) =
     (may_connect table arrival.row, arrival.gives_up) ∷ arrivals_watched table others
 
+-- ---- the listener
+
+-- The listener, as a wait watches it: whether the wait is for bots too and an accept is due; and the end of the pause of
+-- accepts.
+abbrev pub listener_watched : Table → Acceptor → Bool × Option Instant
+listener_watched table acceptor = (
+  acceptor.awaits_bots && is_accept_due table acceptor.key acceptor.readiness acceptor.resumes_at,
+  acceptor.resumes_at,
+)
+
 -- ---- a wait
 
--- the listener, whether it is to be asked again and until when it is not; then the connects, and the closing streams
+-- the listener, whether an accept is awaited and due and until when none is made; then the connects, and the closing
+-- streams
 abbrev pub others_watched : {S : Type 0} → Table → Bool × Option Instant → List (Arriving S) → List (ClosingStream S) →
     List (Bool × Option Instant)
 others_watched table listener arrivals closings =
     listener ∷ arrivals_watched table arrivals ++ closings_watched table closings
 
--- A wait of this time is in time for the listener, for each connect and for each closing stream. It takes no time if the
--- listener is to be asked again, a connect may have a result, or a closing stream may do something at once. It lasts at
--- most until the end of the pause of accepts, and until the deadline of each connect and of each closing stream.
+-- A wait of this time is in time for the listener, for each connect and for each closing stream. It takes no time if an
+-- accept is awaited and due, a connect may have a result, or a closing stream may do something at once. It lasts at most
+-- until the end of the pause of accepts, and until the deadline of each connect and of each closing stream.
 pub record IsInTimeBeside {S : Type 0} (table : Table) (time : Option Duration) (listener : Bool × Option Instant)
     (arrivals : List (Arriving S)) (closings : List (ClosingStream S)) : Type 0 where
   pub accepts : IsInTimeFor table.reading time listener.0 listener.1

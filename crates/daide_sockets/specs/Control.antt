@@ -1,7 +1,7 @@
 -- The control connections of a run, by which an operator asks for its status or tells it to stop, and what a round does
 -- with each. (own)
-use Rattle.std.specs.Prelude.{◌≡◌, ◌⊎◌, ℕ, ◌+◌, ◌-◌, nat_lt, min, Bool, true, false, ◌||◌, List, [], ◌∷◌, ◌++◌, length, take, drop}
-use Rattle.std.specs.Prelude.{Option, Some, None, if◌then◌else◌}
+use Rattle.std.specs.Prelude.{◌≡◌, ℕ, ◌+◌, ◌-◌, nat_lt, min, Bool, true, false, List, ◌++◌, length, take, drop}
+use Rattle.std.specs.Prelude.{Option, None}
 use Rattle.std.specs.Io.KnownBytes.{Consumes}
 use Rattle.std.specs.declared.time.Instant.{Instant}
 use Rattle.daide_io.specs.Ports.{pulled_len}
@@ -17,7 +17,6 @@ use Rattle.daide_status.specs.declared.request.ControlRequest.TheVariants.{Statu
 use Rattle.daide_status.specs.declared.snapshot.RunStatus.{RunStatus}
 use Rattle.daide_status.specs.declared.snapshot.SessionRow.{SessionRow}
 use Rattle.daide_status.specs.declared.text.StatusText.{StatusText}
-use Rattle.daide_sockets.specs.Table.{Table, merged, watching}
 use Rattle.daide_sockets.specs.Times.{is_past}
 use Rattle.daide_sockets.specs.ControlAnswer.{reply_text, Begins, Adds, Finishes}
 use Rattle.daide_sockets.specs.declared.control_answer.Answer.{Answer}

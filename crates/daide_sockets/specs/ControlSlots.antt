@@ -1,5 +1,5 @@
 -- The control connections of a run together: at most four. (own)
-use Rattle.std.specs.Prelude.{◌≡◌, ◌⊎◌, ℕ, ◌+◌, Bool, true, false, ◌||◌, List, [], ◌∷◌, Option, Some, None, if◌then◌else◌}
+use Rattle.std.specs.Prelude.{◌≡◌, ◌⊎◌, ℕ, Bool, true, false, ◌||◌, List, [], ◌∷◌, Option, Some, None, if◌then◌else◌}
 use Rattle.std.specs.declared.time.Instant.{Instant}
 use Rattle.daide_io.specs.Network.{NetworkCall, AcceptsControl}
 use Rattle.daide_io.specs.Streams.{StreamCall}
@@ -120,7 +120,7 @@ pub record BeginsRound {S : Type 0} (to_give taken : S → Option (List ℕ)) (c
     shows_sessions = at_some (λ connection. gathers_at connection.stage) (places new.slots);
   }
 
--- both sides of a session count as ended from its next turn on, and did not before
+-- a session is to be stopped in its next turn, and no turn stopped it before
 abbrev pub is_newly_stopped : Bool → Bool → Bool
 is_newly_stopped true false = true
 is_newly_stopped true true = false

@@ -1,8 +1,10 @@
 -- The report of a session's end, and of the timeout that caused it. (own)
-use Rattle.std.specs.Prelude.{ℕ, if◌then◌else◌}
+use Rattle.std.specs.Prelude.{ℕ, ◌-◌, ◌/◌, Option, Some, None, if◌then◌else◌}
+use Rattle.std.specs.Time.{instant_nanos}
+use Rattle.std.specs.declared.time.Instant.{Instant}
 use Rattle.daide_frame.specs.declared.side.Side.{Side}
 use Rattle.daide_frame.specs.declared.side.Side.TheVariants.{Bot, Server}
-use Rattle.daide_protocol.specs.declared.ending.Ending.TheVariants.{Ended, Lost, Final, Error, Fault}
+use Rattle.daide_protocol.specs.declared.ending.Ending.TheVariants.{Ended, Lost, Final, Error, Fault, Stopped}
 use Rattle.daide_io.specs.declared.system.Cause.{Cause}
 use Rattle.daide_io.specs.declared.system.Cause.TheVariants as Causes
 use Rattle.daide_sockets.specs.declared.session_notice.Why.{Why}
@@ -34,3 +36,10 @@ why_by (Causes.Session (Lost side)) timed seconds = why_lost side (timed_at time
 why_by (Causes.Session (Final side)) timed seconds = Whys.Ended (Causes.Session (Final side))
 why_by (Causes.Session (Error side)) timed seconds = Whys.Ended (Causes.Session (Error side))
 why_by (Causes.Session (Fault side code)) timed seconds = Whys.Ended (Causes.Session (Fault side code))
+why_by (Causes.Session Stopped) timed seconds = Whys.Ended (Causes.Session Stopped)
+
+-- the whole milliseconds from one moment until another; none without one of them
+abbrev pub milliseconds_between : Option Instant → Option Instant → Option ℕ
+milliseconds_between None later = None
+milliseconds_between (Some moment) None = None
+milliseconds_between (Some moment) (Some later) = Some ((instant_nanos later - instant_nanos moment) / 1000000)

@@ -1,4 +1,4 @@
--- The table of a run: what polls reported of its sockets, their nearest deadlines, and the time of a wait. (own)
+-- The table of a run: what polls reported of its sockets, what the next wait watches, and its time. (own)
 use Rattle.std.specs.Prelude.{◌≡◌, ℕ, ◌+◌, ◌-◌, nat_le, if◌then◌else◌, Bool, true, false, ◌||◌, List, [], ◌∷◌}
 use Rattle.std.specs.Prelude.{Option, Some, None, slice_get, slice_set}
 use Rattle.std.specs.Duration.{as_nanos}
@@ -54,7 +54,7 @@ has_report report = report.may_read || report.may_write || report.reads_on
 
 -- a row without a socket
 abbrev pub free_row : Row
-free_row = record { is_taken = false; report = no_report; has_work = false; due = None }
+free_row = record { is_taken = false; report = no_report }
 
 abbrev pub row_or_free : Option Row → Row
 row_or_free None = free_row
@@ -105,15 +105,6 @@ abbrev pub without_report : Table → ℕ → Table
 without_report table key =
     record table { rows = changed table.rows key (record (row_at table.rows key) { report = no_report }) }
 
--- a socket has another nearest deadline
-abbrev pub with_due : Table → ℕ → Option Instant → Table
-with_due table key due = record table { rows = changed table.rows key (record (row_at table.rows key) { due = due }) }
-
--- a socket is left with work or without it, and with this nearest deadline
-abbrev pub left_with : Table → ℕ → Bool → Option Instant → Table
-left_with table key has_work due =
-    record table { rows = changed table.rows key (record (row_at table.rows key) { has_work = has_work; due = due }) }
-
 -- the next wait is also to watch a session with work or without it, and with this nearest deadline
 abbrev pub watching : Table → Bool → Option Instant → Table
 watching table has_work due =
@@ -161,19 +152,9 @@ pub record PollsOnce {N C : Type 0} (transition : N → NetworkCall C → N → 
 
 -- ---- a wait
 
--- the earliest of a moment and the deadlines of the rows
-abbrev pub nearest : Option Instant → List Row → Option Instant
-nearest found [] = found
-nearest found (row ∷ rows) = nearest (earlier found row.due) rows
-
--- whether this is so or some row has work
-abbrev pub any_work : Bool → List Row → Bool
-any_work found [] = found
-any_work found (row ∷ rows) = any_work (found || row.has_work) rows
-
--- A wait must not block after a poll that reported something, nor while a session that it watches or a socket has work.
+-- A wait must not block after a poll that reported something, nor while something that it watches has work.
 abbrev pub has_pending : Table → Bool
-has_pending table = table.has_news || any_work table.watched_work table.rows
+has_pending table = table.has_news || table.watched_work
 
 -- the time from a reading of the clock until a moment: none without either
 abbrev pub IsUntil : Option Instant → Option Instant → Option Duration → Type 0
@@ -189,10 +170,10 @@ IsNoTime (Some time) = as_nanos time ≡ 0
 
 abbrev pub IsWaitTimeIf : Bool → Table → Option Duration → Type 0
 IsWaitTimeIf true table time = IsNoTime time
-IsWaitTimeIf false table time = IsUntil table.reading (nearest table.watched_due table.rows) time
+IsWaitTimeIf false table time = IsUntil table.reading table.watched_due time
 
--- A wait lasts at most until the next deadline of the sessions that it watches and of the rows, and for ever if there is
--- none. It takes no time if something is pending.
+-- A wait lasts at most until the nearest deadline that it watches, and for ever if there is none. It takes no time if
+-- something is pending.
 abbrev pub IsWaitTime : Table → Option Duration → Type 0
 IsWaitTime table time = IsWaitTimeIf (has_pending table) table time
 

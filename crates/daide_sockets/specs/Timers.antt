@@ -2,6 +2,8 @@
 use Rattle.std.specs.Prelude.{◌≡◌, ◌≢◌, ◌⊎◌, ℕ, ◌<◌, nat_lt, Bool, true, false, List, length, Option, Some, None}
 use Rattle.std.specs.declared.time.Duration.{Duration}
 use Rattle.std.specs.declared.time.Instant.{Instant}
+use Rattle.daide_io.specs.declared.ports.ClockEvent.{ClockEvent}
+use Rattle.daide_io.specs.declared.ports.ClockEvent.TheVariants.{NoEvent, ImTimeIsOver, StopIsRequested}
 use Rattle.daide_io.specs.declared.ports.Pull.{Pull}
 use Rattle.daide_io.specs.declared.ports.Pull.TheVariants.{Got, Idle, Ended}
 use Rattle.daide_io.specs.declared.ports.Put.{Put}
@@ -110,6 +112,21 @@ pub record BeginsAt {S : Type 0} (start : Option Instant) (times : Option Durati
       × IsStallEnd start times.0 session.sockets.server.silent_from
   pub stalls_at : (session.sockets.bot.stalls_at ≡ None) × (session.sockets.server.stalls_at ≡ None)
 
+-- ---- the clock
+
+-- What the clock reports: a stop in the turn that an operator's request begins, and otherwise whether the deadline of the
+-- initial message passed when the turn began.
+abbrev pub clock_event : Bool → Bool → ClockEvent
+clock_event true im_timer_expired = StopIsRequested
+clock_event false true = ImTimeIsOver
+clock_event false false = NoEvent
+
+-- the same, whatever the operator requests
+abbrev pub IsClockEvent : Bool → ClockEvent → Type 0
+IsClockEvent im_timer_expired NoEvent = im_timer_expired ≡ false
+IsClockEvent im_timer_expired ImTimeIsOver = im_timer_expired ≡ true
+IsClockEvent im_timer_expired StopIsRequested = Unit {0}
+
 -- ---- the calls
 
 -- no turn begins, and no timeout of the session changes its time
@@ -126,7 +143,7 @@ SetsTimers TurnBegins old new = (new.idle_time ≡ old.idle_time)
     × (new.sockets.im_due ≡ due_after new.sockets.reading old.sockets.im_due)
     × BeginsInTime new.sockets.reading old.sockets.bot new.sockets.bot
     × BeginsInTime new.sockets.reading old.sockets.server new.sockets.server
-SetsTimers (Clock im_timer_expired) old new = (im_timer_expired ≡ old.im_timer_expired) × (new ≡ old)
+SetsTimers (Clock event) old new = IsClockEvent old.im_timer_expired event × (new ≡ old)
 SetsTimers (Pulled side room pull bytes) old new = SameClock old new
     × PullsInTime old.sockets.reading old.idle_time pull (stream_of (both_sockets old) side) (stream_of (both_sockets new) side)
     × FlushesInTime old.sockets.reading (stream_of (swapped_sockets old) side) (stream_of (swapped_sockets new) side)

@@ -49,7 +49,7 @@ pub record IsOffered {S : Type 0} (bytes : List ℕ) (put : Put) (old new : Sock
 -- that the call does not name nothing is read.
 abbrev pub Settles : {S : Type 0} → PortCall → Socket S × Socket S → Socket S × Socket S → Type 0
 Settles TurnBegins old new = Unit {0}
-Settles (Clock im_timer_expired) old new = new ≡ old
+Settles (Clock event) old new = new ≡ old
 Settles (Pulled side room pull bytes) old new = IsPulled room pull (stream_of old side) (stream_of new side)
     × StaysUnread (stream_of (old.1, old.0) side) (stream_of (new.1, new.0) side)
 Settles (Offered side bytes put) old new = IsOffered bytes put (stream_of old side) (stream_of new side)

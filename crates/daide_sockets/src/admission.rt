@@ -4,10 +4,10 @@
 //! they are tried one after the other, within one deadline for all.
 
 ghost use Rattle.std.specs.Prelude.{◌≡◌, ◌≢◌, ◌⊎◌, ◌+◌, ◌<◌, ◌++◌, ◌∷◌, [], Some, None, Err, true, false, IfOk, IfErr, IfSome, IsSome};
-ghost use Rattle.std.specs.Option.{is_none};
+ghost use Rattle.std.specs.Option.{is_some};
 ghost use Rattle.daide_buffered_io.specs.Buffers.{Buffer};
 ghost use Rattle.daide_io.specs.Network.{AsksConnect, StopsListening};
-ghost use Rattle.daide_sockets.specs.Beside.{may_connect, arrivals_watched};
+ghost use Rattle.daide_sockets.specs.Beside.{may_connect, arrivals_watched, listener_watched};
 ghost use Rattle.daide_sockets.specs.InTime.{watching_all};
 ghost use Rattle.daide_sockets.specs.Pairing.{ConnectsTo};
 ghost use Rattle.daide_sockets.specs.Table.{watching, no_report, report_at};
@@ -55,8 +55,10 @@ pub struct Acceptor {
     readiness: Readiness,
     /// The end of the pause after a failed accept; `None` if there is no pause.
     resumes_at: Option<Instant>,
-    /// Whether the listener is to be asked again at once: more may wait behind a bot that may not come.
-    looks_again: bool,
+    /// Whether it was asked for a bot in this round, so that the wait at its end is for bots too.
+    awaits_bots: bool,
+    /// Whether the listener is closed.
+    is_closed: bool,
     /// The number of bots accepted.
     came: u32,
 }
@@ -65,49 +67,65 @@ impl Acceptor {
     /// Has the listener followed. Returns `None` if the table has no free row, or the system refuses.
     pub fn new<N: Network>(poller: &mut Poller<N>) -> Option<Acceptor>
         ensures { IfSome result (λ acceptor. (acceptor.came ≡ 0) × (acceptor.resumes_at ≡ None)
-            × (acceptor.looks_again ≡ false)) }
+            × (acceptor.awaits_bots ≡ false) × (acceptor.is_closed ≡ false)) }
     {
         let key = poller.listen()?;
         Some(Acceptor {
             key,
             readiness: Readiness::UNKNOWN,
             resumes_at: None,
-            looks_again: false,
+            awaits_bots: false,
+            is_closed: false,
             came: 0,
         })
     }
 
-    /// Ends the pause after a failed accept, if its time is over at this reading of the clock.
-    pub(crate) fn reopen(&mut self, now: Option<Instant>)
+    /// Begins a round, in which it was not asked for a bot yet. Ends the pause after a failed accept, if its time is over
+    /// at this reading of the clock.
+    pub(crate) fn begin_round(&mut self, now: Option<Instant>)
         ensures over { is_past now self.old.resumes_at ≡ true →
             (self.new.resumes_at ≡ None) × (self.new.readiness.may_read ≡ true) }
-        ensures goes_on { is_past now self.old.resumes_at ≡ false → self.new ≡ self.old }
+        ensures goes_on { is_past now self.old.resumes_at ≡ false →
+            self.new ≡ record self.old { awaits_bots = false } }
+        ensures unasked { self.new.awaits_bots ≡ false }
         ensures came { self.new.came ≡ self.old.came }
     {
+        self.awaits_bots = false;
         if is_past(now, self.resumes_at) {
             self.resumes_at = None;
             self.readiness.may_read = true;
         }
     }
 
-    /// Has the next wait watch the listener: it does not block if the listener is to be asked again, and lasts at most
-    /// until the end of the pause.
-    pub fn watch(&self, table: &mut SocketTable)
-        ensures { table.new ≡ watching table.old self.now.looks_again self.now.resumes_at }
+    /// Has the wait at the end of this round be for bots too.
+    pub(crate) fn await_bots(&mut self)
+        ensures { self.new ≡ record self.old { awaits_bots = true } }
     {
-        table.watch(self.looks_again, self.resumes_at);
+        self.awaits_bots = true;
+    }
+
+    /// Has the next wait watch the listener: it does not block if it is for bots too and an accept is due, and lasts at
+    /// most until the end of the pause.
+    pub fn watch(&self, table: &mut SocketTable)
+        ensures { table.new ≡ watching table.old (listener_watched table.old self.now).0
+            (listener_watched table.old self.now).1 }
+    {
+        let is_due = self.awaits_bots && self.is_due(table);
+        table.watch(is_due, self.resumes_at);
     }
 
     /// Closes the listener: no bot is accepted any more, and no wait is for one.
     pub(crate) fn close<N: Network>(&mut self, poller: &mut Poller<N>)
         ensures came { self.new.came ≡ self.old.came }
-        ensures none { (self.new.looks_again ≡ false) × (self.new.resumes_at ≡ None) }
+        ensures none { (self.new.awaits_bots ≡ false) × (self.new.resumes_at ≡ None) }
+        ensures closed { self.new.is_closed ≡ true }
         ensures table { poller.new.table ≡ poller.old.table }
         ensures closes { N.transition poller.old.network StopsListening poller.new.network }
     {
         self.readiness.may_read = false;
-        self.looks_again = false;
+        self.awaits_bots = false;
         self.resumes_at = None;
+        self.is_closed = true;
         poller.network.stop_listening();
     }
 
@@ -116,6 +134,20 @@ impl Acceptor {
         ensures { result ≡ self.now.came }
     {
         self.came
+    }
+
+    /// Returns whether the listener is closed.
+    pub(crate) fn is_closed(&self) -> bool
+        ensures { result ≡ self.now.is_closed }
+    {
+        self.is_closed
+    }
+
+    /// Returns whether a pause after a failed accept is under way, or over and no accept was made since.
+    pub(crate) fn is_paused(&self) -> bool
+        ensures { result ≡ is_some self.now.resumes_at }
+    {
+        self.resumes_at.is_some()
     }
 
     /// Returns whether an accept is made now: the listener is ready by the table, and no pause is under way.
@@ -137,6 +169,7 @@ impl Acceptor {
         poller: &mut Poller<N>,
     ) -> Option<(N::Connection, SocketAddr)>
         ensures came { self.new.came ≡ self.old.came }
+        ensures awaited { self.new.awaits_bots ≡ self.old.awaits_bots }
         ensures clock { poller.new.table.reading ≡ poller.old.table.reading }
         ensures made { is_accept_due poller.old.table self.old.key self.old.readiness self.old.resumes_at ≡ true →
             MakesAccept N.transition poller.old.network }
@@ -151,7 +184,6 @@ impl Acceptor {
         }
         let report = poller.table.take_report(self.key);
         self.readiness = merged(self.readiness, report);
-        self.looks_again = false;
         let accepted = self.accept_at(&mut poller.network, poller.table.now());
         match accepted {
             Ok(came) => Some(came),
@@ -186,6 +218,7 @@ impl Acceptor {
         ensures left { IfErr result (λ _. is_accept_made now self.new.readiness.may_read self.new.resumes_at ≡ false) }
         ensures key { self.new.key ≡ self.old.key }
         ensures came { self.new.came ≡ self.old.came }
+        ensures awaited { self.new.awaits_bots ≡ self.old.awaits_bots }
     {
         let is_made = match self.resumes_at {
             None => self.readiness.may_read,
@@ -220,28 +253,26 @@ impl Acceptor {
         };
     }
 
-    /// Starts the pause after a refusal. Without a clock there is no pause, and the listener is asked again at once.
+    /// Starts the pause after a refusal. Without a clock there is no pause, and an accept is due at once.
     fn pause_after_refusal(&mut self, now: Option<Instant>)
         ensures pauses { Pauses now ErrorKind.Other self.new.resumes_at }
-        ensures again { self.new.looks_again ≡ is_none self.new.resumes_at }
-        ensures rest { self.new ≡ record self.old { resumes_at = self.new.resumes_at; looks_again = self.new.looks_again } }
+        ensures rest { self.new ≡ record self.old { resumes_at = self.new.resumes_at } }
     {
         self.pause(now, ErrorKind::Other);
-        self.looks_again = self.resumes_at.is_none();
     }
 
     /// Returns the next bot that came: its session's number, its socket and its address. It is added to those present.
     ///
     /// Fails with the address of a bot that may not come by the ranges and the limit `rules`, beside those present: its
-    /// connection is closed at once. The next wait does not block then, since the system does not report again the bots
-    /// that wait behind it. Fails with no address if none came, if the system refuses to follow it, or if all numbers are
-    /// given. After a refusal a pause begins, as after a failed accept.
+    /// connection is closed at once. The next wait does not block then, since an accept is still due: the system does not
+    /// report again the bots that wait behind it. Fails with no address if none came, if the system refuses to follow it,
+    /// or if all numbers are given. After a refusal a pause begins, as after a failed accept.
     ///
     /// `one`: exactly one bot was accepted, is followed, and is counted.
     ///
     /// `none`: no bot is counted.
     ///
-    /// `left`: if none came, no accept is due any more at this reading of the clock, or the listener is to be asked again.
+    /// `awaited`: the wait of this round is for bots if it was.
     ///
     /// Not said: that the system refused to follow a connection that was accepted and closed.
     pub(crate) fn next_bot<'w, N: Network>(
@@ -261,10 +292,10 @@ impl Acceptor {
             (host_of (socket_ip bot.2)) ≡ true) }
         ensures added { IfOk result (λ bot. (present.new.numbers.items ≡ present.old.numbers.items ++ bot.0 ∷ [])
             × (present.new.hosts.items ≡ present.old.hosts.items ++ host_of (socket_ip bot.2) ∷ [])
-            × (present.new.addresses.items ≡ present.old.addresses.items ++ bot.2 ∷ [])) }
+            × (present.new.addresses.items ≡ present.old.addresses.items ++ bot.2 ∷ [])
+            × (present.new.times.items ≡ present.old.times.items ++ poller.old.table.reading ∷ [])) }
         ensures same { IfErr result (λ _. present.new ≡ present.old) }
-        ensures left { IfErr result (λ _. self.old.came < u32.MAX → self.new.looks_again ≡ false →
-            is_accept_due poller.new.table self.new.key self.new.readiness self.new.resumes_at ≡ false) }
+        ensures awaited { self.new.awaits_bots ≡ self.old.awaits_bots }
         ensures declined { (address : SocketAddr) → result ≡ Err (Some address) →
             may_come rules.entry.0.now rules.entry.1 present.old.hosts.items (host_of (socket_ip address)) ≡ false }
     {
@@ -277,7 +308,6 @@ impl Acceptor {
         let host = Host::of(address.ip());
         let (allow, most) = rules;
         if !may_come(allow, most, present.hosts(), host) {
-            self.looks_again = true;
             return Err(Some(address));
         }
         let Some(bot) = Socket::new(poller, pool, stream) else {
@@ -285,7 +315,7 @@ impl Acceptor {
             return Err(None);
         };
         // The list has room for each bot of a run.
-        if !present.add(number, host, address) {
+        if !present.add(number, host, address, poller.table.now()) {
             poller.table.release(bot.key);
             self.pause_after_refusal(poller.table.now());
             return Err(None);
@@ -465,6 +495,7 @@ impl<'w, S: Duplex + Drop> PendingConnection<'w, S> {
         ensures late { result ≡ true → is_past poller.old.table.reading self.old.gives_up ≡ false }
         ensures early { result ≡ false → is_past poller.old.table.reading self.old.gives_up ≡ false →
             may_connect poller.old.table self.old.row ≡ true }
+        ensures clock { poller.new.table.reading ≡ poller.old.table.reading }
     {
         match self.progress(poller) {
             ConnectStatus::Connected => return false,
@@ -530,7 +561,8 @@ impl<'w, S: Duplex + Drop> PendingConnection<'w, S> {
 
     /// Gives up the connect, and returns the bot.
     pub(crate) fn give_up(self, table: &mut SocketTable) -> Unreached<'w, S>
-        ensures { (result.number ≡ self.entry.number) × (result.bot.stream ≡ self.entry.bot) }
+        ensures given_up { (result.number ≡ self.entry.number) × (result.bot.stream ≡ self.entry.bot) }
+        ensures clock { table.new.reading ≡ table.old.reading }
     {
         let mut arrival = self;
         arrival.drop_connect(table);

@@ -15,7 +15,7 @@ use daide_io::network::Network;
 use daide_settings::Settings;
 use mio::net::TcpListener;
 use std::alloc::{AllocError, Global};
-use std::io::Write;
+use std::io::{ErrorKind, Write};
 use std::net::{Net, SocketAddr, ToSocketAddrs};
 use std::rt::Clock;
 use std::time::Duration;
@@ -27,25 +27,29 @@ const CONNECT_SECONDS: u64 = 5;
 /// Why the resources of a run could not be created.
 #[derive(Clone, Copy, Debug, PartialEq, Eq, Error)]
 pub enum BindError {
-    /// The address cannot be bound, or the system has no descriptor for the table of sockets.
+    /// The address cannot be bound, or the system has no descriptor for the network, with the system's error.
     #[error("cannot listen")]
-    Listen,
+    Listen(ErrorKind),
     /// The allocator refused the server's addresses or the table.
     #[error("out of memory")]
     Memory,
 }
 
-/// Binds the first bindable address of a name; `None` if there is none.
-fn listener_at<R: Net>(net: &R, address: &str) -> Option<TcpListener> {
-    let Ok(addresses) = address.to_socket_addrs(net) else {
-        return None;
+/// Binds the first bindable address of a name. Fails with the error of the name, or of its last address; `NotFound` if
+/// it has none.
+fn listener_at<R: Net>(net: &R, address: &str) -> Result<TcpListener, ErrorKind> {
+    let addresses = match address.to_socket_addrs(net) {
+        Ok(addresses) => addresses,
+        Err(error) => return Err(error.kind()),
     };
+    let mut cause = ErrorKind::NotFound;
     for address in addresses {
-        if let Ok(listener) = TcpListener::bind(net, address) {
-            return Some(listener);
+        match TcpListener::bind(net, address) {
+            Ok(listener) => return Ok(listener),
+            Err(error) => cause = error.kind(),
         }
     }
-    None
+    Err(cause)
 }
 
 /// Resolves the server's address. Returns no address for an unknown name, so that no bot's connect succeeds. Fails only
@@ -89,15 +93,16 @@ pub fn bind_sockets<'r, R: AllocGlobal + Clock + Net>(
     ensures rows { IfOk result (λ ground. settings.now.max_sessions < 2 ^ 62 →
         ground.table.max_rows ≡ 2 * settings.now.max_sessions + MOST_CLOSING + MOST_CONTROLS + 2) }
 {
-    let Some(listener) = listener_at(rt, settings.listen.as_str()) else {
-        return Err(BindError::Listen);
+    let listener = match listener_at(rt, settings.listen.as_str()) {
+        Ok(listener) => listener,
+        Err(cause) => return Err(BindError::Listen(cause)),
     };
     let Ok(servers) = servers_at(rt.alloc(), rt, settings.server.as_str()) else {
         return Err(BindError::Memory);
     };
     let network = match OsNetwork::new(rt.alloc(), rt, listener, EVENTS) {
         Ok(network) => network,
-        Err(NetworkError::System) => return Err(BindError::Listen),
+        Err(NetworkError::System(cause)) => return Err(BindError::Listen(cause)),
         Err(NetworkError::Memory) => return Err(BindError::Memory),
     };
     match SocketTable::new(rt.alloc(), most_sockets(settings.max_sessions)) {

@@ -2,6 +2,7 @@
 
 ghost use Rattle.daide_sockets.specs.Accounted.{SocketsAreAccounted};
 ghost use Rattle.daide_sockets.specs.Beside.{WaitsAreInTimeBeside};
+ghost use Rattle.daide_sockets.specs.ClosingTime.{ClosingSocketsLeave};
 ghost use Rattle.daide_sockets.specs.ControlInTime.{ControlWaitsAreInTime};
 ghost use Rattle.daide_sockets.specs.InTime.{WaitsAreInTime};
 ghost use Rattle.daide_sockets.specs.PairedOnce.{SessionsComeOnce};
@@ -15,9 +16,8 @@ pub fn sessions_come_once<P: Ports, S: Duplex + Drop>()
     ensures { SessionsComeOnce P S.to_give S.taken S.calls }
 {}
 
-/// A wait lasts at most until the deadline of each session that it watches and of each row of its table, and takes no
-/// time if one of them has work. So while a turn left bytes that may be written, or a read that was interrupted, no wait
-/// blocks.
+/// A wait lasts at most until the deadline of each session that it watches, and takes no time if one of them has work. So
+/// while a turn left bytes that may be written, or a read that was interrupted, no wait blocks.
 pub fn waits_are_in_time()
     ensures { WaitsAreInTime }
 {}
@@ -29,10 +29,10 @@ pub fn control_waits_are_in_time<S: Duplex + Drop>()
 {}
 
 /// A wait leaves none behind of the sockets that are no session's. Each wait of a run watches the listener, each connect
-/// and each closing socket (`System::wait`: `polls`, `others_watched`). It takes no time if the listener is to be asked
-/// again, if a poll reported something of a connect, or if a closing socket may do something at once: it has buffered
-/// bytes and is writable, or its writing is over and it is readable. It ends by the end of the pause of accepts, by the
-/// deadline of each connect, and by the nearest deadline of each closing socket: of its stall timeout, or of its release.
+/// and each closing socket (`Schedules`, `others_watched`). It takes no time if an accept is awaited and due, if a poll
+/// reported something of a connect, or if a closing socket may do something at once: it has buffered bytes and is
+/// writable, or its writing is over and it is readable. It ends by the end of the pause of accepts, by the deadline of each
+/// connect, and by that of each closing socket: of its stall timeout, or of its release.
 pub fn waits_are_in_time_beside<S: Duplex + Drop>()
     ensures { WaitsAreInTimeBeside S }
 {}
@@ -46,4 +46,17 @@ pub fn waits_are_in_time_beside<S: Duplex + Drop>()
 /// each session, 256, and one (`take_row`: `few`; `most_sockets`).
 pub fn sockets_are_accounted<P: Ports, S: Duplex + Drop>()
     ensures { SocketsAreAccounted P S.to_give S.taken S.calls }
+{}
+
+/// No socket closes for ever. Take a run over sockets with a stall timeout. Each socket that closes has a deadline while the
+/// clock goes on: at most the stall timeout after it was advanced last, or a second once its writing is over. As long as it
+/// closes, it was advanced at most once at or past a deadline that it had: then its writing was over. So the next time that
+/// it is advanced at its deadline or past it, it leaves (`IsClosingInTime`). The premise is about the clock alone.
+///
+/// Each wait ends by that deadline (`waits_are_in_time_beside`). A socket may leave before: at its peer's end, after 1 MiB,
+/// or as the oldest of 256.
+///
+/// Not said: how long a peer may go on that takes a byte before each stall timeout is over.
+pub fn closing_sockets_leave<P: Ports, S: Duplex + Drop>()
+    ensures { ClosingSocketsLeave S.to_give S.taken S.calls P }
 {}

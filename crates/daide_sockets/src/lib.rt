@@ -2,11 +2,12 @@
 //!
 //! Only the loop's own wait blocks. The sockets are over any `Network`; `os_network` is that of the operating system,
 //! with `connection` as a full-duplex stream. `socket` is a connection with its readiness and its deadlines, and `ports`
-//! are the two of a session. `table` has what polls reported of each socket and its nearest deadline, and `poller` polls
-//! the network into it. `admission` accepts bots and connects them, and `present` has the hosts and the addresses of those
+//! are the two of a session. `table` has what polls reported of each socket and what the next wait watches, and `poller`
+//! polls the network into it. `admission` accepts bots and connects them, and `present` has the hosts and the addresses of those
 //! that are there. `control` is the control socket, with `control_connection`, `control_request` and `control_answer`.
-//! `lingering_close` closes in stages, `session_notice` has the log lines of a session, and `timed` the timeouts that it
-//! reports. `system` combines them for the loop, and `bound_sockets` creates the resources of a run.
+//! `lingering_close` closes in stages, `session_notice` has the log lines of a session, `timed` the timeouts that it
+//! reports, and `capacity` the lines of a run that is full. `system` combines them for the loop, and `bound_sockets`
+//! creates the resources of a run.
 //!
 //! All but the results of the system are values, which the contracts name. A call whose result depends on the operating
 //! system is described by that call of the network, by the network's own `transition`.
@@ -14,6 +15,7 @@
 
 pub mod admission;
 pub mod bound_sockets;
+pub mod capacity;
 pub mod connection;
 pub mod control;
 mod control_answer;

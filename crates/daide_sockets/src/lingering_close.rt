@@ -23,7 +23,7 @@ ghost use Rattle.daide_sockets.specs.Pairing.{ClosesAt, ClosesBothAt, with_room}
 use crate::poller::Poller;
 use crate::ports::SocketPorts;
 use crate::socket::Socket;
-use crate::table::{SocketTable, after, earlier, is_time_over, merged};
+use crate::table::{SocketTable, after, is_time_over, merged};
 use daide_buffered_io::dropping::Dropping;
 use daide_io::duplex::Duplex;
 use daide_io::network::Network;
@@ -211,11 +211,15 @@ impl<'w, S: Duplex + Drop> LingeringClose<'w, S> {
         }
     }
 
-    /// Returns its nearest deadline.
+    /// Returns its deadline: of its peer's stall timeout while buffered bytes may be written, and then of its release.
     fn due(&self) -> Option<Instant>
         ensures { result ≡ closing_due self.now }
     {
-        earlier(self.socket.stalls_at(), self.released_at)
+        if self.socket.stream.is_behind() {
+            self.socket.stalls_at()
+        } else {
+            self.released_at
+        }
     }
 
     /// Has the next wait watch it.
@@ -447,8 +451,9 @@ impl<'w, S: Duplex + Drop> Closings<'w, S> {
         ensures readings { FinishesAll N.transition S.to_give S.taken S.calls u64.MAX poller.old.network
             poller.old.table.reading self.old self.new }
     {
-        // A round that was broken off may have watched sessions, which no wait is for any more.
-        poller.table.forget_turns();
+        // A round that was broken off may have watched more, which no wait is for any more.
+        let table = &mut poller.table;
+        table.unwatch();
         for _round in 0..u64::MAX {
             self.advance(&mut poller.table);
             if self.is_empty() {

@@ -27,13 +27,15 @@ pub struct OsNetwork<'r, R: Clock + Net> {
     registry: Registry,
     poll: Poll,
     events: Events,
+    /// Whether each session has a record, whose file takes a descriptor.
+    is_recorded: bool,
 }
 
 /// Why there is no network.
 #[derive(Clone, Copy, Debug)]
 pub enum NetworkError {
-    /// The system has no descriptor for it.
-    System,
+    /// The system has no descriptor for it, with its error.
+    System(ErrorKind),
     /// The allocator refused it.
     Memory,
 }
@@ -56,8 +58,8 @@ fn undelayed(stream: TcpStream) -> Connection {
 }
 
 impl<'r, R: Clock + Net> OsNetwork<'r, R> {
-    /// Creates a network with this listener for bots, and without a control socket. Allocates its descriptors and its memory at once: a poll reports at most
-    /// `events`.
+    /// Creates a network with this listener for bots, without a control socket and without records. Allocates its
+    /// descriptors and its memory at once: a poll reports at most `events`.
     ///
     /// Fails with `System`, then with `Memory`.
     pub fn new(
@@ -66,11 +68,13 @@ impl<'r, R: Clock + Net> OsNetwork<'r, R> {
         listener: TcpListener,
         events: usize,
     ) -> Result<OsNetwork<'r, R>, NetworkError> {
-        let Ok(poll) = Poll::new(runtime) else {
-            return Err(NetworkError::System);
+        let poll = match Poll::new(runtime) {
+            Ok(poll) => poll,
+            Err(error) => return Err(NetworkError::System(error.kind())),
         };
-        let Ok(registry) = poll.registry().try_clone() else {
-            return Err(NetworkError::System);
+        let registry = match poll.registry().try_clone() {
+            Ok(registry) => registry,
+            Err(error) => return Err(NetworkError::System(error.kind())),
         };
         let Ok(events) = Events::with_capacity(alloc, events) else {
             return Err(NetworkError::Memory);
@@ -82,7 +86,13 @@ impl<'r, R: Clock + Net> OsNetwork<'r, R> {
             registry,
             poll,
             events,
+            is_recorded: false,
         })
+    }
+
+    /// Has each accept make sure of a descriptor for the file of a record.
+    pub fn set_recorded(&mut self) {
+        self.is_recorded = true;
     }
 
     /// Sets the listener of the control socket, before the sockets of a run are created over the network.
@@ -124,7 +134,12 @@ impl<R: Clock + Net> Network for OsNetwork<'_, R> {
         let Some(listener) = &self.listener else {
             return Err(ErrorKind::WouldBlock.into());
         };
-        let _spare = self.registry.try_clone()?;
+        let _for_the_server = self.registry.try_clone()?;
+        let _for_the_record = if self.is_recorded {
+            Some(self.registry.try_clone()?)
+        } else {
+            None
+        };
         let (stream, address) = listener.accept()?;
         Ok((undelayed(stream), address))
     }

@@ -4,7 +4,7 @@
 //! connection of the operating system records nothing, so for it the contracts state only the results of its reads and
 //! writes.
 
-ghost use Rattle.std.specs.Prelude.{◌≡◌, ◌≢◌, ◌<◌, ◌||◌, ◌&&◌, IsNone, None, [], min, length, take, true, false};
+ghost use Rattle.std.specs.Prelude.{◌≡◌, ◌≢◌, ◌<◌, ◌||◌, ◌&&◌, IsNone, None, [], min, length, take, not, true, false};
 ghost use Rattle.daide_io.specs.Ports.{TurnBegins, Clock as Popped, Pulled, Offered, IsPullWithin, IsPutWithin, pulled_len};
 ghost use Rattle.daide_buffered_io.specs.Buffers.{Passes, ReadsNothing, IsBufferedPull, IsFlushed};
 ghost use Rattle.daide_buffered_io.specs.Streams.{Transfers, stream_of};
@@ -12,7 +12,7 @@ ghost use Rattle.daide_buffered_io.specs.Taking.{bytes_taken};
 ghost use Rattle.daide_sockets.specs.Lingering.{IsWriting};
 ghost use Rattle.daide_sockets.specs.Sockets.{read_if, due_after};
 ghost use Rattle.daide_sockets.specs.Table.{merged, report_at, without_report, watching};
-ghost use Rattle.daide_sockets.specs.Timers.{BeginsAt, PullsInTime, PutsInTime, FlushesInTime, BeginsInTime, SetsTimers, is_got, timers_of};
+ghost use Rattle.daide_sockets.specs.Timers.{BeginsAt, PullsInTime, PutsInTime, FlushesInTime, BeginsInTime, SetsTimers, clock_event, is_got, timers_of};
 ghost use Rattle.daide_sockets.specs.Times.{IsStallEnd, has_stalled, is_past};
 ghost use Rattle.daide_sockets.specs.Wakeups.{StaysUnread, IsPulled, IsOffered, Settles};
 ghost use Rattle.daide_sockets.specs.Wakeups.{may_session_go_on, session_due, has_session_news};
@@ -23,7 +23,7 @@ use crate::timed::Timed;
 use daide_buffered_io::readiness::Readiness;
 use daide_frame::side::Side;
 use daide_io::duplex::Duplex;
-use daide_io::ports::{Ports, Pull, Put};
+use daide_io::ports::{ClockEvent, Ports, Pull, Put};
 use std::time::{Duration, Instant};
 
 /// The idle timeout of the peers of a session, and the reading of the clock at which its turn began.
@@ -203,6 +203,9 @@ fn put_or_flush_peer<S: Duplex + Drop>(
 /// A put that nothing is taken of leaves it not writable, or it must be tried again (`transition`, `Settles`). What must be
 /// tried again, and what is held that may be written, is work, which each wait watches (`watch`).
 ///
+/// The clock reports a stop in the turn that an operator's request begins, and otherwise the expiry of the IM timer
+/// (`clock`: `answer`). A stop ends the session, so nothing is read after it.
+///
 /// The timeouts start and expire by the reading of the turn (`transition`, `SetsTimers`). A peer whose stall timeout is over
 /// when a turn begins is given up: its writes fail. It starts when bytes wait for the peer, and starts again only if the peer
 /// takes a byte. The silence of a side starts again only with a pull that returns bytes. Once it is over, a pull that finds
@@ -221,8 +224,10 @@ pub struct SocketPorts<'w, S: Drop> {
     im_due: Option<Instant>,
     /// Whether the deadline of the initial message passed at the beginning of the turn, for the first time.
     im_timer_expired: bool,
-    /// Whether an operator stopped the session: both sides count as ended.
+    /// Whether an operator stopped the session.
     is_stopped: bool,
+    /// Whether the operator stopped it at the beginning of this turn.
+    stops: bool,
     bot: Socket<'w, S>,
     server: Socket<'w, S>,
 }
@@ -249,6 +254,7 @@ impl<'w, S: Drop> SocketPorts<'w, S> {
             im_due: None,
             im_timer_expired: false,
             is_stopped: false,
+            stops: false,
             bot,
             server,
         }
@@ -284,6 +290,7 @@ impl<'w, S: Drop> SocketPorts<'w, S> {
             im_due: _,
             im_timer_expired,
             is_stopped,
+            stops,
             mut bot,
             mut server,
         } = self;
@@ -300,6 +307,7 @@ impl<'w, S: Drop> SocketPorts<'w, S> {
             im_due,
             im_timer_expired,
             is_stopped,
+            stops,
             bot,
             server,
         }
@@ -312,10 +320,12 @@ impl<'w, S: Drop> SocketPorts<'w, S> {
         self.number
     }
 
-    /// Has both sides count as ended from now on: a pull returns the end, and nothing is read. No byte that was put is lost.
+    /// Stops the session, if it was not stopped before: the clock reports that in this turn, and in no later one. No byte
+    /// that was put is lost.
     pub(crate) fn stop(&mut self)
-        ensures { self.new ≡ record self.old { is_stopped = true } }
+        ensures { self.new ≡ record self.old { is_stopped = true; stops = not self.old.is_stopped } }
     {
+        self.stops = !self.is_stopped;
         self.is_stopped = true;
     }
 
@@ -372,6 +382,7 @@ impl<'w, S: Drop> SocketPorts<'w, S> {
             im_due: _,
             im_timer_expired: _,
             is_stopped: _,
+            stops: _,
             bot,
             server,
         } = self;
@@ -444,7 +455,9 @@ impl<'w, S: Drop> SocketPorts<'w, S> {
         ensures idle { self.new.idle ≡ record self.old.idle { reading = now } }
         ensures im { self.new.im_due ≡ self.old.im_due }
         ensures goes_on { self.new.is_stopped ≡ self.old.is_stopped }
+        ensures once { self.new.stops ≡ false }
     {
+        self.stops = false;
         self.idle = IdleTimeout {
             reading: now,
             time: self.idle.time,
@@ -499,6 +512,7 @@ impl<S: Duplex + Drop> SocketPorts<'_, S> {
         ensures idle { self.new.idle ≡ self.old.idle }
         ensures im { self.new.im_due ≡ self.old.im_due }
         ensures goes_on { self.new.is_stopped ≡ self.old.is_stopped }
+        ensures stops { self.new.stops ≡ self.old.stops }
         ensures bot_time { BeginsInTime self.old.idle.reading self.old.bot self.new.bot }
         ensures server_time { BeginsInTime self.old.idle.reading self.old.server self.new.server }
     {
@@ -516,6 +530,7 @@ impl<S: Duplex + Drop> SocketPorts<'_, S> {
         ensures expires { self.new.im_timer_expired ≡ is_past self.old.idle.reading self.old.im_due }
         ensures once { self.new.im_due ≡ due_after self.old.idle.reading self.old.im_due }
         ensures goes_on { self.new.is_stopped ≡ self.old.is_stopped }
+        ensures stops { self.new.stops ≡ self.old.stops }
     {
         self.im_timer_expired = is_past(self.idle.reading, self.im_due);
         if self.im_timer_expired {
@@ -543,6 +558,7 @@ impl<S: Duplex + Drop> SocketPorts<'_, S> {
         ensures expires { self.new.im_timer_expired ≡ is_past table.old.reading self.old.im_due }
         ensures once { self.new.im_due ≡ due_after table.old.reading self.old.im_due }
         ensures goes_on { self.new.is_stopped ≡ self.old.is_stopped }
+        ensures no_stop { self.new.stops ≡ false }
         ensures clock { table.new.reading ≡ table.old.reading }
         ensures timers { SetsTimers TurnBegins (timers_of self.old) (timers_of self.new) }
     {
@@ -551,6 +567,17 @@ impl<S: Duplex + Drop> SocketPorts<'_, S> {
         self.take_reports(table);
         self.begin_both();
         self.read_deadline();
+    }
+}
+
+/// Returns what the clock reports, by whether the session is stopped in this turn, and whether the IM timer expired.
+fn clock_event(stops: bool, im_timer_expired: bool) -> ClockEvent
+    ensures { result ≡ clock_event stops im_timer_expired }
+{
+    match (stops, im_timer_expired) {
+        (true, _) => ClockEvent::StopIsRequested,
+        (false, true) => ClockEvent::ImTimeIsOver,
+        (false, false) => ClockEvent::NoEvent,
     }
 }
 
@@ -568,9 +595,7 @@ impl<S: Duplex + Drop> Ports for SocketPorts<'_, S> {
             (self.old.bot, self.old.server) (self.new.bot, self.new.server)
             × SetsTimers (Pulled side (length buffer.old) result (take (pulled_len result) buffer.new))
             (timers_of self.old) (timers_of self.new) }
-        ensures stopped { self.old.is_stopped ≡ true → (result ≡ Pull.Ended) × (self.new ≡ self.old) }
-        ensures asked { self.old.is_stopped ≡ false →
-            (stream_of (self.new.bot, self.new.server) side).timed.is_silent ≡ false →
+        ensures asked { (stream_of (self.new.bot, self.new.server) side).timed.is_silent ≡ false →
             (stream_of (self.new.bot, self.new.server) side).timed.ends_stalled ≡ false →
             IsBufferedPull S.calls (length buffer.old) (read_if (has_stalled self.old.idle.time self.old.idle.reading
             (stream_of (self.old.bot, self.old.server) side).silent_from) (stream_of (self.old.bot, self.old.server) side).readiness)
@@ -582,9 +607,6 @@ impl<S: Duplex + Drop> Ports for SocketPorts<'_, S> {
             IsFlushed S.calls (stream_of (self.old.server, self.old.bot) side).readiness (stream_of (self.old.server, self.old.bot) side).stream
             (stream_of (self.new.server, self.new.bot) side).readiness (stream_of (self.new.server, self.new.bot) side).stream }
     {
-        if self.is_stopped {
-            return Pull::Ended;
-        }
         match side {
             Side::Bot => pull_or_flush_peer(self.idle, &mut self.bot, &mut self.server, buffer),
             Side::Server => pull_or_flush_peer(self.idle, &mut self.server, &mut self.bot, buffer),
@@ -616,14 +638,14 @@ impl<S: Duplex + Drop> Ports for SocketPorts<'_, S> {
         }
     }
 
-    fn clock_popped(&mut self) -> bool
+    fn clock(&mut self) -> ClockEvent
         ensures transition { Transfers S.to_give S.taken (self.old.bot.stream, self.old.server.stream) (Popped result)
             (self.new.bot.stream, self.new.server.stream)
             × Settles (Popped result) (self.old.bot, self.old.server) (self.new.bot, self.new.server)
             × SetsTimers (Popped result) (timers_of self.old) (timers_of self.new) }
-        ensures answer { result ≡ self.old.im_timer_expired }
+        ensures answer { result ≡ clock_event self.old.stops self.old.im_timer_expired }
         ensures same { self.new ≡ self.old }
     {
-        self.im_timer_expired
+        clock_event(self.stops, self.im_timer_expired)
     }
 }

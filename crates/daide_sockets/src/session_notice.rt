@@ -2,7 +2,7 @@
 
 ghost use Rattle.std.specs.Prelude.{◌≡◌};
 ghost use Rattle.daide_protocol.specs.Summary.{nothing_counted};
-ghost use Rattle.daide_sockets.specs.Lines.{why_by, why_ended};
+ghost use Rattle.daide_sockets.specs.Lines.{why_by, why_ended, milliseconds_between};
 
 use crate::timed::{Timed, timed_at};
 use daide_frame::code::Code;
@@ -12,6 +12,7 @@ use daide_protocol::ending::Ending;
 use daide_protocol::summary::Summary;
 use std::fmt;
 use std::net::SocketAddr;
+use std::time::Instant;
 use thiserror::Error;
 
 /// A log line about a session, with its number, or about a bot that gets none. The run goes on.
@@ -28,39 +29,73 @@ pub enum SessionNotice {
     Declined {
         bot: SocketAddr,
     },
-    /// It is over, for this reason and with these counts.
-    #[error("session {number} ended: {why}; {counts}")]
+    /// It is over, after this time, for this reason and with these counts.
+    #[error("session {number} ended{lasted}: {why}; {counts}")]
     Ended {
         number: u32,
+        lasted: Lasted,
         why: Why,
         counts: Summary,
     },
 }
 
+/// The time from the connect of a session's bot to its end.
+#[derive(Clone, Copy, Debug, PartialEq, Eq)]
+pub struct Lasted {
+    /// `None` without a clock.
+    pub milliseconds: Option<u128>,
+}
+
+impl Lasted {
+    /// Returns the time between two readings of the clock.
+    pub(crate) fn between(began: Option<Instant>, now: Option<Instant>) -> Lasted
+        ensures { result.milliseconds ≡ milliseconds_between began now }
+    {
+        let milliseconds = match (began, now) {
+            (Some(began), Some(now)) => Some(now.saturating_duration_since(began).as_millis()),
+            _ => None,
+        };
+        Lasted { milliseconds }
+    }
+}
+
+impl fmt::Display for Lasted {
+    /// Writes seconds with one digit after the point; nothing without a clock.
+    fn fmt<W: fmt::Write>(&self, f: &mut fmt::Formatter<W>) -> fmt::Result {
+        match self.milliseconds {
+            Some(time) => write!(f, " after {}.{} s", time / 1000, time % 1000 / 100),
+            None => Ok(()),
+        }
+    }
+}
+
 impl SessionNotice {
-    /// Returns the line of a session that is over, from its end, the expired timeouts of its two sockets, and the stall
-    /// timeout in seconds.
+    /// Returns the line of a session that is over, from its number and its time, its end, the expired timeouts of its
+    /// two sockets, and the stall timeout in seconds.
     pub fn of_end(
-        number: u32,
+        session: (u32, Lasted),
         end: SessionEnd,
         timed: (Timed, Timed),
         stall_seconds: u32,
     ) -> SessionNotice
-        ensures { result ≡ SessionNotice.Ended number (why_by end.cause timed stall_seconds) end.summary }
+        ensures { result ≡ SessionNotice.Ended session.0 session.1 (why_by end.cause timed stall_seconds) end.summary }
     {
+        let (number, lasted) = session;
         SessionNotice::Ended {
             number,
+            lasted,
             why: why_of(end.cause, timed, stall_seconds),
             counts: end.summary,
         }
     }
 
-    /// Returns the line of a session whose server was unreachable.
-    pub fn of_no_server(number: u32) -> SessionNotice
-        ensures { result ≡ SessionNotice.Ended number Why.NoServer nothing_counted }
+    /// Returns the line of a session whose server was unreachable, from its number and its time.
+    pub fn of_no_server(number: u32, lasted: Lasted) -> SessionNotice
+        ensures { result ≡ SessionNotice.Ended number lasted Why.NoServer nothing_counted }
     {
         SessionNotice::Ended {
             number,
+            lasted,
             why: Why::NoServer,
             counts: Summary::new(),
         }
@@ -125,7 +160,11 @@ fn write_ending<W: fmt::Write>(f: &mut fmt::Formatter<W>, ending: Ending) -> fmt
         Ending::Final(side) => write!(f, "FM of {}", name_of(side)),
         Ending::Error(side) => write!(f, "EM of {}", name_of(side)),
         Ending::Fault(_, Code::ImTimeout) => f.write_str("no IM in time"),
-        Ending::Fault(side, code) => write!(f, "fault {:02X} of {}", code.number(), name_of(side)),
+        Ending::Fault(side, code) => {
+            let (number, name) = (code.number(), code.name());
+            write!(f, "fault {number:02X} of {}: {name}", name_of(side))
+        }
+        Ending::Stopped => f.write_str("stopped by the operator"),
     }
 }
 

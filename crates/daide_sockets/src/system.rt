@@ -1,35 +1,41 @@
 //! The environment of the event loop, `System`, over sockets.
 
 ghost use Rattle.std.specs.Duration.{as_nanos};
-ghost use Rattle.std.specs.Prelude.{◌≡◌, ◌⊎◌, ℕ, ◌+◌, ◌-◌, ◌*◌, ◌^◌, ◌<◌, ◌||◌, ◌&&◌, nat_le, IfSome, IfNone, IsSome, IsNone, None, Some, true, false, [], length, slice_get, vec_capacity};
+ghost use Rattle.std.specs.Option.{is_some};
+ghost use Rattle.std.specs.Prelude.{◌≡◌, ◌⊎◌, ℕ, ◌+◌, ◌-◌, ◌*◌, ◌^◌, ◌<◌, ◌≤◌, ◌||◌, ◌&&◌, nat_le, IfSome, IfNone, IsSome, IsNone, None, Some, true, false, [], length, not, slice_get, vec_capacity};
 ghost use Rattle.daide_io.specs.Network.{StopsListening};
 ghost use Rattle.daide_io.specs.Ports.{TurnBegins};
 ghost use Rattle.daide_status.specs.declared.snapshot.RunStatus.{RunStatus};
 ghost use Rattle.daide_status.specs.declared.snapshot.SessionRow.{SessionRow};
 ghost use Rattle.daide_io.specs.System.{Begins, Shows, ReportsNews, BeginsTurn, Watches, Retires, Waits};
 ghost use Rattle.daide_buffered_io.specs.Streams.{Transfers};
+ghost use Rattle.daide_settings.specs.BotsInAll.{bots_in_all};
 ghost use Rattle.daide_sockets.specs.Accepting.{is_accept_due, MakesAccept};
-ghost use Rattle.daide_sockets.specs.Beside.{others_watched};
+ghost use Rattle.daide_sockets.specs.Beside.{listener_watched, others_watched};
 ghost use Rattle.daide_sockets.specs.declared.ports.SocketPorts.{SocketPorts as PortsOf};
 ghost use Rattle.daide_sockets.specs.ControlSlots.{BeginsRound, Each, PlaceShows, places, is_newly_stopped, watching_control};
 ghost use Rattle.daide_sockets.specs.Finishing.{FinishesAll};
 ghost use Rattle.daide_sockets.specs.Snapshot.{counted, seconds_between, or_zero, IsRunStatus, IsSessionRow};
 ghost use Rattle.daide_sockets.specs.Lingering.{LooksAround, in_pass, GoOnFor, no_closing};
-ghost use Rattle.daide_sockets.specs.Pairing.{FirstArrivalEvolves, Transits, Closes, ClosesBothAt, Comes, ComesWith};
-ghost use Rattle.daide_sockets.specs.Present.{IsAllowed, IsPresentWith, position_of, without_at};
+ghost use Rattle.daide_sockets.specs.Capacity.{capacity_after};
+ghost use Rattle.daide_sockets.specs.Lines.{milliseconds_between};
+ghost use Rattle.daide_sockets.specs.Pairing.{FirstArrivalEvolves, Closes, ClosesBothAt, Comes, ComesWith};
+ghost use Rattle.daide_sockets.specs.Present.{IsAllowed, IsPresentWith, position_of, time_in, without_at};
+ghost use Rattle.daide_sockets.specs.Scheduling.{RunEvolves, run_state};
 ghost use Rattle.daide_sockets.specs.Sockets.{due_after};
 ghost use Rattle.daide_sockets.specs.Table.{Table, watching};
-ghost use Rattle.daide_sockets.specs.Timers.{SetsTimers, timers_of};
+ghost use Rattle.daide_sockets.specs.Timers.{BeginsAt, SetsTimers, timers_of};
 ghost use Rattle.daide_sockets.specs.Times.{IsSeconds, IsIdleTime, is_past};
-ghost use Rattle.daide_sockets.specs.Wakeups.{Settles, Wakes, RestsOnce, may_session_go_on, session_due, has_session_news};
+ghost use Rattle.daide_sockets.specs.Wakeups.{Settles, RestsOnce, may_session_go_on, session_due, has_session_news};
 
 use crate::admission::{Acceptor, PendingConnection, Unreached, watch_arrivals};
+use crate::capacity::Capacity;
 use crate::control::{Control, MOST_CONTROLS, seconds_between};
 use crate::lingering_close::{Closings, MOST_CLOSING};
 use crate::poller::Poller;
 use crate::ports::SocketPorts;
 use crate::present::Present;
-use crate::session_notice::SessionNotice;
+use crate::session_notice::{Lasted, SessionNotice};
 use crate::table::SocketTable;
 use daide_buffered_io::pool::Pool;
 use daide_io::network::Network;
@@ -70,11 +76,12 @@ fn counted(count: usize) -> u32
     u32::try_from(count).unwrap_or(u32::MAX)
 }
 
-/// The sockets of a run: its system. `Transits` says what each call does to the bots and to the sockets that close. An
-/// accept that returned true added one bot, with the next number and the connect that was begun for it. Ports that are
-/// ready have the two connections of one such bot: its own, and the one made for it. A bot whose server can't be
-/// reached begins to close. So do both connections of a session that is retired, with what is held for them. A pending
-/// connect keeps its bot, and may be begun again. Except `begin_round`, no other call changes them.
+/// The sockets of a run: its system. What each call does to them is one relation (`transition`, `RunEvolves`).
+/// `Transits` says what it does to the bots and to the sockets that close. An accept that returned true added one bot,
+/// with the next number and the connect that was begun for it. Ports that are ready have the two connections of one
+/// such bot: its own, and the one made for it. A bot whose server can't be reached begins to close. So do both
+/// connections of a session that is retired, with what is held for them. A pending connect keeps its bot, and may be
+/// begun again. Except `begin_round`, no other call changes them.
 ///
 /// In `begin_round` the sockets that close make progress, by the table's reading of the clock (`tidy`: `closing`): all of
 /// them, or eight if there are more (`ClosingsGoOn`). They keep their order. If a turn begins, what was held for too long
@@ -82,15 +89,21 @@ fn counted(count: usize) -> u32
 /// done at once for it, or its nearest deadline is past (`has_news`: `news`). A wait watches the sessions that it was to
 /// watch (`Wakes`), the listener, each connect and each closing socket (`wait`: `polls`). It polls once, for the time
 /// until the nearest deadline, unless something is pending or may be done at once. With room for one more, a bot is
-/// accepted if the listener is ready (`accept_next`: `made`). If none comes, the listener is not ready any more, or is to
-/// be asked again (`left`). A bot is accepted only if it may come by the settings, beside the hosts of those that are
-/// there (`allowed`). A bot that comes is added to those, and the end of its session removes it (`retire` and `let_go`:
-/// `hosts`).
+/// accepted if the listener is ready (`accept_next`: `made`). From then on the wait of the round is for bots too
+/// (`awaited`), so it does not block while an accept is due. A bot is accepted only if it may come by the settings, beside
+/// the hosts of those that are there (`allowed`). A bot that comes is added to those, and the end of its session removes it
+/// (`retire` and `let_go`: `hosts`).
+///
+/// No call changes the timeouts of the run, which are those of the settings (`new`: `idle_time`, `stall_time`). The ports of
+/// a connect begin with them, at the table's reading of the clock (`Schedules`).
 ///
 /// At the end of `begin_round` the control socket advances, and the next wait watches it (`take_orders`: `control`,
-/// `watched`). Once a stop is requested, the listener for bots is closed (`closes`). Once it is requested that sessions end
+/// `watched`). Once a stop is requested, or all bots of the run came, the listener for bots is closed (`closes`,
+/// `all_came`). Once it is requested that sessions end
 /// now, a pending connect is given up (`look_at_first`: `given_up`). Each session has news until its next turn (`has_news`:
-/// `news`), and that turn stops it (`begin_turn`: `stops`).
+/// `news`). That turn stops it, and no later one (`begin_turn`: `stops`, `once`).
+///
+/// Before a wait, a run notes whether it is full and whether accepts pause, and logs what changed (`wait`: `capacity`).
 ///
 /// Not said: that a wait ended because something came. That held bytes are given up only after a failed write, or after
 /// `stall_seconds`, is read from `flush_at` and `give_up_stalled`. `SessionNotice::of_end` and `why_of` give the counts
@@ -118,6 +131,8 @@ pub struct Sockets<'w, N: Network, E: Write + Drop> {
     max_per_address: u16,
     /// The most sessions at once.
     max_sessions: usize,
+    /// The number of bots of the run in all.
+    bots_in_all: u32,
     /// The bots that are there.
     present: Present,
     /// The number of bots whose server could not be reached.
@@ -126,13 +141,16 @@ pub struct Sockets<'w, N: Network, E: Write + Drop> {
     control: Control<N::Connection>,
     /// The output for log lines.
     pub errors: E,
-    /// Whether the beginning and the end of each session are logged.
+    /// Whether the beginning and the end of each session are logged, and the capacity of the run.
     is_verbose: bool,
+    /// The capacity of the run, as it was logged last.
+    capacity: Capacity,
 }
 
 impl<'w, N: Network, E: Write + Drop> Sockets<'w, N, E> {
     /// Creates the sockets of a run with no bot yet, over a network, with the addresses of the server, a table and a pool,
-    /// and a deadline for connects. Returns `None` if memory is refused or the listener cannot be followed. Sessions are not logged.
+    /// and a deadline for connects. Returns `None` if memory is refused or the listener cannot be followed. Sessions are not
+    /// logged.
     pub fn new(
         alloc: Global,
         ground: (N, &'w [SocketAddr], SocketTable, &'w Pool),
@@ -143,6 +161,7 @@ impl<'w, N: Network, E: Write + Drop> Sockets<'w, N, E> {
         ensures none_came { IfSome result (λ sockets. (sockets.acceptor.came ≡ 0) × (sockets.is_verbose ≡ false)) }
         ensures none_held { IfSome result (λ sockets. (sockets.arrivals.items ≡ [])
             × (sockets.closings ≡ no_closing sockets.stall_time)) }
+        ensures room { IfSome result (λ sockets. settings.now.max_sessions ≤ vec_capacity sockets.arrivals) }
         ensures im_time { IfSome result (λ sockets. IsSeconds settings.now.im_seconds sockets.im_time) }
         ensures idle_time { IfSome result (λ sockets. IsIdleTime settings.now.idle_seconds sockets.idle_time) }
         ensures stall_time { IfSome result (λ sockets. IsIdleTime settings.now.stall_seconds sockets.stall_time
@@ -152,8 +171,11 @@ impl<'w, N: Network, E: Write + Drop> Sockets<'w, N, E> {
             × (sockets.max_per_address ≡ settings.now.max_per_address)) }
         ensures no_orders { IfSome result (λ sockets. (sockets.control.stops_accepting ≡ false)
             × (sockets.control.stops_now ≡ false)) }
+        ensures bots { IfSome result (λ sockets. (sockets.bots_in_all ≡ bots_in_all settings.now)
+            × (sockets.acceptor.is_closed ≡ false)) }
         ensures none_present { IfSome result (λ sockets. (sockets.present.numbers.items ≡ [])
-            × (sockets.present.hosts.items ≡ []) × (sockets.present.addresses.items ≡ [])) }
+            × (sockets.present.hosts.items ≡ []) × (sockets.present.addresses.items ≡ [])
+            × (sockets.present.times.items ≡ [])) }
     {
         let (network, servers, table, pool) = ground;
         let Ok(mut poller) = Poller::new(alloc, network, table) else {
@@ -184,11 +206,13 @@ impl<'w, N: Network, E: Write + Drop> Sockets<'w, N, E> {
             allow: settings.allow.as_slice(),
             max_per_address: settings.max_per_address,
             max_sessions: settings.max_sessions,
+            bots_in_all: settings.bots_in_all(),
             present,
             unreached: 0,
             control,
             errors,
             is_verbose: false,
+            capacity: Capacity::NEW,
         })
     }
 
@@ -207,7 +231,7 @@ impl<'w, N: Network, E: Write + Drop> Sockets<'w, N, E> {
         &self.poller.table
     }
 
-    /// Sets whether the beginning and the end of each session are logged.
+    /// Sets whether the beginning and the end of each session are logged, and the capacity of the run.
     pub fn set_verbose(&mut self, is_verbose: bool)
         ensures { self.new ≡ record self.old { is_verbose = is_verbose } }
     {
@@ -244,6 +268,33 @@ impl<'w, N: Network, E: Write + Drop> Sockets<'w, N, E> {
         }
     }
 
+    /// Looks whether a further bot can be accepted. Logs what changed in that, if sessions are logged.
+    fn note_capacity(&mut self)
+        ensures capacity { self.new.capacity ≡ capacity_after self.old.capacity
+            (length self.old.present.numbers.items) self.old.max_sessions (is_some self.old.acceptor.resumes_at)
+            self.old.acceptor.came }
+        ensures same { self.new ≡ record self.old { errors = self.new.errors; capacity = self.new.capacity } }
+    {
+        let (present, most) = (self.present.len(), self.max_sessions);
+        let is_paused = self.acceptor.is_paused();
+        let after = self
+            .capacity
+            .after(present, most, is_paused, self.acceptor.came());
+        if self.is_verbose {
+            self.capacity.log_change(after, most, &mut self.errors);
+        }
+        self.capacity = after;
+    }
+
+    /// Returns how long the session with this number has lasted.
+    fn lasted(&self, number: u32) -> Lasted
+        ensures { result.milliseconds ≡ milliseconds_between
+            (time_in self.now.present.times.items (position_of number self.now.present.numbers.items))
+            self.now.poller.table.reading }
+    {
+        Lasted::between(self.present.came_at(number), self.poller.table.now())
+    }
+
     /// Logs the address of a bot that may not come, if there is one and sessions are logged.
     fn tell_of_declined(&mut self, declined: Option<SocketAddr>)
         ensures { self.new ≡ record self.old { errors = self.new.errors } }
@@ -265,10 +316,16 @@ impl<'w, N: Network, E: Write + Drop> Sockets<'w, N, E> {
             ≡ without_at (position_of left.entry.number self.old.present.numbers.items) self.old.present.hosts.items }
         ensures addresses { self.new.present.addresses.items
             ≡ without_at (position_of left.entry.number self.old.present.numbers.items) self.old.present.addresses.items }
+        ensures clock { self.new.poller.table.reading ≡ self.old.poller.table.reading }
+        ensures timeouts { (self.new.idle_time ≡ self.old.idle_time) × (self.new.stall_time ≡ self.old.stall_time) }
+        ensures acceptor { self.new.acceptor ≡ self.old.acceptor }
+        ensures times { self.new.present.times.items
+            ≡ without_at (position_of left.entry.number self.old.present.numbers.items) self.old.present.times.items }
     {
+        let lasted = self.lasted(left.number);
         self.present.remove(left.number);
         self.unreached = self.unreached.saturating_add(1);
-        self.tell_of_session(SessionNotice::of_no_server(left.number));
+        self.tell_of_session(SessionNotice::of_no_server(left.number, lasted));
         self.closings.begin(&mut self.poller.table, left.bot);
     }
 
@@ -276,6 +333,8 @@ impl<'w, N: Network, E: Write + Drop> Sockets<'w, N, E> {
     /// its socket closes. Otherwise the connect is still under way, and the arrival moves to the end.
     ///
     /// `given_up`: after a request that sessions end now, the connect is given up.
+    ///
+    /// `begins`: ports begin at the table's reading of the clock, with the timeouts of the run.
     fn look_at_first(&mut self) -> Connect<SocketPorts<'w, N::Connection>>
         requires { 0 < length self.old.arrivals.items }
         ensures given_up { self.old.control.stops_now ≡ true → result ≡ Connect.Failed }
@@ -284,6 +343,11 @@ impl<'w, N: Network, E: Write + Drop> Sockets<'w, N, E> {
             (λ ports. record { number = ports.number; bot = ports.bot.stream; server = ports.server.stream })
             (record { came = self.old.acceptor.came; arrivals = self.old.arrivals.items; closing = self.old.closings })
             result (record { came = self.new.acceptor.came; arrivals = self.new.arrivals.items; closing = self.new.closings }) }
+        ensures begins { (ports : PortsOf N.Connection) → result ≡ Connect.Ready ports →
+            BeginsAt self.old.poller.table.reading (self.old.idle_time, self.old.stall_time) (timers_of ports) }
+        ensures clock { self.new.poller.table.reading ≡ self.old.poller.table.reading }
+        ensures times { (self.new.idle_time ≡ self.old.idle_time) × (self.new.stall_time ≡ self.old.stall_time) }
+        ensures acceptor { self.new.acceptor ≡ self.old.acceptor }
     {
         let mut arrival = self.arrivals.remove(0);
         let is_given_up = self.control.stops_now();
@@ -313,7 +377,7 @@ impl<'w, N: Network, E: Write + Drop> Sockets<'w, N, E> {
         }
     }
 
-    /// Advances the closing sockets, and reopens the acceptor if its pause is over.
+    /// Begins a round of the acceptor, and advances the closing sockets.
     fn tidy(&mut self)
         ensures came { self.new.acceptor.came ≡ self.old.acceptor.came }
         ensures arrivals { self.new.arrivals.items ≡ self.old.arrivals.items }
@@ -321,12 +385,13 @@ impl<'w, N: Network, E: Write + Drop> Sockets<'w, N, E> {
             self.old.poller.table.reading (in_pass self.old.closings) self.new.closings }
         ensures clock { self.new.poller.table.reading ≡ self.old.poller.table.reading }
         ensures control { self.new.control ≡ self.old.control }
+        ensures times { (self.new.idle_time ≡ self.old.idle_time) × (self.new.stall_time ≡ self.old.stall_time) }
     {
-        self.acceptor.reopen(self.poller.table.now());
+        self.acceptor.begin_round(self.poller.table.now());
         self.closings.advance(&mut self.poller.table);
     }
 
-    /// Returns whether both sides of a session count as ended from its next turn on, and did not before.
+    /// Returns whether a session is to be stopped in its next turn: an operator requested it, and no turn has stopped it.
     fn stops_newly(&self, ports: &SocketPorts<'w, N::Connection>) -> bool
         ensures { result ≡ is_newly_stopped self.now.control.stops_now ports.now.is_stopped }
     {
@@ -338,8 +403,9 @@ impl<'w, N: Network, E: Write + Drop> Sockets<'w, N, E> {
         ensures { IsRunStatus self.now.acceptor.came (length self.now.present.numbers.items)
             (length self.now.arrivals.items) self.now.unreached
             (nat_le self.now.max_sessions (length self.now.present.numbers.items)
+            && (not self.now.acceptor.is_closed
             && is_accept_due self.now.poller.table self.now.acceptor.key self.now.acceptor.readiness
-            self.now.acceptor.resumes_at) self.now.control.stops_accepting
+            self.now.acceptor.resumes_at)) self.now.control.stops_accepting
             (or_zero (seconds_between self.now.control.started_at self.now.poller.table.reading)) result }
     {
         let connecting = counted(self.arrivals.len());
@@ -354,7 +420,9 @@ impl<'w, N: Network, E: Write + Drop> Sockets<'w, N, E> {
                 .saturating_sub(present)
                 .saturating_sub(self.unreached),
             unreached: self.unreached,
-            has_waiting: is_full && self.acceptor.is_due(&self.poller.table),
+            has_waiting: is_full
+                && !self.acceptor.is_closed()
+                && self.acceptor.is_due(&self.poller.table),
             is_stopping: self.control.stops_accepting(),
             seconds: self.control.seconds(self.poller.table.now()),
         }
@@ -391,8 +459,15 @@ impl<'w, N: Network, E: Write + Drop> Sockets<'w, N, E> {
         })
     }
 
-    /// Advances the control socket, and returns the operator's orders. Once a stop is requested, the listener for bots is
-    /// closed.
+    /// Returns whether all bots of the run came.
+    fn has_all_bots(&self) -> bool
+        ensures { result ≡ nat_le self.now.bots_in_all self.now.acceptor.came }
+    {
+        self.acceptor.came() >= self.bots_in_all
+    }
+
+    /// Advances the control socket, and returns the operator's orders. Once a stop is requested, or all bots of the run
+    /// came, the listener for bots is closed. So a bot that comes too late is refused.
     ///
     /// `control`: a status has the run as it is at the beginning of the round.
     ///
@@ -404,14 +479,21 @@ impl<'w, N: Network, E: Write + Drop> Sockets<'w, N, E> {
         ensures control { (run : RunStatus) × IsRunStatus self.old.acceptor.came
             (length self.old.present.numbers.items) (length self.old.arrivals.items) self.old.unreached
             (nat_le self.old.max_sessions (length self.old.present.numbers.items)
+            && (not self.old.acceptor.is_closed
             && is_accept_due self.old.poller.table self.old.acceptor.key self.old.acceptor.readiness
-            self.old.acceptor.resumes_at) self.old.control.stops_accepting
+            self.old.acceptor.resumes_at)) self.old.control.stops_accepting
             (or_zero (seconds_between self.old.control.started_at self.old.poller.table.reading)) run
             × BeginsRound N.Connection.to_give N.Connection.taken
             N.Connection.calls run self.old.poller.table.reading self.old.control result self.new.control }
         ensures watched { (before : Table) × (self.new.poller.table ≡ watching_control before self.new.control) }
         ensures closes { result.stops_accepting ≡ true → self.old.control.stops_accepting ≡ false →
             (before : N) × N.transition before StopsListening self.new.poller.network }
+        ensures all_came { self.old.bots_in_all ≤ self.old.acceptor.came → self.old.acceptor.is_closed ≡ false →
+            (before : N) × N.transition before StopsListening self.new.poller.network }
+        ensures open { self.old.acceptor.came < self.old.bots_in_all → result.stops_accepting ≡ false →
+            self.new.acceptor ≡ self.old.acceptor }
+        ensures closed { (self.old.bots_in_all ≤ self.old.acceptor.came → self.new.acceptor.is_closed ≡ true)
+            × (result.stops_accepting ≡ true → self.old.control.stops_accepting ≡ false → self.new.acceptor.is_closed ≡ true) }
         ensures came { self.new.acceptor.came ≡ self.old.acceptor.came }
         ensures same { self.new ≡ record self.old {
           poller = self.new.poller;
@@ -422,7 +504,8 @@ impl<'w, N: Network, E: Write + Drop> Sockets<'w, N, E> {
         let run = self.run_status();
         let was_stopped = self.control.stops_accepting();
         let orders = self.control.begin_round(&mut self.poller, &run);
-        if orders.stops_accepting && !was_stopped {
+        let is_stopped_now = orders.stops_accepting && !was_stopped;
+        if is_stopped_now || self.has_all_bots() && !self.acceptor.is_closed() {
             self.acceptor.close(&mut self.poller);
         }
         self.control.watch(&mut self.poller.table);
@@ -449,14 +532,14 @@ impl<'w, N: Network, E: Write + Drop> Sockets<'w, N, E> {
     ///
     /// `made`: with room for one more, an accept is made if the listener is ready by the table, and no pause is under way.
     ///
-    /// `left`: if no bot came, no accept is due any more at this reading of the clock, or the listener is to be asked again
-    /// at once.
+    /// `awaited`: the wait of this round is for bots too, so it does not block while an accept is due.
     ///
     /// `times`: its IM timer, and the time of its connect, run from the table's reading of the clock on.
     ///
     /// `allowed`: a bot that is accepted may come by the ranges, and by the limit beside those that are there.
     ///
-    /// `present`: it is the last of those, with the number and the host of its session's line.
+    /// `present`: it is the last of those, with the number and the host of its session's line, and with the table's
+    /// reading of the clock as its time.
     fn accept_next(&mut self) -> Option<SessionNotice>
         ensures comes { IfSome result (λ _. Comes
             (record { came = self.old.acceptor.came; arrivals = self.old.arrivals.items; closing = self.old.closings })
@@ -467,17 +550,17 @@ impl<'w, N: Network, E: Write + Drop> Sockets<'w, N, E> {
             self.old.acceptor.came < u32.MAX → is_accept_due self.old.poller.table self.old.acceptor.key
             self.old.acceptor.readiness self.old.acceptor.resumes_at ≡ true →
             MakesAccept N.transition self.old.poller.network }
-        ensures left { IfNone result (length self.old.arrivals.items < vec_capacity self.old.arrivals →
-            self.old.acceptor.came < u32.MAX → self.new.acceptor.looks_again ≡ false →
-            is_accept_due self.new.poller.table self.new.acceptor.key self.new.acceptor.readiness
-            self.new.acceptor.resumes_at ≡ false) }
+        ensures awaited { self.new.acceptor.awaits_bots ≡ true }
         ensures times { IfSome result (λ _. ComesWith self.old.arrivals.items self.old.poller.table.reading
             (as_nanos self.old.im_time) (as_nanos self.old.connect_time) self.new.arrivals.items) }
         ensures allowed { IfSome result (λ began. IsAllowed self.old.allow.now self.old.max_per_address
             self.old.present.hosts.items began) }
-        ensures present { IfSome result (λ began. IsPresentWith self.old.present began self.new.present) }
+        ensures present { IfSome result (λ began. IsPresentWith self.old.poller.table.reading self.old.present began
+            self.new.present) }
         ensures absent { IfNone result (self.new.present ≡ self.old.present) }
+        ensures timeouts { (self.new.idle_time ≡ self.old.idle_time) × (self.new.stall_time ≡ self.old.stall_time) }
     {
+        self.acceptor.await_bots();
         if self.arrivals.len() >= self.arrivals.capacity() {
             return None;
         }
@@ -507,7 +590,7 @@ impl<'w, N: Network, E: Write + Drop> Sockets<'w, N, E> {
     fn rest(&mut self)
         ensures rest { self.new ≡ record self.old { poller = self.new.poller } }
         ensures polls { RestsOnce N.transition (others_watched self.old.poller.table
-            (self.old.acceptor.looks_again, self.old.acceptor.resumes_at) self.old.arrivals.items
+            (listener_watched self.old.poller.table self.old.acceptor) self.old.arrivals.items
             self.old.closings.streams) self.old.poller.network self.old.poller.table self.new.poller.network
             self.new.poller.table }
     {
@@ -518,30 +601,20 @@ impl<'w, N: Network, E: Write + Drop> Sockets<'w, N, E> {
 }
 
 impl<'w, N: Network, E: Write + Drop> System<SocketPorts<'w, N::Connection>> for Sockets<'w, N, E> {
-    ghost transition = { λ old answer new. Transits N.Connection.to_give N.Connection.taken
-        N.Connection.calls (λ ports. record { number = ports.number; bot = ports.bot.stream; server = ports.server.stream })
-        (record { came = old.acceptor.came; arrivals = old.arrivals.items; closing = old.closings }) answer
-        (record { came = new.acceptor.came; arrivals = new.arrivals.items; closing = new.closings })
-        × Wakes N.transition (λ ports. record {
-          bot = ports.bot;
-          server = ports.server;
-          reading = ports.idle.reading;
-          im_due = ports.im_due;
-        }) (old.poller.network, old.poller.table) answer (new.poller.network, new.poller.table) };
+    ghost transition = { λ old answer new. RunEvolves N.transition N.Connection.to_give N.Connection.taken N.Connection.calls
+        (λ (ports : PortsOf N.Connection). ports)
+        (run_state (old.poller.network, old.poller.table) (old.idle_time, old.stall_time) old.acceptor
+        (vec_capacity old.arrivals) old.arrivals.items old.closings) answer
+        (run_state (new.poller.network, new.poller.table) (new.idle_time, new.stall_time) new.acceptor
+        (vec_capacity new.arrivals) new.arrivals.items new.closings) };
 
     fn begin_round(&mut self) -> Orders
-        ensures transition { Transits {P = PortsOf N.Connection} N.Connection.to_give N.Connection.taken
-            N.Connection.calls
-            (λ ports. record { number = ports.number; bot = ports.bot.stream; server = ports.server.stream })
-            (record { came = self.old.acceptor.came; arrivals = self.old.arrivals.items; closing = self.old.closings })
-            (Begins result)
-            (record { came = self.new.acceptor.came; arrivals = self.new.arrivals.items; closing = self.new.closings })
-            × Wakes {P = PortsOf N.Connection} N.transition (λ ports. record {
-              bot = ports.bot;
-              server = ports.server;
-              reading = ports.idle.reading;
-              im_due = ports.im_due;
-            }) (self.old.poller.network, self.old.poller.table) (Begins result) (self.new.poller.network, self.new.poller.table) }
+        ensures transition { RunEvolves N.transition N.Connection.to_give N.Connection.taken N.Connection.calls
+            (λ (ports : PortsOf N.Connection). ports)
+            (run_state (self.old.poller.network, self.old.poller.table) (self.old.idle_time, self.old.stall_time) self.old.acceptor
+            (vec_capacity self.old.arrivals) self.old.arrivals.items self.old.closings) (Begins result)
+            (run_state (self.new.poller.network, self.new.poller.table) (self.new.idle_time, self.new.stall_time) self.new.acceptor
+            (vec_capacity self.new.arrivals) self.new.arrivals.items self.new.closings) }
         ensures orders { result.stops_accepting ≡ self.new.control.stops_accepting }
         ensures kept { self.old.control.stops_accepting ≡ true → self.new.control.stops_accepting ≡ true }
         ensures now_kept { self.old.control.stops_now ≡ true → self.new.control.stops_now ≡ true }
@@ -553,17 +626,12 @@ impl<'w, N: Network, E: Write + Drop> System<SocketPorts<'w, N::Connection>> for
     }
 
     fn show(&mut self, ports: &SocketPorts<'w, N::Connection>, status: SessionStatus)
-        ensures transition { Transits N.Connection.to_give N.Connection.taken N.Connection.calls
-            (λ ports. record { number = ports.number; bot = ports.bot.stream; server = ports.server.stream })
-            (record { came = self.old.acceptor.came; arrivals = self.old.arrivals.items; closing = self.old.closings })
-            (Shows ports.now status)
-            (record { came = self.new.acceptor.came; arrivals = self.new.arrivals.items; closing = self.new.closings })
-            × Wakes N.transition (λ ports. record {
-              bot = ports.bot;
-              server = ports.server;
-              reading = ports.idle.reading;
-              im_due = ports.im_due;
-            }) (self.old.poller.network, self.old.poller.table) (Shows ports.now status) (self.new.poller.network, self.new.poller.table) }
+        ensures transition { RunEvolves N.transition N.Connection.to_give N.Connection.taken N.Connection.calls
+            (λ (ports : PortsOf N.Connection). ports)
+            (run_state (self.old.poller.network, self.old.poller.table) (self.old.idle_time, self.old.stall_time) self.old.acceptor
+            (vec_capacity self.old.arrivals) self.old.arrivals.items self.old.closings) (Shows ports.now status)
+            (run_state (self.new.poller.network, self.new.poller.table) (self.new.idle_time, self.new.stall_time) self.new.acceptor
+            (vec_capacity self.new.arrivals) self.new.arrivals.items self.new.closings) }
         ensures shows { IsSome (slice_get self.old.present.addresses.items
             (position_of ports.now.number self.old.present.numbers.items)) → (row : SessionRow)
             × IsSessionRow self.old.poller.table.reading ports.now.number
@@ -578,17 +646,12 @@ impl<'w, N: Network, E: Write + Drop> System<SocketPorts<'w, N::Connection>> for
     }
 
     fn has_news(&mut self, ports: &SocketPorts<'w, N::Connection>) -> bool
-        ensures transition { Transits N.Connection.to_give N.Connection.taken N.Connection.calls
-            (λ ports. record { number = ports.number; bot = ports.bot.stream; server = ports.server.stream })
-            (record { came = self.old.acceptor.came; arrivals = self.old.arrivals.items; closing = self.old.closings })
-            (ReportsNews ports.now result)
-            (record { came = self.new.acceptor.came; arrivals = self.new.arrivals.items; closing = self.new.closings })
-            × Wakes N.transition (λ ports. record {
-              bot = ports.bot;
-              server = ports.server;
-              reading = ports.idle.reading;
-              im_due = ports.im_due;
-            }) (self.old.poller.network, self.old.poller.table) (ReportsNews ports.now result) (self.new.poller.network, self.new.poller.table) }
+        ensures transition { RunEvolves N.transition N.Connection.to_give N.Connection.taken N.Connection.calls
+            (λ (ports : PortsOf N.Connection). ports)
+            (run_state (self.old.poller.network, self.old.poller.table) (self.old.idle_time, self.old.stall_time) self.old.acceptor
+            (vec_capacity self.old.arrivals) self.old.arrivals.items self.old.closings) (ReportsNews ports.now result)
+            (run_state (self.new.poller.network, self.new.poller.table) (self.new.idle_time, self.new.stall_time) self.new.acceptor
+            (vec_capacity self.new.arrivals) self.new.arrivals.items self.new.closings) }
         ensures news { result ≡ (is_newly_stopped self.old.control.stops_now ports.now.is_stopped
             || has_session_news self.old.poller.table (record {
               bot = ports.now.bot;
@@ -606,18 +669,12 @@ impl<'w, N: Network, E: Write + Drop> System<SocketPorts<'w, N::Connection>> for
             (ports.old.bot.stream, ports.old.server.stream) TurnBegins (ports.new.bot.stream, ports.new.server.stream)
             × Settles TurnBegins (ports.old.bot, ports.old.server) (ports.new.bot, ports.new.server)
             × SetsTimers TurnBegins (timers_of ports.old) (timers_of ports.new) }
-        ensures system { Transits N.Connection.to_give N.Connection.taken
-            N.Connection.calls
-            (λ ports. record { number = ports.number; bot = ports.bot.stream; server = ports.server.stream })
-            (record { came = self.old.acceptor.came; arrivals = self.old.arrivals.items; closing = self.old.closings })
-            (BeginsTurn ports.old ports.new)
-            (record { came = self.new.acceptor.came; arrivals = self.new.arrivals.items; closing = self.new.closings })
-            × Wakes N.transition (λ ports. record {
-              bot = ports.bot;
-              server = ports.server;
-              reading = ports.idle.reading;
-              im_due = ports.im_due;
-            }) (self.old.poller.network, self.old.poller.table) (BeginsTurn ports.old ports.new) (self.new.poller.network, self.new.poller.table) }
+        ensures system { RunEvolves N.transition N.Connection.to_give N.Connection.taken N.Connection.calls
+            (λ (ports : PortsOf N.Connection). ports)
+            (run_state (self.old.poller.network, self.old.poller.table) (self.old.idle_time, self.old.stall_time) self.old.acceptor
+            (vec_capacity self.old.arrivals) self.old.arrivals.items self.old.closings) (BeginsTurn ports.old ports.new)
+            (run_state (self.new.poller.network, self.new.poller.table) (self.new.idle_time, self.new.stall_time) self.new.acceptor
+            (vec_capacity self.new.arrivals) self.new.arrivals.items self.new.closings) }
         ensures silent { (ports.new.bot.timed.is_silent ≡ ports.old.bot.timed.is_silent)
             × (ports.new.server.timed.is_silent ≡ ports.old.server.timed.is_silent) }
         ensures gathering { (ports.new.bot.is_gathering ≡ false) × (ports.new.server.is_gathering ≡ false) }
@@ -625,8 +682,9 @@ impl<'w, N: Network, E: Write + Drop> System<SocketPorts<'w, N::Connection>> for
         ensures same { self.new ≡ record self.old { poller = self.new.poller } }
         ensures clock { self.new.poller.table.reading ≡ self.old.poller.table.reading }
         ensures expires { ports.new.im_timer_expired ≡ is_past self.old.poller.table.reading ports.old.im_due }
-        ensures once { ports.new.im_due ≡ due_after self.old.poller.table.reading ports.old.im_due }
+        ensures im_once { ports.new.im_due ≡ due_after self.old.poller.table.reading ports.old.im_due }
         ensures stops { ports.new.is_stopped ≡ (ports.old.is_stopped || self.old.control.stops_now) }
+        ensures once { ports.new.stops ≡ (self.old.control.stops_now && not ports.old.is_stopped) }
     {
         ports.begin_turn(&mut self.poller.table);
         if self.control.stops_now() {
@@ -635,17 +693,12 @@ impl<'w, N: Network, E: Write + Drop> System<SocketPorts<'w, N::Connection>> for
     }
 
     fn watch(&mut self, ports: &SocketPorts<'w, N::Connection>)
-        ensures transition { Transits N.Connection.to_give N.Connection.taken N.Connection.calls
-            (λ ports. record { number = ports.number; bot = ports.bot.stream; server = ports.server.stream })
-            (record { came = self.old.acceptor.came; arrivals = self.old.arrivals.items; closing = self.old.closings })
-            (Watches ports.now)
-            (record { came = self.new.acceptor.came; arrivals = self.new.arrivals.items; closing = self.new.closings })
-            × Wakes N.transition (λ ports. record {
-              bot = ports.bot;
-              server = ports.server;
-              reading = ports.idle.reading;
-              im_due = ports.im_due;
-            }) (self.old.poller.network, self.old.poller.table) (Watches ports.now) (self.new.poller.network, self.new.poller.table) }
+        ensures transition { RunEvolves N.transition N.Connection.to_give N.Connection.taken N.Connection.calls
+            (λ (ports : PortsOf N.Connection). ports)
+            (run_state (self.old.poller.network, self.old.poller.table) (self.old.idle_time, self.old.stall_time) self.old.acceptor
+            (vec_capacity self.old.arrivals) self.old.arrivals.items self.old.closings) (Watches ports.now)
+            (run_state (self.new.poller.network, self.new.poller.table) (self.new.idle_time, self.new.stall_time) self.new.acceptor
+            (vec_capacity self.new.arrivals) self.new.arrivals.items self.new.closings) }
         ensures same { self.new ≡ record self.old { poller = self.new.poller } }
     {
         self.watch_also(ports, false);
@@ -672,17 +725,12 @@ impl<'w, N: Network, E: Write + Drop> System<SocketPorts<'w, N::Connection>> for
     }
 
     fn retire(&mut self, ports: SocketPorts<'w, N::Connection>, end: SessionEnd)
-        ensures transition { Transits N.Connection.to_give N.Connection.taken N.Connection.calls
-            (λ ports. record { number = ports.number; bot = ports.bot.stream; server = ports.server.stream })
-            (record { came = self.old.acceptor.came; arrivals = self.old.arrivals.items; closing = self.old.closings })
-            (Retires ports.entry end)
-            (record { came = self.new.acceptor.came; arrivals = self.new.arrivals.items; closing = self.new.closings })
-            × Wakes N.transition (λ ports. record {
-              bot = ports.bot;
-              server = ports.server;
-              reading = ports.idle.reading;
-              im_due = ports.im_due;
-            }) (self.old.poller.network, self.old.poller.table) (Retires ports.entry end) (self.new.poller.network, self.new.poller.table) }
+        ensures transition { RunEvolves N.transition N.Connection.to_give N.Connection.taken N.Connection.calls
+            (λ (ports : PortsOf N.Connection). ports)
+            (run_state (self.old.poller.network, self.old.poller.table) (self.old.idle_time, self.old.stall_time) self.old.acceptor
+            (vec_capacity self.old.arrivals) self.old.arrivals.items self.old.closings) (Retires ports.entry end)
+            (run_state (self.new.poller.network, self.new.poller.table) (self.new.idle_time, self.new.stall_time) self.new.acceptor
+            (vec_capacity self.new.arrivals) self.new.arrivals.items self.new.closings) }
         ensures closes { ClosesBothAt N.Connection.to_give N.Connection.taken N.Connection.calls
             self.old.poller.table.reading self.old.closings (record {
               number = ports.entry.number;
@@ -695,9 +743,12 @@ impl<'w, N: Network, E: Write + Drop> System<SocketPorts<'w, N::Connection>> for
             ≡ without_at (position_of ports.entry.number self.old.present.numbers.items) self.old.present.hosts.items }
         ensures addresses { self.new.present.addresses.items
             ≡ without_at (position_of ports.entry.number self.old.present.numbers.items) self.old.present.addresses.items }
+        ensures times { self.new.present.times.items
+            ≡ without_at (position_of ports.entry.number self.old.present.numbers.items) self.old.present.times.items }
     {
+        let session = (ports.number(), self.lasted(ports.number()));
         self.present.remove(ports.number());
-        let notice = SessionNotice::of_end(ports.number(), end, ports.timed(), self.stall_seconds);
+        let notice = SessionNotice::of_end(session, end, ports.timed(), self.stall_seconds);
         self.tell_of_session(notice);
         self.closings.begin_both(&mut self.poller.table, ports);
     }
@@ -712,26 +763,26 @@ impl<'w, N: Network, E: Write + Drop> System<SocketPorts<'w, N::Connection>> for
     }
 
     fn wait(&mut self)
-        ensures transition { Transits N.Connection.to_give N.Connection.taken N.Connection.calls
-            (λ (ports : SocketPorts N.Connection). record {
-              number = ports.number;
-              bot = ports.bot.stream;
-              server = ports.server.stream;
-            })
-            (record { came = self.old.acceptor.came; arrivals = self.old.arrivals.items; closing = self.old.closings }) Waits
-            (record { came = self.new.acceptor.came; arrivals = self.new.arrivals.items; closing = self.new.closings })
-            × Wakes N.transition (λ (ports : SocketPorts N.Connection). record {
-              bot = ports.bot;
-              server = ports.server;
-              reading = ports.idle.reading;
-              im_due = ports.im_due;
-            }) (self.old.poller.network, self.old.poller.table) Waits (self.new.poller.network, self.new.poller.table) }
+        ensures transition { RunEvolves N.transition N.Connection.to_give N.Connection.taken N.Connection.calls
+            (λ (ports : PortsOf N.Connection). ports)
+            (run_state (self.old.poller.network, self.old.poller.table) (self.old.idle_time, self.old.stall_time) self.old.acceptor
+            (vec_capacity self.old.arrivals) self.old.arrivals.items self.old.closings) Waits
+            (run_state (self.new.poller.network, self.new.poller.table) (self.new.idle_time, self.new.stall_time) self.new.acceptor
+            (vec_capacity self.new.arrivals) self.new.arrivals.items self.new.closings) }
         ensures polls { RestsOnce N.transition (others_watched self.old.poller.table
-            (self.old.acceptor.looks_again, self.old.acceptor.resumes_at) self.old.arrivals.items
+            (listener_watched self.old.poller.table self.old.acceptor) self.old.arrivals.items
             self.old.closings.streams) self.old.poller.network self.old.poller.table self.new.poller.network
             self.new.poller.table }
-        ensures same { self.new ≡ record self.old { poller = self.new.poller } }
+        ensures capacity { self.new.capacity ≡ capacity_after self.old.capacity
+            (length self.old.present.numbers.items) self.old.max_sessions (is_some self.old.acceptor.resumes_at)
+            self.old.acceptor.came }
+        ensures same { self.new ≡ record self.old {
+          poller = self.new.poller;
+          errors = self.new.errors;
+          capacity = self.new.capacity;
+        } }
     {
+        self.note_capacity();
         self.rest();
     }
 }

@@ -1,14 +1,14 @@
-//! The table of a run: what polls reported of each socket, its nearest deadline, and the last reading of the clock.
+//! The table of a run: what polls reported of each socket, what the next wait watches, and the last reading of the clock.
 //!
 //! The table is a value, and calls nothing of the network: `poller` does. A socket has a row, which it names by a key.
-//! At the beginning of a turn it takes the report of its row. A socket that is no session's leaves its nearest deadline in
-//! its row. Those of sessions are watched anew for each wait. So an idle session makes no system call.
+//! At the beginning of a turn it takes the report of its row. Deadlines, and what may be done at once, are watched anew for
+//! each wait. So an idle session makes no system call.
 
 ghost use Rattle.std.specs.Duration.{as_nanos};
 ghost use Rattle.std.specs.Prelude.{◌≡◌, ◌<◌, ◌≤◌, ◌||◌, nat_le, length, IsNone, IfSome, IfNone, IfOk, None, [], false};
 ghost use Rattle.daide_sockets.specs.Table.{first_free, TakesRow};
-ghost use Rattle.daide_sockets.specs.Table.{row_at, merged, report_at, has_report, is_reported_at, any_work, has_pending, nearest};
-ghost use Rattle.daide_sockets.specs.Table.{changed, without_report, with_due, left_with, watching, unwatched, freed, with_event, with_news, latest};
+ghost use Rattle.daide_sockets.specs.Table.{row_at, merged, report_at, has_report, is_reported_at, has_pending};
+ghost use Rattle.daide_sockets.specs.Table.{changed, without_report, watching, unwatched, freed, with_event, with_news, latest};
 ghost use Rattle.daide_sockets.specs.Table.{earlier, IsUntil};
 ghost use Rattle.daide_sockets.specs.Times.{IsAfter, IsStallEnd, StallsNext, is_past, is_time_over};
 
@@ -29,10 +29,6 @@ pub struct Row {
     pub is_taken: bool,
     /// What polls reported of the socket since it last took the report.
     pub report: Readiness,
-    /// Whether something may be done at once for it. Never for a session's socket: a wait watches the session.
-    pub has_work: bool,
-    /// Its nearest deadline; `None` if there is none. None for a session's socket.
-    pub due: Option<Instant>,
 }
 
 impl Row {
@@ -40,8 +36,6 @@ impl Row {
     const FREE: Row = Row {
         is_taken: false,
         report: Readiness::UNKNOWN,
-        has_work: false,
-        due: None,
     };
 }
 
@@ -54,9 +48,9 @@ pub struct SocketTable {
     turns: u64,
     /// Whether a poll received events since the last wait, which port calls before the poll may have missed.
     has_news: bool,
-    /// Whether something may be done at once for a session that the next wait is to watch.
+    /// Whether something may be done at once for one of those that the next wait is to watch.
     watched_work: bool,
-    /// The nearest deadline of the sessions that the next wait is to watch; `None` if there is none.
+    /// The nearest deadline of those that the next wait is to watch; `None` if there is none.
     watched_due: Option<Instant>,
     /// The most rows.
     max_rows: usize,
@@ -188,17 +182,6 @@ fn has_report(report: Readiness) -> bool
     report.may_read || report.may_write || report.reads_on
 }
 
-/// Returns the earliest of a moment and the deadlines of the rows; `None` if there is none.
-fn nearest(first: Option<Instant>, rows: &[Row]) -> Option<Instant>
-    ensures { result ≡ nearest first rows.now }
-{
-    let mut found = first;
-    for row in rows {
-        found = earlier(found, row.due);
-    }
-    found
-}
-
 /// Returns the key of the first free row; the number of rows if all are taken.
 fn first_free(rows: &[Row]) -> usize
     ensures key { result ≡ first_free rows.now }
@@ -221,17 +204,6 @@ pub(crate) fn either(one: bool, other: bool) -> bool
     ensures { result ≡ (one || other) }
 {
     one || other
-}
-
-/// Returns whether this is so, or something may be done at once for a row.
-fn any_work(first: bool, rows: &[Row]) -> bool
-    ensures { result ≡ any_work first rows.now }
-{
-    let mut found = first;
-    for row in rows {
-        found = either(found, row.has_work);
-    }
-    found
 }
 
 impl SocketTable {
@@ -359,35 +331,6 @@ impl SocketTable {
         }
     }
 
-    /// Returns the nearest deadline of a socket.
-    pub fn due(&self, key: usize) -> Option<Instant>
-        ensures { result ≡ (row_at self.now.rows key).due }
-    {
-        self.row(key).due
-    }
-
-    /// Sets the nearest deadline of a socket.
-    pub fn set_due(&mut self, key: usize, due: Option<Instant>)
-        ensures { self.new ≡ with_due self.old key due }
-    {
-        let row = self.row(key);
-        self.set_row(key, Row { due, ..row });
-    }
-
-    /// Records whether a socket may do something at once, and its nearest deadline.
-    pub(crate) fn leave(&mut self, key: usize, has_work: bool, due: Option<Instant>)
-        ensures { self.new ≡ left_with self.old key has_work due }
-    {
-        if key < self.rows.len() {
-            let row = self.rows[key];
-            self.rows[key] = Row {
-                has_work,
-                due,
-                ..row
-            };
-        }
-    }
-
     /// Has the next wait watch a session too: whether something may be done at once for it, and its nearest deadline.
     pub(crate) fn watch(&mut self, has_work: bool, due: Option<Instant>)
         ensures { self.new ≡ watching self.old has_work due }
@@ -411,30 +354,19 @@ impl SocketTable {
         self.watched_due = None;
     }
 
-    /// Forgets all deadlines, and what may be done at once.
-    pub(crate) fn forget_turns(&mut self)
-        ensures { self.new.reading ≡ self.old.reading }
-    {
-        self.unwatch();
-        for row in self.rows.iter_mut() {
-            row.has_work = false;
-            row.due = None;
-        }
-    }
-
     /// Returns whether a wait must not block: a poll since the last wait reported something, which comes only once, or
-    /// a session that it watches or a socket has work.
+    /// something that it watches has work.
     pub(crate) fn has_pending(&self) -> bool
         ensures { result ≡ has_pending self.now }
     {
-        self.has_news || any_work(self.watched_work, &self.rows)
+        self.has_news || self.watched_work
     }
 
-    /// Returns the time from the last reading of the clock until the next deadline; `None` without one.
+    /// Returns the time from the last reading of the clock until the nearest deadline that is watched; `None` without one.
     pub(crate) fn until_next(&self) -> Option<Duration>
-        ensures { IsUntil self.now.reading (nearest self.now.watched_due self.now.rows) result }
+        ensures { IsUntil self.now.reading self.now.watched_due result }
     {
-        match (self.reading, nearest(self.watched_due, &self.rows)) {
+        match (self.reading, self.watched_due) {
             (Some(now), Some(moment)) => Some(moment.saturating_duration_since(now)),
             _ => None,
         }

@@ -65,7 +65,7 @@ unfolding digits
 table_of_none = refl
 
 abbrev busy_line : List ℕ
-busy_line = codes "2 open, 1 connecting, 30 served, 4 unreached, up 125 s; bots wait for a place; stopping\n"
+busy_line = codes "2 open, 1 connecting, 30 served, 4 unreached, up 125 s; bots may wait for a place; stopping\n"
 
 abbrev first_line : List ℕ
 first_line = codes "      1  open 20      87      2      3      40        16         0          61 127.0.0.1:50000\n"
@@ -84,13 +84,13 @@ table_of_two = refl
 -- ---- as a document
 
 document_of_none : status_text Json idle_run []
-    ≡ codes "{\"open\":0,\"connecting\":0,\"served\":0,\"unreached\":0,\"bots_wait\":false,\"stopping\":false,\"seconds\":7,\"sessions\":[\n]}\n"
+    ≡ codes "{\"open\":0,\"connecting\":0,\"served\":0,\"unreached\":0,\"bots_may_wait\":false,\"stopping\":false,\"seconds\":7,\"sessions\":[\n]}\n"
 unfolding digits
 document_of_none = refl
 
 abbrev busy_members : List ℕ
 busy_members =
-    codes "{\"open\":2,\"connecting\":1,\"served\":30,\"unreached\":4,\"bots_wait\":true,\"stopping\":true,\"seconds\":125,\"sessions\":[\n"
+    codes "{\"open\":2,\"connecting\":1,\"served\":30,\"unreached\":4,\"bots_may_wait\":true,\"stopping\":true,\"seconds\":125,\"sessions\":[\n"
 
 abbrev first_object : List ℕ
 first_object =
@@ -133,7 +133,7 @@ metrics_of_none : status_text Prometheus idle_run []
     ++ codes "# HELP daide_gate_connecting Bots that wait for a connection to the server.\n# TYPE daide_gate_connecting gauge\ndaide_gate_connecting 0\n"
     ++ codes "# HELP daide_gate_served_total Sessions that are over.\n# TYPE daide_gate_served_total counter\ndaide_gate_served_total 0\n"
     ++ codes "# HELP daide_gate_unreached_total Bots for which the server could not be reached.\n# TYPE daide_gate_unreached_total counter\ndaide_gate_unreached_total 0\n"
-    ++ codes "# HELP daide_gate_bots_wait Whether bots wait for a place.\n# TYPE daide_gate_bots_wait gauge\ndaide_gate_bots_wait 0\n"
+    ++ codes "# HELP daide_gate_bots_may_wait Whether bots may wait for a place.\n# TYPE daide_gate_bots_may_wait gauge\ndaide_gate_bots_may_wait 0\n"
     ++ codes "# HELP daide_gate_stopping Whether the run accepts no further bot.\n# TYPE daide_gate_stopping gauge\ndaide_gate_stopping 0\n"
     ++ codes "# HELP daide_gate_up_seconds Seconds since the run began.\n# TYPE daide_gate_up_seconds gauge\ndaide_gate_up_seconds 7\n"
     ++ frames_head ++ waiting_head ++ idle_head ++ level_head
@@ -146,7 +146,7 @@ busy_metrics =
     ++ codes "# HELP daide_gate_connecting Bots that wait for a connection to the server.\n# TYPE daide_gate_connecting gauge\ndaide_gate_connecting 1\n"
     ++ codes "# HELP daide_gate_served_total Sessions that are over.\n# TYPE daide_gate_served_total counter\ndaide_gate_served_total 30\n"
     ++ codes "# HELP daide_gate_unreached_total Bots for which the server could not be reached.\n# TYPE daide_gate_unreached_total counter\ndaide_gate_unreached_total 4\n"
-    ++ codes "# HELP daide_gate_bots_wait Whether bots wait for a place.\n# TYPE daide_gate_bots_wait gauge\ndaide_gate_bots_wait 1\n"
+    ++ codes "# HELP daide_gate_bots_may_wait Whether bots may wait for a place.\n# TYPE daide_gate_bots_may_wait gauge\ndaide_gate_bots_may_wait 1\n"
     ++ codes "# HELP daide_gate_stopping Whether the run accepts no further bot.\n# TYPE daide_gate_stopping gauge\ndaide_gate_stopping 1\n"
     ++ codes "# HELP daide_gate_up_seconds Seconds since the run began.\n# TYPE daide_gate_up_seconds gauge\ndaide_gate_up_seconds 125\n"
 

@@ -36,7 +36,7 @@ totals run =
 -- the line of the run
 abbrev pub run_line : RunStatus → List ℕ
 run_line run =
-    totals run ++ text_if run.has_waiting (codes "; bots wait for a place") ++ text_if run.is_stopping (codes "; stopping")
+    totals run ++ text_if run.has_waiting (codes "; bots may wait for a place") ++ text_if run.is_stopping (codes "; stopping")
     ++ codes "\n"
 
 -- the line of the run, and the names of the columns

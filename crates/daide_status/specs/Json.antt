@@ -22,7 +22,7 @@ json_run_counts run =
 -- the flags of the run and its seconds, and the beginning of the array of sessions
 abbrev pub json_run_state : RunStatus → List ℕ
 json_run_state run =
-    codes ",\"bots_wait\":" ++ json_flag run.has_waiting ++ codes ",\"stopping\":" ++ json_flag run.is_stopping
+    codes ",\"bots_may_wait\":" ++ json_flag run.has_waiting ++ codes ",\"stopping\":" ++ json_flag run.is_stopping
     ++ codes ",\"seconds\":" ++ decimal run.seconds ++ codes ",\"sessions\":["
 
 -- the members of the run, and the beginning of the array of sessions

@@ -28,10 +28,10 @@ abbrev pub flag_number : Bool → ℕ
 flag_number true = 1
 flag_number false = 0
 
--- whether bots wait, whether the run is stopping, and its seconds
+-- whether bots may wait, whether the run is stopping, and its seconds
 abbrev pub waiting_metrics : RunStatus → List ℕ
 waiting_metrics run =
-    run_metric (codes "bots_wait") (codes "gauge") (codes "Whether bots wait for a place.") (flag_number run.has_waiting)
+    run_metric (codes "bots_may_wait") (codes "gauge") (codes "Whether bots may wait for a place.") (flag_number run.has_waiting)
     ++ run_metric (codes "stopping") (codes "gauge") (codes "Whether the run accepts no further bot.")
     (flag_number run.is_stopping)
     ++ run_metric (codes "up_seconds") (codes "gauge") (codes "Seconds since the run began.") run.seconds

@@ -41,7 +41,7 @@ fn put_run_state(run: &RunStatus, out: &mut Vec<u8>) -> io::Result<()>
     } = *run;
     write!(
         out,
-        ",\"bots_wait\":{has_waiting},\"stopping\":{is_stopping},\"seconds\":{seconds},\"sessions\":["
+        ",\"bots_may_wait\":{has_waiting},\"stopping\":{is_stopping},\"seconds\":{seconds},\"sessions\":["
     )
 }
 

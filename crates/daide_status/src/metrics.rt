@@ -75,13 +75,13 @@ fn put_counter(name: &str, help: &str, value: u64, out: &mut Vec<u8>) -> io::Res
     put_value(name, value, out)
 }
 
-/// Appends whether bots wait, whether the run is stopping, and its seconds.
+/// Appends whether bots may wait, whether the run is stopping, and its seconds.
 fn put_state(run: &RunStatus, out: &mut Vec<u8>) -> io::Result<()>
     ensures { OnOk result (out.new.items ≡ out.old.items ++ waiting_metrics run.now) }
 {
     put_gauge(
-        "bots_wait",
-        "Whether bots wait for a place.",
+        "bots_may_wait",
+        "Whether bots may wait for a place.",
         run.has_waiting as u64,
         out,
     )?;

@@ -15,7 +15,7 @@ pub struct RunStatus {
     pub served: u32,
     /// The number of bots for which the server could not be reached.
     pub unreached: u32,
-    /// Whether bots wait for a place.
+    /// Whether bots may wait for a place.
     pub has_waiting: bool,
     /// Whether no further bot is accepted.
     pub is_stopping: bool,

@@ -61,7 +61,7 @@ fn put_run_line(run: &RunStatus, out: &mut Vec<u8>) -> io::Result<()>
     ensures { OnOk result (out.new.items ≡ out.old.items ++ run_line run.now) }
 {
     put_totals(run, out)?;
-    put_if(run.has_waiting, "; bots wait for a place", out)?;
+    put_if(run.has_waiting, "; bots may wait for a place", out)?;
     put_if(run.is_stopping, "; stopping", out)?;
     out.write_all(b"\n")
 }

@@ -8,7 +8,7 @@ use Rattle.daide_io.specs.Ports.{PortCall, TurnBegins, Clock, Pulled, Offered}
 -- a stored call as a port call
 abbrev pub answer_stored : {A : Type 0} → Call A → PortCall
 answer_stored Calls.TurnBegins = TurnBegins
-answer_stored (Calls.Clock im_timer_expired) = Clock im_timer_expired
+answer_stored (Calls.Clock event) = Clock event
 answer_stored (Calls.Pulled side buffer pull bytes) = Pulled side buffer pull bytes.items
 answer_stored (Calls.Offered side bytes put) = Offered side bytes.items put
 

@@ -9,7 +9,7 @@ ghost use Rattle.daide_test_support.specs.MemoryPorts.{answer_stored, answers_st
 ghost use Rattle.daide_test_support.specs.declared.memory_ports.Call.{Call};
 
 use daide_frame::side::Side;
-use daide_io::ports::{Ports, Pull, Put};
+use daide_io::ports::{ClockEvent, Ports, Pull, Put};
 use std::alloc::{AllocError, Allocator, Global};
 
 /// The result of one pull from a side.
@@ -45,8 +45,8 @@ pub struct Script<'a> {
 pub enum Call<A: Allocator = Global> {
     /// A turn began.
     TurnBegins,
-    /// The IM timer was queried, and had expired or not.
-    Clock(bool),
+    /// The clock was read, and reported this.
+    Clock(ClockEvent),
     /// A side was read into a buffer of this length, and these bytes were returned.
     Pulled(Side, usize, Pull, Vec<u8, A>),
     /// These bytes were put to a side.
@@ -73,6 +73,8 @@ pub struct MemoryPorts<'a, A: Allocator = Global> {
     server: Player<'a>,
     /// The number of queries before the IM timer expires.
     quiet: u64,
+    /// The number of queries before the operator stops the session; `None` for never.
+    stops_after: Option<u64>,
 }
 
 /// Returns the record with one more call, or `None` if memory was refused.
@@ -90,6 +92,15 @@ fn with_call<A: Allocator>(
     match calls.push(one) {
         Ok(()) => Some(calls),
         Err(_) => None,
+    }
+}
+
+/// Returns what the clock reports, by the queries before a stop and those before the IM timer expires.
+fn clock_event(stops_after: Option<u64>, quiet: u64) -> ClockEvent {
+    match (stops_after, quiet) {
+        (Some(0), _) => ClockEvent::StopIsRequested,
+        (_, 0) => ClockEvent::ImTimeIsOver,
+        _ => ClockEvent::NoEvent,
     }
 }
 
@@ -173,7 +184,15 @@ impl<'a, A: Allocator + Copy> MemoryPorts<'a, A> {
             bot: Player::new(bot),
             server: Player::new(server),
             quiet,
+            stops_after: None,
         }
+    }
+
+    /// Has the clock report a stop at the query after this many more, and at no other.
+    pub fn stop_after(&mut self, queries: u64)
+        ensures { self.new.calls ≡ self.old.calls }
+    {
+        self.stops_after = Some(queries);
     }
 
     /// Records that a turn begins.
@@ -225,11 +244,12 @@ impl<'a, A: Allocator + Copy> Ports for MemoryPorts<'a, A> {
         put
     }
 
-    fn clock_popped(&mut self) -> bool {
-        let im_timer_expired = self.quiet == 0;
+    fn clock(&mut self) -> ClockEvent {
+        let event = clock_event(self.stops_after, self.quiet);
+        self.stops_after = self.stops_after.and_then(|queries| queries.checked_sub(1));
         self.quiet = self.quiet.saturating_sub(1);
         let calls = self.calls.take();
-        self.calls = with_call(calls, Ok(Call::Clock(im_timer_expired)));
-        im_timer_expired
+        self.calls = with_call(calls, Ok(Call::Clock(event)));
+        event
     }
 }

@@ -71,6 +71,7 @@ const EVENTS: &[(&[u8], ParsedMatchEvent)] = &[
         b"2 timer",
         ParsedMatchEvent::Of(2, ParsedEvent::ImTimerLine),
     ),
+    (b"1 stop", ParsedMatchEvent::Of(1, ParsedEvent::StopLine)),
     (
         b"1 end bot",
         ParsedMatchEvent::Of(1, ParsedEvent::EndOf(Side::Bot)),

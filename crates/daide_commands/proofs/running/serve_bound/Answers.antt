@@ -28,10 +28,10 @@ returns-clause-recorded g c =
       closing = system.sockets.closings;
     }) _ (λ old answer new moved. moved.0)
     c.args.settings.now _ _ _ _ c.run_on-in-Some-folder.result c.run_on-in-Some-folder.ensures
-    (still_none (λ system. record {
+    (rw c.new-system.ensures (still_none (λ system. record {
       came = system.acceptor.came;
       arrivals = system.arrivals.items;
       closing = system.closings;
     }) _ _ _ c.set_verbose.ensures
     (none_yet _ c.in-Some.sockets.stall_time _ _ _ c.in-Some.ensures.stall_time.0 c.in-Some.ensures.none_came.0
-    c.in-Some.ensures.none_held.0 c.in-Some.ensures.none_held.1)))
+    c.in-Some.ensures.none_held.0 c.in-Some.ensures.none_held.1))))

@@ -32,6 +32,16 @@ returns-in-ImTimerLine-clause-refused g c =
     refused_late (g.S.Style.form (words_of c.args.account.now.head.words)) c.time_out.result c.as_fault-in-ImTimerLine.result c.as_fault-in-ImTimerLine.ensures
     c.time_out.ensures.refused
 
+pub returns-in-StopLine-clause-judged : goal.returns-in-StopLine-clause-judged
+returns-in-StopLine-clause-judged g c =
+    rw c.in-StopLine.is
+    (as_reported c.halt.result c.as_fault-in-StopLine.result _ c.as_fault-in-StopLine.ensures c.halt.ensures.reported)
+
+pub returns-in-StopLine-clause-refused : goal.returns-in-StopLine-clause-refused
+returns-in-StopLine-clause-refused g c =
+    refused_late (g.S.Style.form (words_of c.args.account.now.head.words)) c.halt.result c.as_fault-in-StopLine.result c.as_fault-in-StopLine.ensures
+    c.halt.ensures.refused
+
 pub returns-in-Silence-clause-judged : goal.returns-in-Silence-clause-judged
 returns-in-Silence-clause-judged g c =
     let words = words_of c.args.account.now.head.words in

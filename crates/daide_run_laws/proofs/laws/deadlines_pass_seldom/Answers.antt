@@ -2,4 +2,4 @@ use Rattle.daide_run_laws.proofs.OverdueLemmas.{deadlines_pass_seldom}
 use Rattle.daide_run_laws.proofs.laws.deadlines_pass_seldom.Goals as goal
 
 pub returns : goal.returns
-returns g c = deadlines_pass_seldom _ _ (λ old new call h. h.2)
+returns g c = deadlines_pass_seldom _ _ (λ old new call h. h.2) g.N.Network.transition

@@ -13,3 +13,6 @@ returns-in-EndOf-clause-lined c = λ some. (_, ap line_event c.in-EndOf.is)
 
 pub returns-in-ImTimer-clause-lined : goal.returns-in-ImTimer-clause-lined
 returns-in-ImTimer-clause-lined c = λ some. (_, ap line_event c.in-ImTimer.is)
+
+pub returns-in-Stop-clause-lined : goal.returns-in-Stop-clause-lined
+returns-in-Stop-clause-lined c = λ some. (_, ap line_event c.in-Stop.is)

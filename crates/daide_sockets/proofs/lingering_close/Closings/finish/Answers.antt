@@ -1,4 +1,5 @@
-use Rattle.std.proofs.Common.{◌+◌, arith, refl, inl, inr}
+use Rattle.std.proofs.Common.{◌+◌, ap, arith, refl, inl, inr}
+use Rattle.daide_sockets.specs.Table.{Table}
 use Rattle.daide_sockets.proofs.LingeringLemmas.{one_round_more}
 use Rattle.daide_sockets.proofs.FinishingLemmas.{one_wait_more}
 use Rattle.daide_sockets.proofs.lingering_close.Closings.finish.Goals as goal
@@ -19,7 +20,7 @@ returns-then-is_empty-clause-readings g c = record {
   rounds = c.loop-round._round;
   first = _;
   last = _;
-  begins = (refl, c.forget_turns.ensures, refl);
+  begins = (refl, ap (λ (t : Table). t.reading) c.unwatch.ensures, refl);
   made = c.loop-round.invariant.readings;
   ends = inl (c.advance.ensures.looks, c.is_empty.ensures.none c.if-is_empty.true);
 }
@@ -38,7 +39,7 @@ returns-clause-readings g c =
       rounds = c.loop-round._round;
       first = _;
       last = _;
-      begins = (refl, c.forget_turns.ensures, refl);
+      begins = (refl, ap (λ (t : Table). t.reading) c.unwatch.ensures, refl);
       made = c.loop-round.invariant.readings;
       ends = inr (omega (arith, past, few), refl);
     }

@@ -1,5 +1,5 @@
 use Rattle.std.proofs.Common.{List, ap, ◌∙◌}
-use Rattle.daide_sockets.specs.Beside.{arrivals_watched}
+use Rattle.daide_sockets.specs.Beside.{arrivals_watched, listener_watched}
 use Rattle.daide_sockets.specs.InTime.{watching_all}
 use Rattle.daide_sockets.specs.Pairing.{Arriving}
 use Rattle.daide_sockets.proofs.BesideLemmas.{rests_beside}
@@ -8,7 +8,7 @@ use Rattle.daide_sockets.proofs.system.Sockets.rest.Goals as goal
 pub returns-clause-polls : goal.returns-clause-polls
 returns-clause-polls g c =
     rests_beside g.N.Network.transition _ _ c.args.self.now.poller.table c.watch.new.table c.watch_arrivals.new.table _
-    (c.args.self.now.acceptor.looks_again, c.args.self.now.acceptor.resumes_at) c.args.self.now.arrivals.items
+    (listener_watched c.args.self.now.poller.table c.args.self.now.acceptor) c.args.self.now.arrivals.items
     c.args.self.now.closings.streams c.watch.ensures
     (c.watch_arrivals.ensures
     ∙ ap (λ (arrivals : List (Arriving g.row.N-Connection.Denot)).

@@ -1,4 +1,4 @@
-use Rattle.std.proofs.Common.{◌≡◌, ℕ, ◌<◌, length, ◌∙◌, subst, arith}
+use Rattle.std.proofs.Common.{◌≡◌, ℕ, ◌<◌, length, refl, sym, ◌∙◌, subst, arith}
 use Rattle.daide_sockets.specs.Pairing.{ChecksArrivals}
 use Rattle.daide_sockets.proofs.PairingLemmas.{next_out, one_more, checked_len}
 use Rattle.daide_sockets.proofs.system.SocketsSystemSocketPortsConnection.connected.Goals as goal
@@ -16,6 +16,17 @@ returns-in-Ready g c =
         e.4 ∙ c.loop-look.invariant.closing,
       ),
       tt,
+      (
+        (
+          (
+            c.in-Ready.ensures.times.0 ∙ c.loop-look.invariant.idle_time,
+            c.in-Ready.ensures.times.1 ∙ c.loop-look.invariant.stall_time,
+          ),
+          c.in-Ready.ensures.acceptor ∙ c.loop-look.invariant.acceptor,
+        ),
+        rw (sym c.loop-look.invariant.clock, sym c.loop-look.invariant.idle_time, sym c.loop-look.invariant.stall_time)
+            (c.in-Ready.ensures.begins c.in-Ready.ports refl),
+      ),
     )
 
 pub returns-in-Failed : goal.returns-in-Failed
@@ -30,6 +41,16 @@ returns-in-Failed g c =
         e.3 ∙ c.loop-look.invariant.came,
       ),
       tt,
+      (
+        (
+          (
+            c.in-Failed.ensures.times.0 ∙ c.loop-look.invariant.idle_time,
+            c.in-Failed.ensures.times.1 ∙ c.loop-look.invariant.stall_time,
+          ),
+          c.in-Failed.ensures.acceptor ∙ c.loop-look.invariant.acceptor,
+        ),
+        tt,
+      ),
     )
 
 pub loop-look-preserved : goal.loop-look-preserved
@@ -41,6 +62,10 @@ loop-look-preserved g c =
       looks = one_more c.loop-look._look _ _ _ _ e.0 e.1 c.loop-look.invariant.looks inside e.3 e.4 e.5;
       came = e.6 ∙ c.loop-look.invariant.came;
       closing = e.7 ∙ c.loop-look.invariant.closing;
+      idle_time = c.in-Pending.ensures.times.0 ∙ c.loop-look.invariant.idle_time;
+      stall_time = c.in-Pending.ensures.times.1 ∙ c.loop-look.invariant.stall_time;
+      acceptor = c.in-Pending.ensures.acceptor ∙ c.loop-look.invariant.acceptor;
+      clock = c.in-Pending.ensures.clock ∙ c.loop-look.invariant.clock;
     }
 
 -- each was checked
@@ -57,6 +82,13 @@ returns g c =
         c.loop-look.invariant.closing,
       ),
       tt,
+      (
+        (
+          (c.loop-look.invariant.idle_time, c.loop-look.invariant.stall_time),
+          c.loop-look.invariant.acceptor,
+        ),
+        tt,
+      ),
     )
 
 -- one is left to check

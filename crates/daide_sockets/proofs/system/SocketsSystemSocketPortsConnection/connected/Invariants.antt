@@ -8,4 +8,8 @@ invariant-loop-look g l = record {
   looks : ChecksArrivals l._look l.initial.self.arrivals.items l.self.arrivals.items;
   came : l.self.acceptor.came ≡ l.initial.self.acceptor.came;
   closing : l.self.closings ≡ l.initial.self.closings;
+  idle_time : l.self.idle_time ≡ l.initial.self.idle_time;
+  stall_time : l.self.stall_time ≡ l.initial.self.stall_time;
+  acceptor : l.self.acceptor ≡ l.initial.self.acceptor;
+  clock : l.self.poller.table.reading ≡ l.initial.self.poller.table.reading;
 }

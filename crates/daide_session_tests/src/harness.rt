@@ -1,0 +1,252 @@
+//! A system that plays a scene: accepts, connects, news and orders by a script. It records the calls of its run.
+
+ghost use Rattle.std.specs.Prelude.{◌≡◌};
+ghost use Rattle.daide_session_tests.specs.Retired.{KeepsRetired};
+
+use crate::relays::{NEVER, QUIET};
+use daide_gate::serving::serve;
+use daide_gate::settings::{Settings, read_settings};
+use daide_gate::system::{Connect, Notice, Orders, SessionEnd, SessionStatus, System};
+use daide_test_support::memory_ports::{Call, MemoryPorts, Script, ScriptedRead};
+use daide_test_support::rows::holds;
+use std::alloc::Global;
+use std::test::Fail;
+
+/// The result of a connect, in a script.
+#[derive(Clone, Copy)]
+pub(crate) enum Fate {
+    Ready,
+    Failed,
+    Pending,
+}
+
+/// A call of the system, with its result.
+#[derive(Clone, Copy, PartialEq, Eq)]
+pub(crate) enum Event {
+    Begun,
+    Shown,
+    News,
+    NoNews,
+    TurnBegun,
+    Watched,
+    Came,
+    NoneCame,
+    Ready,
+    Failed,
+    Pending,
+    Retired,
+    Told(Notice),
+    Waited,
+}
+
+/// The script of a run. After the last accept each further one returns a bot; after the last fate each connect
+/// succeeds; after the last report there is news each time; after the last orders there are none.
+#[derive(Clone, Copy)]
+pub(crate) struct Scene {
+    pub(crate) accepts: &'static [bool],
+    pub(crate) fates: &'static [Fate],
+    pub(crate) news: &'static [bool],
+    pub(crate) orders: &'static [Orders],
+    pub(crate) bot: Script<'static>,
+}
+
+/// A system that plays a scene. Its server is quiet.
+#[derive(Drop)]
+pub(crate) struct Harness {
+    alloc: Global,
+    scene: Scene,
+    accepts: usize,
+    fates: usize,
+    news: usize,
+    orders: usize,
+    /// The number of bots that are connected, and the greatest number of them so far.
+    pub(crate) held: usize,
+    pub(crate) most: usize,
+    pub(crate) events: Vec<Event>,
+    pub(crate) retired: Vec<MemoryPorts<'static>>,
+    /// The ends of the sessions, in the order of their retirement.
+    pub(crate) ends: Vec<SessionEnd>,
+    /// Each status that was shown, and how many turns were begun with its ports.
+    pub(crate) shown: Vec<(usize, SessionStatus)>,
+}
+
+impl Harness {
+    /// Creates a system before the first bot.
+    pub(crate) fn new(alloc: Global, scene: Scene) -> Harness {
+        Harness {
+            alloc,
+            scene,
+            accepts: 0,
+            fates: 0,
+            news: 0,
+            orders: 0,
+            held: 0,
+            most: 0,
+            events: Vec::new(alloc),
+            retired: Vec::new(alloc),
+            ends: Vec::new(alloc),
+            shown: Vec::new(alloc),
+        }
+    }
+
+    /// Records a call of the system, if there is memory.
+    fn note(&mut self, event: Event)
+        ensures { self.new ≡ record self.old { events = self.new.events } }
+    {
+        let _ = self.events.push(event);
+    }
+}
+
+/// Returns how many turns were begun with these ports.
+fn turns_begun(ports: &MemoryPorts<'static>) -> usize {
+    let mut turns = 0_usize;
+    for call in ports.calls().unwrap_or(&[]) {
+        if matches!(call, Call::TurnBegins) {
+            turns = turns.saturating_add(1);
+        }
+    }
+    turns
+}
+
+impl System<MemoryPorts<'static>> for Harness {
+    ghost transition = { λ old answer new. KeepsRetired old.retired.items answer new.retired.items };
+
+    fn begin_round(&mut self) -> Orders {
+        self.note(Event::Begun);
+        let orders = self.scene.orders.get(self.orders);
+        self.orders = self.orders.saturating_add(1);
+        orders.copied().unwrap_or(Orders::NONE)
+    }
+
+    fn show(&mut self, ports: &MemoryPorts<'static>, status: SessionStatus) {
+        self.note(Event::Shown);
+        let _ = self.shown.push((turns_begun(ports), status));
+    }
+
+    fn has_news(&mut self, _ports: &MemoryPorts<'static>) -> bool {
+        let news = self.scene.news.get(self.news).is_none_or(|news| *news);
+        self.news = self.news.saturating_add(1);
+        self.note(if news { Event::News } else { Event::NoNews });
+        news
+    }
+
+    fn begin_turn(&mut self, ports: &mut MemoryPorts<'static>) {
+        self.note(Event::TurnBegun);
+        ports.begin_turn();
+    }
+
+    fn watch(&mut self, _ports: &MemoryPorts<'static>) {
+        self.note(Event::Watched);
+    }
+
+    fn accept(&mut self) -> bool {
+        let came = self
+            .scene
+            .accepts
+            .get(self.accepts)
+            .is_none_or(|came| *came);
+        self.accepts = self.accepts.saturating_add(1);
+        if came {
+            self.held = self.held.saturating_add(1);
+            self.most = self.most.max(self.held);
+            self.note(Event::Came);
+        } else {
+            self.note(Event::NoneCame);
+        }
+        came
+    }
+
+    fn connected(&mut self) -> Connect<MemoryPorts<'static>> {
+        let fate = self.scene.fates.get(self.fates);
+        self.fates = self.fates.saturating_add(1);
+        match fate {
+            None | Some(Fate::Ready) => {
+                self.note(Event::Ready);
+                Connect::Ready(MemoryPorts::new(self.alloc, self.scene.bot, QUIET, NEVER))
+            }
+            Some(Fate::Failed) => {
+                self.held = self.held.saturating_sub(1);
+                self.note(Event::Failed);
+                Connect::Failed
+            }
+            Some(Fate::Pending) => {
+                self.note(Event::Pending);
+                Connect::Pending
+            }
+        }
+    }
+
+    fn retire(&mut self, ports: MemoryPorts<'static>, end: SessionEnd) {
+        self.held = self.held.saturating_sub(1);
+        self.note(Event::Retired);
+        let _ = self.retired.push(ports);
+        let _ = self.ends.push(end);
+    }
+
+    fn tell(&mut self, notice: Notice) {
+        self.note(Event::Told(notice));
+    }
+
+    fn wait(&mut self) {
+        self.note(Event::Waited);
+    }
+}
+
+/// A bot that ends at once.
+pub(crate) const ENDS: Script<'static> = Script {
+    pulls: &[ScriptedRead::End],
+    puts: &[],
+};
+
+/// A bot that sends nothing in its first turn, and ends in its second.
+pub(crate) const ENDS_LATER: Script<'static> = Script {
+    pulls: &[ScriptedRead::Idle, ScriptedRead::End],
+    puts: &[],
+};
+
+/// A bot that sends its IM, and nothing more.
+pub(crate) const OPENS_ALONE: Script<'static> = Script {
+    pulls: &[ScriptedRead::Bytes(&[0, 0, 0, 4, 0, 1, 0xDA, 0x10])],
+    puts: &[],
+};
+
+/// One bot that ends, and whose server accepts the connect.
+pub(crate) const ENDING: Scene = Scene {
+    accepts: &[],
+    fates: &[],
+    news: &[],
+    orders: &[],
+    bot: ENDS,
+};
+
+/// The settings `max_sessions`, `sessions` and `turns`.
+pub(crate) type Limits = (usize, u32, u64);
+
+/// Returns settings with these limits.
+pub(crate) fn settings(alloc: Global, limits: Limits) -> Result<Settings, Fail> {
+    let (max_sessions, sessions, turns) = limits;
+    let text = format!(in alloc;
+        "listen = \"a\"\nserver = \"b\"\nmax_body = 512
+        max_sessions = {max_sessions}\nsessions = {sessions}\nturns = {turns}\n"
+    )?;
+    Ok(read_settings(alloc, text.as_str())?)
+}
+
+/// Returns the system after a whole run of a scene with these limits.
+pub(crate) fn stage_after(alloc: Global, scene: Scene, limits: Limits) -> Result<Harness, Fail> {
+    let settings = settings(alloc, limits)?;
+    let mut stage = Harness::new(alloc, scene);
+    serve(alloc, &settings, &mut stage)?;
+    Ok(stage)
+}
+
+/// Checks the calls of a run of a scene with these limits.
+pub(crate) fn assert_run(
+    alloc: Global,
+    scene: Scene,
+    limits: Limits,
+    want: &[Event],
+) -> Result<(), Fail> {
+    let stage = stage_after(alloc, scene, limits)?;
+    holds(stage.events.as_slice() == want, "the events")
+}

@@ -1,0 +1,199 @@
+//! The operator's orders in whole runs in memory: bots are accepted no more, and each session is shown.
+
+use crate::harness::{
+    ENDING, ENDS, ENDS_LATER, Event, Fate, Harness, Limits, OPENS_ALONE, Scene, assert_run,
+    settings,
+};
+use daide_gate::serving::Service;
+use daide_gate::system::{Notice, Orders, SessionStatus};
+use daide_gate::{Level, Phase, Summary};
+use daide_test_support::memory_ports::{MemoryPorts, Script, ScriptedRead};
+use daide_test_support::rows::{holds, same};
+use std::alloc::Global;
+use std::test::Fail;
+
+/// A bot that sends nothing in its first three turns, and ends in its fourth.
+const ENDS_IN_ITS_FOURTH_TURN: Script<'static> = Script {
+    pulls: &[
+        ScriptedRead::Idle,
+        ScriptedRead::Idle,
+        ScriptedRead::Idle,
+        ScriptedRead::End,
+    ],
+    puts: &[],
+};
+
+const STOP: Orders = Orders {
+    stops_accepting: true,
+    shows_sessions: false,
+};
+
+const SHOW: Orders = Orders {
+    stops_accepting: false,
+    shows_sessions: true,
+};
+
+/// A scene with orders | its limits | the calls of the system.
+const ORDERED_RUNS: &[(Scene, Limits, &[Event])] = &[
+    // an order to stop before the first bot: the run is over, and does not wait
+    (
+        Scene {
+            accepts: &[],
+            fates: &[],
+            news: &[],
+            orders: &[STOP],
+            bot: ENDS,
+        },
+        (16, 9, 9),
+        &[Event::Begun],
+    ),
+    // with one session open and one connect pending: both go on to their ends, and no bot is accepted
+    (
+        Scene {
+            accepts: &[],
+            fates: &[Fate::Ready, Fate::Pending, Fate::Ready],
+            news: &[],
+            orders: &[Orders::NONE, Orders::NONE, STOP],
+            bot: ENDS_IN_ITS_FOURTH_TURN,
+        },
+        (16, 9, 9),
+        &[
+            Event::Begun,
+            Event::Came,
+            Event::Ready,
+            Event::TurnBegun,
+            Event::Begun,
+            Event::Came,
+            Event::Pending,
+            Event::News,
+            Event::TurnBegun,
+            Event::Begun,
+            Event::Ready,
+            Event::News,
+            Event::TurnBegun,
+            Event::TurnBegun,
+            Event::Begun,
+            Event::News,
+            Event::TurnBegun,
+            Event::News,
+            Event::TurnBegun,
+            Event::Retired,
+            Event::Begun,
+            Event::News,
+            Event::TurnBegun,
+            Event::Watched,
+            Event::Waited,
+            Event::Begun,
+            Event::News,
+            Event::TurnBegun,
+            Event::Retired,
+        ],
+    ),
+    // with one connect pending, which fails: until then the run waits
+    (
+        Scene {
+            accepts: &[],
+            fates: &[Fate::Pending, Fate::Pending, Fate::Failed],
+            news: &[],
+            orders: &[Orders::NONE, STOP],
+            bot: ENDS,
+        },
+        (16, 9, 9),
+        &[
+            Event::Begun,
+            Event::Came,
+            Event::Pending,
+            Event::Begun,
+            Event::Pending,
+            Event::Waited,
+            Event::Begun,
+            Event::Failed,
+            Event::Told(Notice::CannotReach),
+        ],
+    ),
+    // an order to show without a session, and with one
+    (
+        Scene {
+            accepts: &[],
+            fates: &[],
+            news: &[],
+            orders: &[SHOW, SHOW],
+            bot: ENDS_LATER,
+        },
+        (1, 1, 9),
+        &[
+            Event::Begun,
+            Event::Came,
+            Event::Ready,
+            Event::TurnBegun,
+            Event::Begun,
+            Event::Shown,
+            Event::News,
+            Event::TurnBegun,
+            Event::Retired,
+        ],
+    ),
+];
+
+#[test]
+fn orders_are_heeded_round_by_round(rt: HostRuntime) -> Result<(), Fail> {
+    for (scene, limits, want) in ORDERED_RUNS {
+        assert_run(rt.alloc(), *scene, *limits, want)?;
+    }
+    Ok(())
+}
+
+/// Three bots that send their IM, header and body in a turn each. A round accepts one of them, and the fourth and the
+/// fifth round show all.
+const SHOWN: Scene = Scene {
+    orders: &[Orders::NONE, Orders::NONE, Orders::NONE, SHOW, SHOW],
+    bot: OPENS_ALONE,
+    ..ENDING
+};
+
+/// Turns begun | the phase | relayed frames | bytes queued for the server. An IM is relayed once its second part is
+/// read, and the server takes a part a turn.
+const STATUSES: &[(usize, Phase, u64, usize)] = &[
+    (3, Phase::WaitRm, 1, 4),
+    (2, Phase::WaitRm, 1, 8),
+    (1, Phase::WaitIm, 0, 0),
+    (4, Phase::WaitRm, 1, 0),
+    (3, Phase::WaitRm, 1, 4),
+    (2, Phase::WaitRm, 1, 8),
+];
+
+/// Checks a status that was shown, of a session without a level, a refusal and bytes for its bot.
+fn assert_status(
+    shown: &(usize, SessionStatus),
+    want: &(usize, Phase, u64, usize),
+) -> Result<(), Fail> {
+    let (turns, phase, relayed, queued_to_server) = *want;
+    let status = SessionStatus {
+        phase,
+        level: Level::L0,
+        summary: Summary {
+            relayed,
+            prn: 0,
+            huh: 0,
+            faults: 0,
+        },
+        queued_to_bot: 0,
+        queued_to_server,
+    };
+    holds(*shown == (turns, status), "the status")
+}
+
+#[test]
+fn each_session_is_shown_in_order(rt: HostRuntime) -> Result<(), Fail> {
+    let settings = settings(rt.alloc(), (3, 3, 9))?;
+    let mut stage = Harness::new(rt.alloc(), SHOWN);
+    let mut service = Service::<MemoryPorts<'static>, Global>::new(rt.alloc(), &settings)?;
+    for _round in 0..5 {
+        service.round(&mut stage)?;
+    }
+    same(&stage.shown.len(), &STATUSES.len(), &"shown")?;
+    for (shown, want) in stage.shown.iter().zip(STATUSES) {
+        assert_status(shown, want)?;
+    }
+    Ok(())
+}

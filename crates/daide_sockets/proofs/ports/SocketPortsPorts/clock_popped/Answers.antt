@@ -1,6 +1,0 @@
-use Rattle.std.proofs.Common.{refl}
-use Rattle.daide_buffered_io.proofs.StreamLemmas.{asked_moves}
-use Rattle.daide_sockets.proofs.ports.SocketPortsPorts.clock_popped.Goals as goal
-
-pub returns-clause-transition : goal.returns-clause-transition
-returns-clause-transition g c = (asked_moves g.S.Duplex.to_give g.S.Duplex.taken _ _ _ refl, refl, (refl, refl))

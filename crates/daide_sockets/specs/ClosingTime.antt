@@ -1,0 +1,67 @@
+-- How long a stream closes: its deadlines since its closing began, and how often they pass. (own)
+use Rattle.std.specs.Prelude.{◌≡◌, ◌≤◌, ℕ, ◌+◌, max, if◌then◌else◌, List, [], ◌∷◌, Option, Some, All}
+use Rattle.std.specs.Duration.{as_nanos}
+use Rattle.std.specs.Time.{instant_nanos, FitsClock}
+use Rattle.std.specs.declared.time.Duration.{Duration}
+use Rattle.std.specs.declared.time.Instant.{Instant}
+use Rattle.daide_buffered_io.specs.Buffers.{Buffer}
+use Rattle.daide_buffered_io.specs.declared.readiness.Readiness.{Readiness}
+use Rattle.daide_io.specs.Streams.{StreamCall}
+use Rattle.daide_io.specs.System.{SystemCall, TransitsBy}
+use Rattle.daide_sockets.specs.Beside.{closing_due}
+use Rattle.daide_sockets.specs.Lingering.{ClosingStream, begins_closing, WritesOut, Lingers, end_time}
+use Rattle.daide_sockets.specs.Pairing.{Paired, RunSockets, Transits}
+use Rattle.daide_sockets.specs.Times.{is_past}
+
+-- ---- the premise
+
+-- a reading of the clock after which the stall timeout and the time for the peer's end are within the clock's range
+pub record IsReadingFor (stall : Duration) (reading : Option Instant) (now : Instant) : Type 0 where
+  pub read : reading ≡ Some now
+  pub stall_fits : FitsClock (instant_nanos now + as_nanos stall)
+  pub end_fits : FitsClock (instant_nanos now + end_time)
+
+-- The clock goes on: these readings, the last one first, are each not before the one before it, and the first of all is
+-- not before the start.
+abbrev pub ReadingsGoOn : Duration → Option Instant → List (Option Instant) → Instant → Type 0
+ReadingsGoOn stall start [] last = IsReadingFor stall start last
+ReadingsGoOn stall start (reading ∷ readings) last = (before : Instant) × ReadingsGoOn stall start readings before
+    × IsReadingFor stall reading last × (instant_nanos before ≤ instant_nanos last)
+
+module _ {S : Type 0} (to_give taken : S → Option (List ℕ)) (calls : S → Option (List StreamCall)) where
+  -- a stream was advanced at these readings of the clock, the last one first, and stayed each time
+  abbrev pub LingersBy : List (Option Instant) → ClosingStream S → ClosingStream S → Type 0
+  LingersBy [] first new = new ≡ first
+  LingersBy (now ∷ readings) first new =
+      (mid : ClosingStream S) × LingersBy readings first mid × Lingers to_give taken calls now mid new
+
+  -- how often it was advanced at or past the deadline that it had
+  abbrev pub overdue_looks : (readings : List (Option Instant)) → (first new : ClosingStream S) → LingersBy readings first new → ℕ
+  overdue_looks [] first new by = 0
+  overdue_looks (now ∷ readings) first new by =
+      (if is_past now (closing_due by.0) then 1 else 0) + overdue_looks readings first by.0 by.1
+
+  -- a stream whose closing began, with this stall timeout of its peer, and which was advanced since
+  pub record ClosesSince (stall_time : Option Duration) (closing : ClosingStream S) : Type 0 where
+    pub start : Option Instant
+    pub key : ℕ
+    pub known : Readiness
+    pub stream : Buffer S
+    pub first : ClosingStream S
+    pub begins : WritesOut to_give taken calls start (begins_closing stall_time key known stream) first
+    pub readings : List (Option Instant)
+    pub looks : LingersBy readings first closing
+
+  -- A stream that still closes, of which the peer has a stall timeout. It was advanced at most once at or past a deadline.
+  -- While the clock goes on it has a deadline, at most the stall timeout or a second after it was advanced last.
+  pub record IsClosingInTime (stall : Duration) (closing : ClosingStream S) : Type 0 where
+    pub since : ClosesSince (Some stall) closing
+    pub overdue : overdue_looks since.readings since.first closing since.looks ≤ 1
+    pub deadline : (last : Instant) → ReadingsGoOn stall since.start since.readings last → (due : Instant)
+        × (closing_due closing ≡ Some due) × (instant_nanos due ≤ instant_nanos last + max (as_nanos stall) end_time)
+
+  -- Sockets of a run of which none closed, after any trace of system calls: each closing stream is in time.
+  abbrev pub ClosingSocketsLeave : Type 0 → Type 0
+  ClosingSocketsLeave P = (pair : P → Paired S) (old new : RunSockets S) (answers : List (SystemCall P)) (stall : Duration) →
+      old.closing.streams ≡ [] → old.closing.stall_time ≡ Some stall →
+      TransitsBy (Transits to_give taken calls pair) old answers new → All (IsClosingInTime stall) new.closing.streams

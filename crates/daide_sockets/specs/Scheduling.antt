@@ -1,0 +1,120 @@
+-- What the sockets of a run schedule: the timeouts with which sessions begin, accepts, and what a wait watches. (own)
+use Rattle.std.specs.Prelude.{◌≡◌, ℕ, ◌<◌, true, List, length, Option}
+use Rattle.std.specs.declared.time.Duration.{Duration}
+use Rattle.daide_io.specs.Network.{NetworkCall}
+use Rattle.daide_io.specs.Streams.{StreamCall}
+use Rattle.daide_io.specs.System.{SystemCall, Begins, Shows, ReportsNews, BeginsTurn, Watches, Accepts, Connects}
+use Rattle.daide_io.specs.System.{Retires, Notifies, Waits}
+use Rattle.daide_io.specs.declared.system.Connect.{Connect}
+use Rattle.daide_io.specs.declared.system.Connect.TheVariants.{Ready, Failed, Pending}
+use Rattle.daide_sockets.specs.declared.admission.Acceptor.{Acceptor}
+use Rattle.daide_sockets.specs.declared.ports.SocketPorts.{SocketPorts}
+use Rattle.daide_sockets.specs.Accepting.{is_accept_due, MakesAccept}
+use Rattle.daide_sockets.specs.Beside.{listener_watched, others_watched}
+use Rattle.daide_sockets.specs.Lingering.{ClosingList}
+use Rattle.daide_sockets.specs.Pairing.{Arriving, Paired, RunSockets, Transits}
+use Rattle.daide_sockets.specs.Table.{Table, IsNoTime}
+use Rattle.daide_sockets.specs.Timers.{SessionTimers, BeginsAt, timers_of}
+use Rattle.daide_sockets.specs.Wakeups.{Wakes, RestsOnce}
+
+-- The sockets of a run: its network and its table; the timeouts of each peer, of its silence and of a stall, none for
+-- never; the listener; how many bots may have a connect under way; those that have one; and the closing streams.
+pub record RunState (N S : Type 0) : Type 0 where
+  pub network : N
+  pub table : Table
+  pub times : Option Duration × Option Duration
+  pub acceptor : Acceptor
+  pub room : ℕ
+  pub arrivals : List (Arriving S)
+  pub closing : ClosingList S
+
+abbrev pub run_state : {N S : Type 0} → N × Table → Option Duration × Option Duration → Acceptor → ℕ → List (Arriving S) →
+    ClosingList S → RunState N S
+run_state polled times acceptor room arrivals closing = record {
+  network = polled.0;
+  table = polled.1;
+  times = times;
+  acceptor = acceptor;
+  room = room;
+  arrivals = arrivals;
+  closing = closing;
+}
+
+-- the number of bots that came, those with a connect under way, and the closing streams
+abbrev pub sockets_in : {N S : Type 0} → RunState N S → RunSockets S
+sockets_in state = record { came = state.acceptor.came; arrivals = state.arrivals; closing = state.closing }
+
+-- the content of ports: the number of their session, and its streams
+abbrev pub pair_of : {S : Type 0} → SocketPorts S → Paired S
+pair_of ports = record { number = ports.number; bot = ports.bot.stream; server = ports.server.stream }
+
+-- ---- accepts
+
+-- one more bot may have a connect under way, and a number is left for it
+abbrev pub HasRoomForBot : {N S : Type 0} → RunState N S → Type 0
+HasRoomForBot state = (length state.arrivals < state.room) × (state.acceptor.came < 4294967295)
+
+-- The listener is asked for a bot: with room for one an accept is made if it is due. From then on the wait of the round is
+-- for bots too.
+pub record AsksListener {N C S : Type 0} (transition : N → NetworkCall C → N → Type 0) (old new : RunState N S) :
+    Type 0 where
+  pub made : HasRoomForBot old →
+      is_accept_due old.table old.acceptor.key old.acceptor.readiness old.acceptor.resumes_at ≡ true →
+      MakesAccept transition old.network
+  pub awaited : new.acceptor.awaits_bots ≡ true
+
+-- ---- sessions
+
+-- the ports of a connect begin at the table's reading of the clock, with the timeouts of the run
+abbrev pub BeginsInRun : {N P S : Type 0} → (P → SessionTimers S) → RunState N S → Connect P → Type 0
+BeginsInRun timers state (Ready ports) = BeginsAt state.table.reading state.times (timers ports)
+BeginsInRun timers state Failed = Unit {0}
+BeginsInRun timers state Pending = Unit {0}
+
+-- ---- calls
+
+-- the timeouts of the run do not change
+abbrev pub SameTimes : {N S : Type 0} → RunState N S → RunState N S → Type 0
+SameTimes old new = (new.times.0 ≡ old.times.0) × (new.times.1 ≡ old.times.1)
+
+-- neither these nor the listener change
+abbrev pub SameSchedule : {N S : Type 0} → RunState N S → RunState N S → Type 0
+SameSchedule old new = SameTimes old new × (new.acceptor ≡ old.acceptor)
+
+-- What a system call schedules. The timeouts of the run never change, and each session begins with them. The listener is
+-- asked for a bot whenever one may be accepted. A wait watches the listener, each connect and each closing stream.
+abbrev pub Schedules : {N C P S : Type 0} → (N → NetworkCall C → N → Type 0) → (P → SessionTimers S) → RunState N S →
+    SystemCall P → RunState N S → Type 0
+Schedules transition timers old (Begins orders) new = SameTimes old new
+Schedules transition timers old (Accepts came) new = SameTimes old new × AsksListener transition old new
+Schedules transition timers old (Connects connect) new = SameSchedule old new × BeginsInRun timers old connect
+Schedules transition timers old Waits new = SameSchedule old new
+    × RestsOnce transition (others_watched old.table (listener_watched old.table old.acceptor) old.arrivals old.closing.streams)
+    old.network old.table new.network new.table
+Schedules transition timers old (Shows ports status) new = SameSchedule old new
+Schedules transition timers old (ReportsNews ports news) new = SameSchedule old new
+Schedules transition timers old (BeginsTurn before after) new = SameSchedule old new
+Schedules transition timers old (Watches ports) new = SameSchedule old new
+Schedules transition timers old (Retires ports end) new = SameSchedule old new
+Schedules transition timers old (Notifies notice) new = SameSchedule old new
+
+-- ---- a wait for bots
+
+-- a wait that takes no time while an accept is due
+pub record AwaitsBots {N C S : Type 0} (transition : N → NetworkCall C → N → Type 0) (old new : RunState N S) : Type 0 where
+  pub rests : RestsOnce transition (others_watched old.table (listener_watched old.table old.acceptor) old.arrivals old.closing.streams)
+      old.network old.table new.network new.table
+  pub awaits : is_accept_due old.table old.acceptor.key old.acceptor.readiness old.acceptor.resumes_at ≡ true →
+      IsNoTime rests.time
+
+-- ---- all of it
+
+-- All that a system call does to the sockets of a run: to its bots and its closing streams (`Transits`), as far as a
+-- session's wait needs it (`Wakes`), and what it schedules (`Schedules`). `ports_in` is the content of ports.
+abbrev pub RunEvolves : {N C P S : Type 0} → (N → NetworkCall C → N → Type 0) → (S → Option (List ℕ)) →
+    (S → Option (List ℕ)) → (S → Option (List StreamCall)) → (P → SocketPorts S) → RunState N S → SystemCall P →
+    RunState N S → Type 0
+RunEvolves transition to_give taken calls ports_in old call new =
+    Transits to_give taken calls (λ ports. pair_of (ports_in ports)) (sockets_in old) call (sockets_in new)
+    × Wakes transition (λ ports. (timers_of (ports_in ports)).sockets) (old.network, old.table) call (new.network, new.table)
+    × Schedules transition (λ ports. timers_of (ports_in ports)) old call new
