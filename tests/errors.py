@@ -98,7 +98,7 @@ daide-gate: session 1 ended after *.* s: FM of bot; relayed 3 prn 0 huh 0 faults
 """
 
 # The number of bots, one after another, whose lines don't fit into the pipe.
-MANY = 40
+MANY = 30
 
 
 def lines_of(number, port="50000"):
@@ -119,12 +119,15 @@ def all_lines():
     return "".join((first, IS_FULL, *others))
 
 
+# The line of a reached server, which has no place of its own among the others. Its port has five digits.
+REACHES = "daide-gate: session {} reached the server from 127.0.0.1:50000\n"
+
 # The number of the first session whose lines find no room.
 FIRST_HELD = next(
     number
     for number in range(1, MANY)
     if len(BEGINNING.format(50_000, f"{HOST}:50000").replace("*", "1") + IS_FULL)
-    + sum(len(lines_of(n + 1)) for n in range(number)) > PIPE
+    + sum(len(lines_of(n + 1) + REACHES.format(n + 1)) for n in range(number)) > PIPE
 )
 
 # If nobody reads standard error, the run is held up in the first line without room, as docs/OPERATING.md says: it accepts

@@ -101,7 +101,7 @@ const TIMED: Lasted = Lasted {
 /// A session whose time is unknown.
 const UNTIMED: Lasted = Lasted { milliseconds: None };
 
-/// Three complete lines.
+/// Four complete lines.
 #[test]
 fn lines_of_a_session(rt: HostRuntime) -> Result<(), Fail> {
     let end = SessionEnd {
@@ -114,14 +114,17 @@ fn lines_of_a_session(rt: HostRuntime) -> Result<(), Fail> {
         },
     };
     let bot = "127.0.0.1:50000".parse()?;
+    let own = "[::1]:40000".parse()?;
     let began = SessionNotice::Began { number: 7, bot }.to_string(rt.alloc())?;
+    let reached = SessionNotice::Reached { number: 7, own }.to_string(rt.alloc())?;
     let ended = SessionNotice::of_end((7, TIMED), end, (Timed::NONE, Timed::NONE), 60).to_string(
         rt.alloc(),
     )?;
     let alone = SessionNotice::of_no_server(8, UNTIMED).to_string(rt.alloc())?;
-    let lines = (began.as_str(), ended.as_str(), alone.as_str());
+    let lines = (began.as_str(), reached.as_str(), ended.as_str(), alone.as_str());
     let want = (
         "session 7 began: bot at 127.0.0.1:50000",
+        "session 7 reached the server from [::1]:40000",
         "session 7 ended after 12.4 s: FM of bot; relayed 4 prn 3 huh 2 faults 1",
         "session 8 ended: no server; relayed 0 prn 0 huh 0 faults 0",
     );

@@ -191,4 +191,11 @@ impl<R: Clock + Net> Network for OsNetwork<'_, R> {
             _ => ConnectStatus::Failed,
         }
     }
+
+    fn local_address(&self, connection: &Connection) -> Option<SocketAddr> {
+        match connection {
+            Connection::Tcp(stream) => stream.local_addr().ok(),
+            Connection::Control(_) => None,
+        }
+    }
 }

@@ -29,6 +29,12 @@ pub enum SessionNotice {
     Declined {
         bot: SocketAddr,
     },
+    /// Its server was reached, by a connection from this address.
+    #[error("session {number} reached the server from {own}")]
+    Reached {
+        number: u32,
+        own: SocketAddr,
+    },
     /// It is over, after this time, for this reason and with these counts.
     #[error("session {number} ended{lasted}: {why}; {counts}")]
     Ended {

@@ -295,6 +295,17 @@ impl<'w, N: Network, E: Write + Drop> Sockets<'w, N, E> {
         Lasted::between(self.present.came_at(number), self.poller.table.now())
     }
 
+    /// Logs the address from which the server of a session was reached, if the system says it and sessions are logged.
+    fn tell_of_server(&mut self, ports: &SocketPorts<'w, N::Connection>)
+        ensures { self.new ≡ record self.old { errors = self.new.errors } }
+    {
+        let (_bot, server) = ports.connections();
+        if let Some(own) = self.poller.network.local_address(server) {
+            let number = ports.number();
+            self.tell_of_session(SessionNotice::Reached { number, own });
+        }
+    }
+
     /// Logs the address of a bot that may not come, if there is one and sessions are logged.
     fn tell_of_declined(&mut self, declined: Option<SocketAddr>)
         ensures { self.new ≡ record self.old { errors = self.new.errors } }
@@ -369,7 +380,10 @@ impl<'w, N: Network, E: Write + Drop> Sockets<'w, N, E> {
         }
         let now = self.poller.table.now();
         match arrival.join(now, (self.idle_time, self.stall_time)) {
-            Ok(ports) => Connect::Ready(ports),
+            Ok(ports) => {
+                self.tell_of_server(&ports);
+                Connect::Ready(ports)
+            }
             Err(left) => {
                 self.let_go(left);
                 Connect::Failed
