@@ -17,7 +17,7 @@ use Rattle.daide_token.specs.Class.{class_of}
 use Rattle.daide_grammar.specs.Table.Symbols.{entries, may_end_of, table_answer}
 use Rattle.daide_protocol.specs.Answers.{answer_bytes}
 use Rattle.daide_grammar.specs.declared.level.Level.{Level}
-use Rattle.daide_grammar.specs.declared.level.Level.TheVariants.{L0}
+use Rattle.daide_grammar.specs.declared.level.Level.TheVariants.{L0, L20}
 use Rattle.daide_grammar.specs.declared.side.Side2.TheVariants.{ServerEnd}
 use Rattle.daide_grammar.specs.SideMessages.{IsMessage}
 use Rattle.daide_protocol.specs.declared.ending.Ending.TheVariants as Endings
@@ -40,7 +40,7 @@ use Rattle.daide_protocol.specs.Harm.{ASideHarmsItselfAlone, HasRefused}
 use Rattle.daide_protocol.specs.Laws.{EachEventHasATransition, EventsHaveARun, AnswersAreUnique, RunsJoin, AnswersJoin}
 use Rattle.daide_protocol.specs.Laws.{PiecesDoNotMatter, CallsDeliverTheAnswers, EachWireGetsTheAnswers, OnlyEventsMatter}
 use Rattle.daide_protocol.specs.Laws.{NothingAfterTheEnd, EndingIsKnown, CountsAreTheMoves, FramesAreThoseOfTheCut}
-use Rattle.daide_protocol.specs.Laws.{EachSideIsWaitedFor, SidesAddUp}
+use Rattle.daide_protocol.specs.Laws.{EachSideIsWaitedFor, SidesAddUp, LevelIsKept}
 use Rattle.daide_protocol.proofs.SessionFacts.{fm, im, message, one_session, open_at_0, session_events, standing}
 use Rattle.daide_protocol.proofs.SessionFacts.{usual}
 use Rattle.daide_protocol.proofs.SomeRun.{outcome_of, run_of}
@@ -187,6 +187,12 @@ both_sides law counted =
     law (initial_state usual) session_events (outcome_of (initial_state usual) session_events).effects
     (outcome_of (initial_state usual) session_events).state (run_of (initial_state usual) session_events refl)
     nothing_accounted ∙ counted
+
+-- open at level 20 after an HLO, the account has level 20
+at_level_20 : LevelIsKept → (events : List Event) (effects : List Effect) (new : SessionState) →
+    Runs (initial_state usual) events effects new → new.phase ≡ SessionPhases.Open L20 →
+    (accounted usual.top_level effects nothing_accounted).level ≡ L20
+at_level_20 law events effects new = law usual events effects new L20
 
 -- ---- frames
 

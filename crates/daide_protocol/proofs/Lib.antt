@@ -9,6 +9,7 @@ pub mod GrowthLemmas
 pub mod EndingLemmas
 pub mod CountLemmas
 pub mod AccountLemmas
+pub mod AccountLevels
 pub mod CallLemmas
 pub mod HloLemmas
 pub mod LimitsKept
