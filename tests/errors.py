@@ -93,8 +93,8 @@ HAS_ROOM_LATER = [*joins(), *opens(0), ReadsErrors(), *joins(), *opens(1), *ends
 
 LATER_LINES = """\
 daide-gate: session 2 began: bot at 127.0.0.1:{1}
-daide-gate: session 2 ended after *.* s: FM of bot; relayed 3 prn 0 huh 0 faults 0
-daide-gate: session 1 ended after *.* s: FM of bot; relayed 3 prn 0 huh 0 faults 0
+daide-gate: session 2 ended after *.* s: FM of bot; bot 2 relayed 0 prn 0 huh; server 1 relayed 0 prn 0 huh; 0 faults; level 0
+daide-gate: session 1 ended after *.* s: FM of bot; bot 2 relayed 0 prn 0 huh; server 1 relayed 0 prn 0 huh; 0 faults; level 0
 """
 
 # The number of bots, one after another, whose lines don't fit into the pipe.
@@ -105,7 +105,8 @@ def lines_of(number, port="50000"):
     """Returns the lines of a session whose bot ends it at once. Its port has five digits."""
     return (
         f"daide-gate: session {number} began: bot at 127.0.0.1:{port}\n"
-        f"daide-gate: session {number} ended after *.* s: FM of bot; relayed 2 prn 0 huh 0 faults 0\n"
+        f"daide-gate: session {number} ended after *.* s: FM of bot; bot 2 relayed 0 prn 0 huh; "
+        "server 0 relayed 0 prn 0 huh; 0 faults; level 0\n"
     )
 
 

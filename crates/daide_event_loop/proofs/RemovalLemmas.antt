@@ -5,7 +5,7 @@ use Rattle.std.specs.Prelude.{◌||◌, IfSome, slice_get, remove, is_none, unwr
 use Rattle.std.proofs.lemmas.List.Folds.{list_any-append}
 use Rattle.daide_protocol.specs.Wires.{SessionView, is_closed}
 use Rattle.daide_protocol.specs.declared.ending.Ending.{Ending}
-use Rattle.daide_protocol.specs.declared.summary.Summary.{Summary}
+use Rattle.daide_protocol.specs.declared.account.Account.{Account}
 use Rattle.daide_driver.specs.Hub.{HubView, with_places, Removes, IsReportedOf}
 use Rattle.daide_event_loop.specs.QuotaPorts.{QuotaPortsView}
 use Rattle.daide_io.specs.declared.system.SessionEnd.{SessionEnd}
@@ -170,25 +170,25 @@ module _ {P S : Type 0} (transition : S → SystemCall P → S → Type 0) where
       }
 
   pub place_gone : (s t u : S) (old hub new : HubView (QuotaPortsView P)) (b : Bool) (n : ℕ)
-      (ports : QuotaPortsView P) (ending : Ending) (summary : Summary) → Removing s old (suc n) hub t b →
+      (ports : QuotaPortsView P) (ending : Ending) (account : Account) → Removing s old (suc n) hub t b →
       Removes hub n ports new →
-      IfSome (slice_get hub.places n) (λ place. IsReportedOf place.0 summary ending) →
-      TransitsBy transition t (parting ports (end_by ports.first_synthetic_end (Some ending) summary)) u → Removing s old n new u true
-  place_gone s t u old hub new b n ports ending summary h r its k =
+      IfSome (slice_get hub.places n) (λ place. IsReportedOf place.0 account ending) →
+      TransitsBy transition t (parting ports (end_by ports.first_synthetic_end (Some ending) account)) u → Removing s old n new u true
+  place_gone s t u old hub new b n ports ending account h r its k =
       let at = at_last s t old hub b n h in
       let ys = at.0 in
       let x = at.1 in
       let same : x ≡ (r.0, ports) =
       ap (λ (o : Option (SessionView × QuotaPortsView P)). unwrap_or o x) (sym at.5 ∙ r.1) in
       let over : is_closed x.0 ≡ true = ap (λ (p : SessionView × QuotaPortsView P). is_closed p.0) same ∙ r.2 in
-      let own : IsReportedOf x.0 summary ending =
-      subst (λ (o : Option (SessionView × QuotaPortsView P)). IfSome o (λ place. IsReportedOf place.0 summary ending)) at.5 its in
-      let end : SessionEnd = end_by ports.first_synthetic_end (Some ending) summary in
+      let own : IsReportedOf x.0 account ending =
+      subst (λ (o : Option (SessionView × QuotaPortsView P)). IfSome o (λ place. IsReportedOf place.0 account ending)) at.5 its in
+      let end : SessionEnd = end_by ports.first_synthetic_end (Some ending) account in
       let said : retirement x ≡ parting ports end =
       ap (λ (c : Bool). retirement_where c x) over
-      ∙ (ap (λ (p : SessionView × QuotaPortsView P). parting p.1 (end_by p.1.first_synthetic_end (ending_in x.0.state.phase) x.0.summary)) same
-      ∙ (ap (λ (o : Option Ending). parting ports (end_by ports.first_synthetic_end o x.0.summary)) own.1
-      ∙ ap (λ (c : Summary). parting ports (end_by ports.first_synthetic_end (Some ending) c)) (sym own.0))) in
+      ∙ (ap (λ (p : SessionView × QuotaPortsView P). parting p.1 (end_by p.1.first_synthetic_end (ending_in x.0.state.phase) x.0.account)) same
+      ∙ (ap (λ (o : Option Ending). parting ports (end_by ports.first_synthetic_end o x.0.account)) own.1
+      ∙ ap (λ (c : Account). parting ports (end_by ports.first_synthetic_end (Some ending) c)) (sym own.0))) in
       record {
         before = ys;
         after = x ∷ h.after;

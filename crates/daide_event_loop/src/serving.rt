@@ -245,11 +245,11 @@ fn cause_of(told: Option<Ending>, ending: Ending) -> Cause
 /// Retires ports with the end of their session. Before that, reports spent turns if the quota is exceeded.
 fn part_with<P: Ports, S: System<P>>(removed: Removed<QuotaPorts<P>>, system: &mut S)
     ensures { TransitsBy S.transition system.old (parting removed.ports
-        (end_by removed.ports.first_synthetic_end (Some removed.ending) removed.summary)) system.new }
+        (end_by removed.ports.first_synthetic_end (Some removed.ending) removed.account)) system.new }
 {
     let Removed {
         ports,
-        summary,
+        account,
         ending,
     } = removed;
     if ports.is_spent() {
@@ -257,7 +257,7 @@ fn part_with<P: Ports, S: System<P>>(removed: Removed<QuotaPorts<P>>, system: &m
     }
     let end = SessionEnd {
         cause: cause_of(ports.first_synthetic_end(), ending),
-        summary,
+        account,
     };
     system.retire(ports.into_ports(), end);
 }

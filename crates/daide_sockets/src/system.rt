@@ -463,7 +463,7 @@ impl<'w, N: Network, E: Write + Drop> Sockets<'w, N, E> {
             bot,
             phase: status.phase,
             level: status.level,
-            summary: status.summary,
+            account: status.account,
             queued_to_bot: status.queued_to_bot,
             queued_to_server: status.queued_to_server,
             held_to_bot,

@@ -9,7 +9,7 @@ pub loop-i-preserved-in-Some : goal.loop-i-preserved-in-Some
 loop-i-preserved-in-Some g c =
     let left = one_left _ _ _ _ _ _ c.loop-i.i c.loop-i-test.true c.loop-i.invariant in
     place_gone _ _ _ _ _ _ _ _ (c.loop-i.i - 1) c.in-Some.session.ports c.in-Some.session.ending
-    c.in-Some.session.summary left c.in-Some.ensures.moved_down c.in-Some.ensures.reported c.part_with.ensures
+    c.in-Some.session.account left c.in-Some.ensures.moved_down c.in-Some.ensures.reported c.part_with.ensures
 
 pub loop-i-preserved : goal.loop-i-preserved
 loop-i-preserved g c =
