@@ -32,7 +32,7 @@ HOSTILE = 300
 
 COLUMNS = """\
                       from the bot   from the server
-session  phase   relayed  PRN  HUH relayed  PRN  HUH  to bot to server  bot idle server idle bot"""
+session  phase   relayed  PRN  HUH relayed  PRN  HUH  to bot to server  bot idle server idle   port bot"""
 
 
 def hears_interrupts():
@@ -147,6 +147,11 @@ def address(bot):
     return "{}:{}".format(*bot.getsockname())
 
 
+def port(server):
+    """Returns the gateway's port of a connection to the server."""
+    return server.getpeername()[1]
+
+
 def settled(match, form, is_settled):
     """Returns the first status of which this is true."""
     over = time.monotonic() + SECONDS
@@ -182,14 +187,14 @@ def status_is_a_table(program):
         first = re.sub(r"up \d+ s", "up", lines[0]).removesuffix("; bots may wait for a place")
         same(first, "2 open, 0 connecting, 0 served, 0 unreached, up", "the first line")
         wanted = [
-            f"      1  open 0        2    1    0       2    0    0       0         0         *           * {address(bot)}",
-            f"      2  wait RM       1    0    0       0    0    0       0         0         *           - {address(waiting)}",
+            f"      1  open 0        2    1    0       2    0    0       0         0         *           * {port(server):>6} {address(bot)}",
+            f"      2  wait RM       1    0    0       0    0    0       0         0         *           - {port(other):>6} {address(waiting)}",
         ]
         for line, text in zip(lines[3:], wanted, strict=True):
             pattern = re.escape(text).replace(r"\*", r"\d")
             if not re.fullmatch(pattern, line):
                 same(line, text, "the line of a session")
-            if len(line) > 114:
+            if len(line) > 121:
                 raise Wrong(f"a line has {len(line)} bytes")
         third = socket.create_connection((HOST, match.port), SECONDS)
         match.bots.append(third)
@@ -211,6 +216,7 @@ def status_is_a_document(program):
         same((first["session"], first["bot"], first["phase"], first["level"]), (1, address(bot), "open", 0), "session 1")
         same([first[name] for name in ("relayed", "prn", "huh", "faults")],
              [{"bot": 2, "server": 2}, {"bot": 1, "server": 0}, {"bot": 0, "server": 0}, 0], "counts of session 1")
+        same(first["port_to_server"], port(server), "the port of session 1, as the server sees it")
         same((first["queued"], first["held"]), ({"bot": 0, "server": 0},) * 2, "bytes of session 1")
         same((second["bot"], second["phase"]), (address(waiting), "wait IM"), "session 2")
         same(second["idle_seconds"], {"bot": None, "server": None}, "silence of session 2")

@@ -105,7 +105,8 @@ fn counted(count: usize) -> u32
 ///
 /// Before a wait, a run notes whether it is full and whether accepts pause, and logs what changed (`wait`: `capacity`).
 ///
-/// Not said: that a wait ended because something came. That held bytes are given up only after a failed write, or after
+/// Not said: that a wait ended because something came. That the port in a row of a status is the connection's, which the
+/// system returns (`Network::local_address`). That held bytes are given up only after a failed write, or after
 /// `stall_seconds`, is read from `flush_at` and `give_up_stalled`. `SessionNotice::of_end` and `why_of` give the counts
 /// and the cause in a line of a session's end. Tests and `scripts/recorded` show that `--verbose` writes it.
 #[derive(Drop)]
@@ -442,6 +443,13 @@ impl<'w, N: Network, E: Write + Drop> Sockets<'w, N, E> {
         }
     }
 
+    /// Returns the gateway's own port of a session's connection to the server, if the system says it.
+    fn port_to_server(&self, ports: &SocketPorts<'w, N::Connection>) -> Option<u16> {
+        let (_bot, server) = ports.connections();
+        let own = self.poller.network.local_address(server)?;
+        Some(own.port())
+    }
+
     /// Returns the row of a session with this status; `None` if its bot is not among those that are there.
     fn row_of(
         &self,
@@ -461,6 +469,7 @@ impl<'w, N: Network, E: Write + Drop> Sockets<'w, N, E> {
         Some(SessionRow {
             number: ports.number(),
             bot,
+            port_to_server: self.port_to_server(ports),
             phase: status.phase,
             level: status.level,
             account: status.account,

@@ -29,6 +29,7 @@ abbrev first : SessionRow
 first = record {
   number = 1;
   bot = address 127 0 0 1 50000;
+  port_to_server = Some 40000;
   phase = Open;
   level = L20;
   account = record {
@@ -49,6 +50,7 @@ abbrev second : SessionRow
 second = record {
   number = 12;
   bot = address 10 0 0 7 6;
+  port_to_server = None;
   phase = WaitRm;
   level = L0;
   account = record {
@@ -70,7 +72,7 @@ second = record {
 abbrev columns : List ℕ
 columns =
     codes "                      from the bot   from the server\n"
-    ++ codes "session  phase   relayed  PRN  HUH relayed  PRN  HUH  to bot to server  bot idle server idle bot\n"
+    ++ codes "session  phase   relayed  PRN  HUH relayed  PRN  HUH  to bot to server  bot idle server idle   port bot\n"
 
 table_of_none : status_text Table idle_run [] ≡ codes "0 open, 0 connecting, 0 served, 0 unreached, up 7 s\n" ++ columns
 unfolding digits
@@ -80,10 +82,10 @@ abbrev busy_line : List ℕ
 busy_line = codes "2 open, 1 connecting, 30 served, 4 unreached, up 125 s; bots may wait for a place; stopping\n"
 
 abbrev first_line : List ℕ
-first_line = codes "      1  open 20      87    2    3      95    7    8      40        16         0          61 127.0.0.1:50000\n"
+first_line = codes "      1  open 20      87    2    3      95    7    8      40        16         0          61  40000 127.0.0.1:50000\n"
 
 abbrev second_line : List ℕ
-second_line = codes "     12  wait RM       1    0    0       0    0    0       0         8         5           - 10.0.0.7:6\n"
+second_line = codes "     12  wait RM       1    0    0       0    0    0       0         8         5           -      - 10.0.0.7:6\n"
 
 table_of_one : status_text Table busy_run (first ∷ []) ≡ busy_line ++ columns ++ first_line
 unfolding digits
@@ -106,13 +108,13 @@ busy_members =
 
 abbrev first_object : List ℕ
 first_object =
-    codes "{\"session\":1,\"bot\":\"127.0.0.1:50000\",\"phase\":\"open\",\"level\":20,\"relayed\":{\"bot\":87,\"server\":95},\"prn\":{\"bot\":2,\"server\":7}"
+    codes "{\"session\":1,\"bot\":\"127.0.0.1:50000\",\"phase\":\"open\",\"level\":20,\"port_to_server\":40000,\"relayed\":{\"bot\":87,\"server\":95},\"prn\":{\"bot\":2,\"server\":7}"
     ++ codes ",\"huh\":{\"bot\":3,\"server\":8},\"faults\":6"
     ++ codes ",\"queued\":{\"bot\":10,\"server\":12},\"held\":{\"bot\":30,\"server\":4},\"idle_seconds\":{\"bot\":0,\"server\":61}}"
 
 abbrev second_object : List ℕ
 second_object =
-    codes "{\"session\":12,\"bot\":\"10.0.0.7:6\",\"phase\":\"wait RM\",\"level\":0,\"relayed\":{\"bot\":1,\"server\":0},\"prn\":{\"bot\":0,\"server\":0}"
+    codes "{\"session\":12,\"bot\":\"10.0.0.7:6\",\"phase\":\"wait RM\",\"level\":0,\"port_to_server\":null,\"relayed\":{\"bot\":1,\"server\":0},\"prn\":{\"bot\":0,\"server\":0}"
     ++ codes ",\"huh\":{\"bot\":0,\"server\":0},\"faults\":0"
     ++ codes ",\"queued\":{\"bot\":0,\"server\":0},\"held\":{\"bot\":0,\"server\":8},\"idle_seconds\":{\"bot\":5,\"server\":null}}"
 

@@ -9,7 +9,7 @@ use Rattle.daide_protocol.specs.declared.phase.Phase.{Phase}
 use Rattle.daide_protocol.specs.declared.phase.Phase.TheVariants.{WaitIm, WaitRm, Open, Over}
 use Rattle.daide_status.specs.declared.snapshot.RunStatus.{RunStatus}
 use Rattle.daide_status.specs.declared.snapshot.SessionRow.{SessionRow}
-use Rattle.daide_status.specs.Pieces.{right_aligned, seconds_cell, text_if}
+use Rattle.daide_status.specs.Pieces.{number_or_dash, right_aligned, text_if}
 
 -- the phase of an open session with its level, in a column of seven bytes
 abbrev pub open_cell : Level → List ℕ
@@ -45,7 +45,7 @@ abbrev pub table_head : RunStatus → List ℕ
 table_head run =
     run_line run
     ++ codes "                      from the bot   from the server\n"
-    ++ codes "session  phase   relayed  PRN  HUH relayed  PRN  HUH  to bot to server  bot idle server idle bot\n"
+    ++ codes "session  phase   relayed  PRN  HUH relayed  PRN  HUH  to bot to server  bot idle server idle   port bot\n"
 
 -- the counts of a side
 abbrev pub side_cells : SideCounts → List ℕ
@@ -59,4 +59,5 @@ table_row row =
     ++ side_cells row.account.bot ++ side_cells row.account.server
     ++ right_aligned 8 (decimal (row.queued_to_bot + row.held_to_bot))
     ++ right_aligned 10 (decimal (row.queued_to_server + row.held_to_server))
-    ++ seconds_cell 10 row.bot_idle ++ seconds_cell 12 row.server_idle ++ codes " " ++ socket_text row.bot ++ codes "\n"
+    ++ number_or_dash 10 row.bot_idle ++ number_or_dash 12 row.server_idle ++ number_or_dash 7 row.port_to_server
+    ++ codes " " ++ socket_text row.bot ++ codes "\n"

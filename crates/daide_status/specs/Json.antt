@@ -7,7 +7,7 @@ use Rattle.daide_grammar.specs.Level.{level_number}
 use Rattle.daide_protocol.specs.declared.account.Account.{Account}
 use Rattle.daide_status.specs.declared.snapshot.RunStatus.{RunStatus}
 use Rattle.daide_status.specs.declared.snapshot.SessionRow.{SessionRow}
-use Rattle.daide_status.specs.Pieces.{phase_name, seconds_or_null}
+use Rattle.daide_status.specs.Pieces.{phase_name, number_or_null}
 
 -- a flag
 abbrev pub json_flag : Bool → List ℕ
@@ -35,6 +35,14 @@ json_session row =
     codes "{\"session\":" ++ decimal row.number ++ codes ",\"bot\":\"" ++ socket_text row.bot
     ++ codes "\",\"phase\":\"" ++ phase_name row.phase ++ codes "\",\"level\":" ++ decimal (level_number row.level)
 
+-- the port of a session toward the server
+abbrev pub json_port : SessionRow → List ℕ
+json_port row = codes ",\"port_to_server\":" ++ number_or_null row.port_to_server
+
+-- all that comes before the counts
+abbrev pub json_identity : SessionRow → List ℕ
+json_identity row = json_session row ++ json_port row
+
 -- two numbers, of the bot and of the server
 abbrev pub json_sides : List ℕ → ℕ → ℕ → List ℕ
 json_sides name bot server =
@@ -53,13 +61,14 @@ json_counts a =
 -- the seconds since each side's last byte, and the end of the object
 abbrev pub json_idle : SessionRow → List ℕ
 json_idle row =
-    codes ",\"idle_seconds\":{\"bot\":" ++ seconds_or_null row.bot_idle ++ codes ",\"server\":"
-    ++ seconds_or_null row.server_idle ++ codes "}}"
+    codes ",\"idle_seconds\":{\"bot\":" ++ number_or_null row.bot_idle ++ codes ",\"server\":"
+    ++ number_or_null row.server_idle ++ codes "}}"
 
 -- the object of a session
 abbrev pub json_row : SessionRow → List ℕ
 json_row row =
-    json_session row ++ json_counts row.account ++ json_sides (codes "queued") row.queued_to_bot row.queued_to_server
+    json_identity row ++ json_counts row.account
+    ++ json_sides (codes "queued") row.queued_to_bot row.queued_to_server
     ++ json_sides (codes "held") row.held_to_bot row.held_to_server ++ json_idle row
 
 -- the objects of all sessions, each on a line, with commas between them

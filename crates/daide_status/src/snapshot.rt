@@ -30,6 +30,8 @@ pub struct SessionRow {
     pub number: u32,
     /// The address of its bot.
     pub bot: SocketAddr,
+    /// The gateway's own port of the connection to the server; `None` if the system does not say it.
+    pub port_to_server: Option<u16>,
     /// Its phase.
     pub phase: Phase,
     /// Its level of press; level 0 before it is open.
