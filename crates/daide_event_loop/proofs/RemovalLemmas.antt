@@ -1,6 +1,6 @@
 -- Closed sessions are removed, from the last place to the first.
 use Rattle.std.proofs.Common.{◌≡◌, ℕ, zero, suc, ◌-◌, ◌<◌, ◌≤◌, Bool, true, false, List, [], ◌∷◌, ◌++◌, length}
-use Rattle.std.proofs.Common.{Option, Some, refl, sym, ap, ◌∙◌, subst, append_assoc, append-nil, arith}
+use Rattle.std.proofs.Common.{Option, Some, None, refl, sym, ap, ◌∙◌, subst, append_assoc, append-nil, arith}
 use Rattle.std.specs.Prelude.{◌||◌, IfSome, slice_get, remove, is_none, unwrap_or}
 use Rattle.std.proofs.lemmas.List.Folds.{list_any-append}
 use Rattle.daide_protocol.specs.Wires.{SessionView, is_closed}
@@ -64,6 +64,12 @@ module _ {P : Type 0} where
   pub fewer_remain : (xs : List (SessionView × QuotaPortsView P)) → length (remaining xs) ≤ length xs
   fewer_remain [] = omega (arith)
   fewer_remain (x ∷ xs) = fewer_by x xs (is_closed x.0) refl (fewer_remain xs)
+
+  -- a session that is not closed has a place whose session is not
+  pub place_open : (place : Option (SessionView × QuotaPortsView P)) (session : SessionView) →
+      IfSome place (λ place. session ≡ place.0) → is_closed session ≡ false → IfSome place (λ place. is_closed place.0 ≡ false)
+  place_open None session same unclosed = same
+  place_open (Some place) session same unclosed = ap (λ (s : SessionView). is_closed s) (sym same) ∙ unclosed
 
 -- the places from `left` on were looked at, and their closed sessions were retired
 module _ {P S : Type 0} (transition : S → SystemCall P → S → Type 0) where

@@ -416,6 +416,21 @@ impl<'w, S: Drop> SocketPorts<'w, S> {
         earlier(due, self.im_due)
     }
 
+    /// Returns whether the nearest deadline of the session after its last turn is past at this reading of the clock. It
+    /// compares each deadline, and does not look for the nearest.
+    fn is_overdue(&self, now: Option<Instant>) -> bool
+        ensures { result ≡ is_past now (session_due (record {
+          bot = self.now.bot;
+          server = self.now.server;
+          reading = self.now.idle.reading;
+          im_due = self.now.im_due;
+        })) }
+    {
+        let begun = self.idle.reading;
+        let is_late = self.bot.is_overdue(begun, now) || self.server.is_overdue(begun, now);
+        is_late || is_past(now, self.im_due)
+    }
+
     /// Returns whether there is news since the last turn: something may be done at once, or a deadline is past.
     pub fn has_news(&self, table: &SocketTable) -> bool
         ensures { result ≡ has_session_news table.now (record {
@@ -425,7 +440,7 @@ impl<'w, S: Drop> SocketPorts<'w, S> {
           im_due = self.now.im_due;
         }) }
     {
-        self.may_go_on(table) || is_past(table.now(), self.due())
+        self.may_go_on(table) || self.is_overdue(table.now())
     }
 
     /// Has the next wait watch the session: whether something may be done at once for it, by its ports or for another
@@ -458,10 +473,7 @@ impl<'w, S: Drop> SocketPorts<'w, S> {
         ensures once { self.new.stops ≡ false }
     {
         self.stops = false;
-        self.idle = IdleTimeout {
-            reading: now,
-            time: self.idle.time,
-        };
+        self.idle.reading = now;
         self.held_for_bot = self.held_for_bot.with_turn(self.bot.stream.behind_len());
         self.held_for_server = self
             .held_for_server

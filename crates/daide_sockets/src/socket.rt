@@ -160,6 +160,15 @@ impl<'w, S: Drop> Socket<'w, S> {
         earlier(self.stalls_at, silent_from)
     }
 
+    /// Returns whether the nearest deadline of its peer's timeouts, after a turn that began at one reading of the clock, is past
+    /// at another.
+    pub(crate) fn is_overdue(&self, begun: Option<Instant>, now: Option<Instant>) -> bool
+        ensures { result ≡ is_past now (next_deadline begun self.now.stalls_at self.now.silent_from) }
+    {
+        let is_silent = is_past(now, self.silent_from) && !is_past(begun, self.silent_from);
+        is_silent || is_past(now, self.stalls_at)
+    }
+
     /// Returns whether something may be done at once: a byte is buffered that may be written, or a read or a write
     /// must be tried again.
     pub(crate) fn has_work(&self) -> bool
@@ -414,6 +423,7 @@ impl<S: Duplex + Drop> Socket<'_, S> {
     /// Begins a turn, in which nothing is put yet: gives up a stalled peer, and writes buffered bytes whose turns are
     /// over.
     #[tactic(auto, using(daide_buffered_io::proofs::BufferLemmas::flush_then, daide_buffered_io::proofs::BufferLemmas::unread_then))]
+    #[inline(always)]
     pub(crate) fn begin_turn(&mut self, now: Option<Instant>, held: TurnsHeld)
         ensures passes { Passes S.to_give S.taken self.old.stream [] [] self.new.stream }
         ensures unread { ReadsNothing S.to_give self.old.stream self.new.stream }

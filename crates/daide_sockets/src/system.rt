@@ -489,6 +489,30 @@ impl<'w, N: Network, E: Write + Drop> Sockets<'w, N, E> {
         self.acceptor.came() >= self.bots_in_all
     }
 
+    /// Advances the control socket, with the status of the run, and returns the operator's orders. Most rounds have nothing to
+    /// do for it, and then no status is made.
+    fn begin_control(&mut self) -> Orders
+        ensures control { (run : RunStatus) × IsRunStatus self.old.acceptor.came
+            (length self.old.present.numbers.items) (length self.old.arrivals.items) self.old.unreached
+            (nat_le self.old.max_sessions (length self.old.present.numbers.items)
+            && (not self.old.acceptor.is_closed
+            && is_accept_due self.old.poller.table self.old.acceptor.key self.old.acceptor.readiness
+            self.old.acceptor.resumes_at)) self.old.control.stops_accepting
+            (or_zero (seconds_between self.old.control.started_at self.old.poller.table.reading)) run
+            × BeginsRound N.Connection.to_give N.Connection.taken
+            N.Connection.calls run self.old.poller.table.reading self.old.control result self.new.control }
+        ensures clock { self.new.poller.table.reading ≡ self.old.poller.table.reading }
+        ensures kept { self.old.control.stops_accepting ≡ true → self.new.control.stops_accepting ≡ true }
+        ensures now_kept { self.old.control.stops_now ≡ true → self.new.control.stops_now ≡ true }
+        ensures same { self.new ≡ record self.old { poller = self.new.poller; control = self.new.control } }
+    {
+        if self.control.is_at_rest(&self.poller.table) {
+            return self.control.orders_at_rest();
+        }
+        let run = self.run_status();
+        self.control.begin_round(&mut self.poller, &run)
+    }
+
     /// Advances the control socket, and returns the operator's orders. Once a stop is requested, or all bots of the run
     /// came, the listener for bots is closed. So a bot that comes too late is refused.
     ///
@@ -524,9 +548,8 @@ impl<'w, N: Network, E: Write + Drop> Sockets<'w, N, E> {
           control = self.new.control;
         } }
     {
-        let run = self.run_status();
         let was_stopped = self.control.stops_accepting();
-        let orders = self.control.begin_round(&mut self.poller, &run);
+        let orders = self.begin_control();
         let is_stopped_now = orders.stops_accepting && !was_stopped;
         if is_stopped_now || self.has_all_bots() && !self.acceptor.is_closed() {
             self.acceptor.close(&mut self.poller);
@@ -584,6 +607,10 @@ impl<'w, N: Network, E: Write + Drop> Sockets<'w, N, E> {
         ensures timeouts { (self.new.idle_time ≡ self.old.idle_time) × (self.new.stall_time ≡ self.old.stall_time) }
     {
         self.acceptor.await_bots();
+        // Most rounds end here.
+        if !self.acceptor.is_due(&self.poller.table) {
+            return None;
+        }
         if self.arrivals.len() >= self.arrivals.capacity() {
             return None;
         }
