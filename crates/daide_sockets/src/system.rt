@@ -667,7 +667,7 @@ impl<'w, N: Network, E: Write + Drop> System<SocketPorts<'w, N::Connection>> for
     fn begin_turn(&mut self, ports: &mut SocketPorts<'w, N::Connection>)
         ensures ports { Transfers N.Connection.to_give N.Connection.taken
             (ports.old.bot.stream, ports.old.server.stream) TurnBegins (ports.new.bot.stream, ports.new.server.stream)
-            × Settles TurnBegins (ports.old.bot, ports.old.server) (ports.new.bot, ports.new.server)
+            × Settles N.Connection.calls TurnBegins (ports.old.bot, ports.old.server) (ports.new.bot, ports.new.server)
             × SetsTimers TurnBegins (timers_of ports.old) (timers_of ports.new) }
         ensures system { RunEvolves N.transition N.Connection.to_give N.Connection.taken N.Connection.calls
             (λ (ports : PortsOf N.Connection). ports)
