@@ -10,7 +10,7 @@ ghost use Rattle.daide_status.specs.declared.snapshot.SessionRow.{SessionRow};
 ghost use Rattle.daide_io.specs.System.{Begins, Shows, ReportsNews, BeginsTurn, Watches, Retires, Waits};
 ghost use Rattle.daide_buffered_io.specs.Streams.{Transfers};
 ghost use Rattle.daide_settings.specs.BotsInAll.{bots_in_all};
-ghost use Rattle.daide_sockets.specs.Accepting.{is_accept_due, MakesAccept};
+ghost use Rattle.daide_sockets.specs.Accepting.{is_accept_due, MakesAccept, GivesConnection};
 ghost use Rattle.daide_sockets.specs.Beside.{listener_watched, others_watched};
 ghost use Rattle.daide_sockets.specs.declared.ports.SocketPorts.{SocketPorts as PortsOf};
 ghost use Rattle.daide_sockets.specs.ControlSlots.{BeginsRound, Each, PlaceShows, places, is_newly_stopped, watching_control};
@@ -534,6 +534,8 @@ impl<'w, N: Network, E: Write + Drop> Sockets<'w, N, E> {
     ///
     /// `awaited`: the wait of this round is for bots too, so it does not block while an accept is due.
     ///
+    /// `left`: if no bot came, none is due any more, unless one gave a connection that may not come or was refused.
+    ///
     /// `times`: its IM timer, and the time of its connect, run from the table's reading of the clock on.
     ///
     /// `allowed`: a bot that is accepted may come by the ranges, and by the limit beside those that are there.
@@ -551,6 +553,10 @@ impl<'w, N: Network, E: Write + Drop> Sockets<'w, N, E> {
             self.old.acceptor.readiness self.old.acceptor.resumes_at ≡ true →
             MakesAccept N.transition self.old.poller.network }
         ensures awaited { self.new.acceptor.awaits_bots ≡ true }
+        ensures left { IfNone result (length self.old.arrivals.items < vec_capacity self.old.arrivals →
+            self.old.acceptor.came < u32.MAX → is_accept_due self.new.poller.table self.new.acceptor.key
+            self.new.acceptor.readiness self.new.acceptor.resumes_at ≡ true →
+            GivesConnection N.transition self.old.poller.network) }
         ensures times { IfSome result (λ _. ComesWith self.old.arrivals.items self.old.poller.table.reading
             (as_nanos self.old.im_time) (as_nanos self.old.connect_time) self.new.arrivals.items) }
         ensures allowed { IfSome result (λ began. IsAllowed self.old.allow.now self.old.max_per_address
