@@ -7,6 +7,7 @@
 ghost use Rattle.std.specs.Prelude.{◌≡◌, ◌<◌, ◌||◌, ◌&&◌, nat_lt, IsNone, IfSome, None, [], min, length, take, true, false};
 ghost use Rattle.daide_io.specs.Ports.{IsPullWithin, IsPutWithin, pulled_len};
 ghost use Rattle.daide_buffered_io.specs.Buffers.{Passes, ReadsNothing, IsBufferedPull, IsFlushed};
+ghost use Rattle.daide_buffered_io.specs.Calls.{OnlyPuts};
 ghost use Rattle.daide_buffered_io.specs.Taking.{bytes_taken, taken_len};
 ghost use Rattle.daide_sockets.specs.Lingering.{IsWriting, IsWritingOver};
 ghost use Rattle.daide_sockets.specs.Pairing.{IsFresh};
@@ -297,7 +298,7 @@ impl<S: Duplex + Drop> Socket<'_, S> {
         ensures timed { self.new.timed ≡ self.old.timed }
         ensures gathers { 0 < taken_len result → self.new.is_gathering ≡ true }
         ensures gathering { taken_len result ≡ 0 → self.new.is_gathering ≡ self.old.is_gathering }
-        ensures offered { IsOffered bytes.now result self.old self.new }
+        ensures offered { IsOffered S.calls bytes.now result self.old self.new }
         ensures in_time { PutsInTime now bytes.now result self.old self.new }
     {
         let held = self.stream.behind_len();
@@ -336,7 +337,7 @@ impl<S: Duplex + Drop> Socket<'_, S> {
         ensures stall_time { self.new.stall_time ≡ self.old.stall_time }
         ensures timed { self.new.timed ≡ self.old.timed }
         ensures gathering { self.new.is_gathering ≡ self.old.is_gathering }
-        ensures stays { StaysUnread self.old self.new }
+        ensures stays { StaysUnread S.calls self.old self.new }
         ensures in_time { FlushesInTime now self.old self.new }
     {
         if !self.stream.is_behind() {
@@ -357,7 +358,7 @@ impl<S: Duplex + Drop> Socket<'_, S> {
         ensures unread { ReadsNothing S.to_give self.old.stream self.new.stream }
         ensures timed { self.new.timed ≡ self.old.timed }
         ensures gathering { self.old.is_gathering ≡ true → self.old.gave ≡ true → self.new ≡ self.old }
-        ensures stays { StaysUnread self.old self.new }
+        ensures stays { StaysUnread S.calls self.old self.new }
         ensures written { (self.old.is_gathering && self.old.gave) ≡ false → IsWriting self.old.stream →
             IsFlushed S.calls self.old.readiness self.old.stream self.new.readiness self.new.stream }
         ensures in_time { FlushesInTime now self.old self.new }
@@ -414,6 +415,7 @@ impl<S: Duplex + Drop> Socket<'_, S> {
         ensures timed { self.new.timed ≡ self.old.timed }
         ensures gathering { self.new.is_gathering ≡ self.old.is_gathering }
         ensures in_time { FlushesInTime now self.old self.new }
+        ensures writes { OnlyPuts S.calls self.old.readiness self.old.stream.stream self.new.readiness self.new.stream.stream }
     {
         if held.is_over() {
             self.flush_at(now);
@@ -431,6 +433,7 @@ impl<S: Duplex + Drop> Socket<'_, S> {
         ensures ends { self.new.timed.ends_stalled ≡ self.old.timed.ends_stalled }
         ensures gathering { self.new.is_gathering ≡ false }
         ensures in_time { BeginsInTime now self.old self.new }
+        ensures writes { OnlyPuts S.calls self.old.readiness self.old.stream.stream self.new.readiness self.new.stream.stream }
     {
         self.is_gathering = false;
         self.tries_again = false;
