@@ -303,7 +303,7 @@ fn serve_recorded<'r, R: AllocGlobal + Files + Clock + Net, O: Sink, E: Write>(
 /// whether sessions are logged.
 fn run_recorded<'r, R: AllocGlobal + Files + Clock + Net, O: Sink, E: Write>(
     rt: &'r R,
-    text: &str,
+    settings_text: &str,
     records: (&'r str, bool),
     output: &mut O,
     errors: &mut E,
@@ -314,12 +314,12 @@ fn run_recorded<'r, R: AllocGlobal + Files + Clock + Net, O: Sink, E: Write>(
           bot = ports.ports.bot.stream;
           server = ports.ports.server.stream;
         })
-        ⟦<TimedRecording<SocketPorts<'static, Connection>, SessionFile<R::File>> as Ports>⟧.transition text.now
+        ⟦<TimedRecording<SocketPorts<'static, Connection>, SessionFile<R::File>> as Ports>⟧.transition settings_text.now
         (HasFailed O.Fails) (O.contents output.old) (O.contents output.new) result }
 {
-    match read_settings(rt.alloc(), text) {
+    match read_settings(rt.alloc(), settings_text) {
         Ok(settings) => serve_recorded(rt, &settings, records, output, errors),
-        Err(fault) => Err(RunFault::Settings(fault)),
+        Err(error) => Err(RunFault::Settings(error)),
     }
 }
 

@@ -5,4 +5,4 @@ pub returns-in-Ok : goal.returns-in-Ok
 returns-in-Ok g c = inr (c.in-Ok.settings, c.in-Ok.ensures.judged, c.serve_recorded.ensures)
 
 pub returns-in-Err : goal.returns-in-Err
-returns-in-Err g c = inl (c.in-Err.fault, refl, c.in-Err.ensures.refused, refl)
+returns-in-Err g c = inl (c.in-Err.error, refl, c.in-Err.ensures.refused, refl)
