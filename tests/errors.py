@@ -133,8 +133,11 @@ FIRST_HELD = next(
 
 # If nobody reads standard error, the run is held up in the first line without room, as docs/OPERATING.md says: it accepts
 # no further bot, and uses no processor time. It goes on once the lines are read, and none is lost.
+# All bots are there before the first one speaks, so that the one place is never free without a bot that waits for it.
 NOBODY_READS = [
-    *(act for number in range(MANY) for act in (Comes(), Says(Bot(number), IM_FM))),
+    Comes(),
+    *(act for number in range(1, MANY) for act in (Comes(), Says(Bot(number), IM_FM))),
+    Says(Bot(0), IM_FM),
     *(FinishesConnect() for _ in range(FIRST_HELD)),
     Waits(300),
     MeetsNobody(),
