@@ -129,7 +129,12 @@ fn lines_of_a_session(rt: HostRuntime) -> Result<(), Fail> {
         rt.alloc(),
     )?;
     let alone = SessionNotice::of_no_server(8, UNTIMED).to_string(rt.alloc())?;
-    let lines = (began.as_str(), reached.as_str(), ended.as_str(), alone.as_str());
+    let lines = (
+        began.as_str(),
+        reached.as_str(),
+        ended.as_str(),
+        alone.as_str(),
+    );
     let want = (
         "session 7 began: bot at 127.0.0.1:50000",
         "session 7 reached the server from [::1]:40000",
