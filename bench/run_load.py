@@ -1,12 +1,13 @@
 #!/usr/bin/env python3
 """Measures a gateway at work over loopback, and socat and haproxy in the same run:
 
-    bench/run_load.py PROGRAM [--before PROGRAM] [calls] [round-trip] [bulk] [recorded] [memory] [busy] [hostile]
+    bench/run_load.py PROGRAM [--before PROGRAM] [MEASURE]..
 
 PROGRAM is the built program, bin/daide-gate. With --before another program is measured in the same run. Without a
-MEASURE all seven are measured:
+MEASURE all eight are measured:
 
     calls         system calls per frame, if strace is installed
+    instructions  instructions of the process (callgrind), in bulk and for a round trip, if valgrind is installed
     round-trip    the time of a request and its answer, also beside 100 idle sessions
     bulk          throughput of one session in one direction, at three sizes of bodies
     recorded      throughput of 256 sessions at once, with and without a record of each, of PROGRAM alone
@@ -300,6 +301,47 @@ def transfer(bot, server, message, size):
     return pieces * len(piece) / took / 1e6
 
 
+def instructions(program, act, idle=0):
+    """Returns how many instructions the process takes for `idle` idle sessions and one more, of which `act` is called."""
+    with tempfile.NamedTemporaryFile("r", encoding="ascii") as counts:
+        watcher = ["valgrind", "--tool=callgrind", "-q", "--callgrind-out-file=" + counts.name]
+        with Gateway(program, watcher) as gateway:
+            held = [gateway.session() for _ in range(idle)]
+            bot, server = gateway.session()
+            act(bot, server)
+            gateway.process.terminate()
+            gateway.process.wait()
+            for stream in (stream for ends in [*held, (bot, server)] for stream in ends):
+                stream.close()
+        return next(int(line.split()[1]) for line in counts if line.startswith("totals:"))
+
+
+def measure_instructions(programs):
+    """Counts the instructions of 4 MiB in one direction, at three sizes, and of a round trip alone and beside 100 idle
+    sessions. The difference of 600 and 100 round trips leaves out the beginning and the end of the process."""
+    if not shutil.which("valgrind"):
+        print("instructions: valgrind is not installed", flush=True)
+        return
+
+    def trips(times):
+        return lambda bot, server: [round_trip(bot, server) for _ in range(times)]
+
+    def bulk(message):
+        return lambda bot, server: transfer(bot, server, message, 4 << 20)
+
+    for name, program in programs.items():
+        for size in (512, 4096, 65526):
+            count = instructions(program, bulk(frame(name_message(size))))
+            print(f"instructions of 4 MiB, bodies of {size} bytes, {name}: {count / 1e6:.1f} million", flush=True)
+        alone, beside = (
+            (instructions(program, trips(600), idle) - instructions(program, trips(100), idle)) / 500 for idle in (0, 100)
+        )
+        print(
+            f"instructions of a round trip, {name}: {alone:.0f}, and {(beside - alone) / 100:.0f} for each idle session",
+            flush=True,
+        )
+
+
 def measure_bulk(programs):
     for size in (512, 4096, 65526):
         message = frame(name_message(size))
@@ -570,6 +612,7 @@ def measure_hostile(programs):
 
 MEASURES = {
     "calls": measure_calls,
+    "instructions": measure_instructions,
     "round-trip": measure_round_trip,
     "bulk": measure_bulk,
     "recorded": measure_recorded,

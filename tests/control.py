@@ -30,7 +30,9 @@ SESSIONS = 20
 # The number of hostile clients at the control socket.
 HOSTILE = 300
 
-COLUMNS = "session  phase   relayed    PRN    HUH  to bot to server  bot idle server idle bot"
+COLUMNS = """\
+                      from the bot   from the server
+session  phase   relayed  PRN  HUH relayed  PRN  HUH  to bot to server  bot idle server idle   port bot"""
 
 
 def hears_interrupts():
@@ -145,6 +147,11 @@ def address(bot):
     return "{}:{}".format(*bot.getsockname())
 
 
+def port(server):
+    """Returns the gateway's port of a connection to the server."""
+    return server.getpeername()[1]
+
+
 def settled(match, form, is_settled):
     """Returns the first status of which this is true."""
     over = time.monotonic() + SECONDS
@@ -180,14 +187,14 @@ def status_is_a_table(program):
         first = re.sub(r"up \d+ s", "up", lines[0]).removesuffix("; bots may wait for a place")
         same(first, "2 open, 0 connecting, 0 served, 0 unreached, up", "the first line")
         wanted = [
-            f"      1  open 0        4      1      0       0         0         *           * {address(bot)}",
-            f"      2  wait RM       1      0      0       0         0         *           - {address(waiting)}",
+            f"      1  open 0        2    1    0       2    0    0       0         0         *           * {port(server):>6} {address(bot)}",
+            f"      2  wait RM       1    0    0       0    0    0       0         0         *           - {port(other):>6} {address(waiting)}",
         ]
-        for line, text in zip(lines[2:], wanted, strict=True):
+        for line, text in zip(lines[3:], wanted, strict=True):
             pattern = re.escape(text).replace(r"\*", r"\d")
             if not re.fullmatch(pattern, line):
                 same(line, text, "the line of a session")
-            if len(line) > 100:
+            if len(line) > 121:
                 raise Wrong(f"a line has {len(line)} bytes")
         third = socket.create_connection((HOST, match.port), SECONDS)
         match.bots.append(third)
@@ -207,7 +214,9 @@ def status_is_a_document(program):
              {"open": 2, "connecting": 0, "served": 0, "unreached": 0, "bots_may_wait": False, "stopping": False}, "the run")
         first, second = found["sessions"]
         same((first["session"], first["bot"], first["phase"], first["level"]), (1, address(bot), "open", 0), "session 1")
-        same([first[name] for name in ("relayed", "prn", "huh", "faults")], [4, 1, 0, 0], "counts of session 1")
+        same([first[name] for name in ("relayed", "prn", "huh", "faults")],
+             [{"bot": 2, "server": 2}, {"bot": 1, "server": 0}, {"bot": 0, "server": 0}, 0], "counts of session 1")
+        same(first["port_to_server"], port(server), "the port of session 1, as the server sees it")
         same((first["queued"], first["held"]), ({"bot": 0, "server": 0},) * 2, "bytes of session 1")
         same((second["bot"], second["phase"]), (address(waiting), "wait IM"), "session 2")
         same(second["idle_seconds"], {"bot": None, "server": None}, "silence of session 2")
@@ -237,8 +246,9 @@ def status_has_metrics(program):
         same(helped, set(typed), "metrics with a help")
         labels = f'session="1",bot="{address(bot)}"'
         same(values["daide_gate_sessions"], 2, "sessions")
-        same(values[f'daide_gate_session_frames_total{{{labels},result="relayed"}}'], 4, "relayed")
-        same(values[f'daide_gate_session_frames_total{{{labels},result="prn"}}'], 1, "PRN")
+        for side, result, count in (("bot", "relayed", 2), ("server", "relayed", 2), ("bot", "prn", 1), ("server", "prn", 0)):
+            name = f'daide_gate_session_frames_total{{{labels},side="{side}",result="{result}"}}'
+            same(values[name], count, f"{result} of the {side}")
         same(values[f'daide_gate_session_level{{{labels},phase="open"}}'], 0, "level")
 
 
@@ -252,7 +262,7 @@ def status_shows_twenty_sessions(program):
                 same(received(server, len(OBS)), OBS, "received by the server")
         rows = json.loads(match.status("json"))["sessions"]
         same([(row["session"], row["bot"], row["relayed"]) for row in rows],
-             [(number + 1, address(bot), 2 + number) for number, (bot, _) in enumerate(ends)], "sessions")
+             [(number + 1, address(bot), {"bot": 1 + number, "server": 1}) for number, (bot, _) in enumerate(ends)], "sessions")
 
 
 def stop_waits_for_the_sessions(program):

@@ -82,7 +82,7 @@ SERVER_HANGS = [
 
 SILENCE = """\
 daide-gate: session 1 began: bot at 127.0.0.1:{{0}}
-daide-gate: session 1 ended after *.* s: {} silent; relayed * prn 0 huh 0 faults 0
+daide-gate: session 1 ended after *.* s: {} silent; bot * relayed 0 prn 0 huh; server * relayed 0 prn 0 huh; 0 faults; level 0
 """
 
 # A bot reads no answer, so the gateway reads nothing from it, and nothing from its server, whose messages wait as well.

@@ -104,7 +104,7 @@ WAITS_FOR_ONE = """\
 daide-gate: bots wait: the system has no descriptor or no memory for another one
 daide-gate: session 1 began: bot at 127.0.0.1:{0}
 daide-gate: bots are accepted again
-daide-gate: session 1 ended after *.* s: bot ended; relayed 1 prn 0 huh 0 faults 0
+daide-gate: session 1 ended after *.* s: bot ended; bot 1 relayed 0 prn 0 huh; server 0 relayed 0 prn 0 huh; 0 faults; level 0
 """
 
 SCENES = [

@@ -93,19 +93,20 @@ HAS_ROOM_LATER = [*joins(), *opens(0), ReadsErrors(), *joins(), *opens(1), *ends
 
 LATER_LINES = """\
 daide-gate: session 2 began: bot at 127.0.0.1:{1}
-daide-gate: session 2 ended after *.* s: FM of bot; relayed 3 prn 0 huh 0 faults 0
-daide-gate: session 1 ended after *.* s: FM of bot; relayed 3 prn 0 huh 0 faults 0
+daide-gate: session 2 ended after *.* s: FM of bot; bot 2 relayed 0 prn 0 huh; server 1 relayed 0 prn 0 huh; 0 faults; level 0
+daide-gate: session 1 ended after *.* s: FM of bot; bot 2 relayed 0 prn 0 huh; server 1 relayed 0 prn 0 huh; 0 faults; level 0
 """
 
 # The number of bots, one after another, whose lines don't fit into the pipe.
-MANY = 40
+MANY = 30
 
 
 def lines_of(number, port="50000"):
     """Returns the lines of a session whose bot ends it at once. Its port has five digits."""
     return (
         f"daide-gate: session {number} began: bot at 127.0.0.1:{port}\n"
-        f"daide-gate: session {number} ended after *.* s: FM of bot; relayed 2 prn 0 huh 0 faults 0\n"
+        f"daide-gate: session {number} ended after *.* s: FM of bot; bot 2 relayed 0 prn 0 huh; "
+        "server 0 relayed 0 prn 0 huh; 0 faults; level 0\n"
     )
 
 
@@ -119,18 +120,24 @@ def all_lines():
     return "".join((first, IS_FULL, *others))
 
 
+# The line of a reached server, which has no place of its own among the others. Its port has five digits.
+REACHES = "daide-gate: session {} reached the server from 127.0.0.1:50000\n"
+
 # The number of the first session whose lines find no room.
 FIRST_HELD = next(
     number
     for number in range(1, MANY)
     if len(BEGINNING.format(50_000, f"{HOST}:50000").replace("*", "1") + IS_FULL)
-    + sum(len(lines_of(n + 1)) for n in range(number)) > PIPE
+    + sum(len(lines_of(n + 1) + REACHES.format(n + 1)) for n in range(number)) > PIPE
 )
 
 # If nobody reads standard error, the run is held up in the first line without room, as docs/OPERATING.md says: it accepts
 # no further bot, and uses no processor time. It goes on once the lines are read, and none is lost.
+# All bots are there before the first one speaks, so that the one place is never free without a bot that waits for it.
 NOBODY_READS = [
-    *(act for number in range(MANY) for act in (Comes(), Says(Bot(number), IM_FM))),
+    Comes(),
+    *(act for number in range(1, MANY) for act in (Comes(), Says(Bot(number), IM_FM))),
+    Says(Bot(0), IM_FM),
     *(FinishesConnect() for _ in range(FIRST_HELD)),
     Waits(300),
     MeetsNobody(),

@@ -231,7 +231,7 @@ ONE_ADDRESS_MAY_COME = [
 TELLS_OF_ONE_ADDRESS = """\
 daide-gate: bot at 127.0.0.1:{0} may not come
 daide-gate: session 1 began: bot at 127.0.0.2:{1}
-daide-gate: session 1 ended after *.* s: FM of bot; relayed 3 prn 0 huh 0 faults 0
+daide-gate: session 1 ended after *.* s: FM of bot; bot 2 relayed 0 prn 0 huh; server 1 relayed 0 prn 0 huh; 0 faults; level 0
 """
 
 # The second bot of one address may not come while the first is there. A third may come after it.

@@ -34,7 +34,16 @@ TIMED = re.compile(rf"# {TIME}")
 # The least number of seconds between two times of a record.
 STEP = 0.01
 
-ENDED = re.compile(r"^daide-gate: session (\d+) ended after [\d.]+ s: .*; (relayed .*)$", re.MULTILINE)
+COUNTS = r"bot (\d+) relayed (\d+) prn (\d+) huh; server (\d+) relayed (\d+) prn (\d+) huh; (\d+) faults; level \d+"
+ENDED = re.compile(rf"^daide-gate: session (\d+) ended after [\d.]+ s: .*; {COUNTS}$", re.MULTILINE)
+
+
+def last_line(counts):
+    """Returns the last line of a report with the counts of both sides together: three of the bot, three of the server,
+    and the faults."""
+    *sides, faults = map(int, counts)
+    relayed, prn, huh = (bot + server for bot, server in zip(sides[:3], sides[3:]))
+    return f"relayed {relayed} prn {prn} huh {huh} faults {faults}"
 
 
 def said_in(record):
@@ -88,7 +97,7 @@ class Recorded(Scene):
     def end(self, stage):
         """Checks also each record, and that its report has the counts of the session's line, if there are lines."""
         super().end(stage)
-        counts = dict(ENDED.findall(stage.run.told()))
+        counts = {number: last_line(counts) for number, *counts in ENDED.findall(stage.run.told())}
         same(len(self.kept), self.recorded, "sessions with a record")
         for number, (name, said) in enumerate(zip(record_names(self.recorded), self.kept), 1):
             file = stage.run.folder / name
@@ -150,7 +159,7 @@ def report_of(program, file):
 # The log of a run of `GETS_PRN`: an IM, an RM and an OBS were relayed, and a message got a PRN.
 TELLS_BOTH = """\
 daide-gate: session 1 began: bot at 127.0.0.1:{0}
-daide-gate: session 1 ended after *.* s: bot ended; relayed 3 prn 1 huh 0 faults 0
+daide-gate: session 1 ended after *.* s: bot ended; bot 2 relayed 1 prn 0 huh; server 1 relayed 0 prn 0 huh; 0 faults; level 0
 """
 
 IS_THERE = "daide-gate: session 1 is not recorded: its file is there already\n"
@@ -184,9 +193,9 @@ TELLS_EACH = """\
 daide-gate: session 1 began: bot at 127.0.0.1:{0}
 daide-gate: session 2 began: bot at 127.0.0.1:{1}
 daide-gate: session 3 began: bot at 127.0.0.1:{2}
-daide-gate: session 2 ended after *.* s: FM of server; relayed 3 prn 1 huh 0 faults 0
-daide-gate: session 3 ended after *.* s: FM of bot; relayed 3 prn 0 huh 1 faults 0
-daide-gate: session 1 ended after *.* s: bot ended; relayed 3 prn 0 huh 0 faults 0
+daide-gate: session 2 ended after *.* s: FM of server; bot 1 relayed 1 prn 0 huh; server 2 relayed 0 prn 0 huh; 0 faults; level 0
+daide-gate: session 3 ended after *.* s: FM of bot; bot 2 relayed 0 prn 1 huh; server 1 relayed 0 prn 0 huh; 0 faults; level 0
+daide-gate: session 1 ended after *.* s: bot ended; bot 2 relayed 0 prn 0 huh; server 1 relayed 0 prn 0 huh; 0 faults; level 0
 """
 
 KEEPS_EACH = ((IM + OBS, RM), (IM + UNCLOSED, RM + FM), (IM + OBS_GOF + FM, RM))
@@ -226,20 +235,23 @@ ARE_JOINED_IN_ANOTHER_ORDER = [
 TELLS_AS_THEY_CAME = """\
 daide-gate: session 1 began: bot at 127.0.0.1:{0}
 daide-gate: session 2 began: bot at 127.0.0.1:{1}
-daide-gate: session 2 ended after *.* s: FM of bot; relayed 3 prn 1 huh 0 faults 0
-daide-gate: session 1 ended after *.* s: FM of server; relayed 5 prn 0 huh 0 faults 0
+daide-gate: session 2 ended after *.* s: FM of bot; bot 2 relayed 1 prn 0 huh; server 1 relayed 0 prn 0 huh; 0 faults; level 0
+daide-gate: session 1 ended after *.* s: FM of server; bot 2 relayed 0 prn 0 huh; server 3 relayed 0 prn 0 huh; 0 faults; level 0
 """
 
 KEEPS_AS_THEY_CAME = ((IM + OBS, RM + YES + FM), (IM + UNCLOSED + FM, RM))
 
 # The frame that ends a session or is its fault, who sends it, what both sides receive, and the line's cause and counts.
 ENDINGS = [
-    (Bot, FM, b"", FM, "FM of bot; relayed 3 prn 0 huh 0 faults 0"),
-    (Server, FM, FM, b"", "FM of server; relayed 3 prn 0 huh 0 faults 0"),
-    (Bot, EM_08, b"", EM_08, "EM of bot; relayed 3 prn 0 huh 0 faults 0"),
-    (Server, EM_08, EM_08, b"", "EM of server; relayed 3 prn 0 huh 0 faults 0"),
-    (Bot, UNKNOWN[:4], EM_08, FM, "fault 08 of bot: unknown message; relayed 2 prn 0 huh 0 faults 1"),
-    (Server, RM, FM, EM_0C, "fault 0C of server: second RM; relayed 2 prn 0 huh 0 faults 1"),
+    (Bot, FM, b"", FM, "FM of bot; bot 2 relayed 0 prn 0 huh; server 1 relayed 0 prn 0 huh; 0 faults; level 0"),
+    (Server, FM, FM, b"", "FM of server; bot 1 relayed 0 prn 0 huh; server 2 relayed 0 prn 0 huh; 0 faults; level 0"),
+    (Bot, EM_08, b"", EM_08, "EM of bot; bot 2 relayed 0 prn 0 huh; server 1 relayed 0 prn 0 huh; 0 faults; level 0"),
+    (Server, EM_08, EM_08, b"",
+     "EM of server; bot 1 relayed 0 prn 0 huh; server 2 relayed 0 prn 0 huh; 0 faults; level 0"),
+    (Bot, UNKNOWN[:4], EM_08, FM,
+     "fault 08 of bot: unknown message; bot 1 relayed 0 prn 0 huh; server 1 relayed 0 prn 0 huh; 1 faults; level 0"),
+    (Server, RM, FM, EM_0C,
+     "fault 0C of server: second RM; bot 1 relayed 0 prn 0 huh; server 1 relayed 0 prn 0 huh; 1 faults; level 0"),
 ]
 
 # The session after them, whose bot sends no IM.
@@ -266,7 +278,7 @@ END_IN_EACH_WAY = [
     HearsEnd(Server(LAST)),
 ]
 
-ENDS = [*(row[-1] for row in ENDINGS), "no IM in time; relayed 0 prn 0 huh 0 faults 1"]
+ENDS = [*(row[-1] for row in ENDINGS), "no IM in time; bot 0 relayed 0 prn 0 huh; server 0 relayed 0 prn 0 huh; 1 faults; level 0"]
 
 TELLS_EACH_END = "".join(
     f"daide-gate: session {number} began: bot at 127.0.0.1:{{{number - 1}}}\n"
@@ -284,15 +296,15 @@ SPENT = "daide-gate: turns spent\n"
 TELLS_SPENT = """\
 daide-gate: session 1 began: bot at 127.0.0.1:{0}
 daide-gate: turns spent
-daide-gate: session 1 ended after *.* s: turns spent; relayed 0 prn 0 huh 0 faults 0
+daide-gate: session 1 ended after *.* s: turns spent; bot 0 relayed 0 prn 0 huh; server 0 relayed 0 prn 0 huh; 0 faults; level 0
 """
 
 TELLS_UNREACHED = """\
 daide-gate: session 1 began: bot at 127.0.0.1:{0}
-daide-gate: session 1 ended after *.* s: no server; relayed 0 prn 0 huh 0 faults 0
+daide-gate: session 1 ended after *.* s: no server; bot 0 relayed 0 prn 0 huh; server 0 relayed 0 prn 0 huh; 0 faults; level 0
 daide-gate: cannot reach the server
 daide-gate: session 2 began: bot at 127.0.0.1:{1}
-daide-gate: session 2 ended after *.* s: no server; relayed 0 prn 0 huh 0 faults 0
+daide-gate: session 2 ended after *.* s: no server; bot 0 relayed 0 prn 0 huh; server 0 relayed 0 prn 0 huh; 0 faults; level 0
 daide-gate: cannot reach the server
 """
 

@@ -48,12 +48,12 @@ SERVER_STOPS_READING = [
 
 BOT_STALLED = """\
 daide-gate: session 1 began: bot at 127.0.0.1:{0}
-daide-gate: session 1 ended after *.* s: bot took nothing for 1 s; relayed 2 prn 0 huh * faults 0
+daide-gate: session 1 ended after *.* s: bot took nothing for 1 s; bot 1 relayed 0 prn * huh; server 1 relayed 0 prn 0 huh; 0 faults; level 0
 """
 
 SERVER_STALLED = """\
 daide-gate: session 1 began: bot at 127.0.0.1:{0}
-daide-gate: session 1 ended after *.* s: server took nothing for 1 s; relayed * prn 0 huh 0 faults 0
+daide-gate: session 1 ended after *.* s: server took nothing for 1 s; bot * relayed 0 prn 0 huh; server 1 relayed 0 prn 0 huh; 0 faults; level 0
 """
 
 SCENES = [

@@ -1,5 +1,5 @@
 -- Pulls and puts from the calls of the stream, and pulls of a buffered stream from those of the stream.
-use Rattle.std.proofs.Common.{◌≡◌, ℕ, zero, suc, ◌-◌, ◌<◌, ◌≤◌, ◌==◌, Bool, true, false, List, [], length, take}
+use Rattle.std.proofs.Common.{◌≡◌, ℕ, zero, suc, ◌-◌, ◌<◌, ◌≤◌, ◌==◌, Bool, true, false, List, [], ◌∷◌, ◌++◌, length, take}
 use Rattle.std.specs.Prelude.{nat_lt, if◌then◌else◌}
 use Rattle.std.proofs.lemmas.List.{take_all, length-take}
 use Rattle.std.proofs.Common.{Option, Some, None, ◌⊎◌, inl, inr, arith, refl, sym, ap, ◌∙◌, subst}
@@ -13,7 +13,7 @@ use Rattle.daide_buffered_io.specs.declared.readiness.Readiness.{Readiness}
 use Rattle.daide_io.specs.declared.outcome.IoResult.{IoResult}
 use Rattle.daide_io.specs.declared.outcome.IoResult.TheVariants.{Moved, Interrupted, NotNow, Failed}
 use Rattle.daide_buffered_io.specs.Buffers.{is_alike}
-use Rattle.daide_buffered_io.specs.Calls.{Tries, IsPull, IsPut, IsStopped, pull_of, put_of}
+use Rattle.daide_buffered_io.specs.Calls.{Tries, IsPull, IsPut, MakesPuts, OnlyPuts, IsStopped, pull_of, put_of}
 use Rattle.daide_io.specs.Streams.{StreamCall, Read, Written}
 use Rattle.daide_buffered_io.specs.Calls.{after_read, after_write, without_writes}
 
@@ -181,3 +181,25 @@ module _ {S : Type 0} (calls : S → Option (List StreamCall)) where
       by : (may : Bool) → known.may_write ≡ may → IsStopped calls still new
       by false e = inl (ap (λ (k : Readiness). k.may_write) (made.spared e).2 ∙ e)
       by true e = let call = made.made e in of_outcome call.0 call.1 call.2 call.3
+
+  -- ---- puts alone
+
+  -- none
+  pub no_puts : (known : Readiness) (stream : S) → OnlyPuts calls known stream known stream
+  no_puts known stream = ([], (refl, refl))
+
+  -- one
+  pub one_put : (bytes : List ℕ) (known : Readiness) (old : S) (put : Put) (still : Readiness) (new : S) →
+      IsPut calls bytes known old put still new → OnlyPuts calls known old still new
+  one_put bytes known old put still new made = (bytes ∷ [], (put, still, new, made, (refl, refl)))
+
+  -- some, and then others
+  pub puts_then : (known : Readiness) (old : S) (after : Readiness) (between : S) (still : Readiness) (new : S) →
+      OnlyPuts calls known old after between → OnlyPuts calls after between still new → OnlyPuts calls known old still new
+  puts_then known old after between still new first second = (first.0 ++ second.0, by first.0 known old first.1)
+    where
+      by : (offers : List (List ℕ)) (k : Readiness) (s : S) → MakesPuts calls offers k s after between →
+          MakesPuts calls (offers ++ second.0) k s still new
+      by [] k s h = subst (λ (r : Readiness). MakesPuts calls second.0 r s still new) h.0
+          (subst (λ (t : S). MakesPuts calls second.0 after t still new) h.1 second.1)
+      by (bytes ∷ more) k s h = (h.0, h.1, h.2, h.3, by more h.1 h.2 h.4)

@@ -1,5 +1,5 @@
 -- The effect of one port call on a session's two streams.
-use Rattle.std.proofs.Common.{◌≡◌, ℕ, Bool, true, false, List, [], Option, take, refl, sym}
+use Rattle.std.proofs.Common.{◌≡◌, ℕ, true, false, List, [], Option, take, refl, sym}
 use Rattle.std.proofs.Common.{◌∙◌, subst}
 use Rattle.daide_frame.specs.declared.side.Side.{Side}
 use Rattle.daide_frame.specs.declared.side.Side.TheVariants.{Bot, Server}

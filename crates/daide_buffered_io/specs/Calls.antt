@@ -89,6 +89,18 @@ pub record IsPut {S : Type 0} (calls : S → Option (List StreamCall)) (bytes : 
   pub made : known.may_write ≡ true → (outcome : IoResult) × Tries (Written bytes) (calls old) outcome (calls new)
       × (put ≡ put_of outcome) × (still ≡ after_write known (length bytes) outcome)
 
+-- These puts were made, one after another.
+abbrev pub MakesPuts : {S : Type 0} → (S → Option (List StreamCall)) → List (List ℕ) → Readiness → S → Readiness → S →
+    Type 0
+MakesPuts calls [] known old still new = (still ≡ known) × (new ≡ old)
+MakesPuts calls (bytes ∷ more) known old still new = (put : Put) × (after : Readiness) × (between : _)
+    × IsPut calls bytes known old put after between × MakesPuts calls more after between still new
+
+-- Of the stream nothing was called but puts, any number of them, and what is known of it is what they leave. So it is not
+-- writable any more only after a write that it did not take whole.
+abbrev pub OnlyPuts : {S : Type 0} → (S → Option (List StreamCall)) → Readiness → S → Readiness → S → Type 0
+OnlyPuts calls known old still new = (offers : List (List ℕ)) × MakesPuts calls offers known old still new
+
 -- Nothing more can be written now: the stream is not writable until the next event, or the last write was interrupted
 -- each of the eight times.
 abbrev pub IsStopped : {S : Type 0} → (S → Option (List StreamCall)) → Readiness → S → Type 0

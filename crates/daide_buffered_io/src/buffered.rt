@@ -8,7 +8,7 @@
 ghost use Rattle.std.specs.Prelude.{◌≡◌, ◌<◌, ◌≤◌, ◌++◌, [], ◌∷◌, true, false, min, length, take, IfSome};
 ghost use Rattle.daide_io.specs.Ports.{AppendsTo, IsPullWithin, IsPutWithin, pulled_len};
 ghost use Rattle.daide_buffered_io.specs.Buffers.{Passes, ReadsNothing, WritesNothing, IsBufferedPull, IsFlushed, buffered_bytes};
-ghost use Rattle.daide_buffered_io.specs.Calls.{IsStopped};
+ghost use Rattle.daide_buffered_io.specs.Calls.{IsStopped, OnlyPuts};
 ghost use Rattle.daide_io.specs.Streams.{WritingEnded};
 ghost use Rattle.daide_buffered_io.specs.Taking.{bytes_taken};
 
@@ -241,6 +241,8 @@ impl<S: Duplex + Drop> Buffered<S> {
     /// `failed`: if the write fails, the next put returns `Failed`.
     ///
     /// `reads`, `full`: what is known of reads is unchanged, and a stream that is not writable stays so.
+    ///
+    /// `writes`: one that is writable stays so, but for a write that it did not take whole.
     pub fn flush(&mut self, pool: &Pool, readiness: &mut Readiness)
         ensures passes { Passes S.to_give S.taken self.old [] [] self.new }
         ensures unread { ReadsNothing S.to_give self.old self.new }
@@ -251,6 +253,7 @@ impl<S: Duplex + Drop> Buffered<S> {
         ensures empty { self.old.write_buffer ≡ [] → (self.new ≡ self.old) × (readiness.new ≡ readiness.old) }
         ensures reads { readiness.new.may_read ≡ readiness.old.may_read }
         ensures full { readiness.old.may_write ≡ false → readiness.new.may_write ≡ false }
+        ensures writes { OnlyPuts S.calls readiness.old self.old.stream readiness.new self.new.stream }
     {
         if self.has_failed {
             return;
@@ -290,6 +293,7 @@ impl<S: Duplex + Drop> Buffered<S> {
         ensures fails { result ≡ Put.Failed → self.new.has_failed ≡ true }
         ensures reads { readiness.new.may_read ≡ readiness.old.may_read }
         ensures full { readiness.old.may_write ≡ false → readiness.new.may_write ≡ false }
+        ensures writes { OnlyPuts S.calls readiness.old self.old.stream readiness.new self.new.stream }
     {
         if bytes.len() < MOST_HELD {
             if let Some(held) = pool.take() {
@@ -320,6 +324,7 @@ impl<S: Duplex + Drop> Buffered<S> {
         ensures fails { result ≡ Put.Failed → self.new.has_failed ≡ true }
         ensures reads { readiness.new.may_read ≡ readiness.old.may_read }
         ensures full { readiness.old.may_write ≡ false → readiness.new.may_write ≡ false }
+        ensures writes { OnlyPuts S.calls readiness.old self.old.stream readiness.new self.new.stream }
     {
         let mut held = held;
         if held.drain(&mut self.stream, readiness) == Put::Failed {
@@ -351,6 +356,7 @@ impl<S: Duplex + Drop> Buffered<S> {
         ensures fails { result ≡ Put.Failed → self.new.has_failed ≡ true }
         ensures reads { readiness.new.may_read ≡ readiness.old.may_read }
         ensures full { readiness.old.may_write ≡ false → readiness.new.may_write ≡ false }
+        ensures writes { OnlyPuts S.calls readiness.old self.old.stream readiness.new self.new.stream }
     {
         let Some(held) = self.write_buffer.take() else {
             return self.take_first(pool, readiness, bytes);
@@ -373,6 +379,7 @@ impl<S: Duplex + Drop> Buffered<S> {
         ensures fails { result ≡ Put.Failed → self.new.has_failed ≡ true }
         ensures reads { readiness.new.may_read ≡ readiness.old.may_read }
         ensures full { readiness.old.may_write ≡ false → readiness.new.may_write ≡ false }
+        ensures writes { OnlyPuts S.calls readiness.old self.old.stream readiness.new self.new.stream }
     {
         let put = self.take_behind(pool, readiness, bytes, 1);
         if put == Put::Took(0) {
@@ -399,6 +406,8 @@ impl<S: Duplex + Drop> Buffered<S> {
     ///
     /// `reads`, `full`: what is known of reads is unchanged, and a stream that is not writable stays so.
     ///
+    /// `writes`: one that is writable stays so, but for a write that it did not take whole.
+    ///
     /// Not said: that a write that fails is reported if no further put is made.
     pub fn put(&mut self, pool: &Pool, readiness: &mut Readiness, bytes: &[u8]) -> Put
         ensures within { IsPutWithin result (length bytes.now) }
@@ -410,6 +419,7 @@ impl<S: Duplex + Drop> Buffered<S> {
         ensures failed { self.old.has_failed ≡ true → (result ≡ Put.Failed) × (self.new ≡ self.old) }
         ensures reads { readiness.new.may_read ≡ readiness.old.may_read }
         ensures full { readiness.old.may_write ≡ false → readiness.new.may_write ≡ false }
+        ensures writes { OnlyPuts S.calls readiness.old self.old.stream readiness.new self.new.stream }
     {
         if self.has_failed {
             return Put::Failed;

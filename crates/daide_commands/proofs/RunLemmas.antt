@@ -19,7 +19,7 @@ use Rattle.daide_commands.specs.declared.running.RunFault.{RunFault}
 use Rattle.daide_commands.specs.declared.running.RunFault.TheVariants.{Gateway}
 use Rattle.daide_commands.specs.declared.running.RunFault.TheVariants as run_faults
 use Rattle.daide_commands.specs.Gateway.{Announces, IsBeforeServing}
-use Rattle.daide_commands.specs.Running.{HasNoSockets, RunsBy, RunsOn, RunEnds, TextRuns, FileRuns, IsOfText, ending_by}
+use Rattle.daide_commands.specs.Running.{HasNoSockets, RunsBy, RunsOn, RunEnds, TextRuns, RecordedTextRuns, IsOfText, ending_by}
 
 -- a run on a system ends by the result of its loop
 pub ran_on : {P T : Type 0} (transition : T → SystemCall P → T → Type 0) (port_transition : P → PortCall → P → Type 0)
@@ -110,22 +110,25 @@ module _ {P S : Type 0} (to_give taken : S → Option (List ℕ)) (calls : S →
   said settings failed before after (Ok done) ends = ends.0
   said settings failed before after (Err fault) ends = tt
 
+  -- a run that did not begin has not ended well
+  ends_early : (failed : Type 0) (before after : Option (List ℕ)) (fault : RunFault) (result : Result (Unit {0}) RunFault) →
+      result ≡ Err fault → OnOk result (Announces failed before after)
+  ends_early failed before after fault (Ok done) e = absurd (cc)
+  ends_early failed before after fault (Err other) e = tt
+
   pub text_said : (text : List ℕ) (failed : Type 0) (before after : Option (List ℕ))
       (result : Result (Unit {0}) RunFault) → TextRuns to_give taken calls pair transition text failed before after result →
       OnOk result (Announces failed before after)
-  text_said text failed before after result (inl h) = refused result h.1
-    where
-      refused : (r : Result (Unit {0}) RunFault) → r ≡ Err (run_faults.Settings h.0) → OnOk r (Announces failed before after)
-      refused (Ok done) e = absurd (cc)
-      refused (Err fault) e = tt
+  text_said text failed before after result (inl h) = ends_early failed before after (run_faults.Settings h.0) result h.1
   text_said text failed before after result (inr h) = said h.0 failed before after result h.2
 
-  pub file_said : (failed : Type 0) (before after : Option (List ℕ))
-      (result : Result (Unit {0}) RunFault) → FileRuns to_give taken calls pair transition failed before after result →
+  pub recorded_text_said : (text : List ℕ) (failed : Type 0) (before after : Option (List ℕ))
+      (result : Result (Unit {0}) RunFault) →
+      RecordedTextRuns to_give taken calls pair transition text failed before after result →
       OnOk result (Announces failed before after)
-  file_said failed before after result (inl h) = refused result h.1
-    where
-      refused : (r : Result (Unit {0}) RunFault) → r ≡ Err h.0 → OnOk r (Announces failed before after)
-      refused (Ok done) e = absurd (cc)
-      refused (Err fault) e = tt
-  file_said failed before after result (inr h) = said h.0 failed before after result h.1
+  recorded_text_said text failed before after result (inl h) =
+      ends_early failed before after (run_faults.Settings h.0) result h.1
+  recorded_text_said text failed before after result (inr (settings, reads, inl h)) =
+      ends_early failed before after (run_faults.Record h.0) result h.1
+  recorded_text_said text failed before after result (inr (settings, reads, inr ends)) =
+      said settings failed before after result ends

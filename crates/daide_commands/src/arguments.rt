@@ -146,10 +146,10 @@ Examples:
 /// The help on the logs of `check`, with examples and exit statuses.
 const CHECK_NOTES: &str = "\
 A log's first line is 'daide-log 1', its second 'config LEVEL BODY DEPTH'; each further one is 'bot HEX',
-'server HEX', 'end bot', 'end server' or 'timer', or is empty, or begins with '#'. The log of a match begins with
-'daide-log 2', and names each line's session. docs/FORMATS.md has both, and the report.
+'server HEX', 'end bot', 'end server', 'timer' or 'stop', or is empty, or begins with '#'. The log of a match begins
+with 'daide-log 2', and names each line's session. docs/FORMATS.md has both, and the report.
 The exit status is 0 if no message got PRN or HUH and there was no fault, and else 3. With '--explain' it is 3 also
-if a side's bytes end within a frame.
+if a side's bytes end within a frame, or if the last line is cut.
 
 Examples:
   daide-gate check examples/match.log
@@ -180,7 +180,7 @@ Examples:
 const RUN_NOTES: &str = "\
 It prints 'listening' once bots may come. What ends no run, as a server that can't be reached, is told in a
 line on standard error. With '--record' the folder gets a log of each session, session-000001.log and so on,
-which 'daide-gate check' reads; it must be there, and no file in it is written over.
+which 'daide-gate check' reads; it is made if it is not there, and no file in it is written over.
 The exit status is 0 once all bots were served, and 1 if no bot can be.
 
 Examples:

@@ -2,7 +2,7 @@
 
 ghost use Rattle.std.specs.Prelude.{◌≡◌, ◌≤◌, None, [], IfOk, IfErr, OnOk, IfSome, IsOkAnd, string_bytes};
 ghost use Rattle.daide_log.specs.Recording.{HasFailed};
-ghost use Rattle.daide_commands.specs.Running.{RunEnds, RunsOn, TextRuns, FileRuns, IsOfText, ending_by};
+ghost use Rattle.daide_commands.specs.Running.{RunEnds, RunsOn, TextRuns, RecordedRunEnds, RecordedTextRuns, IsOfText, ending_by};
 ghost use Rattle.daide_commands.specs.Gateway.{Announces};
 ghost use Rattle.daide_words.specs.Words.{words_of};
 
@@ -228,7 +228,8 @@ fn serve_sockets<
 }
 
 /// Serves with the settings of a text: binds, opens the sockets, serves on them (`serve_on`), and finishes closing. If
-/// sessions are recorded, the same is proved of some settings, since no contract says what a file has (`run_recorded`).
+/// sessions are recorded, the same is proved of the settings of the text, unless no file can be made in the folder of the
+/// records (`run_recorded`).
 ///
 /// `runs`: if it returns `Ok`, sockets to which no bot had come, and of which none closed, evolved by the calls of a
 /// whole run. If it returns a fault of serving, they are the calls of a run that was given up for it. In both cases it
@@ -266,35 +267,60 @@ pub fn run_text<R: AllocGlobal + Files + Clock + Net, O: Sink, E: Write>(
     }
 }
 
-/// Serves with the settings of a text, and keeps a record of each session in a folder. `records` is the folder, and
-/// whether sessions are logged.
-fn run_recorded<'r, R: AllocGlobal + Files + Clock + Net, O: Sink, E: Write>(
+/// Serves with settings, and keeps a record of each session in a folder. `records` is the folder, and whether sessions are
+/// logged.
+fn serve_recorded<'r, R: AllocGlobal + Files + Clock + Net, O: Sink, E: Write>(
     rt: &'r R,
-    text: &str,
+    settings: &Settings,
     records: (&'r str, bool),
     output: &mut O,
     errors: &mut E,
 ) -> Result<(), RunFault>
-    ensures { FileRuns ⟦<Connection as Duplex>⟧.to_give ⟦<Connection as Duplex>⟧.taken ⟦<Connection as Duplex>⟧.calls
+    ensures { RecordedRunEnds ⟦<Connection as Duplex>⟧.to_give ⟦<Connection as Duplex>⟧.taken
+        ⟦<Connection as Duplex>⟧.calls
         (λ ports. record {
           number = ports.ports.number;
           bot = ports.ports.bot.stream;
           server = ports.ports.server.stream;
         })
-        ⟦<TimedRecording<SocketPorts<'static, Connection>, SessionFile<R::File>> as Ports>⟧.transition
+        ⟦<TimedRecording<SocketPorts<'static, Connection>, SessionFile<R::File>> as Ports>⟧.transition settings.now
         (HasFailed O.Fails) (O.contents output.old) (O.contents output.new) result }
 {
     let (folder, is_verbose) = records;
-    let settings = read_settings(rt.alloc(), text).map_err(RunFault::Settings)?;
-    let folder = match Folder::at(rt, folder, &settings) {
-        Ok(folder) => folder,
-        Err(cause) => return Err(RunFault::Record(cause)),
-    };
-    let reports = SessionReports {
-        is_verbose,
-        folder: Some(&folder),
-    };
-    serve_sockets(rt, &settings, reports, output, errors)
+    match Folder::at(rt, folder, settings) {
+        Ok(folder) => {
+            let reports = SessionReports {
+                is_verbose,
+                folder: Some(&folder),
+            };
+            serve_sockets(rt, settings, reports, output, errors)
+        }
+        Err(cause) => Err(RunFault::Record(cause)),
+    }
+}
+
+/// Serves with the settings of a text, and keeps a record of each session in a folder. `records` is the folder, and
+/// whether sessions are logged.
+fn run_recorded<'r, R: AllocGlobal + Files + Clock + Net, O: Sink, E: Write>(
+    rt: &'r R,
+    settings_text: &str,
+    records: (&'r str, bool),
+    output: &mut O,
+    errors: &mut E,
+) -> Result<(), RunFault>
+    ensures { RecordedTextRuns ⟦<Connection as Duplex>⟧.to_give ⟦<Connection as Duplex>⟧.taken ⟦<Connection as Duplex>⟧.calls
+        (λ ports. record {
+          number = ports.ports.number;
+          bot = ports.ports.bot.stream;
+          server = ports.ports.server.stream;
+        })
+        ⟦<TimedRecording<SocketPorts<'static, Connection>, SessionFile<R::File>> as Ports>⟧.transition settings_text.now
+        (HasFailed O.Fails) (O.contents output.old) (O.contents output.new) result }
+{
+    match read_settings(rt.alloc(), settings_text) {
+        Ok(settings) => serve_recorded(rt, &settings, records, output, errors),
+        Err(error) => Err(RunFault::Settings(error)),
+    }
 }
 
 /// Carries out the order to serve, with the text of its settings.

@@ -7,7 +7,8 @@ use Rattle.daide_protocol.specs.Machine.{SessionState, Effect, Runs, is_over}
 use Rattle.daide_protocol.specs.Wires.{SessionView, queued, sent_to, sent_bytes}
 use Rattle.daide_protocol.proofs.OneRun.{one_run, runs_join}
 use Rattle.daide_protocol.proofs.PieceRuns.{over_stays}
-use Rattle.daide_protocol.proofs.SummaryLemmas.{tallied_then}
+use Rattle.daide_protocol.proofs.AccountLemmas.{accounted_then}
+use Rattle.daide_protocol.proofs.LimitsKept.{runs_limits}
 use Rattle.daide_protocol.proofs.WireLemmas.{sent_to-append, sent_bytes-append}
 use Rattle.daide_io.specs.Ports.{PortCall, events_of, has_failed}
 use Rattle.daide_io.proofs.TraceLemmas.{events_of-append, taken-append, has_failed-append, transition_then}
@@ -83,7 +84,8 @@ pub relays_append : (a : SessionView) (xs : List PortCall) (b : SessionView) (ys
 unfolding delivers_append
 relays_append a xs b ys c h k = record {
   sends = delivers_append a xs b ys c h.sends k.sends;
-  counts = tallied_then h.sends.effects k.sends.effects a.summary b.summary c.summary h.counts k.counts;
+  counts = accounted_then h.sends.effects k.sends.effects a b c
+      (runs_limits (events_of xs) a.state b.state h.sends.effects h.sends.run) h.counts k.counts;
   work = works_then a xs b ys c (events_of-append xs ys) h.work k.work;
 }
 

@@ -6,7 +6,7 @@ use Rattle.std.specs.Prelude.{◌≡◌, true, false, List, [], ◌++◌}
 use Rattle.daide_frame.specs.declared.side.Side.{Side}
 use Rattle.daide_frame.specs.PerSide.{both}
 use Rattle.daide_protocol.specs.Machine.{Limits, initial_state}
-use Rattle.daide_protocol.specs.Summary.{nothing_counted}
+use Rattle.daide_protocol.specs.Account.{nothing_accounted}
 use Rattle.daide_protocol.specs.Wires.{SessionView, Holding, sent_to, sent_bytes, is_closed}
 use Rattle.daide_session.specs.Bounds.{IsWithinBounds}
 use Rattle.daide_io.specs.Ports.{PortCall, taken, has_failed}
@@ -25,7 +25,7 @@ untouched limits = record {
   wires = both [] [];
   parts = both [] [];
   sides = both nothing_held nothing_held;
-  summary = nothing_counted;
+  account = nothing_accounted;
 }
 
 -- A run from the opening leads to this session, by its port calls since it was created. Its state is the machine's. The

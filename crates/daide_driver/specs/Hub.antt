@@ -8,7 +8,7 @@ use Rattle.daide_grammar.specs.Bounds.{entries_bound}
 use Rattle.daide_protocol.specs.Weight.{queue_bound, weight_of, weight_bound}
 use Rattle.daide_protocol.specs.declared.config.Config.{Config}
 use Rattle.daide_protocol.specs.declared.ending.Ending.{Ending}
-use Rattle.daide_protocol.specs.declared.summary.Summary.{Summary}
+use Rattle.daide_protocol.specs.declared.account.Account.{Account}
 use Rattle.daide_driver.specs.declared.hub.AddFault.{AddFault}
 use Rattle.daide_driver.specs.declared.hub.AddFault.TheVariants as Faults
 use Rattle.daide_driver.specs.declared.hub.HubError.{HubError}
@@ -76,8 +76,8 @@ Removes old i ports new =
     × (new ≡ with_places old (remove old.places i))
 
 -- the report of a removed session: its counted moves, and the event that ended it
-abbrev pub IsReportedOf : SessionView → Summary → Ending → Type 0
-IsReportedOf session summary ending = (summary ≡ session.summary) × (ending_in session.state.phase ≡ Some ending)
+abbrev pub IsReportedOf : SessionView → Account → Ending → Type 0
+IsReportedOf session account ending = (account ≡ session.account) × (ending_in session.state.phase ≡ Some ending)
 
 -- The session and the ports at this place went from one pair to another, by a call of this kind; every other place is
 -- unchanged.

@@ -4,8 +4,7 @@ use Rattle.daide_frame.specs.declared.side.Side.{Side}
 use Rattle.daide_reader.specs.Reading.{IsRaised}
 use Rattle.daide_protocol.specs.Heard.{bytes_from}
 use Rattle.daide_protocol.specs.Machine.{Limits}
-use Rattle.daide_protocol.specs.Summary.{tallied}
-use Rattle.daide_protocol.specs.Wires.{SessionView, holding}
+use Rattle.daide_protocol.specs.Wires.{SessionView, account_after, holding}
 use Rattle.daide_session.specs.Work.{IsPaidBy}
 use Rattle.daide_io.specs.Ports.{PortCall, events_of}
 use Rattle.daide_driver.specs.Record.{DeliversOutput}
@@ -25,11 +24,11 @@ Works old answers new = (side : Side) → IsPaidBy (came side answers) side old 
 abbrev pub Working : (SessionView → List PortCall → SessionView → Type 0) → SessionView → List PortCall → SessionView → Type 0
 Working Kind old answers new = Kind old answers new × Works old answers new
 
--- By this trace the session goes from old to new: it delivers the machine's output, counts the machine's moves, and its
--- tables make at most two look-ups for a byte received.
+-- By this trace the session goes from old to new: it delivers the machine's output, counts the machine's moves by side,
+-- and its tables make at most two look-ups for a byte received.
 pub record RefinesRun (old : SessionView) (answers : List PortCall) (new : SessionView) : Type 0 where
   pub sends : DeliversOutput old answers new
-  pub counts : new.summary ≡ tallied sends.effects old.summary
+  pub counts : new.account ≡ account_after old sends.effects
   pub work : Works old answers new
 
 -- ---- all traces since a session was created

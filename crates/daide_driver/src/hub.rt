@@ -17,10 +17,10 @@ ghost use Rattle.daide_driver.specs.Hub.{IsReportedOf, with_ports, weight_at, se
 use crate::turn_io::{BUFFER, turn_through};
 use daide_frame::memory::Memory;
 use daide_io::ports::Ports;
+use daide_protocol::account::Account;
 use daide_protocol::bounds::MAX_SESSIONS;
 use daide_protocol::config::{Config, ConfigError, SessionLimits};
 use daide_protocol::ending::Ending;
-use daide_protocol::summary::Summary;
 use daide_session::session::Session;
 use daide_words::words::Words;
 use std::alloc::{AllocError, Allocator, Global};
@@ -46,12 +46,12 @@ pub enum AddFault {
     Memory,
 }
 
-/// A removed session: its ports, its counts and its ending.
+/// A removed session: its ports, its account and its ending.
 #[derive(Drop)]
 pub struct Removed<P: Ports> {
     pub ports: P,
-    /// The counted moves, each modulo 2^64.
-    pub summary: Summary,
+    /// The counts by side, each modulo 2^64, and the level that was last in force.
+    pub account: Account,
     /// The event that ended the session.
     pub ending: Ending,
 }
@@ -237,12 +237,12 @@ impl<P: Ports, A: Allocator + Copy> Hub<P, A> {
     /// Takes out the session at a place if it is over and nothing waits; the later ones move down one place. Else
     /// nothing changes.
     ///
-    /// `reported`: it returns the session's ports, its counts and what ended it.
+    /// `reported`: it returns the session's ports, its counts by side, its last level, and what ended it.
     pub fn remove_over(&mut self, i: usize) -> Option<Removed<P>>
         requires { i < length self.old.places }
         ensures moved_down { IfSome result (λ removed. Removes self.old i removed.ports self.new) }
         ensures reported { IfSome result (λ removed. IfSome (slice_get self.old.places i)
-            (λ place. IsReportedOf place.0 removed.summary removed.ending)) }
+            (λ place. IsReportedOf place.0 removed.account removed.ending)) }
         ensures unchanged { IfNone result (self.new ≡ self.old) }
         ensures open { IfNone result (IfSome (slice_get self.old.places i) (λ place. is_closed place.0 ≡ false)) }
     {
@@ -252,7 +252,7 @@ impl<P: Ports, A: Allocator + Copy> Hub<P, A> {
         let SessionSlot { session, ports } = self.places.remove(i);
         Some(Removed {
             ports,
-            summary: session.summary(),
+            account: session.account(),
             ending: session.ending().unwrap(),
         })
     }

@@ -8,8 +8,7 @@ use Rattle.daide_frame.specs.declared.side.Side.{Side}
 use Rattle.daide_frame.specs.Side.{same_side}
 use Rattle.daide_protocol.specs.Events.{Event, Ends, Loses, ImTimerExpired, OperatorStops, bytes_come}
 use Rattle.daide_protocol.specs.Machine.{Limits, SessionState, Effect, Runs, ending_in, is_over}
-use Rattle.daide_protocol.specs.Summary.{tallied}
-use Rattle.daide_protocol.specs.Wires.{SessionView, queued, sent_to, sent_bytes}
+use Rattle.daide_protocol.specs.Wires.{SessionView, account_after, queued, sent_to, sent_bytes}
 use Rattle.daide_protocol.proofs.OneRun.{one_run}
 use Rattle.daide_io.specs.declared.ports.ClockEvent.TheVariants.{NoEvent, ImTimeIsOver, StopIsRequested}
 use Rattle.daide_io.specs.declared.ports.Pull.TheVariants.{Got, Idle, Ended}
@@ -145,7 +144,7 @@ module _ (limits : Limits) (calls others : List PortCall) (same : results_of cal
       run second.run in
       record {
         state = only.1;
-        counts = h.whole.counts ∙ ap (λ (l : List Effect). tallied l (untouched limits).summary) only.0
+        counts = h.whole.counts ∙ ap (account_after (untouched limits)) only.0
             ∙ sym k.whole.counts;
         sent = λ side n.
             let waited = sent_bytes (queued (untouched limits) side) in
@@ -162,7 +161,7 @@ module _ (limits : Limits) (calls others : List PortCall) (same : results_of cal
             (second.wires side) n;
       }
 
-  pub end_alike : (turns : ℕ) (one other : SessionView) (end last : SessionEnd) → one.summary ≡ other.summary →
+  pub end_alike : (turns : ℕ) (one other : SessionView) (end last : SessionEnd) → one.account ≡ other.account →
       IsEndOf limits turns calls one end → IsEndOf limits turns others other last → end ≡ last
   end_alike turns one other end last counts h k =
       let events = events_alike (while_left turns calls) (while_left turns others) (left_alike turns calls others same) in
@@ -171,5 +170,5 @@ module _ (limits : Limits) (calls others : List PortCall) (same : results_of cal
       let only = one_run (events_of (while_left turns others)) (untouched limits).state h.0 k.0 h.1 k.1 run k.2 in
       let cause : end.cause ≡ last.cause =
       h.3 ∙ ap (λ (s : SessionState). cause_of (ending_in s.phase)) only.1 ∙ sym k.3 in
-      let summary : end.summary ≡ last.summary = h.4 ∙ counts ∙ sym k.4 in
-      λ i. record { cause = cause i; summary = summary i }
+      let account : end.account ≡ last.account = h.4 ∙ counts ∙ sym k.4 in
+      λ i. record { cause = cause i; account = account i }

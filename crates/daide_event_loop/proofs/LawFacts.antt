@@ -202,7 +202,7 @@ alone_or_not : {P Q : Type 0} (port_transition : P → PortCall → P → Type 0
     (a b c d : ℕ) →
     alone.history ≡ TurnBegins ∷ Clock NoEvent ∷ Offered Server (a ∷ b ∷ []) (Took 2) ∷ Pulled Bot 4 Idle [] ∷ [] →
     crowded.history ≡ TurnBegins ∷ Clock NoEvent ∷ Offered Server (c ∷ d ∷ []) (Took 2) ∷ Pulled Bot 512 Idle [] ∷ [] →
-    (a ∷ b ∷ [] ≡ c ∷ d ∷ []) × (now.0.state ≡ then.0.state) × (now.0.summary ≡ then.0.summary)
+    (a ∷ b ∷ [] ≡ c ∷ d ∷ []) × (now.0.state ≡ then.0.state) × (now.0.account ≡ then.0.account)
     × ((end last : SessionEnd) → IsEndOf (run_limits settings) settings.turns alone.history now.0 end →
     IsEndOf (run_limits settings) settings.turns crowded.history then.0 last → end ≡ last)
 alone_or_not port_transition other_transition law settings answers others now then alone crowded a b c d one other =

@@ -1,11 +1,11 @@
 -- Closed sessions are removed, from the last place to the first.
 use Rattle.std.proofs.Common.{◌≡◌, ℕ, zero, suc, ◌-◌, ◌<◌, ◌≤◌, Bool, true, false, List, [], ◌∷◌, ◌++◌, length}
-use Rattle.std.proofs.Common.{Option, Some, refl, sym, ap, ◌∙◌, subst, append_assoc, append-nil, arith}
+use Rattle.std.proofs.Common.{Option, Some, None, refl, sym, ap, ◌∙◌, subst, append_assoc, append-nil, arith}
 use Rattle.std.specs.Prelude.{◌||◌, IfSome, slice_get, remove, is_none, unwrap_or}
 use Rattle.std.proofs.lemmas.List.Folds.{list_any-append}
 use Rattle.daide_protocol.specs.Wires.{SessionView, is_closed}
 use Rattle.daide_protocol.specs.declared.ending.Ending.{Ending}
-use Rattle.daide_protocol.specs.declared.summary.Summary.{Summary}
+use Rattle.daide_protocol.specs.declared.account.Account.{Account}
 use Rattle.daide_driver.specs.Hub.{HubView, with_places, Removes, IsReportedOf}
 use Rattle.daide_event_loop.specs.QuotaPorts.{QuotaPortsView}
 use Rattle.daide_io.specs.declared.system.SessionEnd.{SessionEnd}
@@ -64,6 +64,12 @@ module _ {P : Type 0} where
   pub fewer_remain : (xs : List (SessionView × QuotaPortsView P)) → length (remaining xs) ≤ length xs
   fewer_remain [] = omega (arith)
   fewer_remain (x ∷ xs) = fewer_by x xs (is_closed x.0) refl (fewer_remain xs)
+
+  -- a session that is not closed has a place whose session is not
+  pub place_open : (place : Option (SessionView × QuotaPortsView P)) (session : SessionView) →
+      IfSome place (λ place. session ≡ place.0) → is_closed session ≡ false → IfSome place (λ place. is_closed place.0 ≡ false)
+  place_open None session same unclosed = same
+  place_open (Some place) session same unclosed = ap (λ (s : SessionView). is_closed s) (sym same) ∙ unclosed
 
 -- the places from `left` on were looked at, and their closed sessions were retired
 module _ {P S : Type 0} (transition : S → SystemCall P → S → Type 0) where
@@ -170,25 +176,25 @@ module _ {P S : Type 0} (transition : S → SystemCall P → S → Type 0) where
       }
 
   pub place_gone : (s t u : S) (old hub new : HubView (QuotaPortsView P)) (b : Bool) (n : ℕ)
-      (ports : QuotaPortsView P) (ending : Ending) (summary : Summary) → Removing s old (suc n) hub t b →
+      (ports : QuotaPortsView P) (ending : Ending) (account : Account) → Removing s old (suc n) hub t b →
       Removes hub n ports new →
-      IfSome (slice_get hub.places n) (λ place. IsReportedOf place.0 summary ending) →
-      TransitsBy transition t (parting ports (end_by ports.first_synthetic_end (Some ending) summary)) u → Removing s old n new u true
-  place_gone s t u old hub new b n ports ending summary h r its k =
+      IfSome (slice_get hub.places n) (λ place. IsReportedOf place.0 account ending) →
+      TransitsBy transition t (parting ports (end_by ports.first_synthetic_end (Some ending) account)) u → Removing s old n new u true
+  place_gone s t u old hub new b n ports ending account h r its k =
       let at = at_last s t old hub b n h in
       let ys = at.0 in
       let x = at.1 in
       let same : x ≡ (r.0, ports) =
       ap (λ (o : Option (SessionView × QuotaPortsView P)). unwrap_or o x) (sym at.5 ∙ r.1) in
       let over : is_closed x.0 ≡ true = ap (λ (p : SessionView × QuotaPortsView P). is_closed p.0) same ∙ r.2 in
-      let own : IsReportedOf x.0 summary ending =
-      subst (λ (o : Option (SessionView × QuotaPortsView P)). IfSome o (λ place. IsReportedOf place.0 summary ending)) at.5 its in
-      let end : SessionEnd = end_by ports.first_synthetic_end (Some ending) summary in
+      let own : IsReportedOf x.0 account ending =
+      subst (λ (o : Option (SessionView × QuotaPortsView P)). IfSome o (λ place. IsReportedOf place.0 account ending)) at.5 its in
+      let end : SessionEnd = end_by ports.first_synthetic_end (Some ending) account in
       let said : retirement x ≡ parting ports end =
       ap (λ (c : Bool). retirement_where c x) over
-      ∙ (ap (λ (p : SessionView × QuotaPortsView P). parting p.1 (end_by p.1.first_synthetic_end (ending_in x.0.state.phase) x.0.summary)) same
-      ∙ (ap (λ (o : Option Ending). parting ports (end_by ports.first_synthetic_end o x.0.summary)) own.1
-      ∙ ap (λ (c : Summary). parting ports (end_by ports.first_synthetic_end (Some ending) c)) (sym own.0))) in
+      ∙ (ap (λ (p : SessionView × QuotaPortsView P). parting p.1 (end_by p.1.first_synthetic_end (ending_in x.0.state.phase) x.0.account)) same
+      ∙ (ap (λ (o : Option Ending). parting ports (end_by ports.first_synthetic_end o x.0.account)) own.1
+      ∙ ap (λ (c : Account). parting ports (end_by ports.first_synthetic_end (Some ending) c)) (sym own.0))) in
       record {
         before = ys;
         after = x ∷ h.after;

@@ -8,7 +8,8 @@ use Rattle.daide_frame.specs.declared.code.Code.TheVariants.{SecondRm}
 use Rattle.daide_frame.specs.PerSide.{both}
 use Rattle.daide_protocol.specs.declared.ending.Ending.{Ending}
 use Rattle.daide_protocol.specs.declared.ending.Ending.TheVariants.{Ended, Lost, Final, Fault}
-use Rattle.daide_protocol.specs.declared.summary.Summary.{Summary}
+use Rattle.daide_protocol.specs.declared.account.Account.{Account}
+use Rattle.daide_protocol.specs.declared.account.SideCounts.{SideCounts}
 use Rattle.daide_protocol.specs.declared.phase.Phase.TheVariants as Phases
 use Rattle.daide_protocol.specs.declared.phase.SessionPhase.{SessionPhase}
 use Rattle.daide_protocol.specs.declared.phase.SessionPhase.TheVariants.{WaitIm, Open, Over}
@@ -89,9 +90,12 @@ causes = (refl, refl, refl, refl, refl, refl)
 
 -- ---- the order of retirements
 
--- counts that all differ
-abbrev counts : ℕ → Summary
-counts n = record { relayed = n; prn = n + 1; huh = n + 2; faults = n + 3 }
+-- counts that all differ, and the highest level
+abbrev frames : ℕ → SideCounts
+frames n = record { relayed = n; prn = n + 1; huh = n + 2 }
+
+abbrev counts : Limits → ℕ → Account
+counts limits n = record { bot = frames n; server = frames (n + 3); faults = n + 6; level = limits.top_level }
 
 -- a session with a phase, counts, and frames queued for its bot
 abbrev session : Limits → SessionPhase → ℕ → List Sent → SessionView
@@ -100,7 +104,7 @@ session limits phase n to_bot = record {
   wires = both to_bot [];
   parts = both (sent_bytes to_bot ∷ []) [];
   sides = both nothing_held nothing_held;
-  summary = counts n;
+  account = counts limits n;
 }
 
 -- a session with an FM queued for its bot
@@ -127,10 +131,10 @@ six limits =
 -- from the last place to the first, each closed session, with its own end and its own counts
 parted_from_the_last : (limits : Limits) →
     retirements (six limits)
-    ≡ Notifies TurnsSpent ∷ Retires 6 (record { cause = Causes.Session (Ended Server); summary = counts 60 })
-    ∷ Retires 5 (record { cause = Causes.Session (Ended Server); summary = counts 50 })
-    ∷ Notifies TurnsSpent ∷ Retires 4 (record { cause = Causes.TurnsSpent; summary = counts 40 })
-    ∷ Retires 1 (record { cause = Causes.Session (Fault Server SecondRm); summary = counts 10 }) ∷ []
+    ≡ Notifies TurnsSpent ∷ Retires 6 (record { cause = Causes.Session (Ended Server); account = counts limits 60 })
+    ∷ Retires 5 (record { cause = Causes.Session (Ended Server); account = counts limits 50 })
+    ∷ Notifies TurnsSpent ∷ Retires 4 (record { cause = Causes.TurnsSpent; account = counts limits 40 })
+    ∷ Retires 1 (record { cause = Causes.Session (Fault Server SecondRm); account = counts limits 10 }) ∷ []
 parted_from_the_last limits = refl
 
 others_stay : (limits : Limits) →
@@ -185,12 +189,12 @@ served_or_not settings = (refl, refl, refl, refl, refl, refl, refl)
 shown_in_order : (limits : Limits) →
     opening (record { stops_accepting = false; shows_sessions = true }) (take 3 (six limits))
     ≡ Begins (record { stops_accepting = false; shows_sessions = true })
-    ∷ Shows 1 (record { phase = Phases.Over; level = level_in WaitIm; summary = counts 10; queued_to_bot = 0; queued_to_server = 0 })
-    ∷ Shows 2 (record { phase = Phases.Over; level = level_in WaitIm; summary = counts 20; queued_to_bot = 4; queued_to_server = 0 })
+    ∷ Shows 1 (record { phase = Phases.Over; level = level_in WaitIm; account = counts limits 10; queued_to_bot = 0; queued_to_server = 0 })
+    ∷ Shows 2 (record { phase = Phases.Over; level = level_in WaitIm; account = counts limits 20; queued_to_bot = 4; queued_to_server = 0 })
     ∷ Shows 3 (record {
       phase = Phases.Open;
       level = limits.top_level;
-      summary = counts 30;
+      account = counts limits 30;
       queued_to_bot = 0;
       queued_to_server = 0;
     }) ∷ []

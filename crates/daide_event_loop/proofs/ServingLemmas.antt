@@ -1,9 +1,8 @@
 -- The progress of a round, and the rounds of a run.
 use Rattle.std.proofs.Common.{◌≡◌, ℕ, zero, suc, ◌+◌, Bool, true, false, List, [], ◌∷◌, ◌++◌}
 use Rattle.std.proofs.Common.{refl, ap, ◌∙◌, subst, add-one, take, arith, ◌<◌, inr, sym, Result, Ok, Err}
-use Rattle.std.specs.Prelude.{◌||◌, ◌==◌, length, slice_get, IfSome, IfErr}
+use Rattle.std.specs.Prelude.{◌||◌, length, slice_get, IfSome, IfErr}
 use Rattle.std.specs.Result.{IsErrAnd}
-use Rattle.std.proofs.Math.Dec.{eqb-suc-zero}
 use Rattle.daide_protocol.specs.Wires.{SessionView}
 use Rattle.daide_io.specs.Ports.{PortCall}
 use Rattle.daide_io.proofs.TraceLemmas.{or_assoc}
@@ -15,10 +14,6 @@ use Rattle.daide_event_loop.specs.declared.serving.ServeFault.TheVariants as Fau
 use Rattle.daide_event_loop.specs.Serving.{ServiceView, any_moved, shows, watches, wait_where, Round, Rounds, is_done, initial_service}
 use Rattle.daide_event_loop.specs.Serving.{BreaksOff, GivesUp}
 use Rattle.daide_event_loop.proofs.TransitLemmas.{transits_then}
-
-pub not_none : (n : ℕ) → (n ≡ 0 → ⊥) → (n == 0) ≡ false
-not_none zero h = absurd (h refl)
-not_none (suc n) h = eqb-suc-zero n
 
 -- ---- progress
 

@@ -42,7 +42,7 @@ pub record HaveSameRules (one other : Settings) : Type 0 where
 pub record AreAlike (one : SessionView) (calls : List PortCall) (other : SessionView) (other_calls : List PortCall) :
     Type 0 where
   pub state : one.state ≡ other.state
-  pub counts : one.summary ≡ other.summary
+  pub counts : one.account ≡ other.account
   pub sent : (side : Side) → length (taken side calls) ≡ length (taken side other_calls) →
       (taken side calls ≡ taken side other_calls) × (sent_bytes (queued one side) ≡ sent_bytes (queued other side))
 

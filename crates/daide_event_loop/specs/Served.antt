@@ -61,12 +61,12 @@ cause_of (Some ending) = Causes.Session ending
 cause_of None = Causes.TurnsSpent
 
 -- The end of a session, by all its port calls: its cause is the event that ended it within its quota, and its moves are
--- counted.
+-- counted by side.
 abbrev pub IsEndOf : Limits → ℕ → List PortCall → SessionView → SessionEnd → Type 0
 IsEndOf limits turns history session end =
     (effects : List Effect) × (state : SessionState)
     × Runs (untouched limits).state (events_of (while_left turns history)) effects state × (end.cause ≡ cause_of (ending_in state.phase))
-    × (end.summary ≡ session.summary)
+    × (end.account ≡ session.account)
 
 -- retired ports are those of a closed session that was served, and the reported end is that of this session
 abbrev pub RetiresClosed : {P : Type 0} → (P → PortCall → P → Type 0) → Settings → List (SystemCall P) →

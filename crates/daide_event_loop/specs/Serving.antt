@@ -6,7 +6,7 @@ use Rattle.std.specs.Prelude.{if◌then◌else◌}
 use Rattle.std.specs.List.{list_any}
 use Rattle.daide_protocol.specs.declared.ending.Ending.{Ending}
 use Rattle.daide_protocol.specs.declared.ending.Ending.TheVariants.{Ended, Lost}
-use Rattle.daide_protocol.specs.declared.summary.Summary.{Summary}
+use Rattle.daide_protocol.specs.declared.account.Account.{Account}
 use Rattle.daide_frame.specs.Side.{same_side}
 use Rattle.daide_protocol.specs.Wires.{SessionView, is_closed}
 use Rattle.daide_words.specs.Words.{words_of}
@@ -214,12 +214,12 @@ abbrev pub cause_by : Option Ending → Option Ending → Cause
 cause_by told None = Causes.TurnsSpent
 cause_by told (Some ending) = if is_reported told ending then Causes.TurnsSpent else Causes.Session ending
 
-abbrev pub end_by : Option Ending → Option Ending → Summary → SessionEnd
-end_by told ending summary = record { cause = cause_by told ending; summary = summary }
+abbrev pub end_by : Option Ending → Option Ending → Account → SessionEnd
+end_by told ending account = record { cause = cause_by told ending; account = account }
 
--- the end of a session, with its counted moves
+-- the end of a session, with its account
 abbrev pub end_of : {P : Type 0} → SessionView × QuotaPortsView P → SessionEnd
-end_of place = end_by place.1.first_synthetic_end (ending_in place.0.state.phase) place.0.summary
+end_of place = end_by place.1.first_synthetic_end (ending_in place.0.state.phase) place.0.account
 
 -- spent turns are reported, if so, and then the ports are retired with the end of their session
 abbrev pub parting : {P : Type 0} → QuotaPortsView P → SessionEnd → List (SystemCall P)

@@ -3,7 +3,7 @@
 //!
 //! It uses no socket. The system is a parameter, so that tests can drive whole runs in memory.
 
-ghost use Rattle.std.specs.Prelude.{◌≡◌, ◌+◌, ◌<◌, ◌≤◌, ◌==◌, false, List, [], ◌∷◌, length, Some};
+ghost use Rattle.std.specs.Prelude.{◌≡◌, ◌+◌, ◌<◌, ◌≤◌, ◌==◌, true, false, List, [], ◌∷◌, length, Some};
 ghost use Rattle.std.specs.Prelude.{OnOk, OnErr, IfOk, IfErr, IfSome, slice_get};
 ghost use Rattle.daide_io.specs.System.{SystemCall, Connects, TransitsBy};
 ghost use Rattle.daide_event_loop.specs.Serving.{shows, shows_where};
@@ -13,6 +13,11 @@ ghost use Rattle.daide_event_loop.specs.Serving.{RemovesClosed, parting};
 ghost use Rattle.daide_event_loop.specs.Serving.{is_reported, cause_by, end_by};
 ghost use Rattle.daide_event_loop.specs.Serving.{watches, wait_where, any_progress, Round, is_done, initial_service};
 ghost use Rattle.daide_event_loop.specs.Served.{IsWholeRun};
+ghost use Rattle.daide_event_loop.specs.QuotaPorts.{QuotaPortsView};
+ghost use Rattle.daide_driver.specs.Hub.{Removes, IsReportedOf};
+ghost use Rattle.daide_protocol.specs.Wires.{is_closed};
+ghost use Rattle.daide_protocol.specs.declared.ending.Ending.{Ending};
+ghost use Rattle.daide_protocol.specs.declared.account.Account.{Account};
 ghost use Rattle.daide_event_loop.specs.Serving.{IsServeCause, BreaksOff, GivesUp, arrived};
 
 use crate::admission_counters::AdmissionCounters;
@@ -108,6 +113,44 @@ fn admit<P: Ports, S: System<P>>(
     came
 }
 
+/// Turns a completed connect into a session, or reports a failed one, if some connect is under way. It is not inlined: the
+/// ports are large, and in most rounds no connect is under way.
+#[inline(never)]
+fn take_up_connect<P: Ports, A: Memory + Copy, S: System<P>>(
+    hub: &mut Hub<QuotaPorts<P>, A>,
+    counters: &mut AdmissionCounters,
+    system: &mut S,
+) -> Result<bool, ServeFault>
+    requires within { IsWithinQuotas hub.old counters.old }
+    requires under_way { (counters.old.connecting == 0) ≡ false }
+    ensures finishes { IfOk result (λ progressed. (answers : List (SystemCall P))
+        × TransitsBy S.transition system.old answers system.new
+        × FinishesConnect hub.old counters.old answers hub.new counters.new × (progressed ≡ any_progress answers)) }
+    ensures within { IsWithinQuotas hub.new counters.new }
+    ensures refused { IfErr result (λ fault. fault ≡ ServeFault.Memory) }
+    ensures broken_off { OnErr result ((ports : P)
+        × TransitsBy S.transition system.old (Connects (Connect.Ready ports) ∷ []) system.new) }
+    ensures out_of_memory { OnErr result (A.Refuses hub.old.limits.cap) }
+    ensures left { OnErr result ((hub.new ≡ hub.old) × (counters.new ≡ arrived counters.old)) }
+{
+    match system.connected() {
+        Connect::Pending => Ok(false),
+        Connect::Failed => {
+            counters.connecting -= 1;
+            system.tell(Notice::CannotReach);
+            Ok(true)
+        }
+        Connect::Ready(ports) => {
+            counters.connecting -= 1;
+            match hub.add(QuotaPorts::new(ports, counters.turns)) {
+                Ok(_place) => Ok(true),
+                Err((AddFault::Memory, _ports)) => Err(ServeFault::Memory),
+                Err((AddFault::Full, _ports)) => unreachable!(),
+            }
+        }
+    }
+}
+
 /// Turns a completed connect into a session, or reports a failed one. Returns true if a connect completed or failed.
 ///
 /// Fails with `Memory` if the allocator refused a body.
@@ -131,22 +174,7 @@ fn finish_connect<P: Ports, A: Memory + Copy, S: System<P>>(
     if counters.connecting == 0 {
         return Ok(false);
     }
-    match system.connected() {
-        Connect::Pending => Ok(false),
-        Connect::Failed => {
-            counters.connecting -= 1;
-            system.tell(Notice::CannotReach);
-            Ok(true)
-        }
-        Connect::Ready(ports) => {
-            counters.connecting -= 1;
-            match hub.add(QuotaPorts::new(ports, counters.turns)) {
-                Ok(_place) => Ok(true),
-                Err((AddFault::Memory, _ports)) => Err(ServeFault::Memory),
-                Err((AddFault::Full, _ports)) => unreachable!(),
-            }
-        }
-    }
+    take_up_connect(hub, counters, system)
 }
 
 /// Makes one turn of the session at a place: the system begins it with the ports of that session.
@@ -245,11 +273,11 @@ fn cause_of(told: Option<Ending>, ending: Ending) -> Cause
 /// Retires ports with the end of their session. Before that, reports spent turns if the quota is exceeded.
 fn part_with<P: Ports, S: System<P>>(removed: Removed<QuotaPorts<P>>, system: &mut S)
     ensures { TransitsBy S.transition system.old (parting removed.ports
-        (end_by removed.ports.first_synthetic_end (Some removed.ending) removed.summary)) system.new }
+        (end_by removed.ports.first_synthetic_end (Some removed.ending) removed.account)) system.new }
 {
     let Removed {
         ports,
-        summary,
+        account,
         ending,
     } = removed;
     if ports.is_spent() {
@@ -257,9 +285,30 @@ fn part_with<P: Ports, S: System<P>>(removed: Removed<QuotaPorts<P>>, system: &m
     }
     let end = SessionEnd {
         cause: cause_of(ports.first_synthetic_end(), ending),
-        summary,
+        account,
     };
     system.retire(ports.into_ports(), end);
+}
+
+/// Removes the closed session at a place, and retires its ports. It is not inlined: what it moves is large, and most rounds
+/// have no closed session.
+#[inline(never)]
+fn retire_at<P: Ports, A: Allocator + Copy, S: System<P>>(
+    hub: &mut Hub<QuotaPorts<P>, A>,
+    i: usize,
+    system: &mut S,
+)
+    requires there { i < length hub.old.places }
+    requires over { IfSome (slice_get hub.old.places i) (λ place. is_closed place.0 ≡ true) }
+    ensures { (ports : QuotaPortsView P) × (account : Account) × (ending : Ending) × Removes hub.old i ports hub.new
+        × IfSome (slice_get hub.old.places i) (λ place. IsReportedOf place.0 account ending)
+        × TransitsBy S.transition system.old
+        (parting ports (end_by ports.first_synthetic_end (Some ending) account)) system.new }
+{
+    match hub.remove_over(i) {
+        Some(session) => part_with(session, system),
+        None => unreachable!(),
+    }
 }
 
 /// Removes the closed sessions, from the last place to the first. Returns true if there were any.
@@ -274,8 +323,8 @@ fn remove_closed<P: Ports, A: Allocator + Copy, S: System<P>>(
 {
     let mut removed = false;
     for i in (0..hub.count()).rev() {
-        if let Some(session) = hub.remove_over(i) {
-            part_with(session, system);
+        if hub.session(i).is_closed() {
+            retire_at(hub, i, system);
             removed = true;
         }
     }

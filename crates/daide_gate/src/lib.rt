@@ -30,7 +30,9 @@ pub use daide_io::{
     Cause, Connect, Notice, Orders, Ports, Pull, Put, SessionEnd, SessionStatus, System, ports,
     system,
 };
-pub use daide_protocol::{Config, ConfigError, Deed, Ending, Note, Phase, SessionLimits, Summary};
+pub use daide_protocol::{
+    Account, Config, ConfigError, Deed, Ending, Note, Phase, SessionLimits, SideCounts, Summary,
+};
 pub use daide_session::{Session, SessionError};
 
 // The event loop, and the commands on their inputs.

@@ -13,12 +13,12 @@ use Rattle.daide_io.specs.declared.system.SessionStatus.{SessionStatus}
 abbrev pub no_orders : Orders
 no_orders = record { stops_accepting = false; shows_sessions = false }
 
--- the status of a session: its phase, its level, its counts, and how many bytes are queued for each side
+-- the status of a session: its phase, its level, its counts by side, and how many bytes are queued for each side
 abbrev pub status_of : SessionView → SessionStatus
 status_of session = record {
   phase = plain_phase session.state.phase;
   level = level_in session.state.phase;
-  summary = session.summary;
+  account = session.account;
   queued_to_bot = length (sent_bytes (queued session Bot));
   queued_to_server = length (sent_bytes (queued session Server));
 }

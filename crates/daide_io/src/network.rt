@@ -94,4 +94,7 @@ pub trait Network: Drop {
     /// Returns the state of a connection's connect.
     fn connect_status(&mut self, connection: &Self::Connection) -> ConnectStatus
         ensures { transition self.old (AsksConnect connection.now result) self.new };
+
+    /// Returns the address from which a connection was made; `None` if the system does not say.
+    fn local_address(&self, connection: &Self::Connection) -> Option<SocketAddr>;
 }

@@ -14,9 +14,9 @@ ghost use Rattle.daide_io.specs.System.{Retires, Notifies, Waits};
 
 use crate::ports::Ports;
 use daide_grammar::level::Level;
+use daide_protocol::account::Account;
 use daide_protocol::ending::Ending;
 use daide_protocol::phase::Phase;
-use daide_protocol::summary::Summary;
 use thiserror::Error;
 
 /// The result for the pending connects to the server.
@@ -55,8 +55,8 @@ pub enum Cause {
 pub struct SessionEnd {
     /// Why it ended.
     pub cause: Cause,
-    /// The counts of its effects, modulo 2^64.
-    pub summary: Summary,
+    /// Its counts by side, modulo 2^64, and the level of press that was last in force.
+    pub account: Account,
 }
 
 /// The operator's orders to a run when a round begins.
@@ -82,8 +82,8 @@ pub struct SessionStatus {
     pub phase: Phase,
     /// The press level of an open session; level 0 in every other phase.
     pub level: Level,
-    /// The counts of its effects so far, modulo 2^64.
-    pub summary: Summary,
+    /// Its counts by side so far, modulo 2^64.
+    pub account: Account,
     /// The bytes that are queued for the bot.
     pub queued_to_bot: usize,
     /// The bytes that are queued for the server.
@@ -139,7 +139,7 @@ pub trait System<P: Ports> {
     fn connected(&mut self) -> Connect<P>
         ensures { transition self.old (Connects result) self.new };
 
-    /// Takes the ports of a session that is over, on which no more calls are made, with how it ended and its counts.
+    /// Takes the ports of a session that is over, on which no more calls are made, with how it ended and its account.
     /// The run does not wait for the ports to close, and no longer holds them.
     fn retire(&mut self, ports: P, end: SessionEnd)
         ensures { transition self.old (Retires ports end) self.new };

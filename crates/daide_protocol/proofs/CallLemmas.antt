@@ -10,14 +10,15 @@ use Rattle.daide_protocol.specs.declared.note.Note.{Note}
 use Rattle.daide_frame.specs.Side.{other, same_side}
 use Rattle.daide_protocol.specs.Events.{Event, Ends, Loses, ImTimerExpired, OperatorStops, bytes_come}
 use Rattle.daide_protocol.specs.Machine.{Limits, Sent, SessionState, Effect, Runs, is_over, initial_state}
-use Rattle.daide_protocol.specs.Wires.{SessionView, IsNew, Refines, Lost, Wrote, queued, sent_to, sent_bytes, without}
+use Rattle.daide_protocol.specs.Wires.{SessionView, IsNew, Refines, Lost, Wrote, account_after, queued, sent_to}
+use Rattle.daide_protocol.specs.Wires.{sent_bytes, without}
 use Rattle.daide_protocol.specs.Calls.{Call, Feeds, Stops, TimesOut, Terminates, Fails, Puts, first_bytes, IsCall, AreCalls}
 use Rattle.daide_protocol.specs.Calls.{events_of_calls, taken_by, some_call_fails, Delivers}
 use Rattle.daide_protocol.proofs.OneRun.{one_run, runs_join}
 use Rattle.daide_protocol.proofs.PieceRuns.{over_stays}
 use Rattle.daide_protocol.proofs.WireLemmas.{sent_to-append, sent_bytes-append}
-use Rattle.daide_protocol.specs.Summary.{tallied}
-use Rattle.daide_protocol.proofs.SummaryLemmas.{tallied_then}
+use Rattle.daide_protocol.proofs.AccountLemmas.{accounted_then}
+use Rattle.daide_protocol.proofs.LimitsKept.{runs_limits}
 
 -- ---- the bytes that a wire takes
 
@@ -245,7 +246,7 @@ puts_on calls old mid new to bytes rest front wrote d side = go (same_side to si
 -- ---- all calls
 
 by_wires : (old : SessionView) (calls : List Call) (new : SessionView) (effects : List Effect) →
-    Runs old.state (events_of_calls calls) effects new.state → new.summary ≡ tallied effects old.summary →
+    Runs old.state (events_of_calls calls) effects new.state → new.account ≡ account_after old effects →
     ((side : Side) → IsTakenOf side calls new (queued old side ++ sent_to side effects)) → Delivers old calls new
 by_wires old calls new effects run counts wires = record {
   effects = effects;
@@ -267,38 +268,43 @@ first_call : (old mid new : SessionView) (call : Call) (calls : List Call) → I
 first_call old mid new (Feeds from piece) calls (reported, goes) are d =
     by_wires old (Feeds from piece ∷ calls) new (goes.effects ++ d.effects)
     (then_runs old mid (bytes_come from piece) reported goes calls new d)
-    (tallied_then goes.effects d.effects old.summary mid.summary new.summary goes.counts d.counts)
+    (accounted_then goes.effects d.effects old mid new
+    (runs_limits (bytes_come from piece) old.state mid.state goes.effects goes.run) goes.counts d.counts)
     (goes_on calls old mid new (bytes_come from piece) reported goes d)
 first_call old mid new (Stops from) calls (reported, goes) are d =
     by_wires old (Stops from ∷ calls) new (goes.effects ++ d.effects)
     (then_runs old mid (Ends from ∷ []) reported goes calls new d)
-    (tallied_then goes.effects d.effects old.summary mid.summary new.summary goes.counts d.counts)
+    (accounted_then goes.effects d.effects old mid new
+    (runs_limits (Ends from ∷ []) old.state mid.state goes.effects goes.run) goes.counts d.counts)
     (goes_on calls old mid new (Ends from ∷ []) reported goes d)
 first_call old mid new TimesOut calls (reported, goes) are d =
     by_wires old (TimesOut ∷ calls) new (goes.effects ++ d.effects)
     (then_runs old mid (ImTimerExpired ∷ []) reported goes calls new d)
-    (tallied_then goes.effects d.effects old.summary mid.summary new.summary goes.counts d.counts)
+    (accounted_then goes.effects d.effects old mid new
+    (runs_limits (ImTimerExpired ∷ []) old.state mid.state goes.effects goes.run) goes.counts d.counts)
     (goes_on calls old mid new (ImTimerExpired ∷ []) reported goes d)
 first_call old mid new Terminates calls (reported, goes) are d =
     by_wires old (Terminates ∷ calls) new (goes.effects ++ d.effects)
     (then_runs old mid (OperatorStops ∷ []) reported goes calls new d)
-    (tallied_then goes.effects d.effects old.summary mid.summary new.summary goes.counts d.counts)
+    (accounted_then goes.effects d.effects old mid new
+    (runs_limits (OperatorStops ∷ []) old.state mid.state goes.effects goes.run) goes.counts d.counts)
     (goes_on calls old mid new (OperatorStops ∷ []) reported goes d)
 first_call old mid new (Fails to) calls lost are d =
     by_wires old (Fails to ∷ calls) new (lost.effects ++ d.effects)
     (runs_join (Loses to ∷ []) (events_of_calls calls) old.state mid.state new.state lost.effects d.effects lost.run d.run)
-    (tallied_then lost.effects d.effects old.summary mid.summary new.summary lost.counts d.counts)
+    (accounted_then lost.effects d.effects old mid new
+    (runs_limits (Loses to ∷ []) old.state mid.state lost.effects lost.run) lost.counts d.counts)
     (fails_on calls old mid new to lost d are)
 first_call old mid new (Puts to bytes) calls ((rest, front), wrote) are d =
     by_wires old (Puts to bytes ∷ calls) new d.effects
     (subst (λ (s : SessionState). Runs s (events_of_calls calls) d.effects new.state) wrote.same_state d.run)
-    (d.counts ∙ ap (tallied d.effects) wrote.counts)
+    (accounted_then [] d.effects old mid new (ap (λ (s : SessionState). s.limits) wrote.same_state) wrote.counts d.counts)
     (puts_on calls old mid new to bytes rest front wrote d)
 
 -- for each wire, the bytes taken and those still queued are the bytes queued before and the frames of the run
 pub calls_deliver : (calls : List Call) (old new : SessionView) → AreCalls old calls new → Delivers old calls new
 calls_deliver [] old new same =
-    by_wires old [] new [] (refl, ap (λ (g : SessionView). g.state) same) (ap (λ (g : SessionView). g.summary) same) (λ side. (
+    by_wires old [] new [] (refl, ap (λ (g : SessionView). g.state) same) (ap (λ (g : SessionView). g.account) same) (λ side. (
       (λ live.
           ap (λ (g : SessionView). sent_bytes (queued g side)) same ∙ sym (ap sent_bytes (append-nil (queued old side)))),
       (λ failed. absurd cc),

@@ -1,5 +1,5 @@
--- A session's counts are those of the frames that it sends.
-use Rattle.std.proofs.Common.{◌≡◌, ℕ, ◌+◌, Bool, true, false, cond, List, [], ◌∷◌, ◌++◌, length, drop, Option, Some}
+-- A session's counts are those of the frames that it sends, and those of its two sides together.
+use Rattle.std.proofs.Common.{◌≡◌, ℕ, ◌+◌, ◌%◌, ◌^◌, Bool, true, false, cond, List, [], ◌∷◌, ◌++◌, length, drop, Option, Some}
 use Rattle.std.proofs.Common.{None, Result, Ok, Err, refl, sym, ◌∙◌, ap, subst, arith, length-append}
 use Rattle.std.specs.List.{filter}
 use Rattle.std.proofs.lemmas.List.Elements.{filter-append}
@@ -11,6 +11,7 @@ use Rattle.daide_frame.specs.declared.code.Code.{Code}
 use Rattle.daide_frame.specs.Head.{head_bytes, is_im}
 use Rattle.daide_frame.specs.InitialMessage.{im_of}
 use Rattle.daide_frame.specs.Frames.{FrameEvent, Begun, Whole, Wrong, last_items}
+use Rattle.daide_grammar.specs.declared.level.Level.{Level}
 use Rattle.daide_reader.specs.declared.verdict.Verdict.{Verdict}
 use Rattle.daide_reader.specs.declared.verdict.Verdict.TheVariants.{Relay, Prn, Huh}
 use Rattle.daide_protocol.specs.declared.note.Deed.TheVariants as Deeds
@@ -26,7 +27,9 @@ use Rattle.daide_protocol.specs.Machine.{SessionState, Sent, Effect, Successor, 
 use Rattle.daide_protocol.specs.Machine.{fm_to, deed_of, destination, is_sent, reply_to, header_outcome, untimely}
 use Rattle.daide_protocol.specs.Machine.{answered, im_answered, item_outcome, items_outcome, im_timer_expired, event_outcome}
 use Rattle.daide_protocol.specs.Wires.{sent_to}
-use Rattle.daide_protocol.specs.Summary.{nothing_counted, count_note, tallied, reduced}
+use Rattle.daide_protocol.specs.Summary.{nothing_counted, count_note, counted_on, one_more, tallied, reduced}
+use Rattle.daide_protocol.specs.declared.account.Account.{Account}
+use Rattle.daide_protocol.specs.Account.{effect_accounted, accounted, summary_of}
 use Rattle.daide_protocol.specs.Counts.{begins_with, number_to, number_sent, frames_counted}
 use Rattle.daide_protocol.proofs.SummaryLemmas.{counted_reduced}
 use Rattle.daide_protocol.proofs.WireLemmas.{sent_to-append}
@@ -72,10 +75,14 @@ frames_counted-append : (a b : List Effect) → frames_counted (a ++ b) ≡ plus
 frames_counted-append a b = same_counts _ _ _ _ _ _ _ _ (number_sent-append _ a b) (number_sent-append _ a b)
     (number_sent-append _ a b) (number_sent-append _ a b)
 
--- ---- an effect is counted by the frames that it sends
+-- ---- an effect is counted by the frames that it sends, and for one of the sides
+
+abbrev AddsUp : Effect → Type 0
+AddsUp effect = (top : Level) (a : Account) →
+    summary_of (effect_accounted top effect.reported effect.sent a) ≡ counted_on effect.reported (summary_of a)
 
 abbrev IsCounted : Effect → Type 0
-IsCounted effect = count_note effect.reported nothing_counted ≡ frames_counted (effect ∷ [])
+IsCounted effect = (count_note effect.reported nothing_counted ≡ frames_counted (effect ∷ [])) × AddsUp effect
 
 abbrev AreCounted : List Effect → Type 0
 AreCounted [] = Unit {0}
@@ -93,41 +100,56 @@ all_counted (effect ∷ effects) s h =
     ap (tallied effects) (counted_reduced effect.reported s)
     ∙ (all_counted effects (count_note effect.reported s) h.1
     ∙ ap reduced (sym (counted_plus effect.reported s (frames_counted effects))
-    ∙ (ap (λ (t : Summary). plus s (plus t (frames_counted effects))) h.0
+    ∙ (ap (λ (t : Summary). plus s (plus t (frames_counted effects))) h.0.0
     ∙ ap (plus s) (sym (frames_counted-append (effect ∷ []) effects)))))
+
+-- and the counts of both sides together are the counts of all frames
+all_add_up : (top : Level) (effects : List Effect) (a : Account) → AreCounted effects →
+    summary_of (accounted top effects a) ≡ tallied effects (summary_of a)
+all_add_up top [] a h = refl
+all_add_up top (effect ∷ effects) a h =
+    all_add_up top effects (effect_accounted top effect.reported effect.sent a) h.1
+    ∙ ap (tallied effects) (h.0.1 top a)
+
+-- one more of a side is one more of both
+one_more_first : (m n : ℕ) → (one_more m + n) % 2 ^ 64 ≡ one_more ((m + n) % 2 ^ 64)
+one_more_first m n = omega arith
+
+one_more_second : (m n : ℕ) → (m + one_more n) % 2 ^ 64 ≡ one_more ((m + n) % 2 ^ 64)
+one_more_second m n = omega arith
 
 -- ---- each kind of effect
 
 fm_counted : (phase : SessionPhase) (side : Side) → IsCounted (record { reported = Notes.Nothing; sent = fm_to phase side })
-fm_counted WaitIm Bot = refl
-fm_counted WaitIm Server = refl
-fm_counted WaitRm Bot = refl
-fm_counted WaitRm Server = refl
-fm_counted (Open level) Bot = refl
-fm_counted (Open level) Server = refl
-fm_counted (Over ending) Bot = refl
-fm_counted (Over ending) Server = refl
+fm_counted WaitIm Bot = (refl, λ top a. refl)
+fm_counted WaitIm Server = (refl, λ top a. refl)
+fm_counted WaitRm Bot = (refl, λ top a. refl)
+fm_counted WaitRm Server = (refl, λ top a. refl)
+fm_counted (Open level) Bot = (refl, λ top a. refl)
+fm_counted (Open level) Server = (refl, λ top a. refl)
+fm_counted (Over ending) Bot = (refl, λ top a. refl)
+fm_counted (Over ending) Server = (refl, λ top a. refl)
 
 fms_counted : (phase : SessionPhase) →
     IsCounted (record { reported = Notes.Stopped; sent = fm_to phase Bot ++ fm_to phase Server })
-fms_counted WaitIm = refl
-fms_counted WaitRm = refl
-fms_counted (Open level) = refl
-fms_counted (Over ending) = refl
+fms_counted WaitIm = (refl, λ top a. refl)
+fms_counted WaitRm = (refl, λ top a. refl)
+fms_counted (Open level) = (refl, λ top a. refl)
+fms_counted (Over ending) = (refl, λ top a. refl)
 
 fault_counted : (phase : SessionPhase) (side : Side) (code : Code) →
     IsCounted (record { reported = Notes.Fault code; sent = em_to side code ∷ fm_to phase (other side) })
-fault_counted WaitIm Bot code = refl
-fault_counted WaitIm Server code = refl
-fault_counted WaitRm Bot code = refl
-fault_counted WaitRm Server code = refl
-fault_counted (Open level) Bot code = refl
-fault_counted (Open level) Server code = refl
-fault_counted (Over ending) Bot code = refl
-fault_counted (Over ending) Server code = refl
+fault_counted WaitIm Bot code = (refl, λ top a. refl)
+fault_counted WaitIm Server code = (refl, λ top a. refl)
+fault_counted WaitRm Bot code = (refl, λ top a. refl)
+fault_counted WaitRm Server code = (refl, λ top a. refl)
+fault_counted (Open level) Bot code = (refl, λ top a. refl)
+fault_counted (Open level) Server code = (refl, λ top a. refl)
+fault_counted (Over ending) Bot code = (refl, λ top a. refl)
+fault_counted (Over ending) Server code = (refl, λ top a. refl)
 
 -- a header has four bytes
-behind_head : (head : Head) (body : List ℕ) → drop 4 (head_bytes head ++ body) ≡ body
+pub behind_head : (head : Head) (body : List ℕ) → drop 4 (head_bytes head ++ body) ≡ body
 unfolding head_bytes
 behind_head head body = refl
 
@@ -143,15 +165,25 @@ answer_counted : (side : Side) (head : Head) (body : List ℕ) (v : Verdict) (go
       reported = Notes.Frame head (deed_of goes v);
       sent = cond goes (reply_to side head body v ∷ []) [];
     })
-answer_counted side head body v false = refl
-answer_counted Bot head body Relay true = refl
-answer_counted Server head body Relay true = refl
-answer_counted Bot head body Prn true = rw (begins prn head body Prn, begins huh head body Prn) refl
-answer_counted Server head body Prn true = rw (begins prn head body Prn, begins huh head body Prn) refl
-answer_counted Bot head body (Huh place) true =
-    rw (begins prn head body (Huh place), begins huh head body (Huh place)) refl
-answer_counted Server head body (Huh place) true =
-    rw (begins prn head body (Huh place), begins huh head body (Huh place)) refl
+answer_counted side head body v false = (refl, λ top a. refl)
+answer_counted Bot head body Relay true = (refl, λ top a. rw (one_more_first a.bot.relayed a.server.relayed) refl)
+answer_counted Server head body Relay true = (refl, λ top a. rw (one_more_second a.bot.relayed a.server.relayed) refl)
+answer_counted Bot head body Prn true = (
+  rw (begins prn head body Prn, begins huh head body Prn) refl,
+  (λ top a. rw (one_more_first a.bot.prn a.server.prn) refl),
+)
+answer_counted Server head body Prn true = (
+  rw (begins prn head body Prn, begins huh head body Prn) refl,
+  (λ top a. rw (one_more_second a.bot.prn a.server.prn) refl),
+)
+answer_counted Bot head body (Huh place) true = (
+  rw (begins prn head body (Huh place), begins huh head body (Huh place)) refl,
+  (λ top a. rw (one_more_first a.bot.huh a.server.huh) refl),
+)
+answer_counted Server head body (Huh place) true = (
+  rw (begins prn head body (Huh place), begins huh head body (Huh place)) refl,
+  (λ top a. rw (one_more_second a.bot.huh a.server.huh) refl),
+)
 
 -- ---- the effects of an event
 
@@ -192,7 +224,7 @@ items_counted s side (item ∷ items) v =
         (item_counted s side item v) later)
 
 im_timer_expired_counted : (phase : SessionPhase) (s : SessionState) → AreCounted (im_timer_expired phase s).effects
-im_timer_expired_counted WaitIm s = (refl, tt)
+im_timer_expired_counted WaitIm s = ((refl, λ top a. refl), tt)
 im_timer_expired_counted WaitRm s = tt
 im_timer_expired_counted (Open level) s = tt
 im_timer_expired_counted (Over ending) s = tt
@@ -232,6 +264,12 @@ runs_counted old (event ∷ events) effects new run =
     subst AreCounted (sym run.5) (count_note-append run.1 run.2
     (subst (λ (o : Successor). AreCounted o.effects) run.3.outcome (event_counted old event run.3.verdict))
     (runs_counted run.0 events run.2 new run.4))
+
+pub both_sides : (old : SessionState) (events : List Event) (effects : List Effect) (new : SessionState) →
+    Runs old events effects new → (a : Account) →
+    summary_of (accounted old.limits.top_level effects a) ≡ tallied effects (summary_of a)
+both_sides old events effects new run a =
+    all_add_up old.limits.top_level effects a (runs_counted old events effects new run)
 
 pub counts_are_sent : (old : SessionState) (events : List Event) (effects : List Effect) (new : SessionState) →
     Runs old events effects new → tallied effects nothing_counted ≡ reduced (frames_counted effects)

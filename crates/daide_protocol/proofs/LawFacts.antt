@@ -17,7 +17,7 @@ use Rattle.daide_token.specs.Class.{class_of}
 use Rattle.daide_grammar.specs.Table.Symbols.{entries, may_end_of, table_answer}
 use Rattle.daide_protocol.specs.Answers.{answer_bytes}
 use Rattle.daide_grammar.specs.declared.level.Level.{Level}
-use Rattle.daide_grammar.specs.declared.level.Level.TheVariants.{L0}
+use Rattle.daide_grammar.specs.declared.level.Level.TheVariants.{L0, L20}
 use Rattle.daide_grammar.specs.declared.side.Side2.TheVariants.{ServerEnd}
 use Rattle.daide_grammar.specs.SideMessages.{IsMessage}
 use Rattle.daide_protocol.specs.declared.ending.Ending.TheVariants as Endings
@@ -27,6 +27,7 @@ use Rattle.daide_protocol.specs.declared.phase.SessionPhase.TheVariants as Sessi
 use Rattle.daide_protocol.specs.Events.{Event, Comes, Ends, ImTimerExpired, OperatorStops, bytes_come}
 use Rattle.daide_protocol.specs.Machine.{SessionState, Sent, Effect, Transition, Runs, initial_state, is_over, em_to}
 use Rattle.daide_protocol.specs.Machine.{ending_in, is_dm, plain_phase, with_pending}
+use Rattle.daide_protocol.specs.Account.{nothing_accounted, accounted, summary_of}
 use Rattle.daide_protocol.specs.Summary.{nothing_counted, tallied}
 use Rattle.daide_protocol.specs.Wires.{SessionView, IsNew, queued, sent_to, sent_bytes}
 use Rattle.daide_protocol.specs.Calls.{AreCalls, Feeds, Puts, Fails}
@@ -39,7 +40,7 @@ use Rattle.daide_protocol.specs.Harm.{ASideHarmsItselfAlone, HasRefused}
 use Rattle.daide_protocol.specs.Laws.{EachEventHasATransition, EventsHaveARun, AnswersAreUnique, RunsJoin, AnswersJoin}
 use Rattle.daide_protocol.specs.Laws.{PiecesDoNotMatter, CallsDeliverTheAnswers, EachWireGetsTheAnswers, OnlyEventsMatter}
 use Rattle.daide_protocol.specs.Laws.{NothingAfterTheEnd, EndingIsKnown, CountsAreTheMoves, FramesAreThoseOfTheCut}
-use Rattle.daide_protocol.specs.Laws.{EachSideIsWaitedFor}
+use Rattle.daide_protocol.specs.Laws.{EachSideIsWaitedFor, SidesAddUp, LevelIsKept}
 use Rattle.daide_protocol.proofs.SessionFacts.{fm, im, message, one_session, open_at_0, session_events, standing}
 use Rattle.daide_protocol.proofs.SessionFacts.{usual}
 use Rattle.daide_protocol.proofs.SomeRun.{outcome_of, run_of}
@@ -175,6 +176,23 @@ unfolding last_items first_items parse_head is_alien im_of entries may_end_of ta
 counts law =
     law (initial_state usual) session_events (outcome_of (initial_state usual) session_events).effects
     (outcome_of (initial_state usual) session_events).state (run_of (initial_state usual) session_events refl)
+
+-- IM, OBS and FM of the bot and RM and OFF of the server are 5 together, and GOF ( of the bot got PRN
+both_sides : SidesAddUp →
+    (counted : tallied (outcome_of (initial_state usual) session_events).effects nothing_counted
+    ≡ record { relayed = 5; prn = 1; huh = 0; faults = 0 }) →
+    summary_of (accounted usual.top_level (outcome_of (initial_state usual) session_events).effects nothing_accounted)
+    ≡ record { relayed = 5; prn = 1; huh = 0; faults = 0 }
+both_sides law counted =
+    law (initial_state usual) session_events (outcome_of (initial_state usual) session_events).effects
+    (outcome_of (initial_state usual) session_events).state (run_of (initial_state usual) session_events refl)
+    nothing_accounted ∙ counted
+
+-- open at level 20 after an HLO, the account has level 20
+at_level_20 : LevelIsKept → (events : List Event) (effects : List Effect) (new : SessionState) →
+    Runs (initial_state usual) events effects new → new.phase ≡ SessionPhases.Open L20 →
+    (accounted usual.top_level effects nothing_accounted).level ≡ L20
+at_level_20 law events effects new = law usual events effects new L20
 
 -- ---- frames
 

@@ -8,6 +8,8 @@ pub mod SummaryLemmas
 pub mod GrowthLemmas
 pub mod EndingLemmas
 pub mod CountLemmas
+pub mod AccountLemmas
+pub mod AccountLevels
 pub mod CallLemmas
 pub mod HloLemmas
 pub mod LimitsKept
@@ -23,6 +25,7 @@ pub mod SessionViewFacts
 pub mod SessionFacts
 mod EndingFacts
 mod CountFacts
+mod AccountFacts
 mod LevelRangeFacts
 pub mod WordedVerdicts
 pub mod WordedRuns

@@ -15,7 +15,7 @@ use Rattle.daide_protocol.specs.declared.phase.Phase.{Phase}
 use Rattle.daide_protocol.specs.declared.phase.Phase.TheVariants.{Open, Over}
 use Rattle.daide_protocol.specs.declared.note.Deed.TheVariants as Deeds
 use Rattle.daide_protocol.specs.declared.note.Note.TheVariants as Notes
-use Rattle.daide_protocol.specs.Summary.{nothing_counted}
+use Rattle.daide_protocol.specs.Account.{nothing_accounted}
 use Rattle.daide_protocol.specs.Machine.{Limits, Sent, fm_bytes, initial_state, with_pending}
 use Rattle.daide_protocol.specs.Wires.{SessionView, Holding, queued, room_of, is_awaited, is_closed, without, first_len}
 use Rattle.daide_protocol.specs.Wires.{sent_bytes, held_after, grown, counts_from, asked_at_most, looked_at_most}
@@ -42,7 +42,7 @@ holding_both limits from_bot from_server = record {
   wires = both [] [];
   parts = both [] [];
   sides = both (holds from_bot) (holds from_server);
-  summary = nothing_counted;
+  account = nothing_accounted;
 }
 
 -- a frame for a wire, the answer to a side's frame
@@ -60,7 +60,7 @@ answering_bot phase frame to_bot to_server = record {
   wires = both to_bot to_server;
   parts = both (sent_bytes to_bot ∷ []) (sent_bytes to_server ∷ []);
   sides = both (holds frame) (holds []);
-  summary = nothing_counted;
+  account = nothing_accounted;
 }
 
 -- the same for a frame of the server
@@ -70,7 +70,7 @@ answering_server phase frame to_bot to_server = record {
   wires = both to_bot to_server;
   parts = both (sent_bytes to_bot ∷ []) (sent_bytes to_server ∷ []);
   sides = both (holds []) (holds frame);
-  summary = nothing_counted;
+  account = nothing_accounted;
 }
 
 -- the header of a message of 250 bytes, and HUH ( (

@@ -1,21 +1,11 @@
--- The counts after one list of effects and then another, and the same in unbounded numbers.
-use Rattle.std.proofs.Common.{◌≡◌, ℕ, ◌+◌, ◌%◌, ◌^◌, List, [], ◌∷◌, ◌++◌, refl, sym, ap, ◌∙◌}
+-- A count modulo 2^64, and the same in unbounded numbers.
+use Rattle.std.proofs.Common.{◌≡◌, ℕ, ◌+◌, ◌%◌, ◌^◌, refl}
 use Rattle.std.proofs.Math.Nat.{mod-add-mod}
 use Rattle.daide_protocol.specs.declared.note.Deed.TheVariants as Deeds
 use Rattle.daide_protocol.specs.declared.note.Note.{Note}
 use Rattle.daide_protocol.specs.declared.note.Note.TheVariants as Notes
 use Rattle.daide_protocol.specs.declared.summary.Summary.{Summary}
-use Rattle.daide_protocol.specs.Machine.{Effect}
-use Rattle.daide_protocol.specs.Summary.{count_note, counted_on, one_more, tallied, reduced}
-
-pub tallied-append : (a b : List Effect) (s : Summary) → tallied (a ++ b) s ≡ tallied b (tallied a s)
-tallied-append [] b s = refl
-tallied-append (effect ∷ a) b s = tallied-append a b (counted_on effect.reported s)
-
--- the counts after one list of effects, and after the next
-pub tallied_then : (a b : List Effect) (old mid new : Summary) → mid ≡ tallied a old → new ≡ tallied b mid →
-    new ≡ tallied (a ++ b) old
-tallied_then a b old mid new first second = second ∙ (ap (tallied b) first ∙ sym (tallied-append a b old))
+use Rattle.daide_protocol.specs.Summary.{count_note, counted_on, one_more, reduced}
 
 -- adding one to a count modulo 2^64 is adding one to the count, modulo 2^64
 one_more_mod : (n : ℕ) → one_more (n % 2 ^ 64) ≡ (n + 1) % 2 ^ 64

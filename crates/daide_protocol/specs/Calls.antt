@@ -5,9 +5,8 @@ use Rattle.daide_frame.specs.declared.side.Side.{Side}
 use Rattle.daide_protocol.specs.declared.note.Note.{Note}
 use Rattle.daide_protocol.specs.Events.{Event, Ends, Loses, ImTimerExpired, OperatorStops, bytes_come}
 use Rattle.daide_protocol.specs.Machine.{Sent, Effect, Runs}
-use Rattle.daide_protocol.specs.Summary.{tallied}
 use Rattle.daide_frame.specs.Side.{same_side}
-use Rattle.daide_protocol.specs.Wires.{SessionView, Refines, Lost, Wrote, queued, sent_to, sent_bytes}
+use Rattle.daide_protocol.specs.Wires.{SessionView, Refines, Lost, Wrote, account_after, queued, sent_to, sent_bytes}
 
 -- a call that changes a session
 pub data Call : Type 0 where
@@ -74,7 +73,7 @@ some_call_fails side (Puts to bytes ∷ calls) = some_call_fails side calls
 pub record Delivers (old : SessionView) (calls : List Call) (new : SessionView) : Type 0 where
   pub effects : List Effect
   pub run : Runs old.state (events_of_calls calls) effects new.state
-  pub counts : new.summary ≡ tallied effects old.summary
+  pub counts : new.account ≡ account_after old effects
   pub delivered : (side : Side) → some_call_fails side calls ≡ false →
       taken_by side calls ++ sent_bytes (queued new side) ≡ sent_bytes (queued old side ++ sent_to side effects)
   pub cut_off : (side : Side) → some_call_fails side calls ≡ true → (queued new side ≡ [])

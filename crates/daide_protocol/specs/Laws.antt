@@ -5,6 +5,10 @@ use Rattle.daide_frame.specs.Frames.{FrameEvent, frame_events_of, cut, missing}
 use Rattle.daide_protocol.specs.Events.{Event, bytes_come}
 use Rattle.daide_protocol.specs.Machine.{Limits, SessionState, Effect, Transition, Runs, coming, is_over, initial_state, ending_in}
 use Rattle.daide_protocol.specs.Summary.{nothing_counted, tallied, reduced}
+use Rattle.daide_protocol.specs.declared.account.Account.{Account}
+use Rattle.daide_protocol.specs.Account.{nothing_accounted, accounted, summary_of}
+use Rattle.daide_protocol.specs.declared.phase.SessionPhase.TheVariants.{Open}
+use Rattle.daide_grammar.specs.declared.level.Level.{Level}
 use Rattle.daide_protocol.specs.Counts.{frames_counted}
 use Rattle.daide_protocol.specs.Wires.{SessionView, IsNew, queued, sent_to, sent_bytes}
 use Rattle.daide_protocol.specs.Calls.{Call, AreCalls, Delivers, events_of_calls, taken_by, some_call_fails}
@@ -79,6 +83,18 @@ EndingIsKnown = (limits : Limits) (events : List Event) (effects : List Effect) 
 abbrev pub CountsAreTheMoves : Type 0
 CountsAreTheMoves = (old : SessionState) (events : List Event) (effects : List Effect) (new : SessionState) →
     Runs old events effects new → tallied effects nothing_counted ≡ reduced (frames_counted effects)
+
+-- in any run, and from any account, the counts of the two sides together are the counts of all effects
+abbrev pub SidesAddUp : Type 0
+SidesAddUp = (old : SessionState) (events : List Event) (effects : List Effect) (new : SessionState) →
+    Runs old events effects new → (a : Account) →
+    summary_of (accounted old.limits.top_level effects a) ≡ tallied effects (summary_of a)
+
+-- from a session's start, while it is open: the level of its account is that of its phase
+abbrev pub LevelIsKept : Type 0
+LevelIsKept = (limits : Limits) (events : List Event) (effects : List Effect) (new : SessionState) (level : Level) →
+    Runs (initial_state limits) events effects new → new.phase ≡ Open level →
+    (accounted limits.top_level effects nothing_accounted).level ≡ level
 
 -- The headers, frames and faults from a side that a session uses are those of the cut of all the bytes from that side:
 -- every one while it is not over, and those before its end once it is.

@@ -5,6 +5,7 @@ pub mod HloLevel
 pub mod Machine
 pub mod Config
 pub mod Summary
+pub mod Account
 pub mod Wires
 pub mod Counts
 pub mod Weight

@@ -14,8 +14,8 @@ use Rattle.daide_protocol.specs.declared.note.Note.{Note}
 use Rattle.daide_protocol.specs.declared.note.Note.TheVariants as Notes
 use Rattle.daide_frame.specs.Side.{other, same_side}
 use Rattle.daide_protocol.specs.Events.{Event, Loses}
-use Rattle.daide_protocol.specs.declared.summary.Summary.{Summary}
-use Rattle.daide_protocol.specs.Summary.{nothing_counted, tallied}
+use Rattle.daide_protocol.specs.declared.account.Account.{Account}
+use Rattle.daide_protocol.specs.Account.{nothing_accounted, accounted}
 use Rattle.daide_protocol.specs.Machine.{Sent, Effect, SessionState, Limits, Runs, coming, is_dm, is_over, initial_state}
 
 -- ---- the frames on a wire
@@ -67,8 +67,12 @@ pub record SessionView : Type 0 where
   pub parts : PerSide (List (List ℕ))
   -- what is held of each side
   pub sides : PerSide Holding
-  -- the counts of its effects, modulo 2^64
-  pub summary : Summary
+  -- its effects, counted by side, and the level that was last in force
+  pub account : Account
+
+-- the account of a session after these effects
+abbrev pub account_after : SessionView → List Effect → Account
+account_after g effects = accounted g.state.limits.top_level effects g.account
 
 abbrev pub queued : SessionView → Side → List Sent
 queued g side = at g.wires side
@@ -149,7 +153,7 @@ pub record IsNew (limits : Limits) (g : SessionView) : Type 0 where
   pub held : (side : Side) → (holding g side).held ≡ []
   pub unasked : (side : Side) → (holding g side).total ≡ 0
   pub unlooked : (side : Side) → (holding g side).looked_at ≡ 0
-  pub uncounted : g.summary ≡ nothing_counted
+  pub uncounted : g.account ≡ nothing_accounted
 
 -- At these events the session goes from old to new and reports this note. The frames that they cause are appended to
 -- the queues, and the effects are counted.
@@ -158,7 +162,7 @@ pub record Refines (old : SessionView) (events : List Event) (reported : Note) (
   pub run : Runs old.state events effects new.state
   pub kept : (side : Side) → queued new side ≡ queued old side ++ sent_to side effects
   pub note : reported ≡ note_of effects
-  pub counts : new.summary ≡ tallied effects old.summary
+  pub counts : new.account ≡ account_after old effects
 
 -- If a side's answer is gone, nothing is held from it; otherwise what is held is unchanged. No table made a look-up.
 pub record Releases (old new : SessionView) : Type 0 where
@@ -174,7 +178,7 @@ pub record Lost (old : SessionView) (side : Side) (new : SessionView) : Type 0 w
   pub dropped : queued new side ≡ []
   pub other_wire : queued new (other side) ≡ queued old (other side) ++ sent_to (other side) effects
   pub over : is_over new.state.phase ≡ true
-  pub counts : new.summary ≡ tallied effects old.summary
+  pub counts : new.account ≡ account_after old effects
   pub held : Releases old new
 
 -- a wire took n bytes of its queue, and the rest of the state and the wires is unchanged
@@ -183,7 +187,7 @@ pub record Wrote (old : SessionView) (side : Side) (n : ℕ) (new : SessionView)
   pub taken : queued new side ≡ without n (queued old side)
   pub front_bytes : sent_bytes (queued new side) ≡ drop n (sent_bytes (queued old side))
   pub other_wire : queued new (other side) ≡ queued old (other side)
-  pub counts : new.summary ≡ old.summary
+  pub counts : new.account ≡ old.account
   pub held : Releases old new
 
 -- ---- what is held after a call

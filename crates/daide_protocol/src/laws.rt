@@ -22,7 +22,7 @@ ghost use Rattle.daide_protocol.specs.Laws.{CallsDeliverTheAnswers, EachWireGets
 ghost use Rattle.daide_protocol.specs.Fates.{EachMessageHasOneFate};
 ghost use Rattle.daide_protocol.specs.Passing.{OnlyMessagesPass};
 ghost use Rattle.daide_protocol.specs.Harm.{ASideHarmsItselfAlone};
-ghost use Rattle.daide_protocol.specs.Laws.{EndingIsKnown, CountsAreTheMoves};
+ghost use Rattle.daide_protocol.specs.Laws.{EndingIsKnown, CountsAreTheMoves, SidesAddUp, LevelIsKept};
 ghost use Rattle.daide_protocol.specs.Laws.{NothingAfterTheEnd, FramesAreThoseOfTheCut, EachSideIsWaitedFor};
 
 use crate::answers::{CLOSE_WORD, ERR_WORD, FM, HUH_OPEN, PRN_OPEN};
@@ -126,6 +126,17 @@ pub fn ending_is_known()
 /// frame that is dropped, an end, and the FM that reports an end are not counted.
 pub fn counts_are_the_moves()
     ensures { CountsAreTheMoves }
+{}
+
+/// Over any run, the counts of the two sides together are the counts of all effects, modulo 2^64: each frame that is
+/// relayed, and each message that gets PRN or HUH, counts for exactly one side.
+pub fn sides_add_up()
+    ensures { SidesAddUp }
+{}
+
+/// While a session is open, the level of its account is the level of press by which it judges messages.
+pub fn level_is_kept()
+    ensures { LevelIsKept }
 {}
 
 /// A session goes by the headers, frames and faults that are those of the cut of all of a side's bytes, in order. They

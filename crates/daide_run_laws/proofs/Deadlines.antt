@@ -14,6 +14,7 @@ use Rattle.daide_io.specs.declared.ports.Pull.{Pull}
 use Rattle.daide_io.specs.declared.ports.Pull.TheVariants.{Got, Idle, Ended}
 use Rattle.daide_io.specs.declared.ports.Put.{Put}
 use Rattle.daide_io.specs.declared.ports.Put.TheVariants.{Took}
+use Rattle.daide_io.specs.Streams.{StreamCall}
 use Rattle.daide_io.specs.Ports.{PortCall, TurnBegins, Clock, Pulled, Offered, EvolvesBy}
 use Rattle.daide_event_loop.specs.Waiting.{MakesNoProgress, IsOfTurn}
 use Rattle.daide_sockets.specs.declared.socket.Socket.{Socket}
@@ -21,7 +22,8 @@ use Rattle.daide_sockets.specs.Sockets.{due_after, next_deadline}
 use Rattle.daide_sockets.specs.Table.{earlier}
 use Rattle.daide_sockets.specs.Timers.{SessionTimers, StallGoesOn, PullsInTime, PutsInTime, SetsTimers, SameClock}
 use Rattle.daide_sockets.specs.Times.{IsStallEnd, StallsNext, has_stalled, is_past}
-use Rattle.daide_sockets.specs.Wakeups.{IsOffered, Settles, session_due}
+use Rattle.daide_sockets.specs.Wakeups.{IsOffered, session_due}
+use Rattle.daide_run_laws.proofs.TurnSettled.{AreSettled}
 use Rattle.daide_run_laws.proofs.TimedSessions.{own, KeepsStall, step_stall, step_silence, step_idle_time, IsTimedNow, end_there}
 
 -- ---- moments
@@ -172,8 +174,8 @@ module _ {S : Type 0} where
             (subst (λ (r : Option Instant). IsStalling r (own old side)) (sym (step_reading call old new made h)) k.1),
       )) held
 
-  put_held : (old new : SessionTimers S) (side : Side) (bytes : List ℕ) → SameClock old new →
-      IsOffered bytes (Took 0) (own old side) (own new side) →
+  put_held : {streams : S → Option (List StreamCall)} (old new : SessionTimers S) (side : Side) (bytes : List ℕ) → SameClock old new →
+      IsOffered streams bytes (Took 0) (own old side) (own new side) →
       PutsInTime old.sockets.reading bytes (Took 0) (own old side) (own new side) → 0 < length bytes → IsHeld side new
   put_held old new side bytes clock offered times some = by (own new side).tries_again refl
     where
@@ -190,13 +192,13 @@ module _ {S : Type 0} where
       by false e = inr (offered.none_taken refl some e, next)
 
   abbrev pub SettlesTimers : PortCall → SessionTimers S → SessionTimers S → Type 0
-  SettlesTimers call old new = Settles call (old.sockets.bot, old.sockets.server) (new.sockets.bot, new.sockets.server)
+  SettlesTimers call old new = AreSettled call (old.sockets.bot, old.sockets.server) (new.sockets.bot, new.sockets.server)
 
   pub held_found : (side : Side) (bytes : List ℕ) (old new : SessionTimers S) →
       SettlesTimers (Offered side bytes (Took 0)) old new → SetsTimers (Offered side bytes (Took 0)) old new → 0 < length bytes →
       IsHeld side new
-  held_found Bot bytes old new s h some = put_held old new Bot bytes h.0 s.0 h.1 some
-  held_found Server bytes old new s h some = put_held old new Server bytes h.0 s.0 h.1 some
+  held_found Bot bytes old new s h some = put_held old new Bot bytes h.0 s.1.0 h.1 some
+  held_found Server bytes old new s h some = put_held old new Server bytes h.0 s.1.0 h.1 some
 
   none_put : (side : Side) (bytes : List ℕ) (put : Put) (old new : SessionTimers S) → put ≡ Took 0 →
       SettlesTimers (Offered side bytes put) old new → SetsTimers (Offered side bytes put) old new → 0 < length bytes → IsHeld side new
@@ -210,20 +212,20 @@ module _ {S : Type 0} where
   held_stays side (Clock event) old new s h still made held =
       subst (λ (t : SessionTimers S). IsHeld side t) (sym h.1) held
   held_stays Bot (Pulled Bot room pull bytes) old new s h still made held =
-      held_by old new Bot (Pulled Bot room pull bytes) made h s.0.tries_again
-      (λ shut. (s.0.full shut, λ moment e. h.1.stalls_at ∙ e)) held
+      held_by old new Bot (Pulled Bot room pull bytes) made h s.1.0.tries_again
+      (λ shut. (s.1.0.writes ∙ shut, λ moment e. h.1.stalls_at ∙ e)) held
   held_stays Bot (Pulled Server room pull bytes) old new s h still made held =
-      held_by old new Bot (Pulled Server room pull bytes) made h s.1.tries_again (λ shut. (s.1.full shut, h.2.full shut)) held
+      held_by old new Bot (Pulled Server room pull bytes) made h s.1.1.tries_again (λ shut. (s.1.1.full shut, h.2.full shut)) held
   held_stays Server (Pulled Bot room pull bytes) old new s h still made held =
-      held_by old new Server (Pulled Bot room pull bytes) made h s.1.tries_again (λ shut. (s.1.full shut, h.2.full shut)) held
+      held_by old new Server (Pulled Bot room pull bytes) made h s.1.1.tries_again (λ shut. (s.1.1.full shut, h.2.full shut)) held
   held_stays Server (Pulled Server room pull bytes) old new s h still made held =
-      held_by old new Server (Pulled Server room pull bytes) made h s.0.tries_again
-      (λ shut. (s.0.full shut, λ moment e. h.1.stalls_at ∙ e)) held
+      held_by old new Server (Pulled Server room pull bytes) made h s.1.0.tries_again
+      (λ shut. (s.1.0.writes ∙ shut, λ moment e. h.1.stalls_at ∙ e)) held
   held_stays Bot (Offered Bot bytes put) old new s h still made held = none_put Bot bytes put old new still s h made
   held_stays Bot (Offered Server bytes put) old new s h still made held =
-      held_by old new Bot (Offered Server bytes put) made h s.1.tries_again (λ shut. (s.1.full shut, h.2.full shut)) held
+      held_by old new Bot (Offered Server bytes put) made h s.1.1.tries_again (λ shut. (s.1.1.full shut, h.2.full shut)) held
   held_stays Server (Offered Bot bytes put) old new s h still made held =
-      held_by old new Server (Offered Bot bytes put) made h s.1.tries_again (λ shut. (s.1.full shut, h.2.full shut)) held
+      held_by old new Server (Offered Bot bytes put) made h s.1.1.tries_again (λ shut. (s.1.1.full shut, h.2.full shut)) held
   held_stays Server (Offered Server bytes put) old new s h still made held = none_put Server bytes put old new still s h made
 
   -- ---- the nearest deadline

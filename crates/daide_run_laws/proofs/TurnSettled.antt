@@ -1,5 +1,5 @@
 -- What the sockets of a session know after a turn that made no progress.
-use Rattle.std.proofs.Common.{◌≡◌, ℕ, zero, suc, ◌<◌, Bool, true, false, List, [], ◌∷◌, length, get_or}
+use Rattle.std.proofs.Common.{◌≡◌, ℕ, zero, suc, ◌<◌, Bool, true, false, List, [], ◌∷◌, Option, length, get_or}
 use Rattle.std.proofs.Common.{refl, sym, ◌∙◌, subst, arith, ◌⊎◌, inl, inr, ⊎_elim}
 use Rattle.std.specs.Prelude.{All}
 use Rattle.std.proofs.lemmas.List.Elements.{All-head, All-tail}
@@ -8,6 +8,7 @@ use Rattle.daide_frame.specs.declared.side.Side.TheVariants.{Bot, Server}
 use Rattle.daide_io.specs.declared.ports.Pull.{Pull}
 use Rattle.daide_io.specs.declared.ports.Put.{Put}
 use Rattle.daide_io.specs.declared.ports.Put.TheVariants.{Took}
+use Rattle.daide_io.specs.Streams.{StreamCall}
 use Rattle.daide_io.specs.Ports.{PortCall, TurnBegins, Clock, Pulled, Offered, EvolvesBy}
 use Rattle.daide_event_loop.specs.Waiting.{MakesNoProgress, IsOfTurn}
 use Rattle.daide_buffered_io.specs.Streams.{stream_of}
@@ -26,10 +27,6 @@ module _ {S : Type 0} where
   abbrev pub IsFull : Socket S → Type 0
   IsFull socket = (socket.tries_again ≡ true) ⊎ (socket.readiness.may_write ≡ false)
 
-  quiet_stays : (old new : Socket S) → StaysUnread old new → IsQuiet old → IsQuiet new
-  quiet_stays old new h q = ⊎_elim (λ (t : old.tries_again ≡ true). inl (h.tries_again t))
-      (λ (r : (old.readiness.may_read ≡ false) × (old.stream.read_buffer ≡ [])). inr (h.may_read ∙ r.0, h.ahead ∙ r.1)) q
-
   quiet_pulled : (room : ℕ) (pull : Pull) (old new : Socket S) → IsPulled room pull old new → IsNothing pull → 0 < room →
       IsQuiet new
   quiet_pulled room pull old new h none some = by new.tries_again refl
@@ -38,15 +35,20 @@ module _ {S : Type 0} where
       by true e = inl e
       by false e = inr (h.none_left none some e)
 
-  full_stays : (old new : Socket S) → StaysUnread old new → IsFull old → IsFull new
+  full_pulled : (room : ℕ) (pull : Pull) (old new : Socket S) → IsPulled room pull old new → IsFull old → IsFull new
+  full_pulled room pull old new h f = ⊎_elim (λ (t : old.tries_again ≡ true). inl (h.tries_again t))
+      (λ (w : old.readiness.may_write ≡ false). inr (h.writes ∙ w)) f
+
+module _ {S : Type 0} {streams : S → Option (List StreamCall)} where
+  quiet_stays : (old new : Socket S) → StaysUnread streams old new → IsQuiet old → IsQuiet new
+  quiet_stays old new h q = ⊎_elim (λ (t : old.tries_again ≡ true). inl (h.tries_again t))
+      (λ (r : (old.readiness.may_read ≡ false) × (old.stream.read_buffer ≡ [])). inr (h.may_read ∙ r.0, h.ahead ∙ r.1)) q
+
+  full_stays : (old new : Socket S) → StaysUnread streams old new → IsFull old → IsFull new
   full_stays old new h f = ⊎_elim (λ (t : old.tries_again ≡ true). inl (h.tries_again t))
       (λ (w : old.readiness.may_write ≡ false). inr (h.full w)) f
 
-  full_pulled : (room : ℕ) (pull : Pull) (old new : Socket S) → IsPulled room pull old new → IsFull old → IsFull new
-  full_pulled room pull old new h f = ⊎_elim (λ (t : old.tries_again ≡ true). inl (h.tries_again t))
-      (λ (w : old.readiness.may_write ≡ false). inr (h.full w)) f
-
-  full_offered : (bytes : List ℕ) (put : Put) (old new : Socket S) → IsOffered bytes put old new → put ≡ Took 0 →
+  full_offered : (bytes : List ℕ) (put : Put) (old new : Socket S) → IsOffered streams bytes put old new → put ≡ Took 0 →
       0 < length bytes → IsFull new
   full_offered bytes put old new h none some = by new.tries_again refl
     where
@@ -54,42 +56,47 @@ module _ {S : Type 0} where
       by true e = inl e
       by false e = inr (h.none_taken none some e)
 
-  -- ---- one call
+-- ---- one call
 
-  quiet_step : (side : Side) (call : PortCall) (old new : Socket S × Socket S) → Settles call old new →
+module _ {S : Type 0} where
+  -- what `Settles` says, by the calls of some streams
+  abbrev pub AreSettled : PortCall → Socket S × Socket S → Socket S × Socket S → Type 0
+  AreSettled call old new = (streams : S → Option (List StreamCall)) × Settles streams call old new
+
+  quiet_step : (side : Side) (call : PortCall) (old new : Socket S × Socket S) → AreSettled call old new →
       MakesNoProgress call → IsOfTurn call → IsQuiet (stream_of old side) → IsQuiet (stream_of new side)
   quiet_step side TurnBegins old new h still made q = absurd made
   quiet_step side (Clock event) old new h still made q =
-      subst (λ (pair : Socket S × Socket S). IsQuiet (stream_of pair side)) (sym h) q
-  quiet_step Bot (Pulled Bot room pull bytes) old new h still made q = quiet_pulled room pull old.0 new.0 h.0 still made
-  quiet_step Bot (Pulled Server room pull bytes) old new h still made q = quiet_stays old.0 new.0 h.1 q
-  quiet_step Server (Pulled Bot room pull bytes) old new h still made q = quiet_stays old.1 new.1 h.1 q
-  quiet_step Server (Pulled Server room pull bytes) old new h still made q = quiet_pulled room pull old.1 new.1 h.0 still made
-  quiet_step Bot (Offered Bot bytes put) old new h still made q = quiet_stays old.0 new.0 h.0.unread q
-  quiet_step Bot (Offered Server bytes put) old new h still made q = quiet_stays old.0 new.0 h.1 q
-  quiet_step Server (Offered Bot bytes put) old new h still made q = quiet_stays old.1 new.1 h.1 q
-  quiet_step Server (Offered Server bytes put) old new h still made q = quiet_stays old.1 new.1 h.0.unread q
+      subst (λ (pair : Socket S × Socket S). IsQuiet (stream_of pair side)) (sym h.1) q
+  quiet_step Bot (Pulled Bot room pull bytes) old new h still made q = quiet_pulled room pull old.0 new.0 h.1.0 still made
+  quiet_step Bot (Pulled Server room pull bytes) old new h still made q = quiet_stays old.0 new.0 h.1.1 q
+  quiet_step Server (Pulled Bot room pull bytes) old new h still made q = quiet_stays old.1 new.1 h.1.1 q
+  quiet_step Server (Pulled Server room pull bytes) old new h still made q = quiet_pulled room pull old.1 new.1 h.1.0 still made
+  quiet_step Bot (Offered Bot bytes put) old new h still made q = quiet_stays old.0 new.0 h.1.0.unread q
+  quiet_step Bot (Offered Server bytes put) old new h still made q = quiet_stays old.0 new.0 h.1.1 q
+  quiet_step Server (Offered Bot bytes put) old new h still made q = quiet_stays old.1 new.1 h.1.1 q
+  quiet_step Server (Offered Server bytes put) old new h still made q = quiet_stays old.1 new.1 h.1.0.unread q
 
-  full_step : (side : Side) (call : PortCall) (old new : Socket S × Socket S) → Settles call old new → IsOfTurn call →
+  full_step : (side : Side) (call : PortCall) (old new : Socket S × Socket S) → AreSettled call old new → IsOfTurn call →
       IsFull (stream_of old side) → IsFull (stream_of new side)
   full_step side TurnBegins old new h made f = absurd made
   full_step side (Clock event) old new h made f =
-      subst (λ (pair : Socket S × Socket S). IsFull (stream_of pair side)) (sym h) f
-  full_step Bot (Pulled Bot room pull bytes) old new h made f = full_pulled room pull old.0 new.0 h.0 f
-  full_step Bot (Pulled Server room pull bytes) old new h made f = full_stays old.0 new.0 h.1 f
-  full_step Server (Pulled Bot room pull bytes) old new h made f = full_stays old.1 new.1 h.1 f
-  full_step Server (Pulled Server room pull bytes) old new h made f = full_pulled room pull old.1 new.1 h.0 f
-  full_step Bot (Offered Bot bytes put) old new h made f = full_stays old.0 new.0 h.0.unread f
-  full_step Bot (Offered Server bytes put) old new h made f = full_stays old.0 new.0 h.1 f
-  full_step Server (Offered Bot bytes put) old new h made f = full_stays old.1 new.1 h.1 f
-  full_step Server (Offered Server bytes put) old new h made f = full_stays old.1 new.1 h.0.unread f
+      subst (λ (pair : Socket S × Socket S). IsFull (stream_of pair side)) (sym h.1) f
+  full_step Bot (Pulled Bot room pull bytes) old new h made f = full_pulled room pull old.0 new.0 h.1.0 f
+  full_step Bot (Pulled Server room pull bytes) old new h made f = full_stays old.0 new.0 h.1.1 f
+  full_step Server (Pulled Bot room pull bytes) old new h made f = full_stays old.1 new.1 h.1.1 f
+  full_step Server (Pulled Server room pull bytes) old new h made f = full_pulled room pull old.1 new.1 h.1.0 f
+  full_step Bot (Offered Bot bytes put) old new h made f = full_stays old.0 new.0 h.1.0.unread f
+  full_step Bot (Offered Server bytes put) old new h made f = full_stays old.0 new.0 h.1.1 f
+  full_step Server (Offered Bot bytes put) old new h made f = full_stays old.1 new.1 h.1.1 f
+  full_step Server (Offered Server bytes put) old new h made f = full_stays old.1 new.1 h.1.0.unread f
 
 -- ---- the calls of a turn
 
 -- the calls of ports do to the sockets of their session what `Settles` says
 abbrev pub PortsSettle : {P S : Type 0} → (P → PortCall → P → Type 0) → (P → SessionSockets S) → Type 0
 PortsSettle {P} port_transition view = (old new : P) (call : PortCall) → port_transition old call new →
-    Settles call ((view old).bot, (view old).server) ((view new).bot, (view new).server)
+    AreSettled call ((view old).bot, (view old).server) ((view new).bot, (view new).server)
 
 module _ {P S : Type 0} (port_transition : P → PortCall → P → Type 0) (view : P → SessionSockets S)
     (settles : PortsSettle port_transition view) (side : Side) where
@@ -120,7 +127,7 @@ module _ {P S : Type 0} (port_transition : P → PortCall → P → Type 0) (vie
   quiet_found room pull bytes (call ∷ calls) zero less is a b h still made =
       quiet_later calls h.0 b h.2 (All-tail MakesNoProgress call calls still) (All-tail IsOfTurn call calls made)
       (quiet_pulled room pull (own a) (own h.0)
-      (settles a h.0 (Pulled side room pull bytes) (subst (λ (c : PortCall). port_transition a c h.0) is h.1)).0
+      (settles a h.0 (Pulled side room pull bytes) (subst (λ (c : PortCall). port_transition a c h.0) is h.1)).1.0
       (subst MakesNoProgress is (All-head MakesNoProgress call calls still))
       (subst IsOfTurn is (All-head IsOfTurn call calls made)))
   quiet_found room pull bytes (call ∷ calls) (suc k) less is a b h still made =
@@ -135,7 +142,7 @@ module _ {P S : Type 0} (port_transition : P → PortCall → P → Type 0) (vie
   full_found bytes (call ∷ calls) zero less is a b h made =
       full_later calls h.0 b h.2 (All-tail IsOfTurn call calls made)
       (full_offered bytes (Took 0) (own a) (own h.0)
-      (settles a h.0 (Offered side bytes (Took 0)) (subst (λ (c : PortCall). port_transition a c h.0) is h.1)).0 refl
+      (settles a h.0 (Offered side bytes (Took 0)) (subst (λ (c : PortCall). port_transition a c h.0) is h.1)).1.0 refl
       (subst IsOfTurn is (All-head IsOfTurn call calls made)))
   full_found bytes (call ∷ calls) (suc k) less is a b h made =
       full_found bytes calls k (omega (arith, less)) is h.0 b h.2 (All-tail IsOfTurn call calls made)

@@ -3,7 +3,7 @@
 use daide_commands::RecordNotice;
 use daide_frame::code::Code;
 use daide_frame::side::Side;
-use daide_gate::{Cause, SessionEnd, Summary};
+use daide_gate::{Account, Cause, Level, SessionEnd, SideCounts};
 use daide_protocol::ending::Ending;
 use daide_sockets::capacity::{Capacity, CapacityNotice, full_notice, pause_notice};
 use daide_sockets::session_notice::{Lasted, SessionNotice, Why, why_of};
@@ -101,29 +101,45 @@ const TIMED: Lasted = Lasted {
 /// A session whose time is unknown.
 const UNTIMED: Lasted = Lasted { milliseconds: None };
 
-/// Three complete lines.
+/// Four complete lines.
 #[test]
 fn lines_of_a_session(rt: HostRuntime) -> Result<(), Fail> {
     let end = SessionEnd {
         cause: Cause::Session(Ending::Final(Side::Bot)),
-        summary: Summary {
-            relayed: 4,
-            prn: 3,
-            huh: 2,
-            faults: 1,
+        account: Account {
+            bot: SideCounts {
+                relayed: 5,
+                prn: 1,
+                huh: 2,
+            },
+            server: SideCounts {
+                relayed: 7,
+                prn: 3,
+                huh: 4,
+            },
+            faults: 6,
+            level: Level::L20,
         },
     };
     let bot = "127.0.0.1:50000".parse()?;
+    let own = "[::1]:40000".parse()?;
     let began = SessionNotice::Began { number: 7, bot }.to_string(rt.alloc())?;
+    let reached = SessionNotice::Reached { number: 7, own }.to_string(rt.alloc())?;
     let ended = SessionNotice::of_end((7, TIMED), end, (Timed::NONE, Timed::NONE), 60).to_string(
         rt.alloc(),
     )?;
     let alone = SessionNotice::of_no_server(8, UNTIMED).to_string(rt.alloc())?;
-    let lines = (began.as_str(), ended.as_str(), alone.as_str());
+    let lines = (
+        began.as_str(),
+        reached.as_str(),
+        ended.as_str(),
+        alone.as_str(),
+    );
     let want = (
         "session 7 began: bot at 127.0.0.1:50000",
-        "session 7 ended after 12.4 s: FM of bot; relayed 4 prn 3 huh 2 faults 1",
-        "session 8 ended: no server; relayed 0 prn 0 huh 0 faults 0",
+        "session 7 reached the server from [::1]:40000",
+        "session 7 ended after 12.4 s: FM of bot; bot 5 relayed 1 prn 2 huh; server 7 relayed 3 prn 4 huh; 6 faults; level 20",
+        "session 8 ended: no server; bot 0 relayed 0 prn 0 huh; server 0 relayed 0 prn 0 huh; 0 faults; level 0",
     );
     same(&lines, &want, &"lines")
 }

@@ -503,6 +503,10 @@ impl Network for Still {
     fn connect_status(&mut self, _connection: &Wire) -> ConnectStatus {
         ConnectStatus::Failed
     }
+
+    fn local_address(&self, _connection: &Wire) -> Option<SocketAddr> {
+        None
+    }
 }
 
 /// The poller of such a network.

@@ -6,11 +6,10 @@ use Rattle.daide_frame.specs.declared.side.Side.TheVariants.{Bot, Server}
 use Rattle.daide_frame.specs.declared.code.Code.{Code}
 use Rattle.daide_protocol.specs.declared.ending.Ending.{Ending}
 use Rattle.daide_protocol.specs.declared.ending.Ending.TheVariants as Endings
-use Rattle.daide_protocol.specs.declared.note.Note.TheVariants as Notes
 use Rattle.daide_protocol.specs.declared.phase.SessionPhase.{SessionPhase}
 use Rattle.daide_protocol.specs.declared.phase.SessionPhase.TheVariants.{WaitIm, WaitRm, Open, Over}
-use Rattle.daide_protocol.specs.declared.summary.Summary.{Summary}
-use Rattle.daide_protocol.specs.Summary.{counted_on}
+use Rattle.daide_protocol.specs.declared.account.Account.{Account}
+use Rattle.daide_protocol.specs.Account.{fault_accounted}
 use Rattle.daide_frame.specs.Side.{other, same_side}
 use Rattle.daide_protocol.specs.Machine.{Sent, Coming, fault, fm_to, em_to, stop, coming, is_over}
 use Rattle.std.specs.Prelude.{◌==◌}
@@ -64,12 +63,12 @@ other_post w Server code = refl
 
 -- ---- the end
 
--- the same state with other counts
-abbrev pub with_counts : ProtocolState → Summary → ProtocolState
-with_counts protocol summary = record {
+-- the same state with another account
+abbrev pub with_account : ProtocolState → Account → ProtocolState
+with_account protocol account = record {
   top_level = protocol.top_level;
   phase = protocol.phase;
-  summary = summary;
+  account = account;
 }
 
 -- the state ended by this event
@@ -77,18 +76,18 @@ abbrev pub ended_by : Ending → ProtocolState → ProtocolState
 ended_by ending protocol = record {
   top_level = protocol.top_level;
   phase = Over ending;
-  summary = protocol.summary;
+  account = protocol.account;
 }
 
-pub failed : (old mid new : Channels) (protocol closed : ProtocolState) (counts : Summary) (side : Side) (code : Code) →
+pub failed : (old mid new : Channels) (protocol closed : ProtocolState) (account : Account) (side : Side) (code : Code) →
     KeepsSides old new → mid.queued ≡ posted old.queued (final_frame_to side (Some code)) →
-    closed ≡ ended_by (Endings.Fault side code) protocol → counts ≡ counted_on (Notes.Fault code) closed.summary →
+    closed ≡ ended_by (Endings.Fault side code) protocol → account ≡ fault_accounted closed.account →
     ((wire : Side) → at new.queued wire ≡ at mid.queued wire ++ frames_to wire (fm_to protocol.phase (other side))) →
-    Emits (view_of old protocol) (fault (state_of old protocol) side code) (view_of new (with_counts closed counts))
-failed old mid new protocol closed counts side code keeps post queue_final counted close = record {
+    Emits (view_of old protocol) (fault (state_of old protocol) side code) (view_of new (with_account closed account))
+failed old mid new protocol closed account side code keeps post queue_final counted close = record {
   state = rw (keeps.cap, keeps.rules, keeps.sides, queue_final) refl;
-  counts = counted ∙ ap (λ (s : ProtocolState). counted_on (Notes.Fault code) s.summary) queue_final;
-  sent = λ wire. waiting_at new (with_counts closed counts) wire
+  counts = counted ∙ ap (λ (s : ProtocolState). fault_accounted s.account) queue_final;
+  sent = λ wire. waiting_at new (with_account closed account) wire
       ∙ (close wire
       ∙ (ap (λ (w : PerSide (List Sent)). at w wire ++ frames_to wire fm) post
       ∙ (ap (λ (x : List Sent). x ++ frames_to wire fm) (posted_at old.queued em wire)
@@ -117,7 +116,7 @@ pub halted : (old mid new : Channels) (protocol closed : ProtocolState) → Keep
     Emits (view_of old protocol) (stop (state_of old protocol)) (view_of new closed)
 halted old mid new protocol closed keeps post queue_final close = record {
   state = rw (keeps.cap, keeps.rules, keeps.sides, queue_final) refl;
-  counts = ap (λ (s : ProtocolState). s.summary) queue_final;
+  counts = ap (λ (s : ProtocolState). s.account) queue_final;
   sent = λ wire. waiting_at new closed wire
       ∙ (close wire
       ∙ (ap (λ (w : PerSide (List Sent)). at w wire ++ frames_to wire fm) post

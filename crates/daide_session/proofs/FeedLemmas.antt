@@ -18,11 +18,12 @@ use Rattle.daide_protocol.specs.declared.note.Note.{Note}
 use Rattle.daide_protocol.specs.declared.note.Note.TheVariants as Notes
 use Rattle.daide_frame.specs.Side.{other}
 use Rattle.daide_protocol.specs.Events.{bytes_come}
-use Rattle.daide_protocol.specs.Machine.{Sent, Successor, SessionState, Coming, Runs, IsCorrectVerdict, coming}
+use Rattle.daide_protocol.specs.Machine.{Sent, Effect, Successor, SessionState, Coming, Runs, IsCorrectVerdict, coming}
 use Rattle.daide_protocol.specs.Machine.{with_pending}
 use Rattle.daide_protocol.specs.Machine.{is_over, items_outcome, asked_by}
-use Rattle.daide_protocol.specs.Summary.{tallied}
-use Rattle.daide_protocol.specs.Wires.{SessionView, Holding, queued, holding, sent_to, note_of, held_after, counts_from}
+use Rattle.daide_protocol.specs.declared.account.Account.{Account}
+use Rattle.daide_protocol.specs.Account.{accounted}
+use Rattle.daide_protocol.specs.Wires.{SessionView, Holding, account_after, queued, holding, sent_to, note_of, held_after, counts_from}
 use Rattle.daide_protocol.specs.Wires.{is_dm_head, asked_at_most, looked_at_most, Refines, ReceivesBytes}
 use Rattle.daide_protocol.proofs.PieceRuns.{piece_runs, piece_outcome, IsTaken}
 use Rattle.daide_session.specs.declared.protocol_state.ProtocolState.{ProtocolState}
@@ -72,9 +73,14 @@ asks_same : (s : SessionState) (side : Side) (bytes : List ℕ) (items : List Fr
 asks_same s Bot bytes items v h = h
 asks_same s Server bytes items v h = h
 
+top_stays : (s : SessionState) (side : Side) (bytes : List ℕ) (effects : List Effect) (a : Account) →
+    accounted (with_pending s side bytes).limits.top_level effects a ≡ accounted s.limits.top_level effects a
+top_stays s Bot bytes effects a = refl
+top_stays s Server bytes effects a = refl
+
 pub goes_piece : (g m n : SessionView) (side : Side) (piece : List ℕ) (note : Note) → is_over g.state.phase ≡ false →
     m.state ≡ with_pending g.state side (fed g.state.limits.cap (coming g.state side).pending piece) →
-    ((wire : Side) → queued m wire ≡ queued g wire) → m.summary ≡ g.summary →
+    ((wire : Side) → queued m wire ≡ queued g wire) → m.account ≡ g.account →
     ((v : Verdict) → IsTaken g.state side piece v) →
     HandlesFrameEvents m side (fed_items g.state.limits.cap (coming g.state side).pending piece) note n →
     Refines g (bytes_come side piece) note n
@@ -88,8 +94,11 @@ goes_piece g m n side piece note live state wait counts taken r = record {
       ∙ ap (λ (x : Successor). queued g wire ++ sent_to wire x.effects) same);
   note = r.note ∙ ap (λ (x : Successor). note_of x.effects) same;
   counts = r.moves.counts
-      ∙ (ap (tallied (items_outcome m.state side items r.verdict).effects) counts
-      ∙ ap (λ (x : Successor). tallied x.effects g.summary) same);
+      ∙ (ap (λ (a : Account). accounted m.state.limits.top_level (items_outcome m.state side items r.verdict).effects a) counts
+      ∙ (ap (λ (s : SessionState). accounted s.limits.top_level (items_outcome m.state side items r.verdict).effects g.account) state
+      ∙ (top_stays g.state side (fed g.state.limits.cap (coming g.state side).pending piece)
+      (items_outcome m.state side items r.verdict).effects g.account
+      ∙ ap (λ (x : Successor). account_after g x.effects) same)));
 }
   where
     b : List ℕ

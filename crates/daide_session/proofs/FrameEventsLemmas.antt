@@ -25,12 +25,13 @@ use Rattle.daide_protocol.specs.Machine.{Sent, Effect, Successor, SessionState, 
 use Rattle.daide_protocol.specs.Machine.{is_over, is_dm, is_sent, level_in, phase_after, with_pending}
 use Rattle.daide_protocol.specs.Machine.{untimely, frame_outcome, answered, im_answered}
 use Rattle.daide_protocol.specs.Machine.{one_effect, reply_to, destination, deed_of}
-use Rattle.daide_protocol.specs.declared.summary.Summary.{Summary}
-use Rattle.daide_protocol.specs.Summary.{tallied, counted_on}
+use Rattle.daide_protocol.specs.declared.account.Account.{Account}
+use Rattle.daide_protocol.specs.declared.note.Deed.{Deed}
+use Rattle.daide_protocol.specs.Account.{level_after, frame_accounted, accounted}
 use Rattle.daide_grammar.specs.Words.{Words}
 use Rattle.daide_protocol.specs.Machine.{items_outcome, IsCorrectVerdict}
 use Rattle.daide_protocol.specs.Machine.{question_of}
-use Rattle.daide_protocol.specs.Wires.{SessionView, Holding, queued, holding, sent_to, note_of, held_after}
+use Rattle.daide_protocol.specs.Wires.{SessionView, Holding, account_after, queued, holding, sent_to, note_of, held_after}
 use Rattle.daide_protocol.specs.Weight.{tokens_held}
 use Rattle.daide_protocol.specs.Wires.{is_dm_head, frames_to}
 use Rattle.daide_session.specs.declared.protocol_state.ProtocolState.{ProtocolState}
@@ -39,6 +40,7 @@ use Rattle.daide_channels.specs.Receiver.{ReaderLimits}
 use Rattle.daide_channels.specs.Channels.{Channels, ReceiveState, IsAnswered, IsCleared, Keeps, pending, posted}
 use Rattle.daide_session.specs.Session.{state_of, view_of}
 use Rattle.daide_session.specs.FrameEvents.{HasNoMessageBytes, HandlesFrameEvents, StartsMessage, note_by, check_of}
+use Rattle.daide_protocol.proofs.AccountLemmas.{answer_by_body}
 use Rattle.daide_session.proofs.EmitsLemmas.{coming_at, waiting_at, waits_same, posted_at}
 
 -- ---- outcomes
@@ -136,7 +138,7 @@ begun_late o n side head note code late h = record {
   moves = record {
     state = h.moves.state ∙ ap (λ (x : Successor). x.state) same;
     sent = λ wire. h.moves.sent wire ∙ ap (λ (x : Successor). queued o wire ++ sent_to wire x.effects) same;
-    counts = h.moves.counts ∙ ap (λ (x : Successor). tallied x.effects o.summary) same;
+    counts = h.moves.counts ∙ ap (λ (x : Successor). account_after o x.effects) same;
   };
   note = h.note ∙ ap (λ (x : Successor). note_of x.effects) same;
   held = h.held;
@@ -162,8 +164,8 @@ begun_and_empty t u v s r q side head note live timely bodiless b h = record {
         ∙ (ap (λ (x : List Sent). x ++ sent_to wire after.effects) (waited wire)
         ∙ ap (λ (o : Successor). queued (view_of t s) wire ++ sent_to wire o.effects) same);
     counts = h.moves.counts
-        ∙ (ap (λ (x : ProtocolState). tallied after.effects x.summary) b.protocol_kept
-        ∙ ap (λ (o : Successor). tallied o.effects s.summary) same);
+        ∙ (ap (λ (x : ProtocolState). accounted x.top_level after.effects x.account) b.protocol_kept
+        ∙ ap (λ (o : Successor). account_after (view_of t s) o.effects) same);
   };
   note = h.note ∙ ap (λ (o : Successor). note_of o.effects) same;
   held = h.held ∙ ap (held_after note) held;
@@ -237,17 +239,17 @@ last_of phase Dm to top side found tokens e = absurd (cc)
 last_of phase Fm to top side found tokens e = record { not_dm = refl; not_im = refl; ends = refl }
 last_of phase Em to top side found tokens e = record { not_dm = refl; not_im = refl; ends = refl }
 
--- a protocol state in another phase, with these counts
-abbrev in_phase : ProtocolState → SessionPhase → Summary → ProtocolState
-in_phase s phase counts = record { top_level = s.top_level; phase = phase; summary = counts }
+-- a protocol state in another phase, with this account
+abbrev in_phase : ProtocolState → SessionPhase → Account → ProtocolState
+in_phase s phase account = record { top_level = s.top_level; phase = phase; account = account }
 
 -- the machine's state in another phase, with nothing of the next frame
-moved_state : (t u : Channels) (s : ProtocolState) (side : Side) (phase : SessionPhase) (counts : Summary) →
+moved_state : (t u : Channels) (s : ProtocolState) (side : Side) (phase : SessionPhase) (account : Account) →
     Keeps side t u →
     (at u.sides side).coming ≡ record { pending = []; noted = (at t.sides side).coming.noted } →
-    state_of u (in_phase s phase counts) ≡ record (with_pending (state_of t s) side []) { phase = phase }
-moved_state t u s Bot phase counts keeps e = rw (keeps.cap, keeps.rules, keeps.other_side, e) refl
-moved_state t u s Server phase counts keeps e = rw (keeps.cap, keeps.rules, keeps.other_side, e) refl
+    state_of u (in_phase s phase account) ≡ record (with_pending (state_of t s) side []) { phase = phase }
+moved_state t u s Bot phase account keeps e = rw (keeps.cap, keeps.rules, keeps.other_side, e) refl
+moved_state t u s Server phase account keeps e = rw (keeps.cap, keeps.rules, keeps.other_side, e) refl
 
 pub dropped_whole : (t u : Channels) (s : ProtocolState) (side : Side) (head : Head) (body : List ℕ)
     (phase : SessionPhase) →
@@ -256,12 +258,12 @@ pub dropped_whole : (t u : Channels) (s : ProtocolState) (side : Side) (head : H
     phase ≡ phase_after s.top_level head.kind side Relay [] s.phase → Keeps side t u → u.queued ≡ t.queued →
     IsCleared (at t.sides side) (at u.sides side) →
     HandlesFrameEvents (view_of t s) side (Whole head body ∷ []) (Notes.Frame head Dropped)
-    (view_of u (in_phase s phase s.summary))
+    (view_of u (in_phase s phase s.account))
 dropped_whole t u s side head body phase live unsent tied head_is now keeps waits cleared = record {
   verdict = Relay;
   right = rw last.not_dm refl;
   moves = record {
-    state = rw (live, last.not_im) (moved_state t u s side phase s.summary keeps cleared.coming
+    state = rw (live, last.not_im) (moved_state t u s side phase s.account keeps cleared.coming
         ∙ ap (λ (p : SessionPhase). record (with_pending (state_of t s) side []) { phase = p }) (now ∙ last.ends));
     counts = rw (live, last.not_im, unsent) refl;
     sent = λ wire. rw (live, last.not_im, unsent)
@@ -287,7 +289,7 @@ dropped_whole t u s side head body phase live unsent tied head_is now keeps wait
     last = last_of s.phase head.kind (other side) s.top_level side [] (tokens_of body) unsent
 
     later : ProtocolState
-    later = in_phase s phase s.summary
+    later = in_phase s phase s.account
 
     total : (holding (view_of u later) side).total ≡ (holding (view_of t s) side).total
     total = rw (holding_at u later side, holding_at t s side) cleared.total
@@ -347,8 +349,37 @@ phase_held t u side top head v phase keeps answered_by tied head_is =
     ∙ (ap (λ (b : List ℕ). phase_after top head.kind side v (tokens_held t.cap b) phase) (answered_by.held ∙ tied)
     ∙ phase_of_held t.cap (pending t side) top head.kind head.len side v phase head_is)
 
+-- and so does the account
+level_of_held : (cap : ℕ) (held : List ℕ) (top : Level) (kind : Kind) (len : ℕ) (side : Side) (deed : Deed)
+    (level : Level) → head_in cap held ≡ Some (record { kind = kind; len = len }) →
+    level_after top kind side deed (tokens_held cap held) level ≡ level_after top kind side deed (tokens_of (drop 4 held)) level
+level_of_held cap held top Im len side deed level e = refl
+level_of_held cap held top Rm len side deed level e = refl
+level_of_held cap held top Dm len side deed level e = rw e refl
+level_of_held cap held top Fm len side deed level e = refl
+level_of_held cap held top Em len side deed level e = refl
+
+frame_of_held : (cap : ℕ) (held : List ℕ) (top : Level) (head : Head) (side : Side) (deed : Deed) (a : Account) →
+    head_in cap held ≡ Some head →
+    frame_accounted top side head.kind deed (tokens_held cap held) a
+    ≡ frame_accounted top side head.kind deed (tokens_of (drop 4 held)) a
+frame_of_held cap held top head Bot deed a e =
+    rw (level_of_held cap held top head.kind head.len Bot deed a.level e) refl
+frame_of_held cap held top head Server deed a e =
+    rw (level_of_held cap held top head.kind head.len Server deed a.level e) refl
+
+pub account_held : (t u : Channels) (side : Side) (top : Level) (head : Head) (deed : Deed) (a : Account) →
+    Keeps side t u → IsAnswered (at t.sides side) (at u.sides side) →
+    (at t.sides side).holding.held ≡ pending t side → head_in t.cap (pending t side) ≡ Some head →
+    frame_accounted top side head.kind deed (tokens_held u.cap (at u.sides side).holding.held) a
+    ≡ frame_accounted top side head.kind deed (tokens_of (drop 4 (pending t side))) a
+account_held t u side top head deed a keeps answered_by tied head_is =
+    ap (λ (n : ℕ). frame_accounted top side head.kind deed (tokens_held n (at u.sides side).holding.held) a) keeps.cap
+    ∙ (ap (λ (b : List ℕ). frame_accounted top side head.kind deed (tokens_held t.cap b) a) (answered_by.held ∙ tied)
+    ∙ frame_of_held t.cap (pending t side) top head side deed a head_is)
+
 pub answered_whole : (t u : Channels) (s : ProtocolState) (side : Side) (head : Head) (body : List ℕ) (verdict : Verdict)
-    (phase : SessionPhase) (counts : Summary) (note : Note) →
+    (phase : SessionPhase) (account : Account) (note : Note) →
     is_over s.phase ≡ false → is_sent s.phase head.kind (other side) ≡ true → check_of head.kind body ≡ Ok tt →
     (at t.sides side).holding.held ≡ pending t side → head_in t.cap (pending t side) ≡ Some head →
     IsCorrectVerdict t.rules.words t.rules.max_depth (question_of side (at t.sides side).coming.noted head body) verdict →
@@ -357,15 +388,15 @@ pub answered_whole : (t u : Channels) (s : ProtocolState) (side : Side) (head : 
     IsRaised 4 (at t.sides side).holding.total (at u.sides side).holding.total →
     (is_dm head.kind ≡ false → (at u.sides side).holding.total ≡ (at t.sides side).holding.total) →
     phase ≡ phase_after s.top_level head.kind side verdict (tokens_of body) s.phase → note ≡ Notes.Frame head (deed_of true verdict) →
-    counts ≡ counted_on note s.summary →
-    HandlesFrameEvents (view_of t s) side (Whole head body ∷ []) note (view_of u (in_phase s phase counts))
-answered_whole t u s side head body verdict phase counts note live sent good tied head_is right keeps
+    account ≡ frame_accounted s.top_level side head.kind (deed_of true verdict) (tokens_of body) s.account →
+    HandlesFrameEvents (view_of t s) side (Whole head body ∷ []) note (view_of u (in_phase s phase account))
+answered_whole t u s side head body verdict phase account note live sent good tied head_is right keeps
     waits answered_by raised no_message its_phase its_note counted = record {
       verdict = verdict;
       right = subst (λ (c : Coming). IsCorrectVerdict t.rules.words t.rules.max_depth (question_of side c.noted head body) verdict)
           (sym (coming_at t s side)) right;
       moves = record {
-        state = moved_state t u s side phase counts keeps answered_by.coming
+        state = moved_state t u s side phase account keeps answered_by.coming
             ∙ (ap (λ (p : SessionPhase). record (with_pending (state_of t s) side []) { phase = p }) its_phase
             ∙ sym (ap (λ (o : Successor). o.state) same));
         sent = λ wire. waiting_at u later wire
@@ -374,8 +405,8 @@ answered_whole t u s side head body verdict phase counts note live sent good tie
             ∙ (ap (λ (x : List Sent). at t.queued wire ++ x) (sym (append-nil (frames_to wire (frame ∷ []))))
             ∙ (ap (λ (x : List Sent). x ++ sent_to wire made.effects) (sym (waiting_at t s wire))
             ∙ sym (ap (λ (o : Successor). queued (view_of t s) wire ++ sent_to wire o.effects) same)))));
-        counts = counted ∙ (ap (λ (n : Note). counted_on n s.summary) its_note
-            ∙ sym (ap (λ (o : Successor). tallied o.effects s.summary) same));
+        counts = counted ∙ (sym (answer_by_body s.top_level side head body verdict s.account)
+            ∙ sym (ap (λ (o : Successor). account_after (view_of t s) o.effects) same));
       };
       note = its_note ∙ sym (ap (λ (o : Successor). note_of o.effects) same);
       held = ap (λ (h : Holding). h.held) (holding_at u later side)
@@ -393,7 +424,7 @@ answered_whole t u s side head body verdict phase counts note live sent good tie
     }
   where
     later : ProtocolState
-    later = in_phase s phase counts
+    later = in_phase s phase account
 
     frame : Sent
     frame = reply_to side head body verdict

@@ -22,8 +22,8 @@ use Rattle.daide_protocol.specs.Machine.{is_over, fault, im_timer_expired, event
 use Rattle.daide_protocol.specs.Wires.{SessionView, queued, sent_to, note_of, without, IsNew, Refines, Wrote, Holding, holding}
 use Rattle.daide_protocol.proofs.FramesHeard.{not_both, over_for_good, run_waits}
 use Rattle.daide_protocol.specs.declared.ending.Ending.{Ending}
-use Rattle.daide_protocol.specs.declared.summary.Summary.{Summary}
-use Rattle.daide_protocol.specs.Summary.{nothing_counted}
+use Rattle.daide_protocol.specs.declared.account.Account.{Account}
+use Rattle.daide_protocol.specs.Account.{nothing_accounted}
 use Rattle.daide_session.specs.declared.protocol_state.ProtocolState.{ProtocolState}
 use Rattle.daide_protocol.specs.declared.config.Config.{Config}
 use Rattle.daide_words.specs.declared.word.Word.{Word}
@@ -170,24 +170,24 @@ standing_dropped g n side d standing = record {
 -- ---- a new session
 
 -- nothing received, and nothing counted
-abbrev new_protocol : Level → Summary → ProtocolState
-new_protocol level counts =
-    record { top_level = level; phase = WaitIm; summary = counts }
+abbrev new_protocol : Level → Account → ProtocolState
+new_protocol level account =
+    record { top_level = level; phase = WaitIm; account = account }
 
-quiet_state : (cap : ℕ) (rules : ReaderLimits) (t : Channels) (level : Level) (counts : Summary) → IsQuiet cap rules t →
-    state_of t (new_protocol level counts)
+quiet_state : (cap : ℕ) (rules : ReaderLimits) (t : Channels) (level : Level) (account : Account) → IsQuiet cap rules t →
+    state_of t (new_protocol level account)
     ≡ initial_state (record { cap = cap; top_level = level; max_depth = rules.max_depth; words = rules.words })
-quiet_state cap rules t level counts q = rw (q.cap_set, q.rules_set, q.coming Bot, q.coming Server) refl
+quiet_state cap rules t level account q = rw (q.cap_set, q.rules_set, q.coming Bot, q.coming Server) refl
 
 -- the limits by which a session of this configuration judges
 abbrev rules_with : Config → List Word → ReaderLimits
 rules_with config words = record { max_depth = config.max_depth; words = grammar_words words }
 
-pub new_of : (config : Config) (words : List Word) (t : Channels) (level : Level) (counts : Summary) →
+pub new_of : (config : Config) (words : List Word) (t : Channels) (level : Level) (account : Account) →
     IsQuiet config.max_body (rules_with config words) t → level ≡ unwrap_or (level_of_number config.top_level) L0 →
-    counts ≡ nothing_counted → IsNew (limits_with config words) (view_of t (new_protocol level counts))
-new_of config words t level counts q e none = record {
-  state = quiet_state config.max_body (rules_with config words) t level counts q
+    account ≡ nothing_accounted → IsNew (limits_with config words) (view_of t (new_protocol level account))
+new_of config words t level account q e none = record {
+  state = quiet_state config.max_body (rules_with config words) t level account q
       ∙ ap (λ (l : Level). initial_state
       (record {
         cap = config.max_body;
@@ -202,15 +202,15 @@ new_of config words t level counts q e none = record {
   uncounted = none;
 }
   where
-    seen : (side : Side) → holding (view_of t (new_protocol level counts)) side ≡ side_holding t side
-    seen side = holding_at t (new_protocol level counts) side
+    seen : (side : Side) → holding (view_of t (new_protocol level account)) side ≡ side_holding t side
+    seen side = holding_at t (new_protocol level account) side
 
-pub standing_new : (cap : ℕ) (rules : ReaderLimits) (t : Channels) (level : Level) (counts : Summary) → IsQuiet cap rules t →
-    IsConsistentSession (view_of t (new_protocol level counts))
-standing_new cap rules t level counts q = record {
+pub standing_new : (cap : ℕ) (rules : ReaderLimits) (t : Channels) (level : Level) (account : Account) → IsQuiet cap rules t →
+    IsConsistentSession (view_of t (new_protocol level account))
+standing_new cap rules t level account q = record {
   wanted = λ live side. subst (λ (s : SessionState). 0 < missing s.limits.cap (coming s side).pending)
-      (sym (quiet_state cap rules t level counts q)) (by_side side);
-  no_end = λ live wire. ap has_final_frame (waiting_at t (new_protocol level counts) wire ∙ q.queued wire);
+      (sym (quiet_state cap rules t level account q)) (by_side side);
+  no_end = λ live wire. ap has_final_frame (waiting_at t (new_protocol level account) wire ∙ q.queued wire);
 }
   where
     by_side : (side : Side) → 0 < missing cap (coming (initial_state

@@ -15,8 +15,8 @@ use Rattle.daide_protocol.specs.declared.note.Note.TheVariants as Notes
 use Rattle.daide_protocol.specs.declared.ending.Ending.{Ending}
 use Rattle.daide_frame.specs.Side.{other}
 use Rattle.daide_protocol.specs.Machine.{SessionState, Successor, IsCorrectVerdict, asked_by, items_outcome, is_over, level_in, nothing, end, stop}
-use Rattle.daide_protocol.specs.Summary.{tallied}
-use Rattle.daide_protocol.specs.Wires.{SessionView, Holding, queued, holding, sent_to, note_of, held_after, is_dm_head}
+use Rattle.daide_protocol.specs.Wires.{SessionView, Holding, account_after, queued, holding, sent_to, note_of}
+use Rattle.daide_protocol.specs.Wires.{held_after, is_dm_head}
 use Rattle.daide_session.specs.declared.protocol_state.ProtocolState.{ProtocolState}
 use Rattle.daide_frame.specs.PerSide.{at}
 use Rattle.daide_channels.specs.Channels.{Channels, Keeps, IsStarted}
@@ -25,7 +25,7 @@ use Rattle.daide_channels.specs.Channels.{Channels, Keeps, IsStarted}
 pub record Emits (old : SessionView) (o : Successor) (new : SessionView) : Type 0 where
   pub state : new.state ≡ o.state
   pub sent : (wire : Side) → queued new wire ≡ queued old wire ++ sent_to wire o.effects
-  pub counts : new.summary ≡ tallied o.effects old.summary
+  pub counts : new.account ≡ account_after old o.effects
 
 -- the receive state and the limits are unchanged
 pub record KeepsSides (old new : Channels) : Type 0 where

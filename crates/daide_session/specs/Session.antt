@@ -30,14 +30,14 @@ state_of t protocol = record {
   sides = both t.sides.bot.coming t.sides.server.coming;
 }
 
--- that state, the queued frames for each wire, the held bytes from each side, and the counts
+-- that state, the queued frames for each wire, the held bytes from each side, and the account
 abbrev pub view_of : Channels → ProtocolState → SessionView
 view_of t protocol = record {
   state = state_of t protocol;
   wires = t.queued;
   parts = t.parts;
   sides = both t.sides.bot.holding t.sides.server.holding;
-  summary = protocol.summary;
+  account = protocol.account;
 }
 
 -- ---- between calls
@@ -58,7 +58,7 @@ pub record Dropped (old : SessionView) (side : Side) (new : SessionView) : Type 
   pub dropped : queued new side ≡ []
   pub other_wire : queued new (other side) ≡ queued old (other side)
   pub other_front : KeepsFront old (other side) new
-  pub counts : new.summary ≡ old.summary
+  pub counts : new.account ≡ old.account
   pub held : Releases old new
   pub asks_nothing : AsksNothing old new
   pub looks_at_nothing : LooksAtNothing old new

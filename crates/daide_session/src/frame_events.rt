@@ -104,9 +104,15 @@ fn answer<A: Allocator>(
         verdict,
         channels.found(side),
     );
-    let note = Note::Frame(head, deed_of(true, verdict));
-    protocol.summary.count(note);
-    note
+    let deed = deed_of(true, verdict);
+    protocol.account.count_frame(
+        protocol.top_level,
+        side,
+        head.kind,
+        deed,
+        channels.found(side),
+    );
+    Note::Frame(head, deed)
 }
 
 /// Handles a whole frame: checks it, and then queues its answer.

@@ -20,22 +20,22 @@ use daide_channels::channels::Channels;
 use daide_frame::code::Code;
 use daide_frame::side::{Side, other};
 use daide_grammar::level::Level;
+use daide_protocol::account::Account;
 use daide_protocol::ending::Ending;
 use daide_protocol::note::Note;
 use daide_protocol::phase::SessionPhase;
-use daide_protocol::summary::Summary;
 use daide_protocol::transitions::may_reach;
 use std::alloc::Allocator;
 
-/// The phase of a session with its level or its ending, the highest level that an HLO may set, and its counted moves.
+/// The phase of a session with its level or its ending, the highest level that an HLO may set, and its account.
 #[derive(Clone, Copy, Debug, PartialEq, Eq)]
 pub struct ProtocolState {
     /// The highest level that an HLO may set.
     pub top_level: Level,
     /// The phase of the session.
     pub phase: SessionPhase,
-    /// The counted moves of the session.
-    pub summary: Summary,
+    /// The counted effects of the session, by side, and the level that was last in force.
+    pub account: Account,
 }
 
 impl ProtocolState {
@@ -58,7 +58,7 @@ fn terminate<A: Allocator>(
     ensures protocol { protocol.new ≡ record {
       top_level = protocol.old.top_level;
       phase = Over ending;
-      summary = protocol.old.summary;
+      account = protocol.old.account;
     } }
     ensures keeps { KeepsSides channels.old channels.new }
     ensures sent { (wire : Side) → at channels.new.queued wire
@@ -124,7 +124,6 @@ pub fn fail<A: Allocator>(
 {
     channels.queue_final(side, Some(code));
     terminate(channels, protocol, side, Ending::Fault(side, code));
-    let note = Note::Fault(code);
-    protocol.summary.count(note);
-    note
+    protocol.account.count_fault();
+    Note::Fault(code)
 }

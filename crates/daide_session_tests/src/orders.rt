@@ -6,7 +6,7 @@ use crate::harness::{
 };
 use daide_gate::serving::Service;
 use daide_gate::system::{Notice, Orders, SessionStatus};
-use daide_gate::{Level, Phase, Summary};
+use daide_gate::{Account, Level, Phase, SideCounts};
 use daide_test_support::memory_ports::{MemoryPorts, Script, ScriptedRead};
 use daide_test_support::rows::{holds, same};
 use std::alloc::Global;
@@ -151,7 +151,7 @@ const SHOWN: Scene = Scene {
     ..ENDING
 };
 
-/// Turns begun | the phase | relayed frames | bytes queued for the server. An IM is relayed once its second part is
+/// Turns begun | the phase | relayed frames from the bot | bytes queued for the server. An IM is relayed once its second part is
 /// read, and the server takes a part a turn.
 const STATUSES: &[(usize, Phase, u64, usize)] = &[
     (3, Phase::WaitRm, 1, 4),
@@ -171,11 +171,13 @@ fn assert_status(
     let status = SessionStatus {
         phase,
         level: Level::L0,
-        summary: Summary {
-            relayed,
-            prn: 0,
-            huh: 0,
-            faults: 0,
+        account: Account {
+            bot: SideCounts {
+                relayed,
+                prn: 0,
+                huh: 0,
+            },
+            ..Account::new()
         },
         queued_to_bot: 0,
         queued_to_server,

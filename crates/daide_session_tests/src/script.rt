@@ -330,7 +330,10 @@ impl Script {
         let session = &self.session;
         match look {
             Look::Phase(want) => session.phase() == want,
-            Look::Level(want) => session.level() == want,
+            Look::Level(want) => {
+                let last = session.account().level;
+                session.level() == want && (session.is_over() || last == want)
+            }
             Look::Room(side, want) => session.room(side) == want,
             Look::Front(side, want) => session.front(side).len() == want,
             Look::Weight(least, most) => (least..=most).contains(&session.weight()),

@@ -345,7 +345,7 @@ fn assert_end(alloc: Global, row: &(Scene, Limits, Cause, [u64; 4])) -> Result<(
     let stage = stage_after(alloc, *scene, *limits)?;
     match stage.ends.as_slice() {
         [end] => holds(
-            end.cause == *cause && counts_of(end.summary) == *counts,
+            end.cause == *cause && counts_of(end.account.summary()) == *counts,
             "the end",
         ),
         _ => Err(Fail::new("there is one end")),

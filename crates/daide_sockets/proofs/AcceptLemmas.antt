@@ -1,7 +1,6 @@
 -- After an accept that failed none is due at the same reading of the clock.
 use Rattle.std.proofs.Common.{◌≡◌, ◌⊎◌, ℕ, true, false, Bool, Option, Some, None, refl, sym, ap, ◌∙◌, inl, inr, arith}
 use Rattle.std.specs.Prelude.{◌||◌}
-use Rattle.std.specs.Option.{is_none}
 use Rattle.std.specs.declared.time.Instant.{Instant}
 use Rattle.daide_buffered_io.specs.declared.readiness.Readiness.{Readiness}
 use Rattle.daide_sockets.specs.Accepting.{is_accept_made, is_accept_due, accept_pause}
@@ -36,11 +35,3 @@ taken_not_due old new key same known resumes_at now taken is reading none =
     ap (λ (r : Option Instant). is_accept_made r (known.may_read || (report_at new same).may_read) resumes_at) (sym reading)
     ∙ ap (λ (r : Readiness). is_accept_made now (known.may_read || r.may_read) resumes_at) report
     ∙ ap (λ (b : Bool). is_accept_made now b resumes_at) (or_false known.may_read) ∙ none
-
--- during a pause none is due
-pub paused_not_due : (table : Table) (key : ℕ) (known : Readiness) (resumes_at now : Option Instant) →
-    table.reading ≡ now → IsAfter now accept_pause resumes_at → is_none resumes_at ≡ false →
-    is_accept_due table key known resumes_at ≡ false
-paused_not_due table key known None now read h some = absurd (cc)
-paused_not_due table key known (Some moment) now read h some =
-    ap (λ (r : Option Instant). is_past r (Some moment)) read ∙ not_past now moment h

@@ -1,6 +1,5 @@
 -- The lines about a run's capacity, at waits of a run with two sessions at once, worked out from docs/FORMATS.md.
 use Rattle.std.proofs.Common.{◌≡◌, true, false, Some, None, refl}
-use Rattle.daide_sockets.specs.declared.capacity.Capacity.{Capacity}
 use Rattle.daide_sockets.specs.declared.capacity.CapacityNotice.TheVariants.{Full, NoLongerFull, Paused, Resumed}
 use Rattle.daide_sockets.specs.Capacity.{capacity_after, full_notice, pause_notice, paused_after}
 

@@ -2,6 +2,7 @@ mod PairingLemmas
 mod OnceLemmas
 mod LingeringLemmas
 mod TableLemmas
+mod AtRestLemmas
 pub mod InTimeLemmas
 mod BesideLemmas
 mod FinishingLemmas

@@ -50,3 +50,9 @@ pub record MakesAccept {N C : Type 0} (transition : N → NetworkCall C → N �
   pub accepted : Result (C × SocketAddr) Error
   pub mid : N
   pub call : transition old (AcceptsConnection accepted) mid
+
+-- an accept was made, and gave a connection
+pub record GivesConnection {N C : Type 0} (transition : N → NetworkCall C → N → Type 0) (old : N) : Type 0 where
+  pub came : C × SocketAddr
+  pub mid : N
+  pub call : transition old (AcceptsConnection (Ok came)) mid

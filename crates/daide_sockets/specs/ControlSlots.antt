@@ -7,6 +7,7 @@ use Rattle.daide_io.specs.declared.system.Orders.{Orders}
 use Rattle.daide_buffered_io.specs.declared.readiness.Readiness.{Readiness}
 use Rattle.daide_status.specs.declared.snapshot.RunStatus.{RunStatus}
 use Rattle.daide_status.specs.declared.snapshot.SessionRow.{SessionRow}
+use Rattle.daide_sockets.specs.Accepting.{is_accept_due}
 use Rattle.daide_sockets.specs.Control.{Advances, ShowsOn, has_control_work, control_due, stops_at, stops_now_at, gathers_at}
 use Rattle.daide_sockets.specs.Table.{Table, merged, watching}
 use Rattle.daide_sockets.specs.Times.{IsAfter}
@@ -99,6 +100,11 @@ abbrev pub watching_listener : Table → Bool → Option ControlListener → Tab
 watching_listener table has_room None = table
 watching_listener table has_room (Some listener) =
     if has_room then watching table listener.readiness.may_read listener.resumes_at else table
+
+-- an accept of a control connection is due: there is a listener, it is ready by the table, and no pause is under way
+abbrev pub is_listener_due : Table → Option ControlListener → Bool
+is_listener_due table None = false
+is_listener_due table (Some listener) = is_accept_due table listener.key listener.readiness listener.resumes_at
 
 -- the next wait is also to watch the control socket: its listener, and each connection
 abbrev pub watching_control : {S : Type 0} → Table → Control S → Table

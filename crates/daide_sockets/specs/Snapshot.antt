@@ -41,7 +41,7 @@ pub record IsSessionRow {S : Type 0} (reading : Option Instant) (session : ℕ) 
   pub bot : address ≡ Some row.bot
   pub phase : row.phase ≡ shown.phase
   pub level : row.level ≡ shown.level
-  pub summary : row.summary ≡ shown.summary
+  pub account : row.account ≡ shown.account
   pub queued_to_bot : row.queued_to_bot ≡ shown.queued_to_bot
   pub queued_to_server : row.queued_to_server ≡ shown.queued_to_server
   pub held_to_bot : row.held_to_bot ≡ length sockets.0.stream.write_buffer

@@ -16,12 +16,13 @@ use Rattle.daide_sockets.specs.Sockets.{due_after}
 use Rattle.daide_sockets.specs.Times.{IsStallEnd, StallsNext, has_stalled, is_past}
 use Rattle.daide_sockets.specs.Wakeups.{SessionSockets}
 
--- The sockets of a session with their deadlines; the idle timeout of its peers; and whether the deadline of the initial
--- message passed when its turn began, for the first time.
+-- The sockets of a session with their deadlines; the idle timeout of its peers; whether the deadline of the initial message
+-- passed when its turn began, for the first time; and whether an operator's request stops the session in this turn.
 pub record SessionTimers (S : Type 0) : Type 0 where
   pub sockets : SessionSockets S
   pub idle_time : Option Duration
   pub im_timer_expired : Bool
+  pub stops : Bool
 
 -- the timers of ports
 abbrev pub timers_of : {S : Type 0} → SocketPorts S → SessionTimers S
@@ -34,6 +35,7 @@ timers_of ports = record {
   };
   idle_time = ports.idle.time;
   im_timer_expired = ports.im_timer_expired;
+  stops = ports.stops;
 }
 
 -- both sockets of a session
@@ -121,29 +123,25 @@ clock_event true im_timer_expired = StopIsRequested
 clock_event false true = ImTimeIsOver
 clock_event false false = NoEvent
 
--- the same, whatever the operator requests
-abbrev pub IsClockEvent : Bool → ClockEvent → Type 0
-IsClockEvent im_timer_expired NoEvent = im_timer_expired ≡ false
-IsClockEvent im_timer_expired ImTimeIsOver = im_timer_expired ≡ true
-IsClockEvent im_timer_expired StopIsRequested = Unit {0}
-
 -- ---- the calls
 
--- no turn begins, and no timeout of the session changes its time
+-- no turn begins, no timeout of the session changes its time, and the clock reports what it did
 pub record SameClock {S : Type 0} (old new : SessionTimers S) : Type 0 where
   pub reading : new.sockets.reading ≡ old.sockets.reading
   pub im_due : new.sockets.im_due ≡ old.sockets.im_due
   pub idle_time : new.idle_time ≡ old.idle_time
+  pub im_timer_expired : new.im_timer_expired ≡ old.im_timer_expired
+  pub stops : new.stops ≡ old.stops
 
 -- What a call of a session's ports does to its timers. The deadline of the initial message expires once: in the first turn
--- that begins at it or after it.
+-- that begins at it or after it. The clock reports that, or a stop, and changes no timer: a stop ends none.
 abbrev pub SetsTimers : {S : Type 0} → PortCall → SessionTimers S → SessionTimers S → Type 0
 SetsTimers TurnBegins old new = (new.idle_time ≡ old.idle_time)
     × (new.im_timer_expired ≡ is_past new.sockets.reading old.sockets.im_due)
     × (new.sockets.im_due ≡ due_after new.sockets.reading old.sockets.im_due)
     × BeginsInTime new.sockets.reading old.sockets.bot new.sockets.bot
     × BeginsInTime new.sockets.reading old.sockets.server new.sockets.server
-SetsTimers (Clock event) old new = IsClockEvent old.im_timer_expired event × (new ≡ old)
+SetsTimers (Clock event) old new = (event ≡ clock_event old.stops old.im_timer_expired) × (new ≡ old)
 SetsTimers (Pulled side room pull bytes) old new = SameClock old new
     × PullsInTime old.sockets.reading old.idle_time pull (stream_of (both_sockets old) side) (stream_of (both_sockets new) side)
     × FlushesInTime old.sockets.reading (stream_of (swapped_sockets old) side) (stream_of (swapped_sockets new) side)

@@ -11,20 +11,25 @@ use Rattle.daide_io.specs.Ports.{PortCall, TurnBegins, Clock, Pulled, Offered}
 use Rattle.daide_io.specs.Network.{NetworkCall}
 use Rattle.daide_io.specs.System.{SystemCall, Begins, Shows, ReportsNews, BeginsTurn, Watches, Accepts, Connects}
 use Rattle.daide_io.specs.System.{Retires, Notifies, Waits}
+use Rattle.daide_io.specs.Streams.{StreamCall}
+use Rattle.daide_buffered_io.specs.declared.readiness.Readiness.{Readiness}
+use Rattle.daide_buffered_io.specs.Calls.{OnlyPuts}
 use Rattle.daide_buffered_io.specs.Streams.{stream_of}
 use Rattle.daide_sockets.specs.declared.socket.Socket.{Socket}
 use Rattle.daide_sockets.specs.Sockets.{has_socket_work, next_deadline}
 use Rattle.daide_sockets.specs.Times.{is_past}
 use Rattle.daide_sockets.specs.InTime.{watching_all}
-use Rattle.daide_sockets.specs.Table.{Table, earlier, is_reported_at, watching, unwatched, PollsOnce, IsWaitTime}
+use Rattle.daide_sockets.specs.Table.{Table, earlier, merged, is_reported_at, watching, unwatched, PollsOnce, IsWaitTime}
 
--- Nothing was read from a socket. What is known of reads is unchanged. A socket that is not writable stays so, and what
--- must be tried again stays so until the next turn.
-pub record StaysUnread {S : Type 0} (old new : Socket S) : Type 0 where
+-- Nothing was read from a socket. What is known of reads is unchanged. A socket that is not writable stays so, one that is
+-- writable stays so but for a write that its stream did not take whole, and what must be tried again stays so until the
+-- next turn.
+pub record StaysUnread {S : Type 0} (calls : S → Option (List StreamCall)) (old new : Socket S) : Type 0 where
   pub key : new.key ≡ old.key
   pub may_read : new.readiness.may_read ≡ old.readiness.may_read
   pub ahead : new.stream.read_buffer ≡ old.stream.read_buffer
   pub full : old.readiness.may_write ≡ false → new.readiness.may_write ≡ false
+  pub writes : OnlyPuts calls old.readiness old.stream.stream new.readiness new.stream.stream
   pub tries_again : old.tries_again ≡ true → new.tries_again ≡ true
 
 -- a pull that returned neither a byte nor the end
@@ -32,28 +37,34 @@ abbrev pub IsNothing : Pull → Type 0
 IsNothing pull = (pull ≡ Idle) ⊎ (pull ≡ Got 0)
 
 -- A socket was pulled, with this much room. If it returned nothing though there was room, it is not readable and nothing
--- was read ahead, or a read must be tried again.
+-- was read ahead, or a read must be tried again. What is known of writes is unchanged.
 pub record IsPulled {S : Type 0} (room : ℕ) (pull : Pull) (old new : Socket S) : Type 0 where
   pub key : new.key ≡ old.key
   pub none_left : IsNothing pull → 0 < room → new.tries_again ≡ false →
       (new.readiness.may_read ≡ false) × (new.stream.read_buffer ≡ [])
-  pub full : old.readiness.may_write ≡ false → new.readiness.may_write ≡ false
+  pub writes : new.readiness.may_write ≡ old.readiness.may_write
   pub tries_again : old.tries_again ≡ true → new.tries_again ≡ true
 
 -- A socket was offered these bytes. If it took none of some, it is not writable, or a write must be tried again.
-pub record IsOffered {S : Type 0} (bytes : List ℕ) (put : Put) (old new : Socket S) : Type 0 where
+pub record IsOffered {S : Type 0} (calls : S → Option (List StreamCall)) (bytes : List ℕ) (put : Put) (old new : Socket S) : Type 0 where
   pub none_taken : put ≡ Took 0 → 0 < length bytes → new.tries_again ≡ false → new.readiness.may_write ≡ false
-  pub unread : StaysUnread old new
+  pub unread : StaysUnread calls old new
+
+-- A turn began for a socket: reports of polls were added to what is known of it, and then it was put to, if at all.
+abbrev pub BeginsToSettle : {S : Type 0} → (S → Option (List StreamCall)) → Socket S → Socket S → Type 0
+BeginsToSettle calls old new = (report : Readiness)
+    × OnlyPuts calls (merged old.readiness report) old.stream.stream new.readiness new.stream.stream
 
 -- What the sockets of a session, the bot's and the server's, know after a call of its ports. From the socket of the side
 -- that the call does not name nothing is read.
-abbrev pub Settles : {S : Type 0} → PortCall → Socket S × Socket S → Socket S × Socket S → Type 0
-Settles TurnBegins old new = Unit {0}
-Settles (Clock event) old new = new ≡ old
-Settles (Pulled side room pull bytes) old new = IsPulled room pull (stream_of old side) (stream_of new side)
-    × StaysUnread (stream_of (old.1, old.0) side) (stream_of (new.1, new.0) side)
-Settles (Offered side bytes put) old new = IsOffered bytes put (stream_of old side) (stream_of new side)
-    × StaysUnread (stream_of (old.1, old.0) side) (stream_of (new.1, new.0) side)
+abbrev pub Settles : {S : Type 0} → (S → Option (List StreamCall)) → PortCall → Socket S × Socket S → Socket S × Socket S →
+    Type 0
+Settles calls TurnBegins old new = BeginsToSettle calls old.0 new.0 × BeginsToSettle calls old.1 new.1
+Settles calls (Clock event) old new = new ≡ old
+Settles calls (Pulled side room pull bytes) old new = IsPulled room pull (stream_of old side) (stream_of new side)
+    × StaysUnread calls (stream_of (old.1, old.0) side) (stream_of (new.1, new.0) side)
+Settles calls (Offered side bytes put) old new = IsOffered calls bytes put (stream_of old side) (stream_of new side)
+    × StaysUnread calls (stream_of (old.1, old.0) side) (stream_of (new.1, new.0) side)
 
 -- ---- a wait
 

@@ -11,7 +11,7 @@ ghost use Rattle.daide_sockets.specs.Beside.{may_connect, arrivals_watched, list
 ghost use Rattle.daide_sockets.specs.InTime.{watching_all};
 ghost use Rattle.daide_sockets.specs.Pairing.{ConnectsTo};
 ghost use Rattle.daide_sockets.specs.Table.{watching, no_report, report_at};
-ghost use Rattle.daide_sockets.specs.Accepting.{is_accept_made, is_accept_due, accept_pause, ReportsAccept, MakesAccept, Pauses};
+ghost use Rattle.daide_sockets.specs.Accepting.{is_accept_made, is_accept_due, accept_pause, ReportsAccept, MakesAccept, GivesConnection, Pauses};
 ghost use Rattle.std.specs.Duration.{as_nanos};
 ghost use Rattle.daide_sockets.specs.Timers.{BeginsAt, timers_of};
 ghost use Rattle.daide_sockets.specs.Times.{IsAfter, IsStallEnd, is_past};
@@ -164,6 +164,8 @@ impl Acceptor {
     /// during the pause after a failed accept.
     ///
     /// `left`: if it returns none, no accept is due any more at this reading of the clock.
+    ///
+    /// `given`: it returns only what the network gave.
     pub fn accept<N: Network>(
         &mut self,
         poller: &mut Poller<N>,
@@ -177,6 +179,7 @@ impl Acceptor {
             (result ≡ None) × (poller.new.network ≡ poller.old.network) }
         ensures left { result ≡ None →
             is_accept_due poller.new.table self.new.key self.new.readiness self.new.resumes_at ≡ false }
+        ensures given { IfSome result (λ _. GivesConnection N.transition poller.old.network) }
     {
         // Most rounds of a run end here.
         if !self.is_due(&poller.table) {
@@ -212,6 +215,7 @@ impl Acceptor {
             IfErr result (λ declined. declined ≢ Declined.NotMade) }
         ensures called { is_accept_made now self.old.readiness.may_read self.old.resumes_at ≡ true →
             ReportsAccept N.transition network.old network.new result }
+        ensures given { IfOk result (λ _. GivesConnection N.transition network.old) }
         ensures accepted { IfOk result (λ _. (self.new.resumes_at ≡ None) × (self.new.readiness.may_read ≡ true)) }
         ensures failed { (kind : ErrorKind) → result ≡ Err (Declined.Failed kind) →
             Pauses now kind self.new.resumes_at × (self.new.readiness.may_read ≡ false) }
@@ -274,6 +278,9 @@ impl Acceptor {
     ///
     /// `awaited`: the wait of this round is for bots if it was.
     ///
+    /// `left`: an accept is still due only if one was made that gave a connection: of a bot that may not come, or of one that
+    /// was refused. After a refusal it is due only if no pause could begin, without a clock (`refused`).
+    ///
     /// Not said: that the system refused to follow a connection that was accepted and closed.
     pub(crate) fn next_bot<'w, N: Network>(
         &mut self,
@@ -296,6 +303,12 @@ impl Acceptor {
             × (present.new.times.items ≡ present.old.times.items ++ poller.old.table.reading ∷ [])) }
         ensures same { IfErr result (λ _. present.new ≡ present.old) }
         ensures awaited { self.new.awaits_bots ≡ self.old.awaits_bots }
+        ensures left { IfErr result (λ _. self.old.came < u32.MAX →
+            is_accept_due poller.new.table self.new.key self.new.readiness self.new.resumes_at ≡ true →
+            GivesConnection N.transition poller.old.network) }
+        ensures refused { result ≡ Err None → self.old.came < u32.MAX →
+            is_accept_due poller.new.table self.new.key self.new.readiness self.new.resumes_at ≡ true →
+            Pauses poller.old.table.reading ErrorKind.Other None }
         ensures declined { (address : SocketAddr) → result ≡ Err (Some address) →
             may_come rules.entry.0.now rules.entry.1 present.old.hosts.items (host_of (socket_ip address)) ≡ false }
     {

@@ -10,6 +10,7 @@ ghost use Rattle.daide_sockets.specs.Control.{gathers_at, stops_at, stops_now_at
 ghost use Rattle.daide_sockets.specs.ControlSlots.{places, Each, at_some, PlaceAdvances, PlaceShows};
 ghost use Rattle.daide_sockets.specs.ControlSlots.{at_place, has_free, with_one, watching_place, watching_places, watching_listener};
 ghost use Rattle.daide_sockets.specs.ControlSlots.{MakesControlAccept, AcceptsOne, watching_control, BeginsRound};
+ghost use Rattle.daide_sockets.specs.ControlSlots.{is_listener_due};
 
 use crate::admission::ACCEPT_PAUSE;
 use crate::control_connection::ControlConnection;
@@ -178,6 +179,16 @@ impl<S: Duplex + Drop> Slots<S> {
             one.0 || two.0 || three.0 || four.0,
             one.1 || two.1 || three.1 || four.1,
         )
+    }
+
+    /// Returns whether all places are free.
+    fn are_free(&self) -> bool
+        ensures { result ≡ true → places self.now ≡ None ∷ None ∷ None ∷ None ∷ [] }
+    {
+        self.first.is_none()
+            && self.second.is_none()
+            && self.third.is_none()
+            && self.fourth.is_none()
     }
 
     /// Returns whether a place is free.
@@ -370,6 +381,30 @@ impl<S: Duplex + Drop> Control<S> {
             listener.watch(table, self.slots.has_room());
         }
         self.slots.watch(table);
+    }
+
+    /// Returns whether a round has nothing to do for the control socket: there is no connection, and no accept is due.
+    pub(crate) fn is_at_rest(&self, table: &SocketTable) -> bool
+        ensures free { result ≡ true → places self.now.slots ≡ None ∷ None ∷ None ∷ None ∷ [] }
+        ensures not_due { result ≡ true → is_listener_due table.now self.now.listener ≡ false }
+    {
+        let is_due = match &self.listener {
+            Some(listener) => listener.is_due(table),
+            None => false,
+        };
+        !is_due && self.slots.are_free()
+    }
+
+    /// Returns the orders of a round in which there is no connection, and none is accepted. They need no status of the run.
+    pub(crate) fn orders_at_rest(&self) -> Orders
+        requires { places self.now.slots ≡ None ∷ None ∷ None ∷ None ∷ [] }
+        ensures { (run : RunStatus) (reading : Option Instant) →
+            BeginsRound S.to_give S.taken S.calls run reading self.now result self.now }
+    {
+        Orders {
+            stops_accepting: self.stops_accepting,
+            shows_sessions: false,
+        }
     }
 
     /// Begins a round at the table's reading of the clock, with the status of the run, and returns the operator's orders.

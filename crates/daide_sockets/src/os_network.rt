@@ -1,7 +1,9 @@
 //! The network of the operating system: `Network` over `mio` and `std`.
 //!
-//! No clause says what the system does, so this module is trusted. It decides nothing: each call passes on what it is
-//! given, and returns what the system returns.
+//! No clause says what the system does, so this module is trusted. Each call passes on what it is given, and returns what
+//! the system returns. One thing is decided here: an accept is made only while further descriptors are free. For a bot
+//! these are one for the connect to its server, and one more if its session has a record; for a control connection it is
+//! one, so that it never takes the last. Without them the accept fails with the system's error, and the connection waits.
 
 use crate::connection::Connection;
 use daide_io::network::{ConnectStatus, Network, SocketEvent};
@@ -130,6 +132,7 @@ impl<R: Clock + Net> Network for OsNetwork<'_, R> {
         }
     }
 
+    // The descriptors are free again once it returns.
     fn accept(&mut self) -> io::Result<(Connection, SocketAddr)> {
         let Some(listener) = &self.listener else {
             return Err(ErrorKind::WouldBlock.into());
@@ -189,6 +192,13 @@ impl<R: Clock + Net> Network for OsNetwork<'_, R> {
             (Ok(None), Ok(_)) => ConnectStatus::Connected,
             (Ok(None), Err(_)) => ConnectStatus::Pending,
             _ => ConnectStatus::Failed,
+        }
+    }
+
+    fn local_address(&self, connection: &Connection) -> Option<SocketAddr> {
+        match connection {
+            Connection::Tcp(stream) => stream.local_addr().ok(),
+            Connection::Control(_) => None,
         }
     }
 }

@@ -7,6 +7,7 @@
 ghost use Rattle.std.specs.Prelude.{◌≡◌, ◌≢◌, ◌<◌, ◌||◌, ◌&&◌, IsNone, None, [], min, length, take, not, true, false};
 ghost use Rattle.daide_io.specs.Ports.{TurnBegins, Clock as Popped, Pulled, Offered, IsPullWithin, IsPutWithin, pulled_len};
 ghost use Rattle.daide_buffered_io.specs.Buffers.{Passes, ReadsNothing, IsBufferedPull, IsFlushed};
+ghost use Rattle.daide_buffered_io.specs.Calls.{OnlyPuts};
 ghost use Rattle.daide_buffered_io.specs.Streams.{Transfers, stream_of};
 ghost use Rattle.daide_buffered_io.specs.Taking.{bytes_taken};
 ghost use Rattle.daide_sockets.specs.Lingering.{IsWriting};
@@ -131,7 +132,7 @@ fn pull_or_flush_peer<S: Duplex + Drop>(
         IsFlushed S.calls other.old.readiness other.old.stream other.new.readiness other.new.stream }
     // with room, nothing is left that may be read, but for a read that must be tried again
     ensures pulled { IsPulled (length buffer.old) result own.old own.new }
-    ensures other_stays { StaysUnread other.old other.new }
+    ensures other_stays { StaysUnread S.calls other.old other.new }
     // the timeouts of both
     ensures own_time { PullsInTime idle.reading idle.time result own.old own.new }
     ensures other_time { FlushesInTime idle.reading other.old other.new }
@@ -178,8 +179,8 @@ fn put_or_flush_peer<S: Duplex + Drop>(
     ensures written { result ≡ Put.Took 0 → (other.old.is_gathering && other.old.gave) ≡ false →
         IsWriting other.old.stream →
         IsFlushed S.calls other.old.readiness other.old.stream other.new.readiness other.new.stream }
-    ensures offered { IsOffered bytes.now result own.old own.new }
-    ensures other_stays { StaysUnread other.old other.new }
+    ensures offered { IsOffered S.calls bytes.now result own.old own.new }
+    ensures other_stays { StaysUnread S.calls other.old other.new }
     ensures own_time { PutsInTime now bytes.now result own.old own.new }
     ensures other_time { FlushesInTime now other.old other.new }
 {
@@ -201,7 +202,9 @@ fn put_or_flush_peer<S: Duplex + Drop>(
 ///
 /// A pull with room that finds nothing leaves the socket not readable, with nothing read ahead, or it must be tried again.
 /// A put that nothing is taken of leaves it not writable, or it must be tried again (`transition`, `Settles`). What must be
-/// tried again, and what is held that may be written, is work, which each wait watches (`watch`).
+/// tried again, and what is held that may be written, is work, which each wait watches (`watch`). A socket that is writable
+/// stays so, but for a write that its stream did not take whole (`transition`, `OnlyPuts`). So while a run waits, bytes are
+/// held only after such a write, or before a poll first reported the socket as writable.
 ///
 /// The clock reports a stop in the turn that an operator's request begins, and otherwise the expiry of the IM timer
 /// (`clock`: `answer`). A stop ends the session, so nothing is read after it.
@@ -416,6 +419,21 @@ impl<'w, S: Drop> SocketPorts<'w, S> {
         earlier(due, self.im_due)
     }
 
+    /// Returns whether the nearest deadline of the session after its last turn is past at this reading of the clock. It
+    /// compares each deadline, and does not look for the nearest.
+    fn is_overdue(&self, now: Option<Instant>) -> bool
+        ensures { result ≡ is_past now (session_due (record {
+          bot = self.now.bot;
+          server = self.now.server;
+          reading = self.now.idle.reading;
+          im_due = self.now.im_due;
+        })) }
+    {
+        let begun = self.idle.reading;
+        let is_late = self.bot.is_overdue(begun, now) || self.server.is_overdue(begun, now);
+        is_late || is_past(now, self.im_due)
+    }
+
     /// Returns whether there is news since the last turn: something may be done at once, or a deadline is past.
     pub fn has_news(&self, table: &SocketTable) -> bool
         ensures { result ≡ has_session_news table.now (record {
@@ -425,7 +443,7 @@ impl<'w, S: Drop> SocketPorts<'w, S> {
           im_due = self.now.im_due;
         }) }
     {
-        self.may_go_on(table) || is_past(table.now(), self.due())
+        self.may_go_on(table) || self.is_overdue(table.now())
     }
 
     /// Has the next wait watch the session: whether something may be done at once for it, by its ports or for another
@@ -458,10 +476,7 @@ impl<'w, S: Drop> SocketPorts<'w, S> {
         ensures once { self.new.stops ≡ false }
     {
         self.stops = false;
-        self.idle = IdleTimeout {
-            reading: now,
-            time: self.idle.time,
-        };
+        self.idle.reading = now;
         self.held_for_bot = self.held_for_bot.with_turn(self.bot.stream.behind_len());
         self.held_for_server = self
             .held_for_server
@@ -515,6 +530,10 @@ impl<S: Duplex + Drop> SocketPorts<'_, S> {
         ensures stops { self.new.stops ≡ self.old.stops }
         ensures bot_time { BeginsInTime self.old.idle.reading self.old.bot self.new.bot }
         ensures server_time { BeginsInTime self.old.idle.reading self.old.server self.new.server }
+        ensures bot_writes { OnlyPuts S.calls self.old.bot.readiness self.old.bot.stream.stream self.new.bot.readiness
+            self.new.bot.stream.stream }
+        ensures server_writes { OnlyPuts S.calls self.old.server.readiness self.old.server.stream.stream self.new.server.readiness
+            self.new.server.stream.stream }
     {
         self.bot.begin_turn(self.idle.reading, self.held_for_bot);
         self.server
@@ -561,6 +580,7 @@ impl<S: Duplex + Drop> SocketPorts<'_, S> {
         ensures no_stop { self.new.stops ≡ false }
         ensures clock { table.new.reading ≡ table.old.reading }
         ensures timers { SetsTimers TurnBegins (timers_of self.old) (timers_of self.new) }
+        ensures settles { Settles S.calls TurnBegins (self.old.bot, self.old.server) (self.new.bot, self.new.server) }
     {
         table.note_turn();
         self.count_turn(table.now());
@@ -583,7 +603,7 @@ fn clock_event(stops: bool, im_timer_expired: bool) -> ClockEvent
 
 impl<S: Duplex + Drop> Ports for SocketPorts<'_, S> {
     ghost transition = { λ old answer new. Transfers S.to_give S.taken (old.bot.stream, old.server.stream) answer
-        (new.bot.stream, new.server.stream) × Settles answer (old.bot, old.server) (new.bot, new.server)
+        (new.bot.stream, new.server.stream) × Settles S.calls answer (old.bot, old.server) (new.bot, new.server)
         × SetsTimers answer (timers_of old) (timers_of new) };
 
     fn pull(&mut self, side: Side, buffer: &mut [u8]) -> Pull
@@ -591,7 +611,7 @@ impl<S: Duplex + Drop> Ports for SocketPorts<'_, S> {
         ensures transition { Transfers S.to_give S.taken (self.old.bot.stream, self.old.server.stream)
             (Pulled side (length buffer.old) result (take (pulled_len result) buffer.new))
             (self.new.bot.stream, self.new.server.stream)
-            × Settles (Pulled side (length buffer.old) result (take (pulled_len result) buffer.new))
+            × Settles S.calls (Pulled side (length buffer.old) result (take (pulled_len result) buffer.new))
             (self.old.bot, self.old.server) (self.new.bot, self.new.server)
             × SetsTimers (Pulled side (length buffer.old) result (take (pulled_len result) buffer.new))
             (timers_of self.old) (timers_of self.new) }
@@ -617,7 +637,7 @@ impl<S: Duplex + Drop> Ports for SocketPorts<'_, S> {
         ensures within { IsPutWithin result (length bytes.now) }
         ensures transition { Transfers S.to_give S.taken (self.old.bot.stream, self.old.server.stream)
             (Offered side bytes.now result) (self.new.bot.stream, self.new.server.stream)
-            × Settles (Offered side bytes.now result) (self.old.bot, self.old.server) (self.new.bot, self.new.server)
+            × Settles S.calls (Offered side bytes.now result) (self.old.bot, self.old.server) (self.new.bot, self.new.server)
             × SetsTimers (Offered side bytes.now result) (timers_of self.old) (timers_of self.new) }
         ensures written { result ≡ Put.Took 0 → ((stream_of (self.old.server, self.old.bot) side).is_gathering
             && (stream_of (self.old.server, self.old.bot) side).gave) ≡ false →
@@ -641,7 +661,7 @@ impl<S: Duplex + Drop> Ports for SocketPorts<'_, S> {
     fn clock(&mut self) -> ClockEvent
         ensures transition { Transfers S.to_give S.taken (self.old.bot.stream, self.old.server.stream) (Popped result)
             (self.new.bot.stream, self.new.server.stream)
-            × Settles (Popped result) (self.old.bot, self.old.server) (self.new.bot, self.new.server)
+            × Settles S.calls (Popped result) (self.old.bot, self.old.server) (self.new.bot, self.new.server)
             × SetsTimers (Popped result) (timers_of self.old) (timers_of self.new) }
         ensures answer { result ≡ clock_event self.old.stops self.old.im_timer_expired }
         ensures same { self.new ≡ self.old }

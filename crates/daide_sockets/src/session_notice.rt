@@ -1,15 +1,15 @@
 //! The log lines about the sessions of a run, which `--verbose` requests.
 
 ghost use Rattle.std.specs.Prelude.{◌≡◌};
-ghost use Rattle.daide_protocol.specs.Summary.{nothing_counted};
+ghost use Rattle.daide_protocol.specs.Account.{nothing_accounted};
 ghost use Rattle.daide_sockets.specs.Lines.{why_by, why_ended, milliseconds_between};
 
 use crate::timed::{Timed, timed_at};
 use daide_frame::code::Code;
 use daide_frame::side::Side;
 use daide_io::system::{Cause, SessionEnd};
+use daide_protocol::account::Account;
 use daide_protocol::ending::Ending;
-use daide_protocol::summary::Summary;
 use std::fmt;
 use std::net::SocketAddr;
 use std::time::Instant;
@@ -29,13 +29,19 @@ pub enum SessionNotice {
     Declined {
         bot: SocketAddr,
     },
-    /// It is over, after this time, for this reason and with these counts.
-    #[error("session {number} ended{lasted}: {why}; {counts}")]
+    /// Its server was reached, by a connection from this address.
+    #[error("session {number} reached the server from {own}")]
+    Reached {
+        number: u32,
+        own: SocketAddr,
+    },
+    /// It is over, after this time, for this reason, with these counts by side and this last level.
+    #[error("session {number} ended{lasted}: {why}; {account}")]
     Ended {
         number: u32,
         lasted: Lasted,
         why: Why,
-        counts: Summary,
+        account: Account,
     },
 }
 
@@ -78,26 +84,26 @@ impl SessionNotice {
         timed: (Timed, Timed),
         stall_seconds: u32,
     ) -> SessionNotice
-        ensures { result ≡ SessionNotice.Ended session.0 session.1 (why_by end.cause timed stall_seconds) end.summary }
+        ensures { result ≡ SessionNotice.Ended session.0 session.1 (why_by end.cause timed stall_seconds) end.account }
     {
         let (number, lasted) = session;
         SessionNotice::Ended {
             number,
             lasted,
             why: why_of(end.cause, timed, stall_seconds),
-            counts: end.summary,
+            account: end.account,
         }
     }
 
     /// Returns the line of a session whose server was unreachable, from its number and its time.
     pub fn of_no_server(number: u32, lasted: Lasted) -> SessionNotice
-        ensures { result ≡ SessionNotice.Ended number lasted Why.NoServer nothing_counted }
+        ensures { result ≡ SessionNotice.Ended number lasted Why.NoServer nothing_accounted }
     {
         SessionNotice::Ended {
             number,
             lasted,
             why: Why::NoServer,
-            counts: Summary::new(),
+            account: Account::new(),
         }
     }
 }

@@ -7,6 +7,7 @@
 ghost use Rattle.std.specs.Prelude.{◌≡◌, ◌<◌, ◌||◌, ◌&&◌, nat_lt, IsNone, IfSome, None, [], min, length, take, true, false};
 ghost use Rattle.daide_io.specs.Ports.{IsPullWithin, IsPutWithin, pulled_len};
 ghost use Rattle.daide_buffered_io.specs.Buffers.{Passes, ReadsNothing, IsBufferedPull, IsFlushed};
+ghost use Rattle.daide_buffered_io.specs.Calls.{OnlyPuts};
 ghost use Rattle.daide_buffered_io.specs.Taking.{bytes_taken, taken_len};
 ghost use Rattle.daide_sockets.specs.Lingering.{IsWriting, IsWritingOver};
 ghost use Rattle.daide_sockets.specs.Pairing.{IsFresh};
@@ -160,6 +161,15 @@ impl<'w, S: Drop> Socket<'w, S> {
         earlier(self.stalls_at, silent_from)
     }
 
+    /// Returns whether the nearest deadline of its peer's timeouts, after a turn that began at one reading of the clock, is past
+    /// at another.
+    pub(crate) fn is_overdue(&self, begun: Option<Instant>, now: Option<Instant>) -> bool
+        ensures { result ≡ is_past now (next_deadline begun self.now.stalls_at self.now.silent_from) }
+    {
+        let is_silent = is_past(now, self.silent_from) && !is_past(begun, self.silent_from);
+        is_silent || is_past(now, self.stalls_at)
+    }
+
     /// Returns whether something may be done at once: a byte is buffered that may be written, or a read or a write
     /// must be tried again.
     pub(crate) fn has_work(&self) -> bool
@@ -288,7 +298,7 @@ impl<S: Duplex + Drop> Socket<'_, S> {
         ensures timed { self.new.timed ≡ self.old.timed }
         ensures gathers { 0 < taken_len result → self.new.is_gathering ≡ true }
         ensures gathering { taken_len result ≡ 0 → self.new.is_gathering ≡ self.old.is_gathering }
-        ensures offered { IsOffered bytes.now result self.old self.new }
+        ensures offered { IsOffered S.calls bytes.now result self.old self.new }
         ensures in_time { PutsInTime now bytes.now result self.old self.new }
     {
         let held = self.stream.behind_len();
@@ -327,7 +337,7 @@ impl<S: Duplex + Drop> Socket<'_, S> {
         ensures stall_time { self.new.stall_time ≡ self.old.stall_time }
         ensures timed { self.new.timed ≡ self.old.timed }
         ensures gathering { self.new.is_gathering ≡ self.old.is_gathering }
-        ensures stays { StaysUnread self.old self.new }
+        ensures stays { StaysUnread S.calls self.old self.new }
         ensures in_time { FlushesInTime now self.old self.new }
     {
         if !self.stream.is_behind() {
@@ -348,7 +358,7 @@ impl<S: Duplex + Drop> Socket<'_, S> {
         ensures unread { ReadsNothing S.to_give self.old.stream self.new.stream }
         ensures timed { self.new.timed ≡ self.old.timed }
         ensures gathering { self.old.is_gathering ≡ true → self.old.gave ≡ true → self.new ≡ self.old }
-        ensures stays { StaysUnread self.old self.new }
+        ensures stays { StaysUnread S.calls self.old self.new }
         ensures written { (self.old.is_gathering && self.old.gave) ≡ false → IsWriting self.old.stream →
             IsFlushed S.calls self.old.readiness self.old.stream self.new.readiness self.new.stream }
         ensures in_time { FlushesInTime now self.old self.new }
@@ -405,6 +415,7 @@ impl<S: Duplex + Drop> Socket<'_, S> {
         ensures timed { self.new.timed ≡ self.old.timed }
         ensures gathering { self.new.is_gathering ≡ self.old.is_gathering }
         ensures in_time { FlushesInTime now self.old self.new }
+        ensures writes { OnlyPuts S.calls self.old.readiness self.old.stream.stream self.new.readiness self.new.stream.stream }
     {
         if held.is_over() {
             self.flush_at(now);
@@ -414,6 +425,7 @@ impl<S: Duplex + Drop> Socket<'_, S> {
     /// Begins a turn, in which nothing is put yet: gives up a stalled peer, and writes buffered bytes whose turns are
     /// over.
     #[tactic(auto, using(daide_buffered_io::proofs::BufferLemmas::flush_then, daide_buffered_io::proofs::BufferLemmas::unread_then))]
+    #[inline(always)]
     pub(crate) fn begin_turn(&mut self, now: Option<Instant>, held: TurnsHeld)
         ensures passes { Passes S.to_give S.taken self.old.stream [] [] self.new.stream }
         ensures unread { ReadsNothing S.to_give self.old.stream self.new.stream }
@@ -421,6 +433,7 @@ impl<S: Duplex + Drop> Socket<'_, S> {
         ensures ends { self.new.timed.ends_stalled ≡ self.old.timed.ends_stalled }
         ensures gathering { self.new.is_gathering ≡ false }
         ensures in_time { BeginsInTime now self.old self.new }
+        ensures writes { OnlyPuts S.calls self.old.readiness self.old.stream.stream self.new.readiness self.new.stream.stream }
     {
         self.is_gathering = false;
         self.tries_again = false;

@@ -1,34 +1,33 @@
 //! The environment of the event loop, `System`, over sockets.
 
-ghost use Rattle.std.specs.Duration.{as_nanos};
 ghost use Rattle.std.specs.Option.{is_some};
-ghost use Rattle.std.specs.Prelude.{◌≡◌, ◌⊎◌, ℕ, ◌+◌, ◌-◌, ◌*◌, ◌^◌, ◌<◌, ◌≤◌, ◌||◌, ◌&&◌, nat_le, IfSome, IfNone, IsSome, IsNone, None, Some, true, false, [], length, not, slice_get, vec_capacity};
-ghost use Rattle.daide_io.specs.Network.{StopsListening};
+ghost use Rattle.std.specs.Prelude.{◌≡◌, ◌⊎◌, ℕ, ◌+◌, ◌*◌, ◌^◌, ◌<◌, ◌≤◌, ◌||◌, ◌&&◌, IfSome, IsSome, IsNone, None, Some, true, false, [], length, not, slice_get, vec_capacity};
 ghost use Rattle.daide_io.specs.Ports.{TurnBegins};
-ghost use Rattle.daide_status.specs.declared.snapshot.RunStatus.{RunStatus};
 ghost use Rattle.daide_status.specs.declared.snapshot.SessionRow.{SessionRow};
 ghost use Rattle.daide_io.specs.System.{Begins, Shows, ReportsNews, BeginsTurn, Watches, Retires, Waits};
 ghost use Rattle.daide_buffered_io.specs.Streams.{Transfers};
 ghost use Rattle.daide_settings.specs.BotsInAll.{bots_in_all};
-ghost use Rattle.daide_sockets.specs.Accepting.{is_accept_due, MakesAccept};
 ghost use Rattle.daide_sockets.specs.Beside.{listener_watched, others_watched};
 ghost use Rattle.daide_sockets.specs.declared.ports.SocketPorts.{SocketPorts as PortsOf};
-ghost use Rattle.daide_sockets.specs.ControlSlots.{BeginsRound, Each, PlaceShows, places, is_newly_stopped, watching_control};
+ghost use Rattle.daide_sockets.specs.ControlSlots.{Each, PlaceShows, places, is_newly_stopped, watching_control};
 ghost use Rattle.daide_sockets.specs.Finishing.{FinishesAll};
-ghost use Rattle.daide_sockets.specs.Snapshot.{counted, seconds_between, or_zero, IsRunStatus, IsSessionRow};
+ghost use Rattle.daide_sockets.specs.Snapshot.{seconds_between, IsSessionRow};
 ghost use Rattle.daide_sockets.specs.Lingering.{LooksAround, in_pass, GoOnFor, no_closing};
 ghost use Rattle.daide_sockets.specs.Capacity.{capacity_after};
 ghost use Rattle.daide_sockets.specs.Lines.{milliseconds_between};
-ghost use Rattle.daide_sockets.specs.Pairing.{FirstArrivalEvolves, Closes, ClosesBothAt, Comes, ComesWith};
-ghost use Rattle.daide_sockets.specs.Present.{IsAllowed, IsPresentWith, position_of, time_in, without_at};
+ghost use Rattle.daide_sockets.specs.Pairing.{ClosesBothAt};
+ghost use Rattle.daide_sockets.specs.Present.{position_of, time_in, without_at};
 ghost use Rattle.daide_sockets.specs.Scheduling.{RunEvolves, run_state};
 ghost use Rattle.daide_sockets.specs.Sockets.{due_after};
 ghost use Rattle.daide_sockets.specs.Table.{Table, watching};
-ghost use Rattle.daide_sockets.specs.Timers.{BeginsAt, SetsTimers, timers_of};
+ghost use Rattle.daide_sockets.specs.Timers.{SetsTimers, timers_of};
 ghost use Rattle.daide_sockets.specs.Times.{IsSeconds, IsIdleTime, is_past};
 ghost use Rattle.daide_sockets.specs.Wakeups.{Settles, RestsOnce, may_session_go_on, session_due, has_session_news};
 
-use crate::admission::{Acceptor, PendingConnection, Unreached, watch_arrivals};
+mod arrivals;
+mod orders;
+
+use crate::admission::{Acceptor, PendingConnection, watch_arrivals};
 use crate::capacity::Capacity;
 use crate::control::{Control, MOST_CONTROLS, seconds_between};
 use crate::lingering_close::{Closings, MOST_CLOSING};
@@ -41,7 +40,7 @@ use daide_buffered_io::pool::Pool;
 use daide_io::network::Network;
 use daide_io::system::{Connect, Notice, Orders, SessionEnd, SessionStatus, System};
 use daide_settings::{AddressRange, Settings};
-use daide_status::{RunStatus, SessionRow};
+use daide_status::SessionRow;
 use std::alloc::Global;
 use std::io::Write;
 use std::net::SocketAddr;
@@ -67,13 +66,6 @@ fn idle_time_of(seconds: u32) -> Option<Duration>
         return None;
     }
     Some(Duration::from_secs(u64::from(seconds)))
-}
-
-/// Returns a number of bots as 32 bits.
-fn counted(count: usize) -> u32
-    ensures { result ≡ counted count }
-{
-    u32::try_from(count).unwrap_or(u32::MAX)
 }
 
 /// The sockets of a run: its system. What each call does to them is one relation (`transition`, `RunEvolves`).
@@ -105,7 +97,8 @@ fn counted(count: usize) -> u32
 ///
 /// Before a wait, a run notes whether it is full and whether accepts pause, and logs what changed (`wait`: `capacity`).
 ///
-/// Not said: that a wait ended because something came. That held bytes are given up only after a failed write, or after
+/// Not said: that a wait ended because something came. That the port in a row of a status is the connection's, which the
+/// system returns (`Network::local_address`). That held bytes are given up only after a failed write, or after
 /// `stall_seconds`, is read from `flush_at` and `give_up_stalled`. `SessionNotice::of_end` and `why_of` give the counts
 /// and the cause in a line of a session's end. Tests and `scripts/recorded` show that `--verbose` writes it.
 #[derive(Drop)]
@@ -295,88 +288,6 @@ impl<'w, N: Network, E: Write + Drop> Sockets<'w, N, E> {
         Lasted::between(self.present.came_at(number), self.poller.table.now())
     }
 
-    /// Logs the address of a bot that may not come, if there is one and sessions are logged.
-    fn tell_of_declined(&mut self, declined: Option<SocketAddr>)
-        ensures { self.new ≡ record self.old { errors = self.new.errors } }
-    {
-        if let Some(bot) = declined {
-            self.tell_of_session(SessionNotice::Declined { bot });
-        }
-    }
-
-    /// Ends the session of a bot whose server was unreachable, and starts the close of its socket.
-    fn let_go(&mut self, left: Unreached<'w, N::Connection>)
-        ensures closes { Closes N.Connection.to_give N.Connection.taken
-            N.Connection.calls self.old.closings left.entry.bot.stream self.new.closings }
-        ensures came { self.new.acceptor.came ≡ self.old.acceptor.came }
-        ensures arrivals { self.new.arrivals.items ≡ self.old.arrivals.items }
-        ensures numbers { self.new.present.numbers.items
-            ≡ without_at (position_of left.entry.number self.old.present.numbers.items) self.old.present.numbers.items }
-        ensures hosts { self.new.present.hosts.items
-            ≡ without_at (position_of left.entry.number self.old.present.numbers.items) self.old.present.hosts.items }
-        ensures addresses { self.new.present.addresses.items
-            ≡ without_at (position_of left.entry.number self.old.present.numbers.items) self.old.present.addresses.items }
-        ensures clock { self.new.poller.table.reading ≡ self.old.poller.table.reading }
-        ensures timeouts { (self.new.idle_time ≡ self.old.idle_time) × (self.new.stall_time ≡ self.old.stall_time) }
-        ensures acceptor { self.new.acceptor ≡ self.old.acceptor }
-        ensures times { self.new.present.times.items
-            ≡ without_at (position_of left.entry.number self.old.present.numbers.items) self.old.present.times.items }
-    {
-        let lasted = self.lasted(left.number);
-        self.present.remove(left.number);
-        self.unreached = self.unreached.saturating_add(1);
-        self.tell_of_session(SessionNotice::of_no_server(left.number, lasted));
-        self.closings.begin(&mut self.poller.table, left.bot);
-    }
-
-    /// Checks the first arrival. Returns its ports if its connect completed, and `Failed` if its session is over and
-    /// its socket closes. Otherwise the connect is still under way, and the arrival moves to the end.
-    ///
-    /// `given_up`: after a request that sessions end now, the connect is given up.
-    ///
-    /// `begins`: ports begin at the table's reading of the clock, with the timeouts of the run.
-    fn look_at_first(&mut self) -> Connect<SocketPorts<'w, N::Connection>>
-        requires { 0 < length self.old.arrivals.items }
-        ensures given_up { self.old.control.stops_now ≡ true → result ≡ Connect.Failed }
-        ensures evolves { FirstArrivalEvolves N.Connection.to_give N.Connection.taken
-            N.Connection.calls
-            (λ ports. record { number = ports.number; bot = ports.bot.stream; server = ports.server.stream })
-            (record { came = self.old.acceptor.came; arrivals = self.old.arrivals.items; closing = self.old.closings })
-            result (record { came = self.new.acceptor.came; arrivals = self.new.arrivals.items; closing = self.new.closings }) }
-        ensures begins { (ports : PortsOf N.Connection) → result ≡ Connect.Ready ports →
-            BeginsAt self.old.poller.table.reading (self.old.idle_time, self.old.stall_time) (timers_of ports) }
-        ensures clock { self.new.poller.table.reading ≡ self.old.poller.table.reading }
-        ensures times { (self.new.idle_time ≡ self.old.idle_time) × (self.new.stall_time ≡ self.old.stall_time) }
-        ensures acceptor { self.new.acceptor ≡ self.old.acceptor }
-    {
-        let mut arrival = self.arrivals.remove(0);
-        let is_given_up = self.control.stops_now();
-        if is_given_up {
-            let left = arrival.give_up(&mut self.poller.table);
-            self.let_go(left);
-            return Connect::Failed;
-        }
-        if arrival.advances(&mut self.poller, self.servers) {
-            return match self.arrivals.push(arrival) {
-                Ok(()) => Connect::Pending,
-                // The list had room for it before.
-                Err(refused) => {
-                    let left = refused.value.give_up(&mut self.poller.table);
-                    self.let_go(left);
-                    Connect::Failed
-                }
-            };
-        }
-        let now = self.poller.table.now();
-        match arrival.join(now, (self.idle_time, self.stall_time)) {
-            Ok(ports) => Connect::Ready(ports),
-            Err(left) => {
-                self.let_go(left);
-                Connect::Failed
-            }
-        }
-    }
-
     /// Begins a round of the acceptor, and advances the closing sockets.
     fn tidy(&mut self)
         ensures came { self.new.acceptor.came ≡ self.old.acceptor.came }
@@ -391,41 +302,11 @@ impl<'w, N: Network, E: Write + Drop> Sockets<'w, N, E> {
         self.closings.advance(&mut self.poller.table);
     }
 
-    /// Returns whether a session is to be stopped in its next turn: an operator requested it, and no turn has stopped it.
-    fn stops_newly(&self, ports: &SocketPorts<'w, N::Connection>) -> bool
-        ensures { result ≡ is_newly_stopped self.now.control.stops_now ports.now.is_stopped }
-    {
-        self.control.stops_now() && !ports.is_stopped()
-    }
-
-    /// Returns the status of the run.
-    fn run_status(&self) -> RunStatus
-        ensures { IsRunStatus self.now.acceptor.came (length self.now.present.numbers.items)
-            (length self.now.arrivals.items) self.now.unreached
-            (nat_le self.now.max_sessions (length self.now.present.numbers.items)
-            && (not self.now.acceptor.is_closed
-            && is_accept_due self.now.poller.table self.now.acceptor.key self.now.acceptor.readiness
-            self.now.acceptor.resumes_at)) self.now.control.stops_accepting
-            (or_zero (seconds_between self.now.control.started_at self.now.poller.table.reading)) result }
-    {
-        let connecting = counted(self.arrivals.len());
-        let present = counted(self.present.len());
-        let is_full = self.present.len() >= self.max_sessions;
-        RunStatus {
-            open: present.saturating_sub(connecting),
-            connecting,
-            served: self
-                .acceptor
-                .came()
-                .saturating_sub(present)
-                .saturating_sub(self.unreached),
-            unreached: self.unreached,
-            has_waiting: is_full
-                && !self.acceptor.is_closed()
-                && self.acceptor.is_due(&self.poller.table),
-            is_stopping: self.control.stops_accepting(),
-            seconds: self.control.seconds(self.poller.table.now()),
-        }
+    /// Returns the gateway's own port of a session's connection to the server, if the system says it.
+    fn port_to_server(&self, ports: &SocketPorts<'w, N::Connection>) -> Option<u16> {
+        let (_bot, server) = ports.connections();
+        let own = self.poller.network.local_address(server)?;
+        Some(own.port())
     }
 
     /// Returns the row of a session with this status; `None` if its bot is not among those that are there.
@@ -447,9 +328,10 @@ impl<'w, N: Network, E: Write + Drop> Sockets<'w, N, E> {
         Some(SessionRow {
             number: ports.number(),
             bot,
+            port_to_server: self.port_to_server(ports),
             phase: status.phase,
             level: status.level,
-            summary: status.summary,
+            account: status.account,
             queued_to_bot: status.queued_to_bot,
             queued_to_server: status.queued_to_server,
             held_to_bot,
@@ -457,59 +339,6 @@ impl<'w, N: Network, E: Write + Drop> Sockets<'w, N, E> {
             bot_idle: seconds_between(bot_heard_at, now),
             server_idle: seconds_between(server_heard_at, now),
         })
-    }
-
-    /// Returns whether all bots of the run came.
-    fn has_all_bots(&self) -> bool
-        ensures { result ≡ nat_le self.now.bots_in_all self.now.acceptor.came }
-    {
-        self.acceptor.came() >= self.bots_in_all
-    }
-
-    /// Advances the control socket, and returns the operator's orders. Once a stop is requested, or all bots of the run
-    /// came, the listener for bots is closed. So a bot that comes too late is refused.
-    ///
-    /// `control`: a status has the run as it is at the beginning of the round.
-    ///
-    /// `watched`: the next wait watches the control socket.
-    fn take_orders(&mut self) -> Orders
-        ensures orders { result.stops_accepting ≡ self.new.control.stops_accepting }
-        ensures kept { self.old.control.stops_accepting ≡ true → self.new.control.stops_accepting ≡ true }
-        ensures now_kept { self.old.control.stops_now ≡ true → self.new.control.stops_now ≡ true }
-        ensures control { (run : RunStatus) × IsRunStatus self.old.acceptor.came
-            (length self.old.present.numbers.items) (length self.old.arrivals.items) self.old.unreached
-            (nat_le self.old.max_sessions (length self.old.present.numbers.items)
-            && (not self.old.acceptor.is_closed
-            && is_accept_due self.old.poller.table self.old.acceptor.key self.old.acceptor.readiness
-            self.old.acceptor.resumes_at)) self.old.control.stops_accepting
-            (or_zero (seconds_between self.old.control.started_at self.old.poller.table.reading)) run
-            × BeginsRound N.Connection.to_give N.Connection.taken
-            N.Connection.calls run self.old.poller.table.reading self.old.control result self.new.control }
-        ensures watched { (before : Table) × (self.new.poller.table ≡ watching_control before self.new.control) }
-        ensures closes { result.stops_accepting ≡ true → self.old.control.stops_accepting ≡ false →
-            (before : N) × N.transition before StopsListening self.new.poller.network }
-        ensures all_came { self.old.bots_in_all ≤ self.old.acceptor.came → self.old.acceptor.is_closed ≡ false →
-            (before : N) × N.transition before StopsListening self.new.poller.network }
-        ensures open { self.old.acceptor.came < self.old.bots_in_all → result.stops_accepting ≡ false →
-            self.new.acceptor ≡ self.old.acceptor }
-        ensures closed { (self.old.bots_in_all ≤ self.old.acceptor.came → self.new.acceptor.is_closed ≡ true)
-            × (result.stops_accepting ≡ true → self.old.control.stops_accepting ≡ false → self.new.acceptor.is_closed ≡ true) }
-        ensures came { self.new.acceptor.came ≡ self.old.acceptor.came }
-        ensures same { self.new ≡ record self.old {
-          poller = self.new.poller;
-          acceptor = self.new.acceptor;
-          control = self.new.control;
-        } }
-    {
-        let run = self.run_status();
-        let was_stopped = self.control.stops_accepting();
-        let orders = self.control.begin_round(&mut self.poller, &run);
-        let is_stopped_now = orders.stops_accepting && !was_stopped;
-        if is_stopped_now || self.has_all_bots() && !self.acceptor.is_closed() {
-            self.acceptor.close(&mut self.poller);
-        }
-        self.control.watch(&mut self.poller.table);
-        orders
     }
 
     /// Waits until the last sockets are closed. That takes at most a second after their peers accepted the buffered
@@ -525,64 +354,6 @@ impl<'w, N: Network, E: Write + Drop> Sockets<'w, N, E> {
         ensures arrivals { self.new.arrivals.items ≡ self.old.arrivals.items }
     {
         self.closings.finish(&mut self.poller);
-    }
-
-    /// Accepts the next bot, if there is one, and begins its connect. Returns the line of its session; `None` if no bot
-    /// came. Closes the connection of one that may not come, and logs its address if sessions are logged.
-    ///
-    /// `made`: with room for one more, an accept is made if the listener is ready by the table, and no pause is under way.
-    ///
-    /// `awaited`: the wait of this round is for bots too, so it does not block while an accept is due.
-    ///
-    /// `times`: its IM timer, and the time of its connect, run from the table's reading of the clock on.
-    ///
-    /// `allowed`: a bot that is accepted may come by the ranges, and by the limit beside those that are there.
-    ///
-    /// `present`: it is the last of those, with the number and the host of its session's line, and with the table's
-    /// reading of the clock as its time.
-    fn accept_next(&mut self) -> Option<SessionNotice>
-        ensures comes { IfSome result (λ _. Comes
-            (record { came = self.old.acceptor.came; arrivals = self.old.arrivals.items; closing = self.old.closings })
-            (record { came = self.new.acceptor.came; arrivals = self.new.arrivals.items; closing = self.new.closings })) }
-        ensures none { IfNone result ((self.new.acceptor.came ≡ self.old.acceptor.came)
-            × (self.new.arrivals.items ≡ self.old.arrivals.items) × (self.new.closings ≡ self.old.closings)) }
-        ensures made { length self.old.arrivals.items < vec_capacity self.old.arrivals →
-            self.old.acceptor.came < u32.MAX → is_accept_due self.old.poller.table self.old.acceptor.key
-            self.old.acceptor.readiness self.old.acceptor.resumes_at ≡ true →
-            MakesAccept N.transition self.old.poller.network }
-        ensures awaited { self.new.acceptor.awaits_bots ≡ true }
-        ensures times { IfSome result (λ _. ComesWith self.old.arrivals.items self.old.poller.table.reading
-            (as_nanos self.old.im_time) (as_nanos self.old.connect_time) self.new.arrivals.items) }
-        ensures allowed { IfSome result (λ began. IsAllowed self.old.allow.now self.old.max_per_address
-            self.old.present.hosts.items began) }
-        ensures present { IfSome result (λ began. IsPresentWith self.old.poller.table.reading self.old.present began
-            self.new.present) }
-        ensures absent { IfNone result (self.new.present ≡ self.old.present) }
-        ensures timeouts { (self.new.idle_time ≡ self.old.idle_time) × (self.new.stall_time ≡ self.old.stall_time) }
-    {
-        self.acceptor.await_bots();
-        if self.arrivals.len() >= self.arrivals.capacity() {
-            return None;
-        }
-        let rules = (self.allow, self.max_per_address);
-        let next = self
-            .acceptor
-            .next_bot(&mut self.poller, self.pool, rules, &mut self.present);
-        let (number, bot, address) = match next {
-            Ok(next) => next,
-            Err(declined) => {
-                self.tell_of_declined(declined);
-                return None;
-            }
-        };
-        let times = (self.im_time, self.connect_time);
-        let came = (number, bot);
-        let arrival = PendingConnection::new(&mut self.poller, self.servers, came, times);
-        self.arrivals.push_reserved(arrival);
-        Some(SessionNotice::Began {
-            number,
-            bot: address,
-        })
     }
 
     /// Waits, and watches the sessions that it was to watch, the listener, each connect and each closing socket
@@ -667,7 +438,7 @@ impl<'w, N: Network, E: Write + Drop> System<SocketPorts<'w, N::Connection>> for
     fn begin_turn(&mut self, ports: &mut SocketPorts<'w, N::Connection>)
         ensures ports { Transfers N.Connection.to_give N.Connection.taken
             (ports.old.bot.stream, ports.old.server.stream) TurnBegins (ports.new.bot.stream, ports.new.server.stream)
-            × Settles TurnBegins (ports.old.bot, ports.old.server) (ports.new.bot, ports.new.server)
+            × Settles N.Connection.calls TurnBegins (ports.old.bot, ports.old.server) (ports.new.bot, ports.new.server)
             × SetsTimers TurnBegins (timers_of ports.old) (timers_of ports.new) }
         ensures system { RunEvolves N.transition N.Connection.to_give N.Connection.taken N.Connection.calls
             (λ (ports : PortsOf N.Connection). ports)

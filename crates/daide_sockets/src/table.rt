@@ -157,9 +157,9 @@ pub(crate) fn merged(one: Readiness, other: Readiness) -> Readiness
     ensures { result ≡ merged one other }
 {
     Readiness {
-        may_read: one.may_read || other.may_read,
-        may_write: one.may_write || other.may_write,
-        reads_on: one.reads_on || other.reads_on,
+        may_read: one.may_read | other.may_read,
+        may_write: one.may_write | other.may_write,
+        reads_on: one.reads_on | other.reads_on,
     }
 }
 
@@ -179,7 +179,7 @@ fn report_of(event: SocketEvent) -> Readiness
 fn has_report(report: Readiness) -> bool
     ensures { result ≡ has_report report }
 {
-    report.may_read || report.may_write || report.reads_on
+    report.may_read | report.may_write | report.reads_on
 }
 
 /// Returns the key of the first free row; the number of rows if all are taken.

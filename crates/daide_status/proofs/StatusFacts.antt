@@ -29,9 +29,15 @@ abbrev first : SessionRow
 first = record {
   number = 1;
   bot = address 127 0 0 1 50000;
+  port_to_server = Some 40000;
   phase = Open;
   level = L20;
-  summary = record { relayed = 87; prn = 2; huh = 3; faults = 0 };
+  account = record {
+    bot = record { relayed = 87; prn = 2; huh = 3 };
+    server = record { relayed = 95; prn = 7; huh = 8 };
+    faults = 6;
+    level = L20;
+  };
   queued_to_bot = 10;
   queued_to_server = 12;
   held_to_bot = 30;
@@ -44,9 +50,15 @@ abbrev second : SessionRow
 second = record {
   number = 12;
   bot = address 10 0 0 7 6;
+  port_to_server = None;
   phase = WaitRm;
   level = L0;
-  summary = record { relayed = 1; prn = 0; huh = 0; faults = 0 };
+  account = record {
+    bot = record { relayed = 1; prn = 0; huh = 0 };
+    server = record { relayed = 0; prn = 0; huh = 0 };
+    faults = 0;
+    level = L0;
+  };
   queued_to_bot = 0;
   queued_to_server = 0;
   held_to_bot = 0;
@@ -58,7 +70,9 @@ second = record {
 -- ---- as a table
 
 abbrev columns : List ℕ
-columns = codes "session  phase   relayed    PRN    HUH  to bot to server  bot idle server idle bot\n"
+columns =
+    codes "                      from the bot   from the server\n"
+    ++ codes "session  phase   relayed  PRN  HUH relayed  PRN  HUH  to bot to server  bot idle server idle   port bot\n"
 
 table_of_none : status_text Table idle_run [] ≡ codes "0 open, 0 connecting, 0 served, 0 unreached, up 7 s\n" ++ columns
 unfolding digits
@@ -68,10 +82,10 @@ abbrev busy_line : List ℕ
 busy_line = codes "2 open, 1 connecting, 30 served, 4 unreached, up 125 s; bots may wait for a place; stopping\n"
 
 abbrev first_line : List ℕ
-first_line = codes "      1  open 20      87      2      3      40        16         0          61 127.0.0.1:50000\n"
+first_line = codes "      1  open 20      87    2    3      95    7    8      40        16         0          61  40000 127.0.0.1:50000\n"
 
 abbrev second_line : List ℕ
-second_line = codes "     12  wait RM       1      0      0       0         8         5           - 10.0.0.7:6\n"
+second_line = codes "     12  wait RM       1    0    0       0    0    0       0         8         5           -      - 10.0.0.7:6\n"
 
 table_of_one : status_text Table busy_run (first ∷ []) ≡ busy_line ++ columns ++ first_line
 unfolding digits
@@ -94,12 +108,14 @@ busy_members =
 
 abbrev first_object : List ℕ
 first_object =
-    codes "{\"session\":1,\"bot\":\"127.0.0.1:50000\",\"phase\":\"open\",\"level\":20,\"relayed\":87,\"prn\":2,\"huh\":3,\"faults\":0"
+    codes "{\"session\":1,\"bot\":\"127.0.0.1:50000\",\"phase\":\"open\",\"level\":20,\"port_to_server\":40000,\"relayed\":{\"bot\":87,\"server\":95},\"prn\":{\"bot\":2,\"server\":7}"
+    ++ codes ",\"huh\":{\"bot\":3,\"server\":8},\"faults\":6"
     ++ codes ",\"queued\":{\"bot\":10,\"server\":12},\"held\":{\"bot\":30,\"server\":4},\"idle_seconds\":{\"bot\":0,\"server\":61}}"
 
 abbrev second_object : List ℕ
 second_object =
-    codes "{\"session\":12,\"bot\":\"10.0.0.7:6\",\"phase\":\"wait RM\",\"level\":0,\"relayed\":1,\"prn\":0,\"huh\":0,\"faults\":0"
+    codes "{\"session\":12,\"bot\":\"10.0.0.7:6\",\"phase\":\"wait RM\",\"level\":0,\"port_to_server\":null,\"relayed\":{\"bot\":1,\"server\":0},\"prn\":{\"bot\":0,\"server\":0}"
+    ++ codes ",\"huh\":{\"bot\":0,\"server\":0},\"faults\":0"
     ++ codes ",\"queued\":{\"bot\":0,\"server\":0},\"held\":{\"bot\":0,\"server\":8},\"idle_seconds\":{\"bot\":5,\"server\":null}}"
 
 document_of_one : status_text Json busy_run (first ∷ []) ≡ busy_members ++ first_object ++ codes "\n]}\n"
@@ -115,7 +131,7 @@ document_of_two = refl
 
 abbrev frames_head : List ℕ
 frames_head =
-    codes "# HELP daide_gate_session_frames_total Frames of a session, by what was done with them.\n# TYPE daide_gate_session_frames_total counter\n"
+    codes "# HELP daide_gate_session_frames_total Frames of a session, by side and by what was done with them.\n# TYPE daide_gate_session_frames_total counter\n"
 
 abbrev waiting_head : List ℕ
 waiting_head =
@@ -152,10 +168,13 @@ busy_metrics =
 
 abbrev first_frames : List ℕ
 first_frames =
-    codes "daide_gate_session_frames_total{session=\"1\",bot=\"127.0.0.1:50000\",result=\"relayed\"} 87\n"
-    ++ codes "daide_gate_session_frames_total{session=\"1\",bot=\"127.0.0.1:50000\",result=\"prn\"} 2\n"
-    ++ codes "daide_gate_session_frames_total{session=\"1\",bot=\"127.0.0.1:50000\",result=\"huh\"} 3\n"
-    ++ codes "daide_gate_session_frames_total{session=\"1\",bot=\"127.0.0.1:50000\",result=\"fault\"} 0\n"
+    codes "daide_gate_session_frames_total{session=\"1\",bot=\"127.0.0.1:50000\",side=\"bot\",result=\"relayed\"} 87\n"
+    ++ codes "daide_gate_session_frames_total{session=\"1\",bot=\"127.0.0.1:50000\",side=\"bot\",result=\"prn\"} 2\n"
+    ++ codes "daide_gate_session_frames_total{session=\"1\",bot=\"127.0.0.1:50000\",side=\"bot\",result=\"huh\"} 3\n"
+    ++ codes "daide_gate_session_frames_total{session=\"1\",bot=\"127.0.0.1:50000\",side=\"server\",result=\"relayed\"} 95\n"
+    ++ codes "daide_gate_session_frames_total{session=\"1\",bot=\"127.0.0.1:50000\",side=\"server\",result=\"prn\"} 7\n"
+    ++ codes "daide_gate_session_frames_total{session=\"1\",bot=\"127.0.0.1:50000\",side=\"server\",result=\"huh\"} 8\n"
+    ++ codes "daide_gate_session_frames_total{session=\"1\",bot=\"127.0.0.1:50000\",result=\"fault\"} 6\n"
 
 abbrev first_waiting : List ℕ
 first_waiting =
@@ -179,9 +198,12 @@ metrics_of_one = refl
 -- a side that has sent nothing has no sample
 metrics_of_two : status_text Prometheus busy_run (first ∷ second ∷ [])
     ≡ busy_metrics ++ frames_head ++ first_frames
-    ++ codes "daide_gate_session_frames_total{session=\"12\",bot=\"10.0.0.7:6\",result=\"relayed\"} 1\n"
-    ++ codes "daide_gate_session_frames_total{session=\"12\",bot=\"10.0.0.7:6\",result=\"prn\"} 0\n"
-    ++ codes "daide_gate_session_frames_total{session=\"12\",bot=\"10.0.0.7:6\",result=\"huh\"} 0\n"
+    ++ codes "daide_gate_session_frames_total{session=\"12\",bot=\"10.0.0.7:6\",side=\"bot\",result=\"relayed\"} 1\n"
+    ++ codes "daide_gate_session_frames_total{session=\"12\",bot=\"10.0.0.7:6\",side=\"bot\",result=\"prn\"} 0\n"
+    ++ codes "daide_gate_session_frames_total{session=\"12\",bot=\"10.0.0.7:6\",side=\"bot\",result=\"huh\"} 0\n"
+    ++ codes "daide_gate_session_frames_total{session=\"12\",bot=\"10.0.0.7:6\",side=\"server\",result=\"relayed\"} 0\n"
+    ++ codes "daide_gate_session_frames_total{session=\"12\",bot=\"10.0.0.7:6\",side=\"server\",result=\"prn\"} 0\n"
+    ++ codes "daide_gate_session_frames_total{session=\"12\",bot=\"10.0.0.7:6\",side=\"server\",result=\"huh\"} 0\n"
     ++ codes "daide_gate_session_frames_total{session=\"12\",bot=\"10.0.0.7:6\",result=\"fault\"} 0\n"
     ++ waiting_head ++ first_waiting
     ++ codes "daide_gate_session_waiting_bytes{session=\"12\",bot=\"10.0.0.7:6\",side=\"bot\"} 0\n"

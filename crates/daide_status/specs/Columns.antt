@@ -4,11 +4,12 @@ use Rattle.std.specs.Fmt.{decimal}
 use Rattle.std.specs.Net.Text.{socket_text}
 use Rattle.daide_grammar.specs.declared.level.Level.{Level}
 use Rattle.daide_grammar.specs.declared.level.Level.TheVariants.{L0, L10, L20, L30, L40, L50, L60}
+use Rattle.daide_protocol.specs.declared.account.SideCounts.{SideCounts}
 use Rattle.daide_protocol.specs.declared.phase.Phase.{Phase}
 use Rattle.daide_protocol.specs.declared.phase.Phase.TheVariants.{WaitIm, WaitRm, Open, Over}
 use Rattle.daide_status.specs.declared.snapshot.RunStatus.{RunStatus}
 use Rattle.daide_status.specs.declared.snapshot.SessionRow.{SessionRow}
-use Rattle.daide_status.specs.Pieces.{right_aligned, seconds_cell, text_if}
+use Rattle.daide_status.specs.Pieces.{number_or_dash, right_aligned, text_if}
 
 -- the phase of an open session with its level, in a column of seven bytes
 abbrev pub open_cell : Level → List ℕ
@@ -39,18 +40,24 @@ run_line run =
     totals run ++ text_if run.has_waiting (codes "; bots may wait for a place") ++ text_if run.is_stopping (codes "; stopping")
     ++ codes "\n"
 
--- the line of the run, and the names of the columns
+-- the line of the run, and the names of the columns in two lines
 abbrev pub table_head : RunStatus → List ℕ
 table_head run =
     run_line run
-    ++ codes "session  phase   relayed    PRN    HUH  to bot to server  bot idle server idle bot\n"
+    ++ codes "                      from the bot   from the server\n"
+    ++ codes "session  phase   relayed  PRN  HUH relayed  PRN  HUH  to bot to server  bot idle server idle   port bot\n"
+
+-- the counts of a side
+abbrev pub side_cells : SideCounts → List ℕ
+side_cells c =
+    right_aligned 8 (decimal c.relayed) ++ right_aligned 5 (decimal c.prn) ++ right_aligned 5 (decimal c.huh)
 
 -- the line of a session; the bytes for a side are those of the session's queue and those that the side's socket holds
 abbrev pub table_row : SessionRow → List ℕ
 table_row row =
     right_aligned 7 (decimal row.number) ++ codes "  " ++ phase_cell row.phase row.level
-    ++ right_aligned 8 (decimal row.summary.relayed) ++ right_aligned 7 (decimal row.summary.prn)
-    ++ right_aligned 7 (decimal row.summary.huh)
+    ++ side_cells row.account.bot ++ side_cells row.account.server
     ++ right_aligned 8 (decimal (row.queued_to_bot + row.held_to_bot))
     ++ right_aligned 10 (decimal (row.queued_to_server + row.held_to_server))
-    ++ seconds_cell 10 row.bot_idle ++ seconds_cell 12 row.server_idle ++ codes " " ++ socket_text row.bot ++ codes "\n"
+    ++ number_or_dash 10 row.bot_idle ++ number_or_dash 12 row.server_idle ++ number_or_dash 7 row.port_to_server
+    ++ codes " " ++ socket_text row.bot ++ codes "\n"

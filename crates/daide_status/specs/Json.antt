@@ -4,10 +4,10 @@ use Rattle.std.specs.List.{flat_map}
 use Rattle.std.specs.Fmt.{decimal}
 use Rattle.std.specs.Net.Text.{socket_text}
 use Rattle.daide_grammar.specs.Level.{level_number}
-use Rattle.daide_protocol.specs.declared.summary.Summary.{Summary}
+use Rattle.daide_protocol.specs.declared.account.Account.{Account}
 use Rattle.daide_status.specs.declared.snapshot.RunStatus.{RunStatus}
 use Rattle.daide_status.specs.declared.snapshot.SessionRow.{SessionRow}
-use Rattle.daide_status.specs.Pieces.{phase_name, seconds_or_null}
+use Rattle.daide_status.specs.Pieces.{phase_name, number_or_null}
 
 -- a flag
 abbrev pub json_flag : Bool → List ℕ
@@ -35,27 +35,40 @@ json_session row =
     codes "{\"session\":" ++ decimal row.number ++ codes ",\"bot\":\"" ++ socket_text row.bot
     ++ codes "\",\"phase\":\"" ++ phase_name row.phase ++ codes "\",\"level\":" ++ decimal (level_number row.level)
 
--- the counts of a session
-abbrev pub json_counts : Summary → List ℕ
-json_counts counts =
-    codes ",\"relayed\":" ++ decimal counts.relayed ++ codes ",\"prn\":" ++ decimal counts.prn
-    ++ codes ",\"huh\":" ++ decimal counts.huh ++ codes ",\"faults\":" ++ decimal counts.faults
+-- the port of a session toward the server
+abbrev pub json_port : SessionRow → List ℕ
+json_port row = codes ",\"port_to_server\":" ++ number_or_null row.port_to_server
 
--- two numbers of bytes, for the bot and for the server
+-- all that comes before the counts
+abbrev pub json_identity : SessionRow → List ℕ
+json_identity row = json_session row ++ json_port row
+
+-- two numbers, of the bot and of the server
 abbrev pub json_sides : List ℕ → ℕ → ℕ → List ℕ
 json_sides name bot server =
     codes ",\"" ++ name ++ codes "\":{\"bot\":" ++ decimal bot ++ codes ",\"server\":" ++ decimal server ++ codes "}"
 
+-- the faults of a session
+abbrev pub json_faults : ℕ → List ℕ
+json_faults faults = codes ",\"faults\":" ++ decimal faults
+
+-- the counts of a session, by side
+abbrev pub json_counts : Account → List ℕ
+json_counts a =
+    json_sides (codes "relayed") a.bot.relayed a.server.relayed ++ json_sides (codes "prn") a.bot.prn a.server.prn
+    ++ json_sides (codes "huh") a.bot.huh a.server.huh ++ json_faults a.faults
+
 -- the seconds since each side's last byte, and the end of the object
 abbrev pub json_idle : SessionRow → List ℕ
 json_idle row =
-    codes ",\"idle_seconds\":{\"bot\":" ++ seconds_or_null row.bot_idle ++ codes ",\"server\":"
-    ++ seconds_or_null row.server_idle ++ codes "}}"
+    codes ",\"idle_seconds\":{\"bot\":" ++ number_or_null row.bot_idle ++ codes ",\"server\":"
+    ++ number_or_null row.server_idle ++ codes "}}"
 
 -- the object of a session
 abbrev pub json_row : SessionRow → List ℕ
 json_row row =
-    json_session row ++ json_counts row.summary ++ json_sides (codes "queued") row.queued_to_bot row.queued_to_server
+    json_identity row ++ json_counts row.account
+    ++ json_sides (codes "queued") row.queued_to_bot row.queued_to_server
     ++ json_sides (codes "held") row.held_to_bot row.held_to_server ++ json_idle row
 
 -- the objects of all sessions, each on a line, with commas between them

@@ -52,13 +52,25 @@ session_sample name row label value =
     codes "daide_gate_" ++ name ++ codes "{session=\"" ++ decimal row.number ++ codes "\",bot=\"" ++ socket_text row.bot
     ++ codes "\"," ++ label ++ codes "} " ++ decimal value ++ codes "\n"
 
--- the frames of a session, by what was done with them
+-- the frames from the bot, by what was done with them
+abbrev pub bot_samples : SessionRow → List ℕ
+bot_samples row =
+    session_sample (codes "session_frames_total") row (codes "side=\"bot\",result=\"relayed\"") row.account.bot.relayed
+    ++ session_sample (codes "session_frames_total") row (codes "side=\"bot\",result=\"prn\"") row.account.bot.prn
+    ++ session_sample (codes "session_frames_total") row (codes "side=\"bot\",result=\"huh\"") row.account.bot.huh
+
+-- the frames from the server
+abbrev pub server_samples : SessionRow → List ℕ
+server_samples row =
+    session_sample (codes "session_frames_total") row (codes "side=\"server\",result=\"relayed\"") row.account.server.relayed
+    ++ session_sample (codes "session_frames_total") row (codes "side=\"server\",result=\"prn\"") row.account.server.prn
+    ++ session_sample (codes "session_frames_total") row (codes "side=\"server\",result=\"huh\"") row.account.server.huh
+
+-- the frames of both, and the faults, which have no side
 abbrev pub frame_samples : SessionRow → List ℕ
 frame_samples row =
-    session_sample (codes "session_frames_total") row (codes "result=\"relayed\"") row.summary.relayed
-    ++ session_sample (codes "session_frames_total") row (codes "result=\"prn\"") row.summary.prn
-    ++ session_sample (codes "session_frames_total") row (codes "result=\"huh\"") row.summary.huh
-    ++ session_sample (codes "session_frames_total") row (codes "result=\"fault\"") row.summary.faults
+    bot_samples row ++ server_samples row
+    ++ session_sample (codes "session_frames_total") row (codes "result=\"fault\"") row.account.faults
 
 -- the bytes that wait for each side, in the session and in the side's socket
 abbrev pub waiting_samples : SessionRow → List ℕ
@@ -92,7 +104,7 @@ session_metric name kind help samples = metric_head name kind help ++ samples
 abbrev pub session_metrics : List ℕ → List ℕ → List ℕ → List ℕ → List ℕ
 session_metrics frames waiting idle levels =
     session_metric (codes "session_frames_total") (codes "counter")
-    (codes "Frames of a session, by what was done with them.") frames
+    (codes "Frames of a session, by side and by what was done with them.") frames
     ++ session_metric (codes "session_waiting_bytes") (codes "gauge") (codes "Bytes that wait for a side.") waiting
     ++ session_metric (codes "session_idle_seconds") (codes "gauge") (codes "Seconds since the last byte from a side.") idle
     ++ session_metric (codes "session_level") (codes "gauge") (codes "The level of press of a session.") levels

@@ -16,15 +16,15 @@ phase_name WaitRm = codes "wait RM"
 phase_name Open = codes "open"
 phase_name Over = codes "over"
 
--- some seconds in a column, or a dash if there are none
-abbrev pub seconds_cell : ℕ → Option ℕ → List ℕ
-seconds_cell width (Some seconds) = right_aligned width (decimal seconds)
-seconds_cell width None = right_aligned width (codes "-")
+-- a number in a column, or a dash if there is none
+abbrev pub number_or_dash : ℕ → Option ℕ → List ℕ
+number_or_dash width (Some number) = right_aligned width (decimal number)
+number_or_dash width None = right_aligned width (codes "-")
 
--- some seconds in a document, or `null` if there are none
-abbrev pub seconds_or_null : Option ℕ → List ℕ
-seconds_or_null (Some seconds) = decimal seconds
-seconds_or_null None = codes "null"
+-- a number in a document, or `null` if there is none
+abbrev pub number_or_null : Option ℕ → List ℕ
+number_or_null (Some number) = decimal number
+number_or_null None = codes "null"
 
 -- a text, if a condition holds
 abbrev pub text_if : Bool → List ℕ → List ℕ

@@ -1,11 +1,11 @@
 //! The status as one JSON document: the members of the run, and an array with an object for each session.
 
 ghost use Rattle.std.specs.Prelude.{◌≡◌, ◌++◌, OnOk};
-ghost use Rattle.daide_status.specs.Json.{json_counts, json_head, json_idle, json_row, json_run_counts, json_run_state, json_sides, json_session};
+ghost use Rattle.daide_status.specs.Json.{json_counts, json_faults, json_head, json_identity, json_idle, json_port, json_row, json_run_counts, json_run_state, json_sides, json_session};
 
-use crate::pieces::{phase_name, put_seconds_or_null};
+use crate::pieces::{phase_name, port_number, put_or_null};
 use crate::snapshot::{RunStatus, SessionRow};
-use daide_protocol::Summary;
+use daide_protocol::Account;
 use std::io;
 use std::io::Write;
 
@@ -67,27 +67,45 @@ fn put_session(row: &SessionRow, out: &mut Vec<u8>) -> io::Result<()>
     )
 }
 
-/// Appends the counts of a session.
-fn put_counts(row: &SessionRow, out: &mut Vec<u8>) -> io::Result<()>
-    ensures { OnOk result (out.new.items ≡ out.old.items ++ json_counts row.now.summary) }
+/// Appends the port of a session toward the server as a member.
+fn put_port(row: &SessionRow, out: &mut Vec<u8>) -> io::Result<()>
+    ensures { OnOk result (out.new.items ≡ out.old.items ++ json_port row.now) }
 {
-    let Summary {
-        relayed,
-        prn,
-        huh,
-        faults,
-    } = row.summary;
-    write!(
-        out,
-        ",\"relayed\":{relayed},\"prn\":{prn},\"huh\":{huh},\"faults\":{faults}"
-    )
+    out.write_all(b",\"port_to_server\":")?;
+    put_or_null(port_number(row.port_to_server), out)
 }
 
-/// Appends two numbers of bytes, for the bot and for the server, as a member.
-fn put_sides(name: &str, bot: usize, server: usize, out: &mut Vec<u8>) -> io::Result<()>
+/// Appends all that comes before the counts of a session.
+fn put_identity(row: &SessionRow, out: &mut Vec<u8>) -> io::Result<()>
+    ensures { OnOk result (out.new.items ≡ out.old.items ++ json_identity row.now) }
+{
+    put_session(row, out)?;
+    put_port(row, out)
+}
+
+/// Appends two numbers, of the bot and of the server, as a member.
+fn put_sides(name: &str, bot: u128, server: u128, out: &mut Vec<u8>) -> io::Result<()>
     ensures { OnOk result (out.new.items ≡ out.old.items ++ json_sides name.now bot server) }
 {
     write!(out, ",\"{name}\":{{\"bot\":{bot},\"server\":{server}}}")
+}
+
+/// Appends the number of faults as a member.
+fn put_faults(faults: u64, out: &mut Vec<u8>) -> io::Result<()>
+    ensures { OnOk result (out.new.items ≡ out.old.items ++ json_faults faults) }
+{
+    write!(out, ",\"faults\":{faults}")
+}
+
+/// Appends the counts of a session, by side.
+fn put_counts(account: &Account, out: &mut Vec<u8>) -> io::Result<()>
+    ensures { OnOk result (out.new.items ≡ out.old.items ++ json_counts account.now) }
+{
+    let (bot, server) = (account.bot, account.server);
+    put_sides("relayed", bot.relayed as u128, server.relayed as u128, out)?;
+    put_sides("prn", bot.prn as u128, server.prn as u128, out)?;
+    put_sides("huh", bot.huh as u128, server.huh as u128, out)?;
+    put_faults(account.faults, out)
 }
 
 /// Appends the seconds since each side's last byte.
@@ -95,9 +113,9 @@ fn put_idle_sides(row: &SessionRow, out: &mut Vec<u8>) -> io::Result<()>
     ensures { OnOk result (out.new.items ≡ out.old.items ++ json_idle row.now) }
 {
     out.write_all(b",\"idle_seconds\":{\"bot\":")?;
-    put_seconds_or_null(row.bot_idle, out)?;
+    put_or_null(row.bot_idle, out)?;
     out.write_all(b",\"server\":")?;
-    put_seconds_or_null(row.server_idle, out)?;
+    put_or_null(row.server_idle, out)?;
     out.write_all(b"}}")
 }
 
@@ -105,9 +123,19 @@ fn put_idle_sides(row: &SessionRow, out: &mut Vec<u8>) -> io::Result<()>
 pub(crate) fn put_json_row(row: &SessionRow, out: &mut Vec<u8>) -> io::Result<()>
     ensures { OnOk result (out.new.items ≡ out.old.items ++ json_row row.now) }
 {
-    put_session(row, out)?;
-    put_counts(row, out)?;
-    put_sides("queued", row.queued_to_bot, row.queued_to_server, out)?;
-    put_sides("held", row.held_to_bot, row.held_to_server, out)?;
+    put_identity(row, out)?;
+    put_counts(&row.account, out)?;
+    put_sides(
+        "queued",
+        row.queued_to_bot as u128,
+        row.queued_to_server as u128,
+        out,
+    )?;
+    put_sides(
+        "held",
+        row.held_to_bot as u128,
+        row.held_to_server as u128,
+        out,
+    )?;
     put_idle_sides(row, out)
 }

@@ -1,13 +1,13 @@
 //! The status in the text format of Prometheus: each metric with its help and its type, and then all its samples.
 
 ghost use Rattle.std.specs.Prelude.{◌≡◌, ◌+◌, ◌++◌, [], OnOk, codes};
-ghost use Rattle.daide_status.specs.Metrics.{flag_number, frame_samples, idle_samples, idle_sample, level_sample};
+ghost use Rattle.daide_status.specs.Metrics.{bot_samples, server_samples, flag_number, frame_samples, idle_samples, idle_sample, level_sample};
 ghost use Rattle.daide_status.specs.Metrics.{metric_head, metrics_head, phase_label, run_metric, session_sample, waiting_samples};
 ghost use Rattle.daide_status.specs.Metrics.{run_sample, session_metric, session_metrics, waiting_metrics};
 
 use crate::pieces::sum;
 use crate::snapshot::{RunStatus, SessionRow};
-use daide_protocol::{Phase, Summary};
+use daide_protocol::Phase;
 use std::alloc::Global;
 use std::io;
 use std::io::Write;
@@ -143,44 +143,46 @@ fn put_sample(
     )
 }
 
-/// Appends the frames of a session, by what was done with them.
+/// Appends the number of frames with this side and this result.
+fn put_count(row: &SessionRow, label: &str, count: u64, out: &mut Vec<u8>) -> io::Result<()>
+    ensures { OnOk result (out.new.items
+        ≡ out.old.items ++ session_sample (codes "session_frames_total") row.now label.now count) }
+{
+    put_sample("session_frames_total", row, label, count as u128, out)
+}
+
+/// Appends the frames from the bot, by what was done with them.
+fn put_bot_frames(row: &SessionRow, out: &mut Vec<u8>) -> io::Result<()>
+    ensures { OnOk result (out.new.items ≡ out.old.items ++ bot_samples row.now) }
+{
+    let counts = row.account.bot;
+    put_count(row, "side=\"bot\",result=\"relayed\"", counts.relayed, out)?;
+    put_count(row, "side=\"bot\",result=\"prn\"", counts.prn, out)?;
+    put_count(row, "side=\"bot\",result=\"huh\"", counts.huh, out)
+}
+
+/// Appends the frames from the server, by what was done with them.
+fn put_server_frames(row: &SessionRow, out: &mut Vec<u8>) -> io::Result<()>
+    ensures { OnOk result (out.new.items ≡ out.old.items ++ server_samples row.now) }
+{
+    let counts = row.account.server;
+    put_count(
+        row,
+        "side=\"server\",result=\"relayed\"",
+        counts.relayed,
+        out,
+    )?;
+    put_count(row, "side=\"server\",result=\"prn\"", counts.prn, out)?;
+    put_count(row, "side=\"server\",result=\"huh\"", counts.huh, out)
+}
+
+/// Appends the frames of a session, by side and by what was done with them, and its faults.
 pub(crate) fn put_frames(row: &SessionRow, out: &mut Vec<u8>) -> io::Result<()>
     ensures { OnOk result (out.new.items ≡ out.old.items ++ frame_samples row.now) }
 {
-    let Summary {
-        relayed,
-        prn,
-        huh,
-        faults,
-    } = row.summary;
-    put_sample(
-        "session_frames_total",
-        row,
-        "result=\"relayed\"",
-        relayed as u128,
-        out,
-    )?;
-    put_sample(
-        "session_frames_total",
-        row,
-        "result=\"prn\"",
-        prn as u128,
-        out,
-    )?;
-    put_sample(
-        "session_frames_total",
-        row,
-        "result=\"huh\"",
-        huh as u128,
-        out,
-    )?;
-    put_sample(
-        "session_frames_total",
-        row,
-        "result=\"fault\"",
-        faults as u128,
-        out,
-    )
+    put_bot_frames(row, out)?;
+    put_server_frames(row, out)?;
+    put_count(row, "result=\"fault\"", row.account.faults, out)
 }
 
 /// Appends the bytes that wait for each side, in the session and in the side's socket.
@@ -263,7 +265,7 @@ pub(crate) fn put_session_metrics(samples: &Samples, out: &mut Vec<u8>) -> io::R
         ++ session_metrics samples.now.frames.items samples.now.waiting.items samples.now.idle.items
         samples.now.levels.items) }
 {
-    let done = "Frames of a session, by what was done with them.";
+    let done = "Frames of a session, by side and by what was done with them.";
     put_session_metric(
         "session_frames_total",
         "counter",

@@ -2,7 +2,7 @@
 
 ghost use Rattle.std.specs.Prelude.{◌≡◌, ◌+◌, ◌++◌, OnOk};
 ghost use Rattle.std.specs.Fmt.{decimal};
-ghost use Rattle.daide_status.specs.Pieces.{phase_name, right_aligned, seconds_cell, seconds_or_null, text_if};
+ghost use Rattle.daide_status.specs.Pieces.{phase_name, right_aligned, number_or_dash, number_or_null, text_if};
 
 use daide_protocol::Phase;
 use std::io;
@@ -34,23 +34,33 @@ pub(crate) fn put_right(width: usize, number: u128, out: &mut Vec<u8>) -> io::Re
     write!(out, "{number:>width$}")
 }
 
-/// Appends some seconds in a column, or a dash if there are none.
-pub(crate) fn put_seconds(width: usize, seconds: Option<u64>, out: &mut Vec<u8>) -> io::Result<()>
-    ensures { OnOk result (out.new.items ≡ out.old.items ++ seconds_cell width seconds) }
+/// Appends a number in a column, or a dash if there is none.
+pub(crate) fn put_or_dash(width: usize, number: Option<u64>, out: &mut Vec<u8>) -> io::Result<()>
+    ensures { OnOk result (out.new.items ≡ out.old.items ++ number_or_dash width number) }
 {
-    match seconds {
-        Some(seconds) => put_right(width, seconds as u128, out),
+    match number {
+        Some(number) => put_right(width, number as u128, out),
         None => write!(out, "{dash:>width$}", dash = "-"),
     }
 }
 
-/// Appends some seconds, or `null` if there are none.
-pub(crate) fn put_seconds_or_null(seconds: Option<u64>, out: &mut Vec<u8>) -> io::Result<()>
-    ensures { OnOk result (out.new.items ≡ out.old.items ++ seconds_or_null seconds) }
+/// Appends a number, or `null` if there is none.
+pub(crate) fn put_or_null(number: Option<u64>, out: &mut Vec<u8>) -> io::Result<()>
+    ensures { OnOk result (out.new.items ≡ out.old.items ++ number_or_null number) }
 {
-    match seconds {
-        Some(seconds) => write!(out, "{seconds}"),
+    match number {
+        Some(number) => write!(out, "{number}"),
         None => out.write_all(b"null"),
+    }
+}
+
+/// Returns a port as a number of 64 bits, if there is one.
+pub(crate) fn port_number(port: Option<u16>) -> Option<u64>
+    ensures { result ≡ port }
+{
+    match port {
+        Some(port) => Some(u64::from(port)),
+        None => None,
     }
 }
 

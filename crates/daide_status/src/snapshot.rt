@@ -1,7 +1,7 @@
 //! The status of a run and of a session, as values.
 
 use daide_grammar::Level;
-use daide_protocol::{Phase, Summary};
+use daide_protocol::{Account, Phase};
 use std::net::SocketAddr;
 
 /// The status of a run.
@@ -30,12 +30,14 @@ pub struct SessionRow {
     pub number: u32,
     /// The address of its bot.
     pub bot: SocketAddr,
+    /// The gateway's own port of the connection to the server; `None` if the system does not say it.
+    pub port_to_server: Option<u16>,
     /// Its phase.
     pub phase: Phase,
     /// Its level of press; level 0 before it is open.
     pub level: Level,
-    /// The counts of its effects, modulo 2^64.
-    pub summary: Summary,
+    /// Its counts by side, modulo 2^64.
+    pub account: Account,
     /// The bytes that the session has queued for the bot.
     pub queued_to_bot: usize,
     /// The bytes that the session has queued for the server.

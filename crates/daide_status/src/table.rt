@@ -1,13 +1,13 @@
-//! The status in aligned columns. Its lines have at most 100 bytes, except those with an address of IPv6 or with a number
+//! The status in aligned columns. Its lines have at most 121 bytes, except those with an address of IPv6 or with a number
 //! that is longer than its column.
 
 ghost use Rattle.std.specs.Prelude.{◌≡◌, ◌++◌, OnOk};
-ghost use Rattle.daide_status.specs.Columns.{open_cell, phase_cell, run_line, table_head, table_row, totals};
+ghost use Rattle.daide_status.specs.Columns.{open_cell, phase_cell, run_line, side_cells, table_head, table_row, totals};
 
-use crate::pieces::{put_if, put_right, put_seconds, sum};
+use crate::pieces::{port_number, put_if, put_or_dash, put_right, sum};
 use crate::snapshot::{RunStatus, SessionRow};
 use daide_grammar::Level;
-use daide_protocol::Phase;
+use daide_protocol::{Phase, SideCounts};
 use std::io;
 use std::io::Write;
 
@@ -72,8 +72,17 @@ pub(crate) fn put_table_head(run: &RunStatus, out: &mut Vec<u8>) -> io::Result<(
 {
     put_run_line(run, out)?;
     out.write_all(
-        b"session  phase   relayed    PRN    HUH  to bot to server  bot idle server idle bot\n",
+        b"                      from the bot   from the server\nsession  phase   relayed  PRN  HUH relayed  PRN  HUH  to bot to server  bot idle server idle   port bot\n",
     )
+}
+
+/// Appends the counts of a side.
+fn put_side(counts: &SideCounts, out: &mut Vec<u8>) -> io::Result<()>
+    ensures { OnOk result (out.new.items ≡ out.old.items ++ side_cells counts.now) }
+{
+    put_right(8, counts.relayed as u128, out)?;
+    put_right(5, counts.prn as u128, out)?;
+    put_right(5, counts.huh as u128, out)
 }
 
 /// Appends the line of a session.
@@ -84,12 +93,12 @@ pub(crate) fn put_table_row(row: &SessionRow, out: &mut Vec<u8>) -> io::Result<(
     put_right(7, row.number as u128, out)?;
     out.write_all(b"  ")?;
     out.write_all(phase_cell(row.phase, row.level).as_bytes())?;
-    put_right(8, row.summary.relayed as u128, out)?;
-    put_right(7, row.summary.prn as u128, out)?;
-    put_right(7, row.summary.huh as u128, out)?;
+    put_side(&row.account.bot, out)?;
+    put_side(&row.account.server, out)?;
     put_right(8, sum(row.queued_to_bot, row.held_to_bot), out)?;
     put_right(10, sum(row.queued_to_server, row.held_to_server), out)?;
-    put_seconds(10, row.bot_idle, out)?;
-    put_seconds(12, row.server_idle, out)?;
+    put_or_dash(10, row.bot_idle, out)?;
+    put_or_dash(12, row.server_idle, out)?;
+    put_or_dash(7, port_number(row.port_to_server), out)?;
     writeln!(out, " {bot}")
 }

@@ -1,5 +1,8 @@
-use Rattle.std.proofs.Common.{inr}
+use Rattle.std.proofs.Common.{inl, inr, refl}
 use Rattle.daide_commands.proofs.running.run_recorded.Goals as goal
 
-pub returns : goal.returns
-returns g c = inr (c.in_ok-settings.settings, c.serve_sockets.ensures.recorded)
+pub returns-in-Ok : goal.returns-in-Ok
+returns-in-Ok g c = inr (c.in-Ok.settings, c.in-Ok.ensures.judged, c.serve_recorded.ensures)
+
+pub returns-in-Err : goal.returns-in-Err
+returns-in-Err g c = inl (c.in-Err.error, refl, c.in-Err.ensures.refused, refl)

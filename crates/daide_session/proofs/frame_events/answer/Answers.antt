@@ -1,10 +1,13 @@
-use Rattle.std.proofs.Common.{[], refl, sym, ap, ◌∙◌, drop}
+use Rattle.std.proofs.Common.{[], true, refl, sym, ap, ◌∙◌, drop}
 use Rattle.daide_frame.specs.declared.side.Side.{Side}
 use Rattle.daide_protocol.specs.declared.note.Deed.{Deed}
 use Rattle.daide_protocol.specs.declared.note.Note.TheVariants as Note
-use Rattle.daide_protocol.specs.Machine.{is_sent}
+use Rattle.daide_frame.specs.PerSide.{at}
+use Rattle.daide_protocol.specs.Account.{frame_accounted}
+use Rattle.daide_protocol.specs.Machine.{deed_of, is_sent}
+use Rattle.daide_protocol.specs.Weight.{tokens_held}
 use Rattle.daide_channels.specs.Channels.{pending}
-use Rattle.daide_session.proofs.FrameEventsLemmas.{answered_whole, dropped_whole, phase_held}
+use Rattle.daide_session.proofs.FrameEventsLemmas.{account_held, answered_whole, dropped_whole, phase_held}
 use Rattle.daide_session.proofs.SessionFronts.{fronts_same}
 use Rattle.daide_session.proofs.frame_events.answer.Goals as goal
 
@@ -31,7 +34,7 @@ returns-clause-reacts g c =
     let s = c.args.protocol.now in
     let body = drop 4 (pending t c.args.side) in
     answered_whole t c.reply-verdict.new.self s c.args.side c.args.head body c.reply-verdict.result
-    c.after-protocol-2.result c.count.new.self _
+    c.after-protocol-2.result c.count_frame.new.self _
     c.requires.live
     (ap (λ (to : Side). is_sent s.phase c.args.head.kind to) (sym c.other.ensures)
     ∙ (sym c.is_sent.ensures ∙ c.if-not-is_sent.false))
@@ -41,4 +44,10 @@ returns-clause-reacts g c =
     (c.after-protocol-2.ensures _ c.found.ensures
     ∙ phase_held t c.reply-verdict.new.self c.args.side s.top_level c.args.head c.reply-verdict.result s.phase
     c.reply-verdict.ensures.keeps c.reply-verdict.ensures.answered c.requires.tied c.requires.head)
-    (ap (λ (d : Deed). Note.Frame c.args.head d) c.deed_of.ensures) c.count.ensures.modulo
+    (ap (λ (d : Deed). Note.Frame c.args.head d) c.deed_of-deed.ensures)
+    (c.count_frame.ensures _ c.found-2.ensures
+    ∙ (ap (λ (d : Deed). frame_accounted s.top_level c.args.side c.args.head.kind d
+    (tokens_held c.reply-verdict.new.self.cap (at c.reply-verdict.new.self.sides c.args.side).holding.held) s.account)
+    c.deed_of-deed.ensures
+    ∙ account_held t c.reply-verdict.new.self c.args.side s.top_level c.args.head (deed_of true c.reply-verdict.result)
+    s.account c.reply-verdict.ensures.keeps c.reply-verdict.ensures.answered c.requires.tied c.requires.head))

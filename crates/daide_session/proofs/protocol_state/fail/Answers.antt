@@ -17,13 +17,13 @@ terminate-requires g c =
 
 pub returns-clause-moves : goal.returns-clause-moves
 returns-clause-moves g c = failed c.args.channels.now c.queue_final.new.self c.terminate.new.channels c.args.protocol.now
-    c.terminate.new.protocol c.count.new.self c.args.side c.args.code
+    c.terminate.new.protocol c.count_fault.new.self c.args.side c.args.code
     (record {
       cap = c.terminate.ensures.keeps.cap ∙ c.queue_final.ensures.limits.0;
       rules = c.terminate.ensures.keeps.rules ∙ c.queue_final.ensures.limits.1;
       sides = c.terminate.ensures.keeps.sides ∙ c.queue_final.ensures.sides;
     })
-    c.queue_final.ensures.queued c.terminate.ensures.protocol c.count.ensures.modulo c.terminate.ensures.sent
+    c.queue_final.ensures.queued c.terminate.ensures.protocol c.count_fault.ensures c.terminate.ensures.sent
 
 pub returns-clause-fronts : goal.returns-clause-fronts
 returns-clause-fronts g c =

@@ -1,6 +1,7 @@
-use Rattle.std.proofs.Common.{rules, refl, ◌≡◌}
+use Rattle.std.proofs.Common.{rules, refl, sym, ◌≡◌}
 use Rattle.daide_buffered_io.specs.Buffers.{buffered_bytes}
 use Rattle.daide_buffered_io.proofs.BufferLemmas.{of_view, still_passes, drain_passes}
+use Rattle.daide_buffered_io.proofs.CallLemmas.{one_put}
 use Rattle.daide_buffered_io.proofs.buffered.Buffered.flush.Goals as goal
 
 pub returns-then-self-clause-passes : goal.returns-then-self-clause-passes
@@ -21,3 +22,7 @@ returns-clause-passes g c =
     (drain_passes g.S.Duplex.to_give g.S.Duplex.taken _ _ c.drain.result c.in-Some.held.bytes c.drain.new.self.bytes
     same c.kept.ensures.held c.drain.ensures.taken c.drain.ensures.rest
     (record { read_buffer = refl; gives = c.drain.ensures.apart }))
+
+pub returns-clause-writes : goal.returns-clause-writes
+returns-clause-writes g c =
+    rw (sym c.self.view_is) (one_put g.S.Duplex.calls c.in-Some.held.bytes _ _ _ _ _ c.drain.ensures.asked)

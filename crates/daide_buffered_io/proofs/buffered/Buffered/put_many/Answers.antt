@@ -1,6 +1,11 @@
 use Rattle.daide_buffered_io.proofs.BufferLemmas.{then_flush}
+use Rattle.daide_buffered_io.proofs.CallLemmas.{puts_then}
 use Rattle.daide_buffered_io.proofs.buffered.Buffered.put_many.Goals as goal
 
 pub returns-clause-passes : goal.returns-clause-passes
 returns-clause-passes g c =
     then_flush g.S.Duplex.to_give g.S.Duplex.taken _ _ _ _ c.take_behind-put.ensures.passes c.flush.ensures.passes
+
+pub returns-clause-writes : goal.returns-clause-writes
+returns-clause-writes g c =
+    puts_then g.S.Duplex.calls _ _ _ _ _ _ c.take_behind-put.ensures.writes c.flush.ensures.writes

@@ -2,7 +2,7 @@ use Rattle.std.proofs.Common.{rules, refl, ◌≡◌, [], ◌++◌, ℕ, List, t
 use Rattle.daide_buffered_io.specs.Buffers.{Roomful, buffered_bytes}
 use Rattle.daide_buffered_io.specs.Taking.{bytes_taken}
 use Rattle.daide_buffered_io.proofs.BufferLemmas.{of_view, straight_passes, held_passes}
-use Rattle.daide_buffered_io.proofs.CallLemmas.{stopped, some_front}
+use Rattle.daide_buffered_io.proofs.CallLemmas.{stopped, some_front, one_put}
 use Rattle.daide_buffered_io.proofs.buffered.Buffered.take_first.Goals as goal
 
 pub returns-in-Some-clause-passes : goal.returns-in-Some-clause-passes
@@ -24,3 +24,8 @@ pub returns-clause-waits : goal.returns-clause-waits
 returns-clause-waits g c = λ none some.
     stopped g.S.Duplex.calls (take 16384 c.args.bytes.now) _ _ _ _ _ 0 c.put_to-put.ensures.asked none
     (some_front 16384 c.args.bytes.now (omega arith) some)
+
+pub returns-clause-writes : goal.returns-clause-writes
+returns-clause-writes g c =
+    rw (sym c.self.view_is)
+    (one_put g.S.Duplex.calls (take 16384 c.args.bytes.now) _ _ _ _ _ c.put_to-put.ensures.asked)

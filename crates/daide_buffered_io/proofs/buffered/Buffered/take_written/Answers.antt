@@ -1,6 +1,7 @@
-use Rattle.std.proofs.Common.{rules, refl, ◌≡◌, [], ap, ◌∙◌}
+use Rattle.std.proofs.Common.{rules, refl, sym, ◌≡◌, [], ap, ◌∙◌}
 use Rattle.daide_buffered_io.specs.Buffers.{Buffer, buffered_bytes}
 use Rattle.daide_buffered_io.proofs.BufferLemmas.{of_view, drain_passes, held_passes, flush_then}
+use Rattle.daide_buffered_io.proofs.CallLemmas.{one_put, puts_then}
 use Rattle.daide_buffered_io.proofs.buffered.Buffered.take_written.Goals as goal
 
 pub returns-then-eq-clause-passes : goal.returns-then-eq-clause-passes
@@ -39,3 +40,17 @@ returns-in-None-clause-passes g c =
     (drain_passes g.S.Duplex.to_give g.S.Duplex.taken _ _ c.drain.result c.args.held.bytes [] refl none
     c.drain.ensures.taken (c.in-None.ensures.held ∙ c.drain.ensures.rest)
     (record { read_buffer = refl; gives = c.drain.ensures.apart })) c.take_first.ensures.passes)
+
+pub returns-then-eq-clause-writes : goal.returns-then-eq-clause-writes
+returns-then-eq-clause-writes g c =
+    rw (sym c.self.view_is) (one_put g.S.Duplex.calls c.args.held.bytes _ _ _ _ _ c.drain.ensures.asked)
+
+pub returns-in-Some-clause-writes : goal.returns-in-Some-clause-writes
+returns-in-Some-clause-writes g c =
+    rw (sym c.self.view_is, c.hold.ensures.rest.0)
+    (one_put g.S.Duplex.calls c.args.held.bytes _ _ _ _ _ c.drain.ensures.asked)
+
+pub returns-in-None-clause-writes : goal.returns-in-None-clause-writes
+returns-in-None-clause-writes g c =
+    rw (sym c.self.view_is) (puts_then g.S.Duplex.calls _ _ _ _ _ _
+    (one_put g.S.Duplex.calls c.args.held.bytes _ _ _ _ _ c.drain.ensures.asked) c.take_first.ensures.writes)

@@ -85,5 +85,5 @@ returns-clause-reported g c =
     let place = c.remove-session.result in
     let read = place_read (λ p. (p.session, p.ports)) (limits_with s.limits.config (words_of s.words)) s.max s.places.items
     c.args.i place c.args.self.now c.self.view_is c.requires c.remove-session.ensures.value in
-    subst (λ found. IfSome found (λ (p : SessionView × g.row.P.Denot). IsReportedOf p.0 c.summary.result c.unwrap.result))
-    (sym read) (c.summary.ensures, sym c.ending.ensures.value ∙ c.unwrap.ensures)
+    subst (λ found. IfSome found (λ (p : SessionView × g.row.P.Denot). IsReportedOf p.0 c.account.result c.unwrap.result))
+    (sym read) (c.account.ensures, sym c.ending.ensures.value ∙ c.unwrap.ensures)

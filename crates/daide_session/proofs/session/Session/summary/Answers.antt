@@ -1,6 +1,7 @@
-use Rattle.std.proofs.Common.{ap}
+use Rattle.std.proofs.Common.{ap, ◌∙◌}
+use Rattle.daide_protocol.specs.Account.{summary_of}
 use Rattle.daide_protocol.specs.Wires.{SessionView}
 use Rattle.daide_session.proofs.session.Session.summary.Goals as goal
 
 pub returns : goal.returns
-returns g c = ap (λ (v : SessionView). v.summary) c.self.view_is
+returns g c = c.summary.ensures ∙ ap (λ (v : SessionView). summary_of v.account) c.self.view_is

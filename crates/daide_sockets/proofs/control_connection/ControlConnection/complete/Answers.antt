@@ -1,7 +1,6 @@
-use Rattle.std.proofs.Common.{◌≡◌, ap, subst, Option}
+use Rattle.std.proofs.Common.{ap, subst, Option}
 use Rattle.daide_status.specs.declared.text.StatusText.{StatusText}
 use Rattle.daide_sockets.specs.ControlAnswer.{Finishes}
-use Rattle.daide_sockets.specs.declared.control_connection.ControlConnection.{ControlConnection}
 use Rattle.daide_sockets.proofs.control_connection.ControlConnection.complete.Goals as goal
 
 pub returns : goal.returns

@@ -9,7 +9,7 @@ returns-in-Bot-clause-transition g c =
       pulled_moves g.S.Duplex.to_give g.S.Duplex.taken _ _ Bot (length c.args.buffer.now) c.pull_or_flush_peer.result
           c.pull_or_flush_peer.new.buffer c.pull_or_flush_peer.ensures.own c.pull_or_flush_peer.ensures.other c.pull_or_flush_peer.ensures.unread,
       (c.pull_or_flush_peer.ensures.pulled, c.pull_or_flush_peer.ensures.other_stays),
-      (record { reading = refl; im_due = refl; idle_time = refl }, c.pull_or_flush_peer.ensures.own_time, c.pull_or_flush_peer.ensures.other_time),
+      (record { reading = refl; im_due = refl; idle_time = refl; im_timer_expired = refl; stops = refl }, c.pull_or_flush_peer.ensures.own_time, c.pull_or_flush_peer.ensures.other_time),
     )
 
 pub returns-in-Server-clause-transition : goal.returns-in-Server-clause-transition
@@ -19,7 +19,7 @@ returns-in-Server-clause-transition g c =
           c.pull_or_flush_peer-in-Server.new.buffer c.pull_or_flush_peer-in-Server.ensures.own c.pull_or_flush_peer-in-Server.ensures.other
           c.pull_or_flush_peer-in-Server.ensures.unread,
       (c.pull_or_flush_peer-in-Server.ensures.pulled, c.pull_or_flush_peer-in-Server.ensures.other_stays),
-      (record { reading = refl; im_due = refl; idle_time = refl }, c.pull_or_flush_peer-in-Server.ensures.own_time, c.pull_or_flush_peer-in-Server.ensures.other_time),
+      (record { reading = refl; im_due = refl; idle_time = refl; im_timer_expired = refl; stops = refl }, c.pull_or_flush_peer-in-Server.ensures.own_time, c.pull_or_flush_peer-in-Server.ensures.other_time),
     )
 
 pub returns-in-Bot-clause-asked : goal.returns-in-Bot-clause-asked

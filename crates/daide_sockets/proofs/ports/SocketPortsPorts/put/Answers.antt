@@ -9,7 +9,7 @@ returns-in-Bot-clause-transition g c =
       offered_moves g.S.Duplex.to_give g.S.Duplex.taken _ _ Bot c.args.bytes.now c.put_or_flush_peer.result c.put_or_flush_peer.ensures.own
           c.put_or_flush_peer.ensures.other c.put_or_flush_peer.ensures.unread,
       (c.put_or_flush_peer.ensures.offered, c.put_or_flush_peer.ensures.other_stays),
-      (record { reading = refl; im_due = refl; idle_time = refl }, c.put_or_flush_peer.ensures.own_time, c.put_or_flush_peer.ensures.other_time),
+      (record { reading = refl; im_due = refl; idle_time = refl; im_timer_expired = refl; stops = refl }, c.put_or_flush_peer.ensures.own_time, c.put_or_flush_peer.ensures.other_time),
     )
 
 pub returns-in-Server-clause-transition : goal.returns-in-Server-clause-transition
@@ -18,7 +18,7 @@ returns-in-Server-clause-transition g c =
       offered_moves g.S.Duplex.to_give g.S.Duplex.taken _ _ Server c.args.bytes.now c.put_or_flush_peer-in-Server.result
           c.put_or_flush_peer-in-Server.ensures.own c.put_or_flush_peer-in-Server.ensures.other c.put_or_flush_peer-in-Server.ensures.unread,
       (c.put_or_flush_peer-in-Server.ensures.offered, c.put_or_flush_peer-in-Server.ensures.other_stays),
-      (record { reading = refl; im_due = refl; idle_time = refl }, c.put_or_flush_peer-in-Server.ensures.own_time, c.put_or_flush_peer-in-Server.ensures.other_time),
+      (record { reading = refl; im_due = refl; idle_time = refl; im_timer_expired = refl; stops = refl }, c.put_or_flush_peer-in-Server.ensures.own_time, c.put_or_flush_peer-in-Server.ensures.other_time),
     )
 
 pub returns-in-Bot-clause-written : goal.returns-in-Bot-clause-written

@@ -14,3 +14,7 @@ returns-clause-comes g c = record {
 
 pub returns-clause-times : goal.returns-clause-times
 returns-clause-times g c = (c.new-arrival.result, search rules, search rules, search rules)
+
+pub returns-in-Err-clause-left : goal.returns-in-Err-clause-left
+returns-in-Err-clause-left g c = λ room few due.
+    c.in-Err.ensures.left (rw c.await_bots.ensures few) (rw c.tell_of_declined.ensures at due)

@@ -16,7 +16,8 @@ returns-in-Ok-clause-evolves g c = (
 )
 
 pub returns-in-Ok-join-clause-evolves : goal.returns-in-Ok-join-clause-evolves
-returns-in-Ok-join-clause-evolves g c = (c.remove-arrival.result, search rules, search rules, refl, refl)
+returns-in-Ok-join-clause-evolves g c =
+    (c.remove-arrival.result, search rules, search rules, search rules, search rules)
 
 pub returns-in-Err-join-clause-evolves : goal.returns-in-Err-join-clause-evolves
 returns-in-Err-join-clause-evolves g c =

@@ -4,14 +4,13 @@ use Rattle.daide_io.specs.declared.system.Notice.TheVariants.{CannotReach}
 use Rattle.daide_io.specs.System.{Connects, Notifies}
 use Rattle.daide_driver.specs.Hub.{AddsSession}
 use Rattle.daide_event_loop.specs.QuotaPorts.{QuotaPortsView}
-use Rattle.daide_event_loop.proofs.ServingLemmas.{not_none}
-use Rattle.daide_event_loop.proofs.serving.finish_connect.Goals as goal
+use Rattle.daide_event_loop.proofs.serving.take_up_connect.Goals as goal
 
 pub returns-in-Pending-clause-finishes : goal.returns-in-Pending-clause-finishes
 returns-in-Pending-clause-finishes g c = (
   Connects Pending ∷ [],
   (c.connected.new.self, c.in-Pending.ensures, refl),
-  rw (not_none c.args.counters.now.connecting c.if-counters-eq0.false) (Pending, [], refl, (refl, refl, refl)),
+  rw c.requires.under_way (Pending, [], refl, (refl, refl, refl)),
   refl,
 )
 
@@ -19,7 +18,7 @@ pub returns-in-Failed-clause-finishes : goal.returns-in-Failed-clause-finishes
 returns-in-Failed-clause-finishes g c = (
   Connects Failed ∷ Notifies CannotReach ∷ [],
   (c.connected.new.self, c.in-Failed.ensures, (c.tell.new.self, c.tell.ensures, refl)),
-  rw (not_none c.args.counters.now.connecting c.if-counters-eq0.false) (Failed, Notifies CannotReach ∷ [], refl, (refl, refl, refl)),
+  rw c.requires.under_way (Failed, Notifies CannotReach ∷ [], refl, (refl, refl, refl)),
   refl,
 )
 
@@ -30,6 +29,6 @@ returns-in-Ok-clause-finishes g c =
     c.in-Ok.ensures.added in (
       Connects (Ready ports) ∷ [],
       (c.connected.new.self, c.in-Ready.ensures, refl),
-      rw (not_none c.args.counters.now.connecting c.if-counters-eq0.false) (Ready ports, [], refl, (refl, added, refl)),
+      rw c.requires.under_way (Ready ports, [], refl, (refl, added, refl)),
       refl,
     )

@@ -1,0 +1,184 @@
+//! The bots that come to a run: accepts, connects to the server, and those that are given up.
+
+ghost use Rattle.std.specs.Duration.{as_nanos};
+ghost use Rattle.std.specs.Prelude.{◌≡◌, ◌+◌, ◌<◌, IfSome, IfNone, None, Some, true, length, not, vec_capacity};
+ghost use Rattle.daide_sockets.specs.Accepting.{is_accept_due, MakesAccept, GivesConnection};
+ghost use Rattle.daide_sockets.specs.declared.ports.SocketPorts.{SocketPorts as PortsOf};
+ghost use Rattle.daide_sockets.specs.Pairing.{FirstArrivalEvolves, Closes, Comes, ComesWith};
+ghost use Rattle.daide_sockets.specs.Present.{IsAllowed, IsPresentWith, position_of, without_at};
+ghost use Rattle.daide_sockets.specs.Timers.{BeginsAt, timers_of};
+
+use super::Sockets;
+use crate::admission::{PendingConnection, Unreached};
+use crate::ports::SocketPorts;
+use crate::session_notice::SessionNotice;
+use daide_io::network::Network;
+use daide_io::system::Connect;
+use std::io::Write;
+use std::net::SocketAddr;
+
+impl<'w, N: Network, E: Write + Drop> Sockets<'w, N, E> {
+    /// Logs the address from which the server of a session was reached, if the system says it and sessions are logged.
+    fn tell_of_server(&mut self, ports: &SocketPorts<'w, N::Connection>)
+        ensures { self.new ≡ record self.old { errors = self.new.errors } }
+    {
+        let (_bot, server) = ports.connections();
+        if let Some(own) = self.poller.network.local_address(server) {
+            let number = ports.number();
+            self.tell_of_session(SessionNotice::Reached { number, own });
+        }
+    }
+
+    /// Logs the address of a bot that may not come, if there is one and sessions are logged.
+    fn tell_of_declined(&mut self, declined: Option<SocketAddr>)
+        ensures { self.new ≡ record self.old { errors = self.new.errors } }
+    {
+        if let Some(bot) = declined {
+            self.tell_of_session(SessionNotice::Declined { bot });
+        }
+    }
+
+    /// Ends the session of a bot whose server was unreachable, and starts the close of its socket.
+    fn let_go(&mut self, left: Unreached<'w, N::Connection>)
+        ensures closes { Closes N.Connection.to_give N.Connection.taken
+            N.Connection.calls self.old.closings left.entry.bot.stream self.new.closings }
+        ensures came { self.new.acceptor.came ≡ self.old.acceptor.came }
+        ensures arrivals { self.new.arrivals.items ≡ self.old.arrivals.items }
+        ensures numbers { self.new.present.numbers.items
+            ≡ without_at (position_of left.entry.number self.old.present.numbers.items) self.old.present.numbers.items }
+        ensures hosts { self.new.present.hosts.items
+            ≡ without_at (position_of left.entry.number self.old.present.numbers.items) self.old.present.hosts.items }
+        ensures addresses { self.new.present.addresses.items
+            ≡ without_at (position_of left.entry.number self.old.present.numbers.items) self.old.present.addresses.items }
+        ensures clock { self.new.poller.table.reading ≡ self.old.poller.table.reading }
+        ensures timeouts { (self.new.idle_time ≡ self.old.idle_time) × (self.new.stall_time ≡ self.old.stall_time) }
+        ensures acceptor { self.new.acceptor ≡ self.old.acceptor }
+        ensures times { self.new.present.times.items
+            ≡ without_at (position_of left.entry.number self.old.present.numbers.items) self.old.present.times.items }
+    {
+        let lasted = self.lasted(left.number);
+        self.present.remove(left.number);
+        self.unreached = self.unreached.saturating_add(1);
+        self.tell_of_session(SessionNotice::of_no_server(left.number, lasted));
+        self.closings.begin(&mut self.poller.table, left.bot);
+    }
+
+    /// Checks the first arrival. Returns its ports if its connect completed, and `Failed` if its session is over and
+    /// its socket closes. Otherwise the connect is still under way, and the arrival moves to the end.
+    ///
+    /// `given_up`: after a request that sessions end now, the connect is given up.
+    ///
+    /// `begins`: ports begin at the table's reading of the clock, with the timeouts of the run.
+    pub(super) fn look_at_first(&mut self) -> Connect<SocketPorts<'w, N::Connection>>
+        requires { 0 < length self.old.arrivals.items }
+        ensures given_up { self.old.control.stops_now ≡ true → result ≡ Connect.Failed }
+        ensures evolves { FirstArrivalEvolves N.Connection.to_give N.Connection.taken
+            N.Connection.calls
+            (λ ports. record { number = ports.number; bot = ports.bot.stream; server = ports.server.stream })
+            (record { came = self.old.acceptor.came; arrivals = self.old.arrivals.items; closing = self.old.closings })
+            result (record { came = self.new.acceptor.came; arrivals = self.new.arrivals.items; closing = self.new.closings }) }
+        ensures begins { (ports : PortsOf N.Connection) → result ≡ Connect.Ready ports →
+            BeginsAt self.old.poller.table.reading (self.old.idle_time, self.old.stall_time) (timers_of ports) }
+        ensures clock { self.new.poller.table.reading ≡ self.old.poller.table.reading }
+        ensures times { (self.new.idle_time ≡ self.old.idle_time) × (self.new.stall_time ≡ self.old.stall_time) }
+        ensures acceptor { self.new.acceptor ≡ self.old.acceptor }
+    {
+        let mut arrival = self.arrivals.remove(0);
+        let is_given_up = self.control.stops_now();
+        if is_given_up {
+            let left = arrival.give_up(&mut self.poller.table);
+            self.let_go(left);
+            return Connect::Failed;
+        }
+        if arrival.advances(&mut self.poller, self.servers) {
+            return match self.arrivals.push(arrival) {
+                Ok(()) => Connect::Pending,
+                // The list had room for it before.
+                Err(refused) => {
+                    let left = refused.value.give_up(&mut self.poller.table);
+                    self.let_go(left);
+                    Connect::Failed
+                }
+            };
+        }
+        let now = self.poller.table.now();
+        match arrival.join(now, (self.idle_time, self.stall_time)) {
+            Ok(ports) => {
+                self.tell_of_server(&ports);
+                Connect::Ready(ports)
+            }
+            Err(left) => {
+                self.let_go(left);
+                Connect::Failed
+            }
+        }
+    }
+
+    /// Accepts the next bot, if there is one, and begins its connect. Returns the line of its session; `None` if no bot
+    /// came. Closes the connection of one that may not come, and logs its address if sessions are logged.
+    ///
+    /// `made`: with room for one more, an accept is made if the listener is ready by the table, and no pause is under way.
+    ///
+    /// `awaited`: the wait of this round is for bots too, so it does not block while an accept is due.
+    ///
+    /// `left`: if no bot came, none is due any more, unless one gave a connection that may not come or was refused.
+    ///
+    /// `times`: its IM timer, and the time of its connect, run from the table's reading of the clock on.
+    ///
+    /// `allowed`: a bot that is accepted may come by the ranges, and by the limit beside those that are there.
+    ///
+    /// `present`: it is the last of those, with the number and the host of its session's line, and with the table's
+    /// reading of the clock as its time.
+    pub(super) fn accept_next(&mut self) -> Option<SessionNotice>
+        ensures comes { IfSome result (λ _. Comes
+            (record { came = self.old.acceptor.came; arrivals = self.old.arrivals.items; closing = self.old.closings })
+            (record { came = self.new.acceptor.came; arrivals = self.new.arrivals.items; closing = self.new.closings })) }
+        ensures none { IfNone result ((self.new.acceptor.came ≡ self.old.acceptor.came)
+            × (self.new.arrivals.items ≡ self.old.arrivals.items) × (self.new.closings ≡ self.old.closings)) }
+        ensures made { length self.old.arrivals.items < vec_capacity self.old.arrivals →
+            self.old.acceptor.came < u32.MAX → is_accept_due self.old.poller.table self.old.acceptor.key
+            self.old.acceptor.readiness self.old.acceptor.resumes_at ≡ true →
+            MakesAccept N.transition self.old.poller.network }
+        ensures awaited { self.new.acceptor.awaits_bots ≡ true }
+        ensures left { IfNone result (length self.old.arrivals.items < vec_capacity self.old.arrivals →
+            self.old.acceptor.came < u32.MAX → is_accept_due self.new.poller.table self.new.acceptor.key
+            self.new.acceptor.readiness self.new.acceptor.resumes_at ≡ true →
+            GivesConnection N.transition self.old.poller.network) }
+        ensures times { IfSome result (λ _. ComesWith self.old.arrivals.items self.old.poller.table.reading
+            (as_nanos self.old.im_time) (as_nanos self.old.connect_time) self.new.arrivals.items) }
+        ensures allowed { IfSome result (λ began. IsAllowed self.old.allow.now self.old.max_per_address
+            self.old.present.hosts.items began) }
+        ensures present { IfSome result (λ began. IsPresentWith self.old.poller.table.reading self.old.present began
+            self.new.present) }
+        ensures absent { IfNone result (self.new.present ≡ self.old.present) }
+        ensures timeouts { (self.new.idle_time ≡ self.old.idle_time) × (self.new.stall_time ≡ self.old.stall_time) }
+    {
+        self.acceptor.await_bots();
+        // Most rounds end here.
+        if !self.acceptor.is_due(&self.poller.table) {
+            return None;
+        }
+        if self.arrivals.len() >= self.arrivals.capacity() {
+            return None;
+        }
+        let rules = (self.allow, self.max_per_address);
+        let next = self
+            .acceptor
+            .next_bot(&mut self.poller, self.pool, rules, &mut self.present);
+        let (number, bot, address) = match next {
+            Ok(next) => next,
+            Err(declined) => {
+                self.tell_of_declined(declined);
+                return None;
+            }
+        };
+        let times = (self.im_time, self.connect_time);
+        let came = (number, bot);
+        let arrival = PendingConnection::new(&mut self.poller, self.servers, came, times);
+        self.arrivals.push_reserved(arrival);
+        Some(SessionNotice::Began {
+            number,
+            bot: address,
+        })
+    }
+}
