@@ -5,6 +5,7 @@ use Rattle.std.specs.Fmt.{digits}
 use Rattle.std.specs.declared.net.socket_addr.SocketAddr.{SocketAddr}
 use Rattle.std.specs.declared.net.socket_addr.SocketAddr.TheVariants.{V4}
 use Rattle.daide_grammar.specs.declared.level.Level.TheVariants.{L0, L20}
+use Rattle.daide_protocol.specs.declared.bot_name.BotName.TheVariants.{Unknown}
 use Rattle.daide_protocol.specs.declared.phase.Phase.TheVariants.{WaitRm, Open}
 use Rattle.daide_status.specs.declared.request.Format.TheVariants.{Table, Json, Prometheus}
 use Rattle.daide_status.specs.declared.snapshot.RunStatus.{RunStatus}
@@ -37,6 +38,7 @@ first = record {
     server = record { relayed = 95; prn = 7; huh = 8 };
     faults = 6;
     level = L20;
+    name = Unknown;
   };
   queued_to_bot = 10;
   queued_to_server = 12;
@@ -58,6 +60,7 @@ second = record {
     server = record { relayed = 0; prn = 0; huh = 0 };
     faults = 0;
     level = L0;
+    name = Unknown;
   };
   queued_to_bot = 0;
   queued_to_server = 0;
