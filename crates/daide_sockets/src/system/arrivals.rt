@@ -2,10 +2,12 @@
 
 ghost use Rattle.std.specs.Duration.{as_nanos};
 ghost use Rattle.std.specs.Prelude.{◌≡◌, ◌+◌, ◌<◌, IfSome, IfNone, None, Some, true, length, not, vec_capacity};
+ghost use Rattle.daide_io.specs.System.{Accepts};
 ghost use Rattle.daide_sockets.specs.Accepting.{is_accept_due, MakesAccept, GivesConnection};
 ghost use Rattle.daide_sockets.specs.declared.ports.SocketPorts.{SocketPorts as PortsOf};
 ghost use Rattle.daide_sockets.specs.Pairing.{FirstArrivalEvolves, Closes, Comes, ComesWith};
 ghost use Rattle.daide_sockets.specs.Present.{IsAllowed, IsPresentWith, position_of, without_at};
+ghost use Rattle.daide_sockets.specs.Scheduling.{RunEvolves, run_state};
 ghost use Rattle.daide_sockets.specs.Timers.{BeginsAt, timers_of};
 
 use super::Sockets;
@@ -154,10 +156,6 @@ impl<'w, N: Network, E: Write + Drop> Sockets<'w, N, E> {
         ensures timeouts { (self.new.idle_time ≡ self.old.idle_time) × (self.new.stall_time ≡ self.old.stall_time) }
     {
         self.acceptor.await_bots();
-        // Most rounds end here.
-        if !self.acceptor.is_due(&self.poller.table) {
-            return None;
-        }
         if self.arrivals.len() >= self.arrivals.capacity() {
             return None;
         }
@@ -180,5 +178,22 @@ impl<'w, N: Network, E: Write + Drop> Sockets<'w, N, E> {
             number,
             bot: address,
         })
+    }
+    /// Accepts the next bot, if there is one, and logs that its session begins. It is apart from `accept`, which each round
+    /// calls, since a call clears its locals.
+    #[inline(never)]
+    pub(super) fn accept_due(&mut self) -> bool
+        ensures transition { RunEvolves N.transition N.Connection.to_give N.Connection.taken N.Connection.calls
+            (λ (ports : PortsOf N.Connection). ports)
+            (run_state (self.old.poller.network, self.old.poller.table) (self.old.idle_time, self.old.stall_time) self.old.acceptor
+            (vec_capacity self.old.arrivals) self.old.arrivals.items self.old.closings) (Accepts result)
+            (run_state (self.new.poller.network, self.new.poller.table) (self.new.idle_time, self.new.stall_time) self.new.acceptor
+            (vec_capacity self.new.arrivals) self.new.arrivals.items self.new.closings) }
+    {
+        let Some(began) = self.accept_next() else {
+            return false;
+        };
+        self.tell_of_session(began);
+        true
     }
 }
