@@ -43,8 +43,7 @@ pub fn waits_are_in_time_beside<S: Duplex + Drop>()
 /// that is none of these any more was closed. So beside the listener a run holds two sockets for each bot that waits, two
 /// for each session, and those that close.
 ///
-/// Not said: that the rows of the table are as many. A row is taken only below the most rows of the table, which are two for
-/// each session, 256, and one (`take_row`: `few`; `most_sockets`).
+/// `each_bot_has_room` joins this with the loop's counts, against the rows of the table.
 pub fn sockets_are_accounted<P: Ports, S: Duplex + Drop>()
     ensures { SocketsAreAccounted P S.to_give S.taken S.calls }
 {}
