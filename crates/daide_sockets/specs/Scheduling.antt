@@ -134,7 +134,8 @@ pub record AwaitsBots {N C S : Type 0} (transition : N → NetworkCall C → N �
 -- ---- all of it
 
 -- All that a system call does to the sockets of a run: to its bots and its closing streams (`Transits`), as far as a
--- session's wait needs it (`Wakes`), and what it schedules (`Schedules`). `ports_in` is the content of ports.
+-- session's wait needs it (`Wakes`), what it schedules (`Schedules`), and to its closing streams by the clock
+-- (`ClosesByClock`). `ports_in` is the content of ports.
 abbrev pub RunEvolves : {N C P S : Type 0} → (N → NetworkCall C → N → Type 0) → (S → Option (List ℕ)) →
     (S → Option (List ℕ)) → (S → Option (List StreamCall)) → (P → SocketPorts S) → RunState N S → SystemCall P →
     RunState N S → Type 0
@@ -142,3 +143,4 @@ RunEvolves transition to_give taken calls ports_in old call new =
     Transits to_give taken calls (λ ports. pair_of (ports_in ports)) (sockets_in old) call (sockets_in new)
     × Wakes transition (λ ports. (timers_of (ports_in ports)).sockets) (old.network, old.table) call (new.network, new.table)
     × Schedules transition (λ ports. timers_of (ports_in ports)) old call new
+    × ClosesByClock to_give taken calls (λ ports. pair_of (ports_in ports)) old call new

@@ -53,9 +53,8 @@ pub fn sockets_are_accounted<P: Ports, S: Duplex + Drop>()
 /// there it leaves, whatever its peer does, and whether or not the clock went on (`IsWithinBound`). Each wait ends by its
 /// bound at the latest (`waits_are_in_time_beside`), since its deadline is not after it, and reads the clock (`RestsOnce`).
 ///
-/// The readings are those that the table of the run has at its calls (`ClosesByClock`). Each case of this relation is a
-/// clause of a call of `Sockets`: `closing` of `tidy` with `clock` of `take_orders`, and `closes` of `look_at_first` and of
-/// `retire`.
+/// The readings are those that the table of the run has at its calls, as the sockets' own `transition` says
+/// (`ClosesByClock`).
 ///
 /// While the clock goes on it has a deadline that is at most the stall timeout after it was advanced last, or a second once
 /// its writing is over. As long as it closes, it was advanced at most once at or past a deadline that it had
