@@ -43,15 +43,6 @@ module _ {X : Type 0} where
   set_other zero (suc k) (y ∷ xs) x far = refl
   set_other (suc n) (suc k) (y ∷ xs) x far = set_other n k xs x (λ e. far (ap suc e))
 
-  -- the first places of a list in which one place was set
-  pub take_set : (n k : ℕ) (xs : List X) (x : X) → take n (set xs k x) ≡ set (take n xs) k x
-  take_set zero zero xs x = refl
-  take_set zero (suc k) xs x = refl
-  take_set (suc n) zero [] x = refl
-  take_set (suc n) (suc k) [] x = refl
-  take_set (suc n) zero (y ∷ xs) x = refl
-  take_set (suc n) (suc k) (y ∷ xs) x = ap (λ (l : List X). y ∷ l) (take_set n k xs x)
-
 -- ---- one place
 
 module _ {P : Type 0} where
