@@ -14,8 +14,8 @@ use Rattle.daide_io.specs.declared.system.Orders.{Orders}
 use Rattle.daide_io.specs.declared.system.SessionStatus.{SessionStatus}
 use Rattle.daide_driver.specs.Hub.{HubView, with_ports, with_ports_at, Changes, IsTurned}
 use Rattle.daide_event_loop.specs.QuotaPorts.{QuotaPortsView, Meters, beginning, beginning_where}
-use Rattle.daide_event_loop.specs.Serving.{IsDueBy, OpensTurn, TakesTurn, TakesTurns, has_moved_in, VisitsPlace, VisitsUnless, VisitsResting}
-use Rattle.daide_event_loop.specs.Serving.{VisitsOthersIf, VisitsInTurn, TurnsBelow, watches}
+use Rattle.daide_event_loop.specs.Serving.{IsDueBy, OpensTurn, TakesTurn, TakesTurns, has_moved_in, VisitsPlace}
+use Rattle.daide_event_loop.specs.Serving.{TurnsBelow, watches}
 use Rattle.daide_event_loop.specs.Serving.{most_turns, shows, shows_where, opening}
 use Rattle.daide_event_loop.specs.Served.{sum_over_calls}
 use Rattle.daide_event_loop.proofs.TransitLemmas.{transits_then}
@@ -158,37 +158,7 @@ module _ {P : Type 0} where
   visit_only port_transition old i answers new h =
       subst OnlyTurns (sym h.asked)
       (only_append h.report h.turn (one_reports h.place.1.made_progress h.place.1.ports h.report h.due h.looks)
-      (some_turns_only port_transition h.due most_turns old i h.turn new h.turns))
-
-  unless_only : (port_transition : P → PortCall → P → Type 0) (moved : Bool) (old : HubView (QuotaPortsView P)) (i : ℕ)
-      (answers : List (SystemCall P)) (new : HubView (QuotaPortsView P)) →
-      VisitsUnless port_transition moved old i answers new → OnlyTurns answers
-  unless_only port_transition true old i answers new h = subst OnlyTurns (sym h.0) tt
-  unless_only port_transition false old i answers new h = visit_only port_transition old i answers new h
-
-  resting_only : (port_transition : P → PortCall → P → Type 0) (n : ℕ) (old : HubView (QuotaPortsView P))
-      (answers : List (SystemCall P)) (new : HubView (QuotaPortsView P)) → VisitsResting port_transition n old answers new →
-      OnlyTurns answers
-  resting_only port_transition zero old answers new h = subst OnlyTurns (sym h.0) tt
-  resting_only port_transition (suc n) old answers new h =
-      subst OnlyTurns (sym h.3)
-      (only_append h.1 h.2 (resting_only port_transition n old h.1 h.0 h.4)
-      (unless_only port_transition (has_moved_in (slice_get h.0.places n)) h.0 n h.2 new h.5))
-
-  others_only : (port_transition : P → PortCall → P → Type 0) (moved : Bool) (old : HubView (QuotaPortsView P))
-      (answers : List (SystemCall P)) (new : HubView (QuotaPortsView P)) →
-      VisitsOthersIf port_transition moved old answers new → OnlyTurns answers
-  others_only port_transition false old answers new h = subst OnlyTurns (sym h.0) tt
-  others_only port_transition true old answers new h =
-      resting_only port_transition (length old.places) old answers new h
-
-  in_turn_only : (port_transition : P → PortCall → P → Type 0) (old : HubView (QuotaPortsView P)) (i : ℕ)
-      (answers : List (SystemCall P)) (new : HubView (QuotaPortsView P)) → VisitsInTurn port_transition old i answers new →
-      OnlyTurns answers
-  in_turn_only port_transition old i answers new h =
-      subst OnlyTurns (sym h.asked)
-      (only_append h.own h.rest (visit_only port_transition old i h.own h.mid h.visits)
-      (others_only port_transition (has_moved_in (slice_get h.mid.places i)) h.mid h.rest new h.others))
+      (some_turns_only port_transition h.due (most_turns h.place.1.made_progress) old i h.turn new h.turns))
 
   pub turns_only : (port_transition : P → PortCall → P → Type 0) (n : ℕ) (old : HubView (QuotaPortsView P))
       (answers : List (SystemCall P)) (new : HubView (QuotaPortsView P)) → TurnsBelow port_transition n old answers new →
@@ -196,7 +166,7 @@ module _ {P : Type 0} where
   turns_only port_transition zero old answers new h = subst OnlyTurns (sym h.0) tt
   turns_only port_transition (suc n) old answers new h =
       subst OnlyTurns (sym h.3)
-      (only_append h.1 h.2 (turns_only port_transition n old h.1 h.0 h.4) (in_turn_only port_transition h.0 n h.2 new h.5))
+      (only_append h.1 h.2 (turns_only port_transition n old h.1 h.0 h.4) (visit_only port_transition h.0 n h.2 new h.5))
 
 -- ---- the ports of one place are lent
 
@@ -265,7 +235,7 @@ module _ {P : Type 0} (port_transition : P → PortCall → P → Type 0) where
   pub visited_count : (old : HubView (QuotaPortsView P)) (i : ℕ) (answers : List (SystemCall P))
       (new : HubView (QuotaPortsView P)) → VisitsPlace port_transition old i answers new →
       (new.max ≡ old.max) × (length new.places ≡ length old.places)
-  visited_count old i answers new h = turned_count h.due most_turns old i h.turn new h.turns
+  visited_count old i answers new h = turned_count h.due (most_turns h.place.1.made_progress) old i h.turn new h.turns
 
   abbrev SameCount : HubView (QuotaPortsView P) → HubView (QuotaPortsView P) → Type 0
   SameCount old new = (new.max ≡ old.max) × (length new.places ≡ length old.places)
@@ -273,34 +243,11 @@ module _ {P : Type 0} (port_transition : P → PortCall → P → Type 0) where
   then_same : (old mid new : HubView (QuotaPortsView P)) → SameCount old mid → SameCount mid new → SameCount old new
   then_same old mid new h k = (k.0 ∙ h.0, k.1 ∙ h.1)
 
-  pub unless_count : (moved : Bool) (old : HubView (QuotaPortsView P)) (i : ℕ) (answers : List (SystemCall P))
-      (new : HubView (QuotaPortsView P)) → VisitsUnless port_transition moved old i answers new → SameCount old new
-  unless_count true old i answers new h = none_count old new h.1
-  unless_count false old i answers new h = visited_count old i answers new h
-
-  pub resting_count : (n : ℕ) (old : HubView (QuotaPortsView P)) (answers : List (SystemCall P))
-      (new : HubView (QuotaPortsView P)) → VisitsResting port_transition n old answers new → SameCount old new
-  resting_count zero old answers new h = none_count old new h.1
-  resting_count (suc n) old answers new h =
-      then_same old h.0 new (resting_count n old h.1 h.0 h.4)
-      (unless_count (has_moved_in (slice_get h.0.places n)) h.0 n h.2 new h.5)
-
-  others_count : (moved : Bool) (old : HubView (QuotaPortsView P)) (answers : List (SystemCall P))
-      (new : HubView (QuotaPortsView P)) → VisitsOthersIf port_transition moved old answers new → SameCount old new
-  others_count false old answers new h = none_count old new h.1
-  others_count true old answers new h = resting_count (length old.places) old answers new h
-
-  in_turn_count : (old : HubView (QuotaPortsView P)) (i : ℕ) (answers : List (SystemCall P))
-      (new : HubView (QuotaPortsView P)) → VisitsInTurn port_transition old i answers new → SameCount old new
-  in_turn_count old i answers new h =
-      then_same old h.mid new (visited_count old i h.own h.mid h.visits)
-      (others_count (has_moved_in (slice_get h.mid.places i)) h.mid h.rest new h.others)
-
   pub below_count : (n : ℕ) (old : HubView (QuotaPortsView P)) (answers : List (SystemCall P))
       (new : HubView (QuotaPortsView P)) → TurnsBelow port_transition n old answers new → SameCount old new
   below_count zero old answers new h = none_count old new h.1
   below_count (suc n) old answers new h =
-      then_same old h.0 new (below_count n old h.1 h.0 h.4) (in_turn_count h.0 n h.2 new h.5)
+      then_same old h.0 new (below_count n old h.1 h.0 h.4) (visited_count h.0 n h.2 new h.5)
 
   -- the number of places stays
   pub lent_inside : (hub : HubView (QuotaPortsView P)) (i : ℕ) (old new : QuotaPortsView P) → i < length hub.places →
@@ -326,10 +273,10 @@ module _ {P : Type 0} (port_transition : P → PortCall → P → Type 0) where
 
     -- one place more was visited
     pub another_visit : (s t u : S) (old mid new : HubView (QuotaPortsView P)) (n : ℕ) → Turning s old n mid t →
-        (answers : List (SystemCall P)) → TransitsBy transition t answers u → VisitsInTurn port_transition mid n answers new →
+        (answers : List (SystemCall P)) → TransitsBy transition t answers u → VisitsPlace port_transition mid n answers new →
         Turning s old (n + 1) new u
     another_visit s t u old mid new n h answers goes visits =
-        let same = in_turn_count mid n answers new visits in
+        let same = visited_count mid n answers new visits in
         record {
           answers = h.answers ++ answers;
           transits = transits_then transition h.answers answers s t u h.transits goes;
@@ -338,24 +285,25 @@ module _ {P : Type 0} (port_transition : P → PortCall → P → Type 0) where
           count = same.1 ∙ h.count;
         }
 
--- the turns of a visit so far, and those that are left
-module _ {P S : Type 0} (port_transition : P → PortCall → P → Type 0) (transition : S → SystemCall P → S → Type 0) where
+-- the turns of a visit so far, of at most `most`, and those that are left
+module _ {P S : Type 0} (port_transition : P → PortCall → P → Type 0) (transition : S → SystemCall P → S → Type 0)
+    (most : ℕ) where
   pub record Taking (first : S) (old : HubView (QuotaPortsView P)) (i n : ℕ) (hub : HubView (QuotaPortsView P)) (system : S) :
       Type 0 where
     pub left : ℕ
-    pub all : left + n ≡ most_turns
+    pub all : left + n ≡ most
     pub count : length hub.places ≡ length old.places
     pub answers : List (SystemCall P)
     pub transits : TransitsBy transition first answers system
     -- whatever turns follow, all of them together are turns of the visit
     pub goes_on : (rest : List (SystemCall P)) (new : HubView (QuotaPortsView P)) →
         TakesTurns port_transition true left hub i rest new →
-        TakesTurns port_transition true most_turns old i (answers ++ rest) new
+        TakesTurns port_transition true most old i (answers ++ rest) new
 
   pub none_taken : (s : S) (old : HubView (QuotaPortsView P)) (i : ℕ) → Taking s old i 0 old s
   none_taken s old i = record {
-    left = most_turns;
-    all = refl;
+    left = most;
+    all = omega arith;
     count = refl;
     answers = [];
     transits = refl;
@@ -363,20 +311,20 @@ module _ {P S : Type 0} (port_transition : P → PortCall → P → Type 0) (tra
   }
 
   -- one turn more, by which these are all turns if it made no progress
-  module _ (s t u : S) (old mid new : HubView (QuotaPortsView P)) (i n : ℕ) (h : Taking s old i n mid t) (few : n < most_turns)
+  module _ (s t u : S) (old mid new : HubView (QuotaPortsView P)) (i n : ℕ) (h : Taking s old i n mid t) (few : n < most)
       (answers : List (SystemCall P)) (goes : TransitsBy transition t answers u) (takes : TakesTurn port_transition mid i answers new)
     where
       pub same_places : length new.places ≡ length old.places
       same_places = (turn_count port_transition mid i answers new takes).1 ∙ h.count
 
       -- what is left is left after this turn too
-      further : (left : ℕ) → left + n ≡ most_turns → ((rest : List (SystemCall P)) (end : HubView (QuotaPortsView P)) →
+      further : (left : ℕ) → left + n ≡ most → ((rest : List (SystemCall P)) (end : HubView (QuotaPortsView P)) →
           TakesTurns port_transition true left mid i rest end →
-          TakesTurns port_transition true most_turns old i (h.answers ++ rest) end) → (later : ℕ)
-          × (later + (n + 1) ≡ most_turns) × ((moved : Bool) → has_moved_in (slice_get new.places i) ≡ moved →
+          TakesTurns port_transition true most old i (h.answers ++ rest) end) → (later : ℕ)
+          × (later + (n + 1) ≡ most) × ((moved : Bool) → has_moved_in (slice_get new.places i) ≡ moved →
           (rest : List (SystemCall P)) (end : HubView (QuotaPortsView P)) →
           TakesTurns port_transition moved later new i rest end →
-          TakesTurns port_transition true most_turns old i (h.answers ++ (answers ++ rest)) end)
+          TakesTurns port_transition true most old i (h.answers ++ (answers ++ rest)) end)
       further zero all on = absurd (omega (arith, few, all))
       further (suc left) all on = (
         left,
@@ -392,10 +340,10 @@ module _ {P S : Type 0} (port_transition : P → PortCall → P → Type 0) (tra
             ),
       )
 
-      one_further : (later : ℕ) × (later + (n + 1) ≡ most_turns) × ((moved : Bool) → has_moved_in (slice_get new.places i) ≡ moved →
+      one_further : (later : ℕ) × (later + (n + 1) ≡ most) × ((moved : Bool) → has_moved_in (slice_get new.places i) ≡ moved →
           (rest : List (SystemCall P)) (end : HubView (QuotaPortsView P)) →
           TakesTurns port_transition moved later new i rest end →
-          TakesTurns port_transition true most_turns old i (h.answers ++ (answers ++ rest)) end)
+          TakesTurns port_transition true most old i (h.answers ++ (answers ++ rest)) end)
       one_further = further h.left h.all h.goes_on
 
       pub another_turn : has_moved_in (slice_get new.places i) ≡ true → Taking s old i (n + 1) new u
@@ -406,12 +354,12 @@ module _ {P S : Type 0} (port_transition : P → PortCall → P → Type 0) (tra
         answers = h.answers ++ answers;
         transits = transits_then transition h.answers answers s t u h.transits goes;
         goes_on = λ rest end more.
-            subst (λ (l : List (SystemCall P)). TakesTurns port_transition true most_turns old i l end)
+            subst (λ (l : List (SystemCall P)). TakesTurns port_transition true most old i l end)
             (sym (append_assoc h.answers answers rest)) (one_further.2 true moved rest end more);
       }
 
       pub last_turn : has_moved_in (slice_get new.places i) ≡ false →
-          (all : List (SystemCall P)) × TransitsBy transition s all u × TakesTurns port_transition true most_turns old i all new
+          (all : List (SystemCall P)) × TransitsBy transition s all u × TakesTurns port_transition true most old i all new
       last_turn still = (
         h.answers ++ (answers ++ []),
         transits_then transition h.answers (answers ++ []) s t u h.transits
@@ -420,14 +368,14 @@ module _ {P S : Type 0} (port_transition : P → PortCall → P → Type 0) (tra
       )
 
   -- all turns of a visit were made
-  pub all_taken : (s t : S) (old new : HubView (QuotaPortsView P)) (i n : ℕ) → Taking s old i n new t → most_turns ≤ n →
-      (all : List (SystemCall P)) × TransitsBy transition s all t × TakesTurns port_transition true most_turns old i all new
+  pub all_taken : (s t : S) (old new : HubView (QuotaPortsView P)) (i n : ℕ) → Taking s old i n new t → most ≤ n →
+      (all : List (SystemCall P)) × TransitsBy transition s all t × TakesTurns port_transition true most old i all new
   all_taken s t old new i n h far = by h.left h.all h.goes_on
     where
-      by : (left : ℕ) → left + n ≡ most_turns → ((rest : List (SystemCall P)) (end : HubView (QuotaPortsView P)) →
+      by : (left : ℕ) → left + n ≡ most → ((rest : List (SystemCall P)) (end : HubView (QuotaPortsView P)) →
           TakesTurns port_transition true left new i rest end →
-          TakesTurns port_transition true most_turns old i (h.answers ++ rest) end) →
-          (all : List (SystemCall P)) × TransitsBy transition s all t × TakesTurns port_transition true most_turns old i all new
+          TakesTurns port_transition true most old i (h.answers ++ rest) end) →
+          (all : List (SystemCall P)) × TransitsBy transition s all t × TakesTurns port_transition true most old i all new
       by zero all on = (
         h.answers ++ [],
         subst (λ (l : List (SystemCall P)). TransitsBy transition s l t) (sym (append-nil h.answers)) h.transits,
@@ -435,6 +383,7 @@ module _ {P S : Type 0} (port_transition : P → PortCall → P → Type 0) (tra
       )
       by (suc left) all on = absurd (omega (arith, far, all))
 
+module _ {P S : Type 0} (port_transition : P → PortCall → P → Type 0) (transition : S → SystemCall P → S → Type 0) where
   -- whether the session at a place moved is what its ports say
   pub moved_there : (hub : HubView (QuotaPortsView P)) (i : ℕ) (ports : QuotaPortsView P) (moved : Bool) → i < length hub.places →
       IfSome (slice_get hub.places i) (λ place. ports ≡ place.1) → moved ≡ ports.made_progress →
@@ -467,12 +416,11 @@ module _ {P S : Type 0} (port_transition : P → PortCall → P → Type 0) (tra
         subst (λ (own : QuotaPortsView P). IsDueBy own.made_progress own.ports report due) same looks,
       )
 
-  pub visited : (hub new : HubView (QuotaPortsView P)) (i : ℕ) (s t u : S) (due : Bool) → i < length hub.places →
-      IfSome (slice_get hub.places i) (Looks s t due) →
-      ((turns : List (SystemCall P)) × TransitsBy transition t turns u
-      × TakesTurns port_transition due most_turns hub i turns new) →
+  pub visited : (hub new : HubView (QuotaPortsView P)) (i : ℕ) (s t u : S) (due : Bool) (most : ℕ) → i < length hub.places →
+      IfSome (slice_get hub.places i) (Looks s t due) → most ≡ most_turns (has_moved_in (slice_get hub.places i)) →
+      ((turns : List (SystemCall P)) × TransitsBy transition t turns u × TakesTurns port_transition due most hub i turns new) →
       (answers : List (SystemCall P)) × TransitsBy transition s answers u × VisitsPlace port_transition hub i answers new
-  visited hub new i s t u due inside looks turns =
+  visited hub new i s t u due most inside looks few turns =
       let found = slice_some hub.places i inside in
       let look : Looks s t due found.0 =
       subst (λ (o : Option (SessionView × QuotaPortsView P)). IfSome o (Looks s t due)) found.1 looks in (
@@ -485,7 +433,8 @@ module _ {P S : Type 0} (port_transition : P → PortCall → P → Type 0) (tra
           report = look.0;
           turn = turns.0;
           looks = look.2;
-          turns = turns.2;
+          turns = subst (λ (n : ℕ). TakesTurns port_transition due n hub i turns.0 new)
+              (few ∙ ap (λ (o : Option (SessionView × QuotaPortsView P)). most_turns (has_moved_in o)) found.1) turns.2;
           asked = refl;
         },
       )

@@ -13,11 +13,10 @@ use Rattle.daide_io.specs.System.{SystemCall, TransitsBy}
 use Rattle.daide_io.proofs.TraceLemmas.{or_assoc}
 use Rattle.daide_driver.specs.Hub.{HubView, AddsSession}
 use Rattle.daide_event_loop.specs.QuotaPorts.{QuotaPortsView}
-use Rattle.daide_event_loop.specs.Serving.{IsDueBy, VisitsPlace, VisitsUnless, VisitsResting, VisitsOthersIf, VisitsInTurn}
+use Rattle.daide_event_loop.specs.Serving.{IsDueBy, VisitsPlace}
 use Rattle.daide_event_loop.specs.Serving.{has_moved_in, RemovesClosed, any_moved, any_closed, AreOpen}
 use Rattle.daide_event_loop.specs.Serving.{retirements, retirement_where, remaining}
-use Rattle.daide_event_loop.proofs.BeginningLemmas.{Turning, none_turned, another_visit, unless_count, slice_some, Looks}
-use Rattle.daide_event_loop.proofs.TransitLemmas.{transits_then}
+use Rattle.daide_event_loop.proofs.BeginningLemmas.{Turning, none_turned, another_visit, slice_some, Looks}
 use Rattle.daide_event_loop.proofs.RemovalLemmas.{kept_place, gone_place}
 use Rattle.daide_event_loop.proofs.VisitLemmas.{gets_at, others_stay}
 use Rattle.daide_event_loop.proofs.WaitingLemmas.{first_false, later_false}
@@ -27,10 +26,6 @@ use Rattle.daide_event_loop.proofs.WaitingLemmas.{first_false, later_false}
 or_false : (b : Bool) → (b || false) ≡ b
 or_false true = refl
 or_false false = refl
-
-or_true : (b : Bool) → (b || true) ≡ true
-or_true true = refl
-or_true false = refl
 
 module _ {X : Type 0} where
   abbrev value_or : X → Option X → X
@@ -78,37 +73,6 @@ module _ {P : Type 0} where
 
 -- ---- visits
 
-module _ {P : Type 0} (port_transition : P → PortCall → P → Type 0) where
-  -- the sessions at rest are visited; one that moved stays as it is
-  pub moving_stays : (n : ℕ) (old : HubView (QuotaPortsView P)) (answers : List (SystemCall P))
-      (new : HubView (QuotaPortsView P)) → VisitsResting port_transition n old answers new → (k : ℕ) →
-      has_moved_in (slice_get old.places k) ≡ true → slice_get new.places k ≡ slice_get old.places k
-  moving_stays zero old answers new r k e = ap (λ (h : HubView (QuotaPortsView P)). slice_get h.places k) r.1
-  moving_stays (suc n) old answers new r k e =
-      by (has_moved_in (slice_get r.0.places n)) refl r.5 (moving_stays n old r.1 r.0 r.4 k e)
-    where
-      by : (moved : Bool) → has_moved_in (slice_get r.0.places n) ≡ moved →
-          VisitsUnless port_transition moved r.0 n r.2 new → slice_get r.0.places k ≡ slice_get old.places k →
-          slice_get new.places k ≡ slice_get old.places k
-      by true is stays same = ap (λ (h : HubView (QuotaPortsView P)). slice_get h.places k) stays.1 ∙ same
-      by false is v same =
-          let at = gets_at port_transition r.0 n r.2 new v in
-          others_stay n r.0 new at.0 at.1 k
-          (λ there. let calm = ap (λ (m : ℕ). has_moved_in (slice_get r.0.places m)) there ∙ is in
-          let moves = ap has_moved_in same ∙ e in
-          let wrong = sym moves ∙ calm in absurd (cc))
-          ∙ same
-
-  -- no others are visited after a session that is at rest in the end
-  no_others : (mine : Bool) (mid new : HubView (QuotaPortsView P)) (rest : List (SystemCall P)) (n : ℕ) →
-      has_moved_in (slice_get mid.places n) ≡ mine → has_moved_in (slice_get new.places n) ≡ false →
-      VisitsOthersIf port_transition mine mid rest new → new ≡ mid
-  no_others false mid new rest n e is stays = stays.1
-  no_others true mid new rest n e is r =
-      let stayed = moving_stays (length mid.places) mid rest new r n e in
-      let moves : has_moved_in (slice_get new.places n) ≡ true = ap has_moved_in stayed ∙ e in
-      let wrong : true ≡ false = sym moves ∙ is in absurd (cc)
-
 module _ {P S : Type 0} (port_transition : P → PortCall → P → Type 0) (transition : S → SystemCall P → S → Type 0) where
   -- the turns of the first places so far, and what was found there
   pub record Finding (first : S) (old : HubView (QuotaPortsView P)) (n : ℕ) (hub : HubView (QuotaPortsView P)) (system : S)
@@ -127,7 +91,7 @@ module _ {P S : Type 0} (port_transition : P → PortCall → P → Type 0) (tra
   -- one place more was visited
   pub another_found : (s t u : S) (old mid new : HubView (QuotaPortsView P)) (n : ℕ) (moved closed own_moved own_closed : Bool)
       (all_moved all_closed : Bool) → Finding s old n mid t moved closed → n < length mid.places → (answers : List (SystemCall P)) →
-      TransitsBy transition t answers u → VisitsInTurn port_transition mid n answers new →
+      TransitsBy transition t answers u → VisitsPlace port_transition mid n answers new →
       has_moved_in (slice_get new.places n) ≡ own_moved → (own_closed ≡ false → AreOpen mid.places → AreOpen new.places) →
       all_moved ≡ (moved || own_moved) → all_closed ≡ (closed || own_closed) →
       Finding s old (n + 1) new u all_moved all_closed
@@ -142,26 +106,18 @@ module _ {P S : Type 0} (port_transition : P → PortCall → P → Type 0) (tra
             c (later_false closed own_closed both) (h.has_closed (first_false closed own_closed both));
       }
     where
-      -- this place decides if it moved; if not, only this place was visited
+      -- only this place was visited
       by : (own : Bool) → has_moved_in (slice_get new.places n) ≡ own → n < length new.places →
           (moved || own) ≡ any_moved (take (suc n) new.places)
-      by true is few =
+      by own is few =
           let here = slice_some new.places n few in
-          let its : here.0.1.made_progress ≡ true = ap has_moved_in (sym here.1) ∙ is in
-          or_true moved
-          ∙ sym (any_more (λ (place : SessionView × QuotaPortsView P). place.1.made_progress) new.places n here.0 here.1
-          ∙ (ap (λ (b : Bool). any_moved (take n new.places) || b) its ∙ or_true (any_moved (take n new.places))))
-      by false is few =
-          let here = slice_some new.places n few in
-          let its : here.0.1.made_progress ≡ false = ap has_moved_in (sym here.1) ∙ is in
-          let alone : new ≡ v.mid = no_others port_transition (has_moved_in (slice_get v.mid.places n)) v.mid new v.rest n refl is v.others in
-          let at = gets_at port_transition mid n v.own v.mid v.visits in
+          let its : here.0.1.made_progress ≡ own = ap has_moved_in (sym here.1) ∙ is in
+          let at = gets_at port_transition mid n answers new v in
           let before : take n new.places ≡ take n mid.places =
-          ap (λ (k : HubView (QuotaPortsView P)). take n k.places) alone
-          ∙ take_alike n v.mid.places mid.places (λ k less. others_stay n mid v.mid at.0 at.1 k (λ e. absurd (omega (arith, less, e)))) in
+          take_alike n new.places mid.places (λ k less. others_stay n mid new at.0 at.1 k (λ e. absurd (omega (arith, less, e)))) in
           sym (any_more (λ (place : SessionView × QuotaPortsView P). place.1.made_progress) new.places n here.0 here.1
           ∙ (ap (λ (b : Bool). any_moved (take n new.places) || b) its
-          ∙ ap (λ (b : Bool). b || false) (ap any_moved before ∙ sym h.has_moved)))
+          ∙ ap (λ (b : Bool). b || own) (ap any_moved before ∙ sym h.has_moved)))
 
   -- all places were visited
   pub all_moved : (s t : S) (old new : HubView (QuotaPortsView P)) (n : ℕ) (moved closed : Bool) →
@@ -184,84 +140,6 @@ module _ {P S : Type 0} (port_transition : P → PortCall → P → Type 0) (tra
           let at = gets_at port_transition hub i answers new visits in
           subst IsOpen (sym (others_stay i hub new at.0 at.1 k (λ same. let differ = eqb-false k i e in differ same)))
           (one_open hub.places k are)
-
-  -- the first places were looked at, and those at rest visited
-  pub record Resting (first : S) (old : HubView (QuotaPortsView P)) (n : ℕ) (hub : HubView (QuotaPortsView P)) (system : S)
-      (closed : Bool) : Type 0 where
-    pub answers : List (SystemCall P)
-    pub transits : TransitsBy transition first answers system
-    pub visits : VisitsResting port_transition n old answers hub
-    pub few : n ≤ length old.places
-    pub count : length hub.places ≡ length old.places
-    pub stays_open : closed ≡ false → AreOpen old.places → AreOpen hub.places
-
-  pub none_resting : (s : S) (old : HubView (QuotaPortsView P)) → Resting s old 0 old s false
-  none_resting s old = record {
-    answers = [];
-    transits = refl;
-    visits = (refl, refl);
-    few = omega (arith);
-    count = refl;
-    stays_open = λ none are. are;
-  }
-
-  pub another_resting : (s t u : S) (old mid new : HubView (QuotaPortsView P)) (n : ℕ) (closed own_closed : Bool) →
-      Resting s old n mid t closed → n < length old.places → (calls : List (SystemCall P)) → TransitsBy transition t calls u →
-      VisitsUnless port_transition (has_moved_in (slice_get mid.places n)) mid n calls new →
-      (own_closed ≡ false → AreOpen mid.places → AreOpen new.places) → Resting s old (n + 1) new u (closed || own_closed)
-  another_resting s t u old mid new n closed own_closed h inside calls goes v c = record {
-    answers = h.answers ++ calls;
-    transits = transits_then transition h.answers calls s t u h.transits goes;
-    visits = rw add-one (mid, h.answers, calls, refl, h.visits, v);
-    few = omega (arith, inside);
-    count = (unless_count port_transition (has_moved_in (slice_get mid.places n)) mid n calls new v).1 ∙ h.count;
-    stays_open = λ none are. c (later_false closed own_closed none) (h.stays_open (first_false closed own_closed none) are);
-  }
-
-  -- all places were looked at
-  pub all_resting : (s t : S) (old new : HubView (QuotaPortsView P)) (n : ℕ) (closed : Bool) → Resting s old n new t closed →
-      length old.places ≤ n → (answers : List (SystemCall P)) × TransitsBy transition s answers t
-      × VisitsResting port_transition (length old.places) old answers new
-  all_resting s t old new n closed h far =
-      let few = h.few in
-      let all : n ≡ length old.places = omega (arith, far, few) in
-      (h.answers, h.transits, subst (λ (m : ℕ). VisitsResting port_transition m old h.answers new) all h.visits)
-
-  -- a visit after which no others are visited
-  pub in_turn_alone : (s t : S) (old new : HubView (QuotaPortsView P)) (i : ℕ) (own : List (SystemCall P)) →
-      TransitsBy transition s own t → VisitsPlace port_transition old i own new → has_moved_in (slice_get new.places i) ≡ false →
-      (answers : List (SystemCall P)) × TransitsBy transition s answers t × VisitsInTurn port_transition old i answers new
-  in_turn_alone s t old new i own goes v still = (
-    own ++ [],
-    subst (λ (l : List (SystemCall P)). TransitsBy transition s l t) (sym (append-nil own)) goes,
-    record {
-      mid = new;
-      own = own;
-      rest = [];
-      visits = v;
-      others = subst (λ (b : Bool). VisitsOthersIf port_transition b new [] new) (sym still) (refl, refl);
-      asked = refl;
-    },
-  )
-
-  -- a visit after which the others are visited
-  pub in_turn_then : (s t u : S) (old mid new : HubView (QuotaPortsView P)) (i : ℕ) (own : List (SystemCall P)) →
-      TransitsBy transition s own t → VisitsPlace port_transition old i own mid → has_moved_in (slice_get mid.places i) ≡ true →
-      (rest : List (SystemCall P)) → TransitsBy transition t rest u →
-      VisitsResting port_transition (length mid.places) mid rest new →
-      (answers : List (SystemCall P)) × TransitsBy transition s answers u × VisitsInTurn port_transition old i answers new
-  in_turn_then s t u old mid new i own goes v moves rest on r = (
-    own ++ rest,
-    transits_then transition own rest s t u goes on,
-    record {
-      mid = mid;
-      own = own;
-      rest = rest;
-      visits = v;
-      others = subst (λ (b : Bool). VisitsOthersIf port_transition b mid rest new) (sym moves) r;
-      asked = refl;
-    },
-  )
 
   -- a session that is due no turn made no progress in its last one
   pub calm_place : (s t : S) (o : Option (SessionView × QuotaPortsView P)) → IfSome o (Looks port_transition transition s t false) →

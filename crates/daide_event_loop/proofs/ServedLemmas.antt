@@ -39,7 +39,7 @@ use Rattle.daide_event_loop.specs.Serving.{MeetsBy, watches, wait_where, any_pro
 use Rattle.daide_event_loop.specs.Served.{IsServedSession, run_limits, IsSessionOfRun, IsServed, IsEndOf, RetiresClosed, connects, retires, sum_over_calls}
 use Rattle.daide_event_loop.specs.Served.{IsWholeRun}
 use Rattle.daide_event_loop.proofs.BeginningLemmas.{OnlyTurns, none_counted, opening_none, all_turns, all_shown, turns_only, watches_only}
-use Rattle.daide_event_loop.proofs.VisitLemmas.{Gets, gets_own, some_turns, all_visited}
+use Rattle.daide_event_loop.proofs.VisitLemmas.{Gets, gets_own, some_most, some_turns, all_visited}
 use Rattle.daide_event_loop.proofs.CauseLemmas.{IsCut, cut_begins, cut_begun, cut_turn, cut_cause}
 use Rattle.daide_event_loop.proofs.CountLemmas.{counted_append, Counts, counts_then, admission_counts, meeting_counts}
 use Rattle.daide_event_loop.proofs.CountLemmas.{opening_counts, turns_count, removal_counts, wait_counts}
@@ -292,11 +292,12 @@ module _ {P : Type 0} (port_transition : P → PortCall → P → Type 0) (setti
             (each i v.place (slice_get_within mid.places i v.place v.there))
 
         by : (moved due : Bool) → v.place.1.made_progress ≡ moved → IsDueBy moved v.place.1.ports v.report due →
-            TakesTurns port_transition due most_turns mid i v.turn new →
+            TakesTurns port_transition due (most_turns v.place.1.made_progress) mid i v.turn new →
             (now : SessionView × QuotaPortsView P) × Served now × Gets mid i now new
         by moved true e looks takes =
             let last = some_turns port_transition Held (λ old mid new b t h. still new (turned mid new t (begun old mid b h)))
-            most_turns mid i v.turn new v.place (omega arith) v.there own.0 takes in (
+            (most_turns v.place.1.made_progress) mid i v.turn new v.place
+            (some_most port_transition v.place.1.made_progress) v.there own.0 takes in (
               last.place,
               turned last.turned.begun last.place last.turned.turned
                   (begun last.before last.turned.begun last.turned.begins last.keeps),

@@ -13,7 +13,7 @@ use Rattle.daide_io.specs.System.{SystemCall, ReportsNews}
 use Rattle.daide_driver.specs.Hub.{HubView, with_places, IsBegun, IsTurned}
 use Rattle.daide_event_loop.specs.QuotaPorts.{QuotaPortsView, Meters}
 use Rattle.daide_event_loop.specs.Serving.{TakesTurn, TakesTurns, has_moved_in, most_turns, IsDueBy, VisitsPlace}
-use Rattle.daide_event_loop.specs.Serving.{VisitsUnless, VisitsResting, VisitsOthersIf, TurnsBelow, TurnsAll}
+use Rattle.daide_event_loop.specs.Serving.{TurnsBelow, TurnsAll}
 use Rattle.daide_event_loop.specs.Attendance.{HadTurn, IsAttended, RoundsAttendAll}
 use Rattle.daide_event_loop.proofs.BeginningLemmas.{get_set}
 
@@ -42,15 +42,6 @@ module _ {X : Type 0} where
   set_other (suc n) (suc k) [] x far = refl
   set_other zero (suc k) (y ∷ xs) x far = refl
   set_other (suc n) (suc k) (y ∷ xs) x far = set_other n k xs x (λ e. far (ap suc e))
-
-  -- the first places of a list in which one place was set
-  pub take_set : (n k : ℕ) (xs : List X) (x : X) → take n (set xs k x) ≡ set (take n xs) k x
-  take_set zero zero xs x = refl
-  take_set zero (suc k) xs x = refl
-  take_set (suc n) zero [] x = refl
-  take_set (suc n) (suc k) [] x = refl
-  take_set (suc n) zero (y ∷ xs) x = refl
-  take_set (suc n) (suc k) (y ∷ xs) x = ap (λ (l : List X). y ∷ l) (take_set n k xs x)
 
 -- ---- one place
 
@@ -181,17 +172,22 @@ module _ {P : Type 0} (port_transition : P → PortCall → P → Type 0) where
         by true (suc left) more later =
             some_after mid takes.0 i answers takes.1 takes.2 new takes.3 first (later (omega arith) more)
 
+  -- a visit has at least one turn
+  pub some_most : (moved : Bool) → 0 < most_turns moved
+  some_most true = omega arith
+  some_most false = omega arith
+
   -- a visit changes its own place alone
   pub gets_at : (mid : HubView (QuotaPortsView P)) (i : ℕ) (answers : List (SystemCall P)) (new : HubView (QuotaPortsView P)) →
       VisitsPlace port_transition mid i answers new → (now : SessionView × QuotaPortsView P) × Gets mid i now new
   gets_at mid i answers new v = by v.due v.turns
     where
-      by : (due : Bool) → TakesTurns port_transition due most_turns mid i v.turn new →
+      by : (due : Bool) → TakesTurns port_transition due (most_turns v.place.1.made_progress) mid i v.turn new →
           (now : SessionView × QuotaPortsView P) × Gets mid i now new
       by false stays = (v.place, gets_own i mid new v.place v.there stays.1)
       by true takes =
-          let last = some_turns (λ own. Unit {0}) (λ old begun next b t k. tt) most_turns mid i v.turn new v.place
-          (omega arith) v.there tt takes in
+          let last = some_turns (λ own. Unit {0}) (λ old begun next b t k. tt) (most_turns v.place.1.made_progress) mid i v.turn
+          new v.place (some_most v.place.1.made_progress) v.there tt takes in
           (last.place, last.gets)
 
 -- ---- all visits of a round
@@ -224,21 +220,6 @@ module _ {P : Type 0} (port_transition : P → PortCall → P → Type 0) (round
   same_visited : (n : ℕ) (old mid new : HubView (QuotaPortsView P)) → Visited n old mid → new ≡ mid → Visited n old new
   same_visited n old mid new h e = subst (λ (k : HubView (QuotaPortsView P)). Visited n old k) (sym e) h
 
-  -- any place is visited
-  again : (n k : ℕ) (old mid new : HubView (QuotaPortsView P)) (calls : List (SystemCall P)) → Within calls →
-      Visited n old mid → VisitsPlace port_transition mid k calls new → Visited n old new
-  again n k old mid new calls within h v =
-      let now = visited mid k calls new within h.before v in
-      let places : new.places ≡ set mid.places k now.0 = ap (λ (hub : HubView (QuotaPortsView P)). hub.places) now.2 in
-      record {
-        before = All-same Before new.places (set mid.places k now.0) places
-            (All-set Before mid.places k now.0 (forget now.0 now.1) h.before);
-        after = All-same After (take n new.places) (set (take n mid.places) k now.0)
-            (ap (take n) places ∙ take_set n k mid.places now.0) (All-set After (take n mid.places) k now.0 now.1 h.after);
-        count = ap length places ∙ length-set mid.places k now.0 ∙ h.count;
-        limits = ap (λ (hub : HubView (QuotaPortsView P)). hub.limits) now.2 ∙ h.limits;
-      }
-
   -- the next place is visited
   another : (n : ℕ) (old mid new : HubView (QuotaPortsView P)) (calls : List (SystemCall P)) → Within calls →
       Visited n old mid → VisitsPlace port_transition mid n calls new → Visited (suc n) old new
@@ -255,33 +236,13 @@ module _ {P : Type 0} (port_transition : P → PortCall → P → Type 0) (round
         limits = ap (λ (hub : HubView (QuotaPortsView P)). hub.limits) now.2 ∙ h.limits;
       }
 
-  unless : (moved : Bool) (n k : ℕ) (old mid new : HubView (QuotaPortsView P)) (calls : List (SystemCall P)) → Within calls →
-      Visited n old mid → VisitsUnless port_transition moved mid k calls new → Visited n old new
-  unless true n k old mid new calls within h stays = same_visited n old mid new h stays.1
-  unless false n k old mid new calls within h v = again n k old mid new calls within h v
-
-  resting : (m n : ℕ) (old mid new : HubView (QuotaPortsView P)) (calls : List (SystemCall P)) → Within calls →
-      Visited n old mid → VisitsResting port_transition m mid calls new → Visited n old new
-  resting zero n old mid new calls within h r = same_visited n old mid new h r.1
-  resting (suc m) n old mid new calls within h r =
-      unless (has_moved_in (slice_get r.0.places m)) n m old r.0 new r.2 (in_second calls r.1 r.2 r.3 within)
-      (resting m n old mid r.0 r.1 (in_first calls r.1 r.2 r.3 within) h r.4) r.5
-
-  others : (moved : Bool) (n : ℕ) (old mid new : HubView (QuotaPortsView P)) (calls : List (SystemCall P)) → Within calls →
-      Visited n old mid → VisitsOthersIf port_transition moved mid calls new → Visited n old new
-  others false n old mid new calls within h stays = same_visited n old mid new h stays.1
-  others true n old mid new calls within h r = resting (length mid.places) n old mid new calls within h r
-
   below : (n : ℕ) (old new : HubView (QuotaPortsView P)) (calls : List (SystemCall P)) → Within calls → All Before old.places →
       TurnsBelow port_transition n old calls new → Visited n old new
   below zero old new calls within h run =
       same_visited 0 old old new (record { before = h; after = All-nil After; count = refl; limits = refl }) run.1
   below (suc n) old new calls within h run =
-      let v = run.5 in
-      let own = in_second calls run.1 run.2 run.3 within in
-      others (has_moved_in (slice_get v.mid.places n)) (suc n) old v.mid new v.rest (in_second run.2 v.own v.rest v.asked own)
-      (another n old run.0 v.mid v.own (in_first run.2 v.own v.rest v.asked own)
-      (below n old run.0 run.1 (in_first calls run.1 run.2 run.3 within) h run.4) v.visits) v.others
+      another n old run.0 new run.2 (in_second calls run.1 run.2 run.3 within)
+      (below n old run.0 run.1 (in_first calls run.1 run.2 run.3 within) h run.4) run.5
 
   -- after all visits of the round
   pub all_visited : (old new : HubView (QuotaPortsView P)) → All Before old.places → TurnsAll port_transition old round new →
@@ -305,11 +266,11 @@ module _ {P : Type 0} (port_transition : P → PortCall → P → Type 0) where
   attended round mid i calls new within v = by v.due v.place.1.made_progress v.looks v.turns
     where
       by : (due moved : Bool) → IsDueBy moved v.place.1.ports v.report due →
-          TakesTurns port_transition due most_turns mid i v.turn new →
+          TakesTurns port_transition due (most_turns v.place.1.made_progress) mid i v.turn new →
           (now : SessionView × QuotaPortsView P) × IsAttended port_transition round now × Gets mid i now new
       by true moved looks takes =
-          let last = some_turns port_transition (λ now. Unit {0}) (λ old begun now b t k. tt) most_turns mid i v.turn new v.place
-          (omega arith) v.there tt takes in (
+          let last = some_turns port_transition (λ now. Unit {0}) (λ old begun now b t k. tt) (most_turns v.place.1.made_progress)
+          mid i v.turn new v.place (some_most port_transition v.place.1.made_progress) v.there tt takes in (
             last.place,
             inl (
               last.before,

@@ -26,7 +26,7 @@ use Rattle.daide_event_loop.specs.Serving.{retirement, come, is_progress, any_pr
 use Rattle.daide_event_loop.specs.Served.{run_limits, sum_over_calls}
 use Rattle.daide_event_loop.specs.Waiting.{IsIdleSession, IsIdleAtWait, IsIdleRun}
 use Rattle.daide_event_loop.proofs.BeginningLemmas.{none_counted, none_shown, turns_only, watches_only, below_count}
-use Rattle.daide_event_loop.proofs.VisitLemmas.{Turned, wider, Gets, gets_own, some_turns, all_visited}
+use Rattle.daide_event_loop.proofs.VisitLemmas.{Turned, wider, Gets, gets_own, some_most, some_turns, all_visited}
 use Rattle.daide_event_loop.proofs.CountLemmas.{counted_append}
 use Rattle.daide_event_loop.proofs.TurnCounts.{turn_begins_none}
 use Rattle.daide_event_loop.proofs.ServedLemmas.{Served, rounds_serve, turn_moved}
@@ -126,11 +126,11 @@ module _ {P : Type 0} (port_transition : P → PortCall → P → Type 0) where
           (each i v.place (slice_get_within mid.places i v.place v.there))
 
       by : (due moved : Bool) → IsDueBy moved v.place.1.ports v.report due →
-          TakesTurns port_transition due most_turns mid i v.turn new →
+          TakesTurns port_transition due (most_turns v.place.1.made_progress) mid i v.turn new →
           (now : SessionView × QuotaPortsView P) × RestsOrCloses limits round now × Gets mid i now new
       by true moved looks takes =
-          let last = some_turns port_transition (λ now. Unit {0}) (λ old begun now b t k. tt) most_turns mid i v.turn new v.place
-          (omega arith) v.there tt takes in
+          let last = some_turns port_transition (λ now. Unit {0}) (λ old begun now b t k. tt) (most_turns v.place.1.made_progress)
+          mid i v.turn new v.place (some_most port_transition v.place.1.made_progress) v.there tt takes in
           let turned = wider port_transition v.turn round last.before last.place
           (in_round v.turn (λ x c. Contains-append_right v.report v.turn x c)) last.turned in
           (last.place, by_quota limits round last.before last.place turned turned.begun.1.turns_left refl, last.gets)

@@ -161,9 +161,11 @@ abbrev pub IsDueBy : {P : Type 0} → Bool → P → List (SystemCall P) → Boo
 IsDueBy true ports answers due = (answers ≡ []) × (due ≡ true)
 IsDueBy false ports answers due = answers ≡ ReportsNews ports due ∷ []
 
--- the most turns of a session in one visit (own)
-abbrev pub most_turns : ℕ
-most_turns = 8
+-- The most turns of a session in one visit, by whether its last turn made progress: one if so, since sessions with bytes
+-- without end take turns; eight if it was at rest, so that a short frame passes in one visit. (own)
+abbrev pub most_turns : Bool → ℕ
+most_turns true = 1
+most_turns false = 8
 
 -- whether the last turn of the session at a place made progress; not if there is none at this place
 abbrev pub has_moved_in : {P : Type 0} → Option (SessionView × QuotaPortsView P) → Bool
@@ -190,40 +192,8 @@ pub record VisitsPlace {P : Type 0} (transition : P → PortCall → P → Type 
   pub report : List (SystemCall P)
   pub turn : List (SystemCall P)
   pub looks : IsDueBy place.1.made_progress place.1.ports report due
-  pub turns : TakesTurns transition due most_turns old i turn new
+  pub turns : TakesTurns transition due (most_turns place.1.made_progress) old i turn new
   pub asked : answers ≡ report ++ turn
-
--- a session whose last turn made progress stays as it is, and the system is not called; any other is visited
-abbrev pub VisitsUnless : {P : Type 0} → (P → PortCall → P → Type 0) → Bool → HubView (QuotaPortsView P) → ℕ →
-    List (SystemCall P) → HubView (QuotaPortsView P) → Type 0
-VisitsUnless transition true old i answers new = (answers ≡ []) × (new ≡ old)
-VisitsUnless transition false old i answers new = VisitsPlace transition old i answers new
-
--- of the sessions at the first n places those are visited whose last turn made no progress, in their order
-abbrev pub VisitsResting : {P : Type 0} → (P → PortCall → P → Type 0) → ℕ → HubView (QuotaPortsView P) →
-    List (SystemCall P) → HubView (QuotaPortsView P) → Type 0
-VisitsResting transition zero old answers new = (answers ≡ []) × (new ≡ old)
-VisitsResting {P} transition (suc n) old answers new =
-    (mid : HubView (QuotaPortsView P)) × (first : List (SystemCall P)) × (second : List (SystemCall P))
-    × (answers ≡ first ++ second) × VisitsResting transition n old first mid
-    × VisitsUnless transition (has_moved_in (slice_get mid.places n)) mid n second new
-
--- after a visit whose last turn made progress all sessions at rest are visited; after any other none is
-abbrev pub VisitsOthersIf : {P : Type 0} → (P → PortCall → P → Type 0) → Bool → HubView (QuotaPortsView P) →
-    List (SystemCall P) → HubView (QuotaPortsView P) → Type 0
-VisitsOthersIf transition false old answers new = (answers ≡ []) × (new ≡ old)
-VisitsOthersIf transition true old answers new = VisitsResting transition (length old.places) old answers new
-
--- The session at this place is visited. If it used up its turns and its last one made progress, all sessions at rest are
--- visited next. So none of them waits for more than the turns of one visit.
-pub record VisitsInTurn {P : Type 0} (transition : P → PortCall → P → Type 0) (old : HubView (QuotaPortsView P)) (i : ℕ)
-    (answers : List (SystemCall P)) (new : HubView (QuotaPortsView P)) : Type 0 where
-  pub mid : HubView (QuotaPortsView P)
-  pub own : List (SystemCall P)
-  pub rest : List (SystemCall P)
-  pub visits : VisitsPlace transition old i own mid
-  pub others : VisitsOthersIf transition (has_moved_in (slice_get mid.places i)) mid rest new
-  pub asked : answers ≡ own ++ rest
 
 -- the sessions at the first n places are visited, in their order
 abbrev pub TurnsBelow : {P : Type 0} → (P → PortCall → P → Type 0) → ℕ → HubView (QuotaPortsView P) →
@@ -231,7 +201,7 @@ abbrev pub TurnsBelow : {P : Type 0} → (P → PortCall → P → Type 0) → �
 TurnsBelow transition zero old answers new = (answers ≡ []) × (new ≡ old)
 TurnsBelow {P} transition (suc n) old answers new =
     (mid : HubView (QuotaPortsView P)) × (first : List (SystemCall P)) × (second : List (SystemCall P))
-    × (answers ≡ first ++ second) × TurnsBelow transition n old first mid × VisitsInTurn transition mid n second new
+    × (answers ≡ first ++ second) × TurnsBelow transition n old first mid × VisitsPlace transition mid n second new
 
 abbrev pub TurnsAll : {P : Type 0} → (P → PortCall → P → Type 0) → HubView (QuotaPortsView P) → List (SystemCall P) →
     HubView (QuotaPortsView P) → Type 0

@@ -61,9 +61,8 @@ pub fn runs_are_idle_at_waits<P: Ports>()
 {}
 
 /// In each round each session is attended, whatever the others do: it had a turn, or the system reported no news for its
-/// ports (`IsAttended`). So a session with news has at least one turn in each round. Which other sessions have turns
-/// before it, and how many, a round says: each at most eight in a row, and after the visit of a session that used them up and
-/// may go on, all sessions at rest are visited (`VisitsInTurn`).
+/// ports (`IsAttended`). So a session with news has at least one turn in each round. Before it each other session has at
+/// most eight turns, and one that has bytes without end has one (`most_turns`).
 ///
 /// Not said: how long a turn takes.
 pub fn rounds_attend_all<P: Ports>()

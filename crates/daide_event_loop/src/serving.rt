@@ -7,8 +7,7 @@ ghost use Rattle.std.specs.Prelude.{◌≡◌, ◌+◌, ◌<◌, ◌≤◌, ◌=
 ghost use Rattle.std.specs.Prelude.{OnOk, OnErr, IfOk, IfErr, IfSome, slice_get};
 ghost use Rattle.daide_io.specs.System.{SystemCall, Connects, TransitsBy};
 ghost use Rattle.daide_event_loop.specs.Serving.{shows, shows_where};
-ghost use Rattle.daide_event_loop.specs.Serving.{IsWithinQuotas, Admits, FinishesConnect, IsDueBy, TakesTurn, TakesTurns, VisitsPlace};
-ghost use Rattle.daide_event_loop.specs.Serving.{VisitsUnless, VisitsResting, VisitsInTurn};
+ghost use Rattle.daide_event_loop.specs.Serving.{IsWithinQuotas, Admits, FinishesConnect, IsDueBy, TakesTurn, TakesTurns, VisitsPlace, most_turns};
 ghost use Rattle.daide_event_loop.specs.Serving.{TurnsAll, any_moved, has_moved_in, AreOpen};
 ghost use Rattle.daide_event_loop.specs.Serving.{RemovesClosed, parting};
 ghost use Rattle.daide_event_loop.specs.Serving.{is_reported, cause_by, end_by};
@@ -34,8 +33,8 @@ use std::alloc::{AllocError, Allocator, Global};
 use std::marker::Model;
 use thiserror::Error;
 
-/// The most turns of a session in one visit. A short frame takes four: its header and its body are read, and both are
-/// written. The fifth finds nothing more to do. The next turn of a session that used them up is in the next round.
+/// The most turns of a session that was at rest, in one visit. A short frame takes four: its header and its body are read,
+/// and both are written. The fifth finds nothing more to do. A session whose last turn made progress has one turn.
 const MOST_TURNS: usize = 8;
 
 /// Why a run ended before all its bots were served.
@@ -217,18 +216,27 @@ fn is_due<P: Ports, A: Allocator + Copy, S: System<P>>(
     ports.has_moved() || system.has_news(ports.ports())
 }
 
-/// Makes a turn of the session at a place, and then one more after each that made progress, at most `MOST_TURNS`.
+/// Returns the most turns of a session in one visit, by whether its last turn made progress. So a session with bytes
+/// without end has one turn in a round, and a session at rest goes on until there is nothing to do.
+fn most_turns(has_moved: bool) -> usize
+    ensures { result ≡ most_turns has_moved }
+{
+    if has_moved { 1 } else { MOST_TURNS }
+}
+
+/// Makes a turn of the session at a place, and then one more after each that made progress, at most `most`.
 fn take_turns<P: Ports, A: Allocator + Copy, S: System<P>>(
     hub: &mut Hub<QuotaPorts<P>, A>,
     i: usize,
+    most: usize,
     system: &mut S,
 )
     requires { i < length hub.old.places }
     ensures turns { (answers : List (SystemCall P)) × TransitsBy S.transition system.old answers system.new
-        × TakesTurns P.transition true MOST_TURNS hub.old i answers hub.new }
+        × TakesTurns P.transition true most hub.old i answers hub.new }
     ensures count { length hub.new.places ≡ length hub.old.places }
 {
-    for _turn in 0..MOST_TURNS {
+    for _turn in 0..most {
         take_turn(hub, i, system);
         if !hub.ports(i).has_moved() {
             return;
@@ -278,74 +286,14 @@ fn visit<P: Ports, A: Allocator + Copy, S: System<P>>(
     ensures count { length hub.new.places ≡ length hub.old.places }
     ensures closed { result.has_closed ≡ false → AreOpen hub.old.places → AreOpen hub.new.places }
 {
+    let most = most_turns(hub.ports(i).has_moved());
     if !is_due(hub, i, system) {
         return Findings::NONE;
     }
-    take_turns(hub, i, system);
+    take_turns(hub, i, most, system);
     Findings {
         has_moved: hub.ports(i).has_moved(),
         has_closed: hub.session(i).is_closed(),
-    }
-}
-
-/// Visits the session at a place if its last turn made no progress. Returns whether it is closed after a turn.
-fn visit_if_resting<P: Ports, A: Allocator + Copy, S: System<P>>(
-    hub: &mut Hub<QuotaPorts<P>, A>,
-    i: usize,
-    system: &mut S,
-) -> bool
-    requires { i < length hub.old.places }
-    ensures visits { (answers : List (SystemCall P)) × TransitsBy S.transition system.old answers system.new
-        × VisitsUnless P.transition (has_moved_in (slice_get hub.old.places i)) hub.old i answers hub.new }
-    ensures count { length hub.new.places ≡ length hub.old.places }
-    ensures closed { result ≡ false → AreOpen hub.old.places → AreOpen hub.new.places }
-{
-    if hub.ports(i).has_moved() {
-        return false;
-    }
-    let found = visit(hub, i, system);
-    found.has_closed
-}
-
-/// Visits each session whose last turn made no progress, in order of place. Returns whether any may be closed.
-fn visit_resting<P: Ports, A: Allocator + Copy, S: System<P>>(
-    hub: &mut Hub<QuotaPorts<P>, A>,
-    system: &mut S,
-) -> bool
-    ensures visits { (answers : List (SystemCall P)) × TransitsBy S.transition system.old answers system.new
-        × VisitsResting P.transition (length hub.old.places) hub.old answers hub.new }
-    ensures count { length hub.new.places ≡ length hub.old.places }
-    ensures closed { result ≡ false → AreOpen hub.old.places → AreOpen hub.new.places }
-{
-    let mut has_closed = false;
-    for i in 0..hub.count() {
-        has_closed |= visit_if_resting(hub, i, system);
-    }
-    has_closed
-}
-
-/// Visits the session at a place. If it used up its turns, and its last one made progress, all sessions at rest are
-/// visited next. So a session at rest for which there is news waits at most for the turns of one visit, however many
-/// sessions have bytes without end.
-fn visit_in_turn<P: Ports, A: Allocator + Copy, S: System<P>>(
-    hub: &mut Hub<QuotaPorts<P>, A>,
-    i: usize,
-    system: &mut S,
-) -> Findings
-    requires { i < length hub.old.places }
-    ensures visits { (answers : List (SystemCall P)) × TransitsBy S.transition system.old answers system.new
-        × VisitsInTurn P.transition hub.old i answers hub.new }
-    ensures moved { has_moved_in (slice_get hub.new.places i) ≡ result.has_moved }
-    ensures closed { result.has_closed ≡ false → AreOpen hub.old.places → AreOpen hub.new.places }
-{
-    let found = visit(hub, i, system);
-    if !found.has_moved {
-        return found;
-    }
-    let has_closed = visit_resting(hub, system);
-    Findings {
-        has_moved: true,
-        has_closed: found.has_closed | has_closed,
     }
 }
 
@@ -367,7 +315,7 @@ fn turn_all<P: Ports, A: Allocator + Copy, S: System<P>>(
 {
     let mut found = Findings::NONE;
     for i in 0..hub.count() {
-        found = found.or(visit_in_turn(hub, i, system));
+        found = found.or(visit(hub, i, system));
     }
     found
 }
@@ -528,9 +476,10 @@ impl<P: Ports, A: Memory + Copy> Service<P, A> {
     }
 
     /// Makes one round. It calls the system to begin the round, heeds its orders, accepts at most one bot, and takes up
-    /// at most one connect. Then it visits each session, in order of place: one that is due a turn has it, and one more
-    /// after each that made progress, at most eight. Closed sessions are taken out, from the last place to the first. If
-    /// nothing moved in all this and the run is not done, it waits once.
+    /// at most one connect. Then it visits each session, in order of place: one that was at rest and for which there is
+    /// news has a turn, and one more after each that made progress, at most eight; one whose last turn made progress has
+    /// one. Closed sessions are taken out, from the last place to the first. If nothing moved in all this and the run is
+    /// not done, it waits once.
     ///
     /// `round`: if the orders require it, the status of each session is shown once before any other call, in order of
     /// place (`shows`). If they stop accepting, the bots accepted so far are all bots of the run, in this round and from
@@ -538,9 +487,9 @@ impl<P: Ports, A: Memory + Copy> Service<P, A> {
     /// pending connects at once, and of bots in all.
     /// A session is due a turn if its last turn made progress, if it is new, or else if the system has news for its
     /// ports (`VisitsPlace`, `TakesTurns`). The system begins each turn with the session's ports (`begin_turn`), and the
-    /// turn is made by the clauses of `turn` (`TakesTurn`). After the visit of a session whose last turn made progress, all
-    /// sessions at rest are visited (`VisitsInTurn`). So a session at rest waits for at most eight turns of another one,
-    /// however many have bytes without end. Exactly the sessions that are over and for which nothing waits are taken out.
+    /// turn is made by the clauses of `turn` (`TakesTurn`). So a short frame passes in one visit, and a session with bytes
+    /// without end has one turn in a round, as all others like it. Exactly the sessions that are over and for which nothing
+    /// waits are taken out.
     /// It waits if and only if nothing moved and the run is not done. Then it watches the ports of each session (`watch`).
     ///
     /// `refused`: its only fault is no memory for a session.

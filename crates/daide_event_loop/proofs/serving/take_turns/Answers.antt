@@ -4,7 +4,7 @@ use Rattle.daide_event_loop.proofs.serving.take_turns.Goals as goal
 
 pub loop-turn-init : goal.loop-turn-init
 loop-turn-init g c =
-    none_taken g.P.Ports.transition g.S.System.transition c.args.system.now c.args.hub.now c.args.i
+    none_taken g.P.Ports.transition g.S.System.transition c.args.most c.args.system.now c.args.hub.now c.args.i
 
 pub take_turn-requires : goal.take_turn-requires
 take_turn-requires g c =
@@ -15,7 +15,7 @@ take_turn-requires g c =
 pub ports-requires : goal.ports-requires
 ports-requires g c =
     let turn = c.take_turn.ensures in
-    let same = same_places g.P.Ports.transition g.S.System.transition _ _ _ _ _ _ c.args.i _ c.loop-turn.invariant
+    let same = same_places g.P.Ports.transition g.S.System.transition c.args.most _ _ _ _ _ _ c.args.i _ c.loop-turn.invariant
     c.loop-turn-test.true turn.0 turn.1 turn.2 in
     let inside = c.requires in
     omega (arith, same, inside)
@@ -23,10 +23,10 @@ ports-requires g c =
 pub loop-turn-preserved : goal.loop-turn-preserved
 loop-turn-preserved g c =
     let turn = c.take_turn.ensures in
-    let same = same_places g.P.Ports.transition g.S.System.transition _ _ _ _ _ _ c.args.i _ c.loop-turn.invariant
+    let same = same_places g.P.Ports.transition g.S.System.transition c.args.most _ _ _ _ _ _ c.args.i _ c.loop-turn.invariant
     c.loop-turn-test.true turn.0 turn.1 turn.2 in
     let inside = c.requires in
-    another_turn g.P.Ports.transition g.S.System.transition _ _ _ _ _ _ c.args.i _ c.loop-turn.invariant c.loop-turn-test.true
+    another_turn g.P.Ports.transition g.S.System.transition c.args.most _ _ _ _ _ _ c.args.i _ c.loop-turn.invariant c.loop-turn-test.true
     turn.0 turn.1 turn.2
     (moved_there g.P.Ports.transition g.S.System.transition c.take_turn.new.hub c.args.i c.ports.result.now c.has_moved.result
     (omega (arith, same, inside)) c.ports.ensures c.has_moved.ensures ∙ c.if-not-has_moved.false)
@@ -34,10 +34,10 @@ loop-turn-preserved g c =
 pub returns-then-not-has_moved-clause-turns : goal.returns-then-not-has_moved-clause-turns
 returns-then-not-has_moved-clause-turns g c =
     let turn = c.take_turn.ensures in
-    let same = same_places g.P.Ports.transition g.S.System.transition _ _ _ _ _ _ c.args.i _ c.loop-turn.invariant
+    let same = same_places g.P.Ports.transition g.S.System.transition c.args.most _ _ _ _ _ _ c.args.i _ c.loop-turn.invariant
     c.loop-turn-test.true turn.0 turn.1 turn.2 in
     let inside = c.requires in
-    last_turn g.P.Ports.transition g.S.System.transition _ _ _ _ _ _ c.args.i _ c.loop-turn.invariant c.loop-turn-test.true
+    last_turn g.P.Ports.transition g.S.System.transition c.args.most _ _ _ _ _ _ c.args.i _ c.loop-turn.invariant c.loop-turn-test.true
     turn.0 turn.1 turn.2
     (moved_there g.P.Ports.transition g.S.System.transition c.take_turn.new.hub c.args.i c.ports.result.now c.has_moved.result
     (omega (arith, same, inside)) c.ports.ensures c.has_moved.ensures ∙ c.if-not-has_moved.true)
@@ -45,12 +45,12 @@ returns-then-not-has_moved-clause-turns g c =
 pub returns-then-not-has_moved-clause-count : goal.returns-then-not-has_moved-clause-count
 returns-then-not-has_moved-clause-count g c =
     let turn = c.take_turn.ensures in
-    same_places g.P.Ports.transition g.S.System.transition _ _ _ _ _ _ c.args.i _ c.loop-turn.invariant
+    same_places g.P.Ports.transition g.S.System.transition c.args.most _ _ _ _ _ _ c.args.i _ c.loop-turn.invariant
     c.loop-turn-test.true turn.0 turn.1 turn.2
 
 pub returns-clause-turns : goal.returns-clause-turns
 returns-clause-turns g c =
-    all_taken g.P.Ports.transition g.S.System.transition _ _ _ _ c.args.i _ c.loop-turn.invariant c.loop-turn-test.false
+    all_taken g.P.Ports.transition g.S.System.transition c.args.most _ _ _ _ c.args.i _ c.loop-turn.invariant c.loop-turn-test.false
 
 pub returns-clause-count : goal.returns-clause-count
 returns-clause-count g c = c.loop-turn.invariant.count

@@ -8,11 +8,11 @@ loop-i-init g c =
 
 pub loop-i-preserved : goal.loop-i-preserved
 loop-i-preserved g c =
-    let visits = c.visit_in_turn.ensures.visits in
+    let visits = c.visit.ensures.visits in
     let inside = subst (λ n. c.loop-i.i < n) c.count-i-end.ensures c.loop-i-test.true in
     let same = c.loop-i.invariant.turning.count in
     another_found g.P.Ports.transition g.S.System.transition _ _ _ _ _ _ c.loop-i.i _ _ _ _ _ _ c.loop-i.invariant
-    (omega (arith, inside, same)) visits.0 visits.1 visits.2 c.visit_in_turn.ensures.moved c.visit_in_turn.ensures.closed
+    (omega (arith, inside, same)) visits.0 visits.1 visits.2 c.visit.ensures.moved c.visit.ensures.closed
     c.or-found.ensures.moved c.or-found.ensures.closed
 
 pub returns-clause-moved : goal.returns-clause-moved
