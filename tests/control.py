@@ -16,7 +16,7 @@ import subprocess
 import tempfile
 import time
 
-from frames import FM, IM, IM_FM, ITS_PRN, OBS, RM, UNCLOSED, YES
+from frames import FM, IAM_ENG, IM, IM_FM, ITS_PRN, NAMED, OBS, RM, UNCLOSED, WILD_NAME, YES
 from held import NotPlayed, Wrong, same
 from runs import TOP
 from stage import HOST, free_port
@@ -32,7 +32,7 @@ HOSTILE = 300
 
 COLUMNS = """\
                       from the bot   from the server
-session  phase   relayed  PRN  HUH relayed  PRN  HUH  to bot to server  bot idle server idle   port bot"""
+session  phase   relayed  PRN  HUH relayed  PRN  HUH  to bot to server  bot idle server idle   port bot and its name"""
 
 
 def hears_interrupts():
@@ -250,6 +250,32 @@ def status_has_metrics(program):
             name = f'daide_gate_session_frames_total{{{labels},side="{side}",result="{result}"}}'
             same(values[name], count, f"{result} of the {side}")
         same(values[f'daide_gate_session_level{{{labels},phase="open"}}'], 0, "level")
+
+
+# What is kept of the name of `WILD_NAME`, as the text of a message.
+WILD = "NME 'O' #4b27 'B\"\\' #4b0a #4b1b #4bff '" + "x" * 24 + "'.."
+
+
+def status_has_names(program):
+    """What each bot calls itself, in each form: a name, a power, a name that needs escapes, and none."""
+    named = (NAMED, "NME 'Albert'"), (IAM_ENG, "IAM ENG"), (WILD_NAME, WILD), (None, None)
+    with Match(program, "max_sessions = 4\nsessions = 5") as match:
+        bots = []
+        for frame, _ in named:
+            bot, server = match.opens()
+            bots.append(address(bot))
+            if frame:
+                bot.sendall(frame)
+                same(received(server, len(frame)), frame, "received by the server")
+        names = [name for _, name in named]
+        ends = [" ".join([bot, *([name] if name else [])]) for bot, name in zip(bots, names)]
+        same([line[-len(end):] for line, end in zip(match.status().splitlines()[3:], ends, strict=True)], ends, "the table")
+        found = json.loads(match.status("json"))["sessions"]
+        same([each["name"] for each in found], names, "the document")
+        levels = [line for line in match.status("prometheus").splitlines() if line.startswith("daide_gate_session_level{")]
+        labels = [',name="' + name.replace("\\", r"\\").replace('"', r'\"') + '"' if name else "" for name in names]
+        same(levels, [f'daide_gate_session_level{{session="{number}",bot="{bot}",phase="open"{label}}} 0'
+                      for number, (bot, label) in enumerate(zip(bots, labels), 1)], "the metric")
 
 
 def status_shows_twenty_sessions(program):
@@ -498,6 +524,7 @@ TESTS = [
     status_is_a_table,
     status_is_a_document,
     status_has_metrics,
+    status_has_names,
     status_shows_twenty_sessions,
     stop_waits_for_the_sessions,
     stop_gives_up_after_its_timeout,

@@ -82,8 +82,11 @@ SERVER_HANGS = [
 
 SILENCE = """\
 daide-gate: session 1 began: bot at 127.0.0.1:{{0}}
-daide-gate: session 1 ended after *.* s: {} silent; bot * relayed 0 prn 0 huh; server * relayed 0 prn 0 huh; 0 faults; level 0
+daide-gate: session 1 ended after *.* s: {} silent; bot * relayed 0 prn 0 huh; server * relayed 0 prn 0 huh; 0 faults; level 0{}
 """
+
+# The bot's messages are NMEs whose names are longer than what is kept of them.
+NAMED = f"; NME '{'a' * 32}'.."
 
 # A bot reads no answer, so the gateway reads nothing from it, and nothing from its server, whose messages wait as well.
 # No byte arrives from either for longer than `idle_seconds`. The gateway waits until the bot goes.
@@ -113,11 +116,11 @@ SCENES = [
     ),
     Scene(
         "hung_bot_for_which_bytes_wait_is_silent", BOT_HANGS, "idle_seconds = 1\nstall_seconds = 3",
-        told=SILENCE.format("bot"), verbose=True,
+        told=SILENCE.format("bot", ""), verbose=True,
     ),
     Scene(
         "hung_server_for_which_bytes_wait_is_silent", SERVER_HANGS, "idle_seconds = 1\nstall_seconds = 3",
-        told=SILENCE.format("server"), verbose=True,
+        told=SILENCE.format("server", NAMED), verbose=True,
     ),
     Scene("wait_beside_a_silence_that_has_begun", SILENCE_HAS_BEGUN, "idle_seconds = 1\nstall_seconds = 0"),
 ]

@@ -30,6 +30,18 @@ ITS_HUH = bytes.fromhex("02 00 001c 4806 4000 4817 4000 4102 4001 4000 4902 4a40
 # `FRM ( FRA ) ( ENG ) ( XYZ ( ENG ) )` of a server.
 XYZ_OF_SERVER = bytes.fromhex("02 00 001a 4802 4000 4102 4001 4000 4101 4001 4000 4a40 4000 4101 4001 4001")
 
+# `NME ( 'Albert' ) ( 'v1' )`; `NME ( 'Bo' )`, whose version is missing, and `HUH ( NME ( 'Bo' ) ERR )`; and
+# `IAM ( ENG ) ( 1234 )`.
+NAMED = bytes.fromhex("02 00 001a 480c 4000 4b41 4b6c 4b62 4b65 4b72 4b74 4001 4000 4b76 4b31 4001")
+MISSES_VERSION = bytes.fromhex("02 00 000a 480c 4000 4b42 4b6f 4001")
+ITS_MISSING = bytes.fromhex("02 00 0012 4806 4000 480c 4000 4b42 4b6f 4001 4902 4001")
+IAM_ENG = bytes.fromhex("02 00 000e 4807 4000 4101 4001 4000 04d2 4001")
+
+# `NME ( .. ) ( )`, with a name of 200 bytes: `O'B"\`, a line feed, an escape and the byte FF, and 192 letters `x`.
+WILD_NAME = bytes.fromhex("02 00 019a 480c 4000 4b4f 4b27 4b42 4b22 4b5c 4b0a 4b1b 4bff") + b"Kx" * 192 + bytes.fromhex(
+    "4001 4000 4001"
+)
+
 # `NME ( 'a..' ) ( 'a' )`, with a name of 480 letters: 976 bytes.
 LONG_NAME = b"\x02\x00\x03\xcc\x48\x0c\x40\x00" + b"Ka" * 480 + b"\x40\x01\x40\x00Ka\x40\x01"
 

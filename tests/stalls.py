@@ -53,7 +53,7 @@ daide-gate: session 1 ended after *.* s: bot took nothing for 1 s; bot 1 relayed
 
 SERVER_STALLED = """\
 daide-gate: session 1 began: bot at 127.0.0.1:{0}
-daide-gate: session 1 ended after *.* s: server took nothing for 1 s; bot * relayed 0 prn 0 huh; server 1 relayed 0 prn 0 huh; 0 faults; level 0
+daide-gate: session 1 ended after *.* s: server took nothing for 1 s; bot * relayed 0 prn 0 huh; server 1 relayed 0 prn 0 huh; 0 faults; level 0; NME 'aaaaaaaaaaaaaaaaaaaaaaaaaaaaaaaa'..
 """
 
 SCENES = [

@@ -2,9 +2,9 @@
 -- watches.
 use Rattle.std.proofs.Common.{◌≡◌, ℕ, zero, suc, ◌+◌, ◌<◌, Bool, true, false, List, [], ◌∷◌, ◌++◌, length}
 use Rattle.std.proofs.Common.{Option, Some, None}
-use Rattle.std.proofs.Common.{refl, sym, ap, ◌∙◌, subst, arith, add-one}
+use Rattle.std.proofs.Common.{◌≤◌, refl, sym, ap, ◌∙◌, subst, arith, add-one, append-nil}
 use Rattle.std.specs.Prelude.{IfSome, All, slice_get, slice_set}
-use Rattle.std.proofs.lemmas.List.{length-set}
+use Rattle.std.proofs.lemmas.List.{length-set, append_assoc}
 use Rattle.std.proofs.lemmas.List.Elements.{All-nil, All-cons}
 use Rattle.daide_protocol.specs.Wires.{SessionView}
 use Rattle.daide_io.specs.Ports.{PortCall, TurnBegins}
@@ -14,8 +14,9 @@ use Rattle.daide_io.specs.declared.system.Orders.{Orders}
 use Rattle.daide_io.specs.declared.system.SessionStatus.{SessionStatus}
 use Rattle.daide_driver.specs.Hub.{HubView, with_ports, with_ports_at, Changes, IsTurned}
 use Rattle.daide_event_loop.specs.QuotaPorts.{QuotaPortsView, Meters, beginning, beginning_where}
-use Rattle.daide_event_loop.specs.Serving.{IsDueBy, OpensTurn, TurnsIf, VisitsPlace, TurnsBelow, watches}
-use Rattle.daide_event_loop.specs.Serving.{shows, shows_where, opening}
+use Rattle.daide_event_loop.specs.Serving.{IsDueBy, OpensTurn, TakesTurn, TakesTurns, has_moved_in, VisitsPlace}
+use Rattle.daide_event_loop.specs.Serving.{TurnsBelow, watches}
+use Rattle.daide_event_loop.specs.Serving.{most_turns, shows, shows_where, opening}
 use Rattle.daide_event_loop.specs.Served.{sum_over_calls}
 use Rattle.daide_event_loop.proofs.TransitLemmas.{transits_then}
 
@@ -133,14 +134,23 @@ module _ {P : Type 0} where
   one_reports true ports report due h = subst OnlyTurns (sym h.0) tt
   one_reports false ports report due h = subst OnlyTurns (sym h) tt
 
-  turn_only : (port_transition : P → PortCall → P → Type 0) (due : Bool) (old : HubView (QuotaPortsView P)) (i : ℕ)
-      (turn : List (SystemCall P)) (new : HubView (QuotaPortsView P)) → TurnsIf port_transition due old i turn new →
+  turn_only : (port_transition : P → PortCall → P → Type 0) (old : HubView (QuotaPortsView P)) (i : ℕ)
+      (turn : List (SystemCall P)) (new : HubView (QuotaPortsView P)) → TakesTurn port_transition old i turn new →
       OnlyTurns turn
-  turn_only port_transition true old i turn new h =
+  turn_only port_transition old i turn new h =
       let before = h.begins.0.1 in
       let begun = h.begins.1.1 in
       subst OnlyTurns (sym h.begins.4.1) (one_begins begun.turns_left before.ports begun.ports)
-  turn_only port_transition false old i turn new h = subst OnlyTurns (sym h.0) tt
+
+  some_turns_only : (port_transition : P → PortCall → P → Type 0) (due : Bool) (most : ℕ) (old : HubView (QuotaPortsView P))
+      (i : ℕ) (turns : List (SystemCall P)) (new : HubView (QuotaPortsView P)) →
+      TakesTurns port_transition due most old i turns new → OnlyTurns turns
+  some_turns_only port_transition false most old i turns new h = subst OnlyTurns (sym h.0) tt
+  some_turns_only port_transition true zero old i turns new h = subst OnlyTurns (sym h.0) tt
+  some_turns_only port_transition true (suc most) old i turns new h =
+      subst OnlyTurns (sym h.3)
+      (only_append h.1 h.2 (turn_only port_transition old i h.1 h.0 h.4)
+      (some_turns_only port_transition (has_moved_in (slice_get h.0.places i)) most h.0 i h.2 new h.5))
 
   visit_only : (port_transition : P → PortCall → P → Type 0) (old : HubView (QuotaPortsView P)) (i : ℕ)
       (answers : List (SystemCall P)) (new : HubView (QuotaPortsView P)) → VisitsPlace port_transition old i answers new →
@@ -148,7 +158,7 @@ module _ {P : Type 0} where
   visit_only port_transition old i answers new h =
       subst OnlyTurns (sym h.asked)
       (only_append h.report h.turn (one_reports h.place.1.made_progress h.place.1.ports h.report h.due h.looks)
-      (turn_only port_transition h.due old i h.turn new h.turns))
+      (some_turns_only port_transition h.due (most_turns h.place.1.made_progress) old i h.turn new h.turns))
 
   pub turns_only : (port_transition : P → PortCall → P → Type 0) (n : ℕ) (old : HubView (QuotaPortsView P))
       (answers : List (SystemCall P)) (new : HubView (QuotaPortsView P)) → TurnsBelow port_transition n old answers new →
@@ -198,22 +208,46 @@ module _ {P : Type 0} (port_transition : P → PortCall → P → Type 0) where
     ap (λ (k : HubView (QuotaPortsView P)). length k.places) h.3 ∙ length-set old.places i h.1,
   )
 
-  turned_count : (due : Bool) (old : HubView (QuotaPortsView P)) (i : ℕ) (turn : List (SystemCall P))
-      (new : HubView (QuotaPortsView P)) → TurnsIf port_transition due old i turn new →
-      (new.max ≡ old.max) × (length new.places ≡ length old.places)
-  turned_count true old i turn new takes =
+  turn_count : (old : HubView (QuotaPortsView P)) (i : ℕ) (turn : List (SystemCall P)) (new : HubView (QuotaPortsView P)) →
+      TakesTurn port_transition old i turn new → (new.max ≡ old.max) × (length new.places ≡ length old.places)
+  turn_count old i turn new takes =
       let opened = same_count (OpensTurn port_transition turn) old i takes.begun takes.begins in
       let made = same_count (IsTurned (Meters port_transition)) takes.begun i new takes.runs in
       (made.0 ∙ opened.0, made.1 ∙ opened.1)
-  turned_count false old i turn new stays = (
-    ap (λ (k : HubView (QuotaPortsView P)). k.max) stays.1,
-    ap (λ (k : HubView (QuotaPortsView P)). length k.places) stays.1,
+
+  none_count : (old new : HubView (QuotaPortsView P)) → new ≡ old →
+      (new.max ≡ old.max) × (length new.places ≡ length old.places)
+  none_count old new e = (
+    ap (λ (k : HubView (QuotaPortsView P)). k.max) e,
+    ap (λ (k : HubView (QuotaPortsView P)). length k.places) e,
   )
 
-  visited_count : (old : HubView (QuotaPortsView P)) (i : ℕ) (answers : List (SystemCall P))
+  turned_count : (due : Bool) (most : ℕ) (old : HubView (QuotaPortsView P)) (i : ℕ) (turns : List (SystemCall P))
+      (new : HubView (QuotaPortsView P)) → TakesTurns port_transition due most old i turns new →
+      (new.max ≡ old.max) × (length new.places ≡ length old.places)
+  turned_count false most old i turns new stays = none_count old new stays.1
+  turned_count true zero old i turns new stays = none_count old new stays.1
+  turned_count true (suc most) old i turns new takes =
+      let first = turn_count old i takes.1 takes.0 takes.4 in
+      let rest = turned_count (has_moved_in (slice_get takes.0.places i)) most takes.0 i takes.2 new takes.5 in
+      (rest.0 ∙ first.0, rest.1 ∙ first.1)
+
+  pub visited_count : (old : HubView (QuotaPortsView P)) (i : ℕ) (answers : List (SystemCall P))
       (new : HubView (QuotaPortsView P)) → VisitsPlace port_transition old i answers new →
       (new.max ≡ old.max) × (length new.places ≡ length old.places)
-  visited_count old i answers new h = turned_count h.due old i h.turn new h.turns
+  visited_count old i answers new h = turned_count h.due (most_turns h.place.1.made_progress) old i h.turn new h.turns
+
+  abbrev SameCount : HubView (QuotaPortsView P) → HubView (QuotaPortsView P) → Type 0
+  SameCount old new = (new.max ≡ old.max) × (length new.places ≡ length old.places)
+
+  then_same : (old mid new : HubView (QuotaPortsView P)) → SameCount old mid → SameCount mid new → SameCount old new
+  then_same old mid new h k = (k.0 ∙ h.0, k.1 ∙ h.1)
+
+  pub below_count : (n : ℕ) (old : HubView (QuotaPortsView P)) (answers : List (SystemCall P))
+      (new : HubView (QuotaPortsView P)) → TurnsBelow port_transition n old answers new → SameCount old new
+  below_count zero old answers new h = none_count old new h.1
+  below_count (suc n) old answers new h =
+      then_same old h.0 new (below_count n old h.1 h.0 h.4) (visited_count h.0 n h.2 new h.5)
 
   -- the number of places stays
   pub lent_inside : (hub : HubView (QuotaPortsView P)) (i : ℕ) (old new : QuotaPortsView P) → i < length hub.places →
@@ -251,7 +285,116 @@ module _ {P : Type 0} (port_transition : P → PortCall → P → Type 0) where
           count = same.1 ∙ h.count;
         }
 
--- the visit of a place: what the system reports, and then the turn, if the session is due one
+-- the turns of a visit so far, of at most `most`, and those that are left
+module _ {P S : Type 0} (port_transition : P → PortCall → P → Type 0) (transition : S → SystemCall P → S → Type 0)
+    (most : ℕ) where
+  pub record Taking (first : S) (old : HubView (QuotaPortsView P)) (i n : ℕ) (hub : HubView (QuotaPortsView P)) (system : S) :
+      Type 0 where
+    pub left : ℕ
+    pub all : left + n ≡ most
+    pub count : length hub.places ≡ length old.places
+    pub answers : List (SystemCall P)
+    pub transits : TransitsBy transition first answers system
+    -- whatever turns follow, all of them together are turns of the visit
+    pub goes_on : (rest : List (SystemCall P)) (new : HubView (QuotaPortsView P)) →
+        TakesTurns port_transition true left hub i rest new →
+        TakesTurns port_transition true most old i (answers ++ rest) new
+
+  pub none_taken : (s : S) (old : HubView (QuotaPortsView P)) (i : ℕ) → Taking s old i 0 old s
+  none_taken s old i = record {
+    left = most;
+    all = omega arith;
+    count = refl;
+    answers = [];
+    transits = refl;
+    goes_on = λ rest new takes. takes;
+  }
+
+  -- one turn more, by which these are all turns if it made no progress
+  module _ (s t u : S) (old mid new : HubView (QuotaPortsView P)) (i n : ℕ) (h : Taking s old i n mid t) (few : n < most)
+      (answers : List (SystemCall P)) (goes : TransitsBy transition t answers u) (takes : TakesTurn port_transition mid i answers new)
+    where
+      pub same_places : length new.places ≡ length old.places
+      same_places = (turn_count port_transition mid i answers new takes).1 ∙ h.count
+
+      -- what is left is left after this turn too
+      further : (left : ℕ) → left + n ≡ most → ((rest : List (SystemCall P)) (end : HubView (QuotaPortsView P)) →
+          TakesTurns port_transition true left mid i rest end →
+          TakesTurns port_transition true most old i (h.answers ++ rest) end) → (later : ℕ)
+          × (later + (n + 1) ≡ most) × ((moved : Bool) → has_moved_in (slice_get new.places i) ≡ moved →
+          (rest : List (SystemCall P)) (end : HubView (QuotaPortsView P)) →
+          TakesTurns port_transition moved later new i rest end →
+          TakesTurns port_transition true most old i (h.answers ++ (answers ++ rest)) end)
+      further zero all on = absurd (omega (arith, few, all))
+      further (suc left) all on = (
+        left,
+        omega (arith, all),
+        λ moved is rest end more.
+            on (answers ++ rest) end (
+              new,
+              answers,
+              rest,
+              refl,
+              takes,
+              subst (λ (b : Bool). TakesTurns port_transition b left new i rest end) (sym is) more,
+            ),
+      )
+
+      one_further : (later : ℕ) × (later + (n + 1) ≡ most) × ((moved : Bool) → has_moved_in (slice_get new.places i) ≡ moved →
+          (rest : List (SystemCall P)) (end : HubView (QuotaPortsView P)) →
+          TakesTurns port_transition moved later new i rest end →
+          TakesTurns port_transition true most old i (h.answers ++ (answers ++ rest)) end)
+      one_further = further h.left h.all h.goes_on
+
+      pub another_turn : has_moved_in (slice_get new.places i) ≡ true → Taking s old i (n + 1) new u
+      another_turn moved = record {
+        left = one_further.0;
+        all = one_further.1;
+        count = same_places;
+        answers = h.answers ++ answers;
+        transits = transits_then transition h.answers answers s t u h.transits goes;
+        goes_on = λ rest end more.
+            subst (λ (l : List (SystemCall P)). TakesTurns port_transition true most old i l end)
+            (sym (append_assoc h.answers answers rest)) (one_further.2 true moved rest end more);
+      }
+
+      pub last_turn : has_moved_in (slice_get new.places i) ≡ false →
+          (all : List (SystemCall P)) × TransitsBy transition s all u × TakesTurns port_transition true most old i all new
+      last_turn still = (
+        h.answers ++ (answers ++ []),
+        transits_then transition h.answers (answers ++ []) s t u h.transits
+            (subst (λ (l : List (SystemCall P)). TransitsBy transition t l u) (sym (append-nil answers)) goes),
+        one_further.2 false still [] new (refl, refl),
+      )
+
+  -- all turns of a visit were made
+  pub all_taken : (s t : S) (old new : HubView (QuotaPortsView P)) (i n : ℕ) → Taking s old i n new t → most ≤ n →
+      (all : List (SystemCall P)) × TransitsBy transition s all t × TakesTurns port_transition true most old i all new
+  all_taken s t old new i n h far = by h.left h.all h.goes_on
+    where
+      by : (left : ℕ) → left + n ≡ most → ((rest : List (SystemCall P)) (end : HubView (QuotaPortsView P)) →
+          TakesTurns port_transition true left new i rest end →
+          TakesTurns port_transition true most old i (h.answers ++ rest) end) →
+          (all : List (SystemCall P)) × TransitsBy transition s all t × TakesTurns port_transition true most old i all new
+      by zero all on = (
+        h.answers ++ [],
+        subst (λ (l : List (SystemCall P)). TransitsBy transition s l t) (sym (append-nil h.answers)) h.transits,
+        on [] new (refl, refl),
+      )
+      by (suc left) all on = absurd (omega (arith, far, all))
+
+module _ {P S : Type 0} (port_transition : P → PortCall → P → Type 0) (transition : S → SystemCall P → S → Type 0) where
+  -- whether the session at a place moved is what its ports say
+  pub moved_there : (hub : HubView (QuotaPortsView P)) (i : ℕ) (ports : QuotaPortsView P) (moved : Bool) → i < length hub.places →
+      IfSome (slice_get hub.places i) (λ place. ports ≡ place.1) → moved ≡ ports.made_progress →
+      has_moved_in (slice_get hub.places i) ≡ moved
+  moved_there hub i ports moved inside value is =
+      let found = slice_some hub.places i inside in
+      let same : ports ≡ found.0.1 =
+      subst (λ (o : Option (SessionView × QuotaPortsView P)). IfSome o (λ p. ports ≡ p.1)) found.1 value in
+      ap has_moved_in found.1 ∙ ap (λ (m : QuotaPortsView P). m.made_progress) (sym same) ∙ sym is
+
+-- the visit of a place: what the system reports, and then the turns, if the session is due one
 module _ {P S : Type 0} (port_transition : P → PortCall → P → Type 0) (transition : S → SystemCall P → S → Type 0) where
   abbrev pub Looks : S → S → Bool → SessionView × QuotaPortsView P → Type 0
   Looks s t due place =
@@ -273,11 +416,11 @@ module _ {P S : Type 0} (port_transition : P → PortCall → P → Type 0) (tra
         subst (λ (own : QuotaPortsView P). IsDueBy own.made_progress own.ports report due) same looks,
       )
 
-  pub visited : (hub new : HubView (QuotaPortsView P)) (i : ℕ) (s t u : S) (due : Bool) → i < length hub.places →
-      IfSome (slice_get hub.places i) (Looks s t due) →
-      ((turn : List (SystemCall P)) × TransitsBy transition t turn u × TurnsIf port_transition due hub i turn new) →
+  pub visited : (hub new : HubView (QuotaPortsView P)) (i : ℕ) (s t u : S) (due : Bool) (most : ℕ) → i < length hub.places →
+      IfSome (slice_get hub.places i) (Looks s t due) → most ≡ most_turns (has_moved_in (slice_get hub.places i)) →
+      ((turns : List (SystemCall P)) × TransitsBy transition t turns u × TakesTurns port_transition due most hub i turns new) →
       (answers : List (SystemCall P)) × TransitsBy transition s answers u × VisitsPlace port_transition hub i answers new
-  visited hub new i s t u due inside looks turns =
+  visited hub new i s t u due most inside looks few turns =
       let found = slice_some hub.places i inside in
       let look : Looks s t due found.0 =
       subst (λ (o : Option (SessionView × QuotaPortsView P)). IfSome o (Looks s t due)) found.1 looks in (
@@ -290,7 +433,8 @@ module _ {P S : Type 0} (port_transition : P → PortCall → P → Type 0) (tra
           report = look.0;
           turn = turns.0;
           looks = look.2;
-          turns = turns.2;
+          turns = subst (λ (n : ℕ). TakesTurns port_transition due n hub i turns.0 new)
+              (few ∙ ap (λ (o : Option (SessionView × QuotaPortsView P)). most_turns (has_moved_in o)) found.1) turns.2;
           asked = refl;
         },
       )

@@ -43,11 +43,11 @@ module _ {X : Type 0} where
 -- ---- places
 
 module _ {P : Type 0} where
-  kept_place : (x : SessionView × QuotaPortsView P) (xs : List (SessionView × QuotaPortsView P)) → is_closed x.0 ≡ false →
+  pub kept_place : (x : SessionView × QuotaPortsView P) (xs : List (SessionView × QuotaPortsView P)) → is_closed x.0 ≡ false →
       remaining (x ∷ xs) ≡ x ∷ remaining xs
   kept_place x xs e = rw e refl
 
-  gone_place : (x : SessionView × QuotaPortsView P) (xs : List (SessionView × QuotaPortsView P)) → is_closed x.0 ≡ true →
+  pub gone_place : (x : SessionView × QuotaPortsView P) (xs : List (SessionView × QuotaPortsView P)) → is_closed x.0 ≡ true →
       remaining (x ∷ xs) ≡ remaining xs
   gone_place x xs e = rw e refl
 

@@ -10,6 +10,7 @@ use Rattle.daide_protocol.specs.declared.ending.Ending.{Ending}
 use Rattle.daide_protocol.specs.declared.ending.Ending.TheVariants.{Ended, Lost, Final, Fault}
 use Rattle.daide_protocol.specs.declared.account.Account.{Account}
 use Rattle.daide_protocol.specs.declared.account.SideCounts.{SideCounts}
+use Rattle.daide_protocol.specs.declared.bot_name.BotName.TheVariants.{Unknown}
 use Rattle.daide_protocol.specs.declared.phase.Phase.TheVariants as Phases
 use Rattle.daide_protocol.specs.declared.phase.SessionPhase.{SessionPhase}
 use Rattle.daide_protocol.specs.declared.phase.SessionPhase.TheVariants.{WaitIm, Open, Over}
@@ -95,7 +96,13 @@ abbrev frames : ℕ → SideCounts
 frames n = record { relayed = n; prn = n + 1; huh = n + 2 }
 
 abbrev counts : Limits → ℕ → Account
-counts limits n = record { bot = frames n; server = frames (n + 3); faults = n + 6; level = limits.top_level }
+counts limits n = record {
+  bot = frames n;
+  server = frames (n + 3);
+  faults = n + 6;
+  level = limits.top_level;
+  name = Unknown;
+}
 
 -- a session with a phase, counts, and frames queued for its bot
 abbrev session : Limits → SessionPhase → ℕ → List Sent → SessionView

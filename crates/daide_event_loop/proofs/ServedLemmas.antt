@@ -1,15 +1,13 @@
 -- The sessions of a run, step by step.
-use Rattle.std.proofs.Common.{◌≡◌, ℕ, zero, suc, ◌<◌, ◌≤◌, Bool, true, false, List, [], ◌∷◌, ◌++◌, length, take, set}
+use Rattle.std.proofs.Common.{◌≡◌, ℕ, zero, suc, Bool, true, false, List, [], ◌∷◌, ◌++◌, length}
 use Rattle.std.proofs.Common.{◌+◌, refl, sym, ap, ◌∙◌, subst, arith, append-nil, length-append}
-use Rattle.std.specs.Prelude.{◌==◌, ◌&&◌, ◌||◌, Option, Some, None, Contains, All, is_none, is_some, not, slice_get, if◌then◌else◌}
+use Rattle.std.specs.Prelude.{◌==◌, ◌&&◌, ◌||◌, Option, Some, None, Contains, All, is_none, is_some, not, if◌then◌else◌}
 use Rattle.std.proofs.lemmas.Bool.{eqb-true}
-use Rattle.std.proofs.lemmas.List.{take_all, length-set}
-use Rattle.std.proofs.lemmas.List.Elements.{All-nil, All-cons, All-head, All-tail, All-same, All-append, All-set}
+use Rattle.std.proofs.lemmas.List.Elements.{All-nil, All-cons, All-head, All-tail, All-same, All-append}
 use Rattle.std.proofs.lemmas.List.Elements.{All-push, All-weaker, All-filter}
 use Rattle.std.proofs.lemmas.List.Elements.{Contains-append_left, Contains-append_right}
 use Rattle.std.proofs.lemmas.Option.{slice_get_within, get_or_from_slice_get}
 use Rattle.std.proofs.Math.Dec.{eqb-suc-zero}
-use Rattle.std.proofs.Math.Seq.{take-suc-set}
 use Rattle.daide_protocol.specs.declared.ending.Ending.{Ending}
 use Rattle.daide_protocol.proofs.EndingLemmas.{ending_known}
 use Rattle.daide_protocol.specs.Machine.{Limits, is_over, ending_in}
@@ -17,7 +15,7 @@ use Rattle.daide_protocol.specs.Wires.{SessionView, IsNew, is_closed}
 use Rattle.daide_io.specs.Ports.{PortCall, TurnBegins, EvolvesBy}
 use Rattle.daide_driver.specs.Headline.{untouched}
 use Rattle.daide_driver.specs.Totals.{RefinesRun}
-use Rattle.daide_driver.specs.Hub.{HubView, IsBegun, IsTurned, Changes}
+use Rattle.daide_driver.specs.Hub.{HubView, IsBegun, IsTurned}
 use Rattle.daide_driver.proofs.PortCalls.{turn_begins}
 use Rattle.daide_io.proofs.TraceLemmas.{transition_then}
 use Rattle.daide_driver.proofs.Stretches.{relays_append}
@@ -32,14 +30,16 @@ use Rattle.daide_event_loop.specs.declared.admission_counters.AdmissionCounters.
 use Rattle.daide_event_loop.specs.QuotaPorts.{QuotaPortsView, Meters, progress_by}
 use Rattle.daide_io.specs.System.{SystemCall, Begins, Shows, ReportsNews, BeginsTurn, Watches, Accepts, Connects}
 use Rattle.daide_io.specs.System.{Retires, Notifies, Waits}
-use Rattle.daide_event_loop.specs.Serving.{ServiceView, fresh, initial_service, may_accept, come, AdmitsWhere, MeetsWhere, OpensTurn}
-use Rattle.daide_event_loop.specs.Serving.{IsDueBy, TurnsIf, VisitsPlace, TurnsBelow, TurnsAll, last_words, retirement, retirement_where}
+use Rattle.daide_event_loop.specs.Serving.{ServiceView, fresh, initial_service, may_accept, come, AdmitsWhere, MeetsWhere}
+use Rattle.daide_event_loop.specs.Serving.{IsDueBy, TakesTurns, most_turns, VisitsPlace, TurnsAll}
+use Rattle.daide_event_loop.specs.Serving.{last_words, retirement, retirement_where}
 use Rattle.daide_event_loop.specs.Serving.{retirements, remaining, parting, closed, heeding, shows_where, opening}
 use Rattle.daide_event_loop.specs.Serving.{cause_by, end_of}
 use Rattle.daide_event_loop.specs.Serving.{MeetsBy, watches, wait_where, any_progress, any_moved, Round, Rounds, is_done}
 use Rattle.daide_event_loop.specs.Served.{IsServedSession, run_limits, IsSessionOfRun, IsServed, IsEndOf, RetiresClosed, connects, retires, sum_over_calls}
 use Rattle.daide_event_loop.specs.Served.{IsWholeRun}
 use Rattle.daide_event_loop.proofs.BeginningLemmas.{OnlyTurns, none_counted, opening_none, all_turns, all_shown, turns_only, watches_only}
+use Rattle.daide_event_loop.proofs.VisitLemmas.{Gets, gets_own, some_most, some_turns, all_visited}
 use Rattle.daide_event_loop.proofs.CauseLemmas.{IsCut, cut_begins, cut_begun, cut_turn, cut_cause}
 use Rattle.daide_event_loop.proofs.CountLemmas.{counted_append, Counts, counts_then, admission_counts, meeting_counts}
 use Rattle.daide_event_loop.proofs.CountLemmas.{opening_counts, turns_count, removal_counts, wait_counts}
@@ -280,144 +280,38 @@ module _ {P : Type 0} (port_transition : P → PortCall → P → Type 0) (setti
               stands.0.sends h.1,
         )
 
-    -- the places below n were visited, and those from m on are as before
-    record Below (n m : ℕ) (old new : HubView (QuotaPortsView P)) : Type 0 where
-      held : All Held new.places
-      served : All Served (take n new.places)
-      rest : (k : ℕ) → m ≤ k → slice_get new.places k ≡ slice_get old.places k
-      count : length new.places ≡ length old.places
-      limits : new.limits ≡ old.limits
-
-    none_below : (old new : HubView (QuotaPortsView P)) → new ≡ old → All Held old.places → Below 0 0 old new
-    none_below old new e h = record {
-      held = subst (λ (k : HubView (QuotaPortsView P)). All Held k.places) (sym e) h;
-      served = All-nil Served;
-      rest = λ k far. ap (λ (hub : HubView (QuotaPortsView P)). slice_get hub.places k) e;
-      count = ap (λ (k : HubView (QuotaPortsView P)). length k.places) e;
-      limits = ap (λ (k : HubView (QuotaPortsView P)). k.limits) e;
-    }
-
-    take_set : (n : ℕ) (xs : List (SessionView × QuotaPortsView P)) (x : SessionView × QuotaPortsView P) →
-        take n (set xs n x) ≡ take n xs
-    take_set zero xs x = refl
-    take_set (suc n) [] x = refl
-    take_set (suc n) (y ∷ xs) x = ap (λ (l : List (SessionView × QuotaPortsView P)). y ∷ l) (take_set n xs x)
-
-    set_other : (n k : ℕ) (xs : List (SessionView × QuotaPortsView P)) (x : SessionView × QuotaPortsView P) → suc n ≤ k →
-        slice_get (set xs n x) k ≡ slice_get xs k
-    set_other zero zero xs x far = absurd (omega (arith, far))
-    set_other (suc n) zero xs x far = absurd (omega (arith, far))
-    set_other zero (suc k) [] x far = refl
-    set_other (suc n) (suc k) [] x far = refl
-    set_other zero (suc k) (y ∷ xs) x far = refl
-    set_other (suc n) (suc k) (y ∷ xs) x far = set_other n k xs x (omega (arith, far))
-
-    -- the value of an option, or else the first argument
-    abbrev value_or : SessionView × QuotaPortsView P → Option (SessionView × QuotaPortsView P) → SessionView × QuotaPortsView P
-    value_or x None = x
-    value_or x (Some y) = y
-
-    take_more : (n : ℕ) (xs : List (SessionView × QuotaPortsView P)) (x : SessionView × QuotaPortsView P) →
-        slice_get xs n ≡ Some x → take (suc n) xs ≡ take n xs ++ x ∷ []
-    take_more zero [] x e = absurd (cc)
-    take_more (suc n) [] x e = absurd (cc)
-    take_more zero (y ∷ xs) x e = ap (λ (o : Option (SessionView × QuotaPortsView P)). value_or y o ∷ []) e
-    take_more (suc n) (y ∷ xs) x e = ap (λ (l : List (SessionView × QuotaPortsView P)). y ∷ l) (take_more n xs x e)
-
-    -- the turn of the next one begins
-    begun_below : (n : ℕ) (old mid new : HubView (QuotaPortsView P)) (answers : List (SystemCall P)) → Below n n old mid →
-        Changes (OpensTurn port_transition answers) mid n new → Below n (suc n) old new
-    begun_below n old mid new answers h c =
-        let places : new.places ≡ set mid.places n c.1 = ap (λ (k : HubView (QuotaPortsView P)). k.places) c.3 in
-        let inside : n < length mid.places = slice_get_within mid.places n c.0 c.2 in
-        let was : Held c.0 =
-        subst Held (get_or_from_slice_get mid.places n c.0 c.0 c.2) (h.held n c.0 inside) in
-        record {
-          held = All-same Held new.places (set mid.places n c.1) places
-              (All-set Held mid.places n c.1 (begun c.0 c.1 c.4.0 was) h.held);
-          served = All-same Served (take n new.places) (take n mid.places)
-              (ap (take n) places ∙ take_set n mid.places c.1) h.served;
-          rest = λ k far. ap (λ (l : List (SessionView × QuotaPortsView P)). slice_get l k) places
-              ∙ set_other n k mid.places c.1 far ∙ h.rest k (omega (arith, far));
-          count = ap length places ∙ length-set mid.places n c.1 ∙ h.count;
-          limits = ap (λ (k : HubView (QuotaPortsView P)). k.limits) c.3 ∙ h.limits;
-        }
-
-    -- the turn runs
-    one_below : (n : ℕ) (old mid new : HubView (QuotaPortsView P)) → Below n (suc n) old mid →
-        Changes (IsTurned (Meters port_transition)) mid n new → Below (suc n) (suc n) old new
-    one_below n old mid new h c =
-        let places : new.places ≡ set mid.places n c.1 = ap (λ (k : HubView (QuotaPortsView P)). k.places) c.3 in
-        let inside : n < length mid.places = slice_get_within mid.places n c.0 c.2 in
-        let was : Held c.0 =
-        subst Held (get_or_from_slice_get mid.places n c.0 c.0 c.2) (h.held n c.0 inside) in
-        let now : Served c.1 = turned c.0 c.1 c.4 was in
-        record {
-          held = All-same Held new.places (set mid.places n c.1) places
-              (All-set Held mid.places n c.1 (still c.1 now) h.held);
-          served = All-same Served (take (suc n) new.places) (take n mid.places ++ c.1 ∷ [])
-              (ap (take (suc n)) places ∙ take-suc-set mid.places n c.1 inside)
-              (All-push Served (take n mid.places) c.1 h.served now);
-          rest = λ k far. ap (λ (l : List (SessionView × QuotaPortsView P)). slice_get l k) places
-              ∙ set_other n k mid.places c.1 far ∙ h.rest k far;
-          count = ap length places ∙ length-set mid.places n c.1 ∙ h.count;
-          limits = ap (λ (k : HubView (QuotaPortsView P)). k.limits) c.3 ∙ h.limits;
-        }
-
-    -- the next one is not due a turn
-    same_below : (n : ℕ) (old mid : HubView (QuotaPortsView P)) (place : SessionView × QuotaPortsView P) →
-        slice_get mid.places n ≡ Some place → Served place → Below n n old mid → Below (suc n) (suc n) old mid
-    same_below n old mid place there now h = record {
-      held = h.held;
-      served = All-same Served (take (suc n) mid.places) (take n mid.places ++ place ∷ [])
-          (take_more n mid.places place there) (All-push Served (take n mid.places) place h.served now);
-      rest = λ k far. h.rest k (omega (arith, far));
-      count = h.count;
-      limits = h.limits;
-    }
-
-    visited_below : (n : ℕ) (old mid new : HubView (QuotaPortsView P)) (answers : List (SystemCall P)) →
-        All IsRested old.places → Below n n old mid → VisitsPlace port_transition mid n answers new →
-        Below (suc n) (suc n) old new
-    visited_below n old mid new answers each h v =
-        by v.place.1.made_progress v.due refl v.report v.looks v.turn v.turns
+    -- a visit serves a session: it has turns, or had one before
+    visited : (mid : HubView (QuotaPortsView P)) (i : ℕ) (calls : List (SystemCall P)) (new : HubView (QuotaPortsView P)) →
+        All IsRested mid.places → VisitsPlace port_transition mid i calls new →
+        (now : SessionView × QuotaPortsView P) × Served now × Gets mid i now new
+    visited mid i calls new each v = by v.place.1.made_progress v.due refl v.looks v.turns
       where
-        was : slice_get old.places n ≡ Some v.place
-        was = sym (h.rest n (omega arith)) ∙ v.there
-
         own : IsRested v.place
         own =
-            subst IsRested (get_or_from_slice_get old.places n v.place v.place was)
-            (each n v.place (slice_get_within old.places n v.place was))
+            subst IsRested (get_or_from_slice_get mid.places i v.place v.place v.there)
+            (each i v.place (slice_get_within mid.places i v.place v.there))
 
-        by : (moved due : Bool) → v.place.1.made_progress ≡ moved → (report : List (SystemCall P)) →
-            IsDueBy moved v.place.1.ports report due → (turn : List (SystemCall P)) →
-            TurnsIf port_transition due mid n turn new → Below (suc n) (suc n) old new
-        by moved true e report looks turn takes =
-            one_below n old takes.begun new (begun_below n old mid takes.begun turn h takes.begins) takes.runs
-        by false false e report looks turn stays =
-            subst (λ (k : HubView (QuotaPortsView P)). Below (suc n) (suc n) old k) (sym stays.1)
-            (same_below n old mid v.place v.there (own.1 e) h)
-        by true false e report looks turn stays = let due = looks.1 in absurd (cc)
-
-    below : (n : ℕ) (old : HubView (QuotaPortsView P)) (answers : List (SystemCall P)) (new : HubView (QuotaPortsView P)) →
-        TurnsBelow port_transition n old answers new → All IsRested old.places → Below n n old new
-    below zero old answers new run h =
-        none_below old new run.1 (All-weaker IsRested Held (λ now own. own.0) old.places h)
-    below (suc n) old answers new run h =
-        visited_below n old run.0 new run.2 h (below n old run.1 run.0 run.4 h) run.5
+        by : (moved due : Bool) → v.place.1.made_progress ≡ moved → IsDueBy moved v.place.1.ports v.report due →
+            TakesTurns port_transition due (most_turns v.place.1.made_progress) mid i v.turn new →
+            (now : SessionView × QuotaPortsView P) × Served now × Gets mid i now new
+        by moved true e looks takes =
+            let last = some_turns port_transition Held (λ old mid new b t h. still new (turned mid new t (begun old mid b h)))
+            (most_turns v.place.1.made_progress) mid i v.turn new v.place
+            (some_most port_transition v.place.1.made_progress) v.there own.0 takes in (
+              last.place,
+              turned last.turned.begun last.place last.turned.turned
+                  (begun last.before last.turned.begun last.turned.begins last.keeps),
+              last.gets,
+            )
+        by false false e looks stays = (v.place, own.1 e, gets_own i mid new v.place v.there stays.1)
+        by true false e looks stays = let due = looks.1 in absurd (cc)
 
     all_turned : (old : HubView (QuotaPortsView P)) (answers : List (SystemCall P)) (new : HubView (QuotaPortsView P)) →
         TurnsAll port_transition old answers new → All IsRested old.places →
         All Served new.places × (new.limits ≡ old.limits) × (length new.places ≡ length old.places)
     all_turned old answers new run h =
-        let b = below (length old.places) old answers new run h in
-        let short : length new.places ≤ length old.places = let same = b.count in omega (arith, same) in (
-          All-same Served new.places (take (length old.places) new.places)
-              (sym (take_all (length old.places) new.places short)) b.served,
-          b.limits,
-          b.count,
-        )
+        all_visited port_transition answers IsRested Served rested (λ mid i calls now within each v. visited mid i calls now each v)
+        old new h run
 
     -- ---- bots are accepted
 

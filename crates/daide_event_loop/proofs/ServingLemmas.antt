@@ -5,30 +5,14 @@ use Rattle.std.specs.Prelude.{◌||◌, length, slice_get, IfSome, IfErr}
 use Rattle.std.specs.Result.{IsErrAnd}
 use Rattle.daide_protocol.specs.Wires.{SessionView}
 use Rattle.daide_io.specs.Ports.{PortCall}
-use Rattle.daide_io.proofs.TraceLemmas.{or_assoc}
 use Rattle.daide_event_loop.specs.QuotaPorts.{QuotaPortsView}
 use Rattle.daide_io.specs.System.{SystemCall, Shows, Watches, Waits, TransitsBy, status_of}
 use Rattle.daide_settings.specs.declared.settings.Settings.{Settings}
 use Rattle.daide_event_loop.specs.declared.serving.ServeFault.{ServeFault}
 use Rattle.daide_event_loop.specs.declared.serving.ServeFault.TheVariants as Faults
-use Rattle.daide_event_loop.specs.Serving.{ServiceView, any_moved, shows, watches, wait_where, Round, Rounds, is_done, initial_service}
+use Rattle.daide_event_loop.specs.Serving.{ServiceView, shows, watches, wait_where, Round, Rounds, is_done, initial_service}
 use Rattle.daide_event_loop.specs.Serving.{BreaksOff, GivesUp}
 use Rattle.daide_event_loop.proofs.TransitLemmas.{transits_then}
-
--- ---- progress
-
-or_false : (b : Bool) → (b || false) ≡ b
-or_false true = refl
-or_false false = refl
-
--- one place more was looked at
-pub any_more : {P : Type 0} (xs : List (SessionView × QuotaPortsView P)) (i : ℕ) (m : QuotaPortsView P) → i < length xs →
-    IfSome (slice_get xs i) (λ place. m ≡ place.1) → any_moved (take (suc i) xs) ≡ (any_moved (take i xs) || m.made_progress)
-any_more [] i m lt h = absurd (omega (arith, lt))
-any_more (x ∷ xs) zero m lt h = rw h (or_false x.1.made_progress)
-any_more (x ∷ xs) (suc i) m lt h =
-    let inside : i < length xs = omega (arith, lt) in
-    ap (λ (b : Bool). x.1.made_progress || b) (any_more xs i m inside h) ∙ or_assoc x.1.made_progress (any_moved (take i xs)) m.made_progress
 
 -- ---- rounds
 

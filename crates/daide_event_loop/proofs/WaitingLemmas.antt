@@ -1,11 +1,10 @@
 -- The sessions of a run at a wait.
-use Rattle.std.proofs.Common.{◌≡◌, ℕ, zero, suc, ◌<◌, ◌≤◌, ◌+◌, Bool, true, false, List, [], ◌∷◌, ◌++◌, length, set}
+use Rattle.std.proofs.Common.{◌≡◌, ℕ, zero, suc, ◌≤◌, ◌+◌, Bool, true, false, List, [], ◌∷◌, ◌++◌, length}
 use Rattle.std.proofs.Common.{refl, sym, ap, ◌∙◌, subst, arith, ◌⊎◌, inl, inr, ⊎_elim, Option, Some, None}
-use Rattle.std.specs.Prelude.{◌||◌, ◌==◌, Contains, All, slice_get, is_none, not}
-use Rattle.std.proofs.lemmas.List.{length-set, append_assoc, append_cancel_right}
-use Rattle.std.proofs.lemmas.Bool.{eqb-true, eqb-false}
+use Rattle.std.specs.Prelude.{◌||◌, ◌==◌, Contains, All, is_none, not}
+use Rattle.std.proofs.lemmas.List.{append_assoc, append_cancel_right}
 use Rattle.std.proofs.lemmas.List.Elements.{All-nil, All-cons, All-push, All-weaker, All-contains, All-contains_itself, All-same}
-use Rattle.std.proofs.lemmas.List.Elements.{All-filter, All-get_or, filter_passes}
+use Rattle.std.proofs.lemmas.List.Elements.{All-filter, filter_passes}
 use Rattle.std.proofs.lemmas.List.Elements.{Contains-append_left, Contains-append_right}
 use Rattle.std.proofs.lemmas.Option.{slice_get_within, get_or_from_slice_get}
 use Rattle.daide_protocol.specs.Machine.{Limits, Effect, Runs, initial_state}
@@ -16,196 +15,27 @@ use Rattle.daide_io.specs.declared.system.Connect.{Connect}
 use Rattle.daide_io.specs.declared.system.Connect.TheVariants.{Ready, Failed, Pending}
 use Rattle.daide_io.specs.System.{SystemCall, Begins, Shows, ReportsNews, BeginsTurn, Watches, Accepts, Connects}
 use Rattle.daide_io.specs.System.{Retires, Notifies, Waits}
-use Rattle.daide_driver.specs.Hub.{HubView, Changes, IsBegun, IsTurned}
+use Rattle.daide_driver.specs.Hub.{HubView}
 use Rattle.daide_settings.specs.declared.settings.Settings.{Settings}
 use Rattle.daide_event_loop.specs.declared.admission_counters.AdmissionCounters.{AdmissionCounters}
-use Rattle.daide_event_loop.specs.QuotaPorts.{QuotaPortsView, Meters, beginning, beginning_where}
+use Rattle.daide_event_loop.specs.QuotaPorts.{QuotaPortsView, beginning_where}
 use Rattle.daide_event_loop.specs.Serving.{ServiceView, fresh, initial_service, may_accept, AdmitsWhere, MeetsWhere, MeetsBy}
-use Rattle.daide_event_loop.specs.Serving.{OpensTurn, IsDueBy, TurnsIf, VisitsPlace, TurnsBelow, any_moved}
+use Rattle.daide_event_loop.specs.Serving.{IsDueBy, TakesTurns, most_turns, VisitsPlace, TurnsAll, any_moved}
 use Rattle.daide_event_loop.specs.Serving.{last_words, retirement_where, retirements, remaining, end_of, heeding, opening}
 use Rattle.daide_event_loop.specs.Serving.{retirement, come, is_progress, any_progress, watches, wait_where, Round, Rounds, is_done}
 use Rattle.daide_event_loop.specs.Served.{run_limits, sum_over_calls}
 use Rattle.daide_event_loop.specs.Waiting.{IsIdleSession, IsIdleAtWait, IsIdleRun}
-use Rattle.daide_event_loop.proofs.BeginningLemmas.{none_counted, none_shown, turns_only, watches_only, slice_some, get_set}
+use Rattle.daide_event_loop.proofs.BeginningLemmas.{none_counted, none_shown, turns_only, watches_only, below_count}
+use Rattle.daide_event_loop.proofs.VisitLemmas.{Turned, wider, Gets, gets_own, some_most, some_turns, all_visited}
 use Rattle.daide_event_loop.proofs.CountLemmas.{counted_append}
 use Rattle.daide_event_loop.proofs.TurnCounts.{turn_begins_none}
 use Rattle.daide_event_loop.proofs.ServedLemmas.{Served, rounds_serve, turn_moved}
 use Rattle.daide_event_loop.proofs.StillTurns.{still_calls, turn_still, spent_calls, inner_calls, called_by, spent_closed}
 use Rattle.daide_event_loop.proofs.TurnCalls.{turn_made}
 
--- ---- lists of places
-
-set_other : {X : Type 0} (n k : ℕ) (xs : List X) (x : X) → (k ≡ n → ⊥) → slice_get (set xs n x) k ≡ slice_get xs k
-set_other zero zero xs x far = absurd (far refl)
-set_other (suc n) zero [] x far = refl
-set_other (suc n) zero (y ∷ xs) x far = refl
-set_other zero (suc k) [] x far = refl
-set_other (suc n) (suc k) [] x far = refl
-set_other zero (suc k) (y ∷ xs) x far = refl
-set_other (suc n) (suc k) (y ∷ xs) x far = set_other n k xs x (λ e. far (ap suc e))
-
-below_other : (k n : ℕ) → k < suc n → (k ≡ n → ⊥) → k < n
-below_other zero zero few far = absurd (far refl)
-below_other zero (suc n) few far = omega (arith)
-below_other (suc k) zero few far = absurd (omega (arith, few))
-below_other (suc k) (suc n) few far =
-    let rest = below_other k n (omega (arith, few)) (λ e. far (ap suc e)) in
-    omega (arith, rest)
-
-abbrev value_or : {X : Type 0} → X → Option X → X
-value_or x None = x
-value_or x (Some y) = y
-
-same_value : {X : Type 0} (o : Option X) (x y : X) → o ≡ Some x → o ≡ Some y → x ≡ y
-same_value o x y e f = ap (value_or x) (sym e ∙ f)
-
--- ---- one visit
+-- ---- a visit
 
 module _ {P : Type 0} (port_transition : P → PortCall → P → Type 0) where
-  -- a place whose last turn ran in this visit, with these calls of the system
-  record Turned (answers : List (SystemCall P)) (old new : SessionView × QuotaPortsView P) : Type 0 where
-    begun : SessionView × QuotaPortsView P
-    begins : IsBegun (Meters port_transition) old begun
-    turned : IsTurned (Meters port_transition) begun new
-    began : (x : SystemCall P) → Contains (beginning old.1 begun.1) x → Contains answers x
-
-  -- a place that was passed over
-  record Stayed (answers : List (SystemCall P)) (old new : SessionView × QuotaPortsView P) : Type 0 where
-    same : new ≡ old
-    reported : Contains answers (ReportsNews old.1.ports false)
-
-  abbrev Visited : List (SystemCall P) → SessionView × QuotaPortsView P → SessionView × QuotaPortsView P → Type 0
-  Visited answers old new = Turned answers old new ⊎ Stayed answers old new
-
-  -- the place that was visited, and all others
-  record Visit (mid : HubView (QuotaPortsView P)) (i : ℕ) (answers : List (SystemCall P)) (new : HubView (QuotaPortsView P))
-      (old : SessionView × QuotaPortsView P) : Type 0 where
-    place : SessionView × QuotaPortsView P
-    there : slice_get new.places i ≡ Some place
-    visited : Visited answers old place
-    others : (k : ℕ) → (k ≡ i → ⊥) → slice_get new.places k ≡ slice_get mid.places k
-    count : length new.places ≡ length mid.places
-
-  changed : (K : SessionView × QuotaPortsView P → SessionView × QuotaPortsView P → Type 0) (old : HubView (QuotaPortsView P))
-      (i : ℕ) (new : HubView (QuotaPortsView P)) (c : Changes K old i new) →
-      (slice_get new.places i ≡ Some c.1) × ((k : ℕ) → (k ≡ i → ⊥) → slice_get new.places k ≡ slice_get old.places k)
-      × (length new.places ≡ length old.places)
-  changed K old i new c =
-      let places : new.places ≡ set old.places i c.1 = ap (λ (h : HubView (QuotaPortsView P)). h.places) c.3 in (
-        ap (λ (l : List (SessionView × QuotaPortsView P)). slice_get l i) places
-            ∙ get_set old.places i c.1 (slice_get_within old.places i c.0 c.2),
-        λ k far. ap (λ (l : List (SessionView × QuotaPortsView P)). slice_get l k) places ∙ set_other i k old.places c.1 far,
-        ap length places ∙ length-set old.places i c.1,
-      )
-
-  visit : (mid : HubView (QuotaPortsView P)) (i : ℕ) (answers : List (SystemCall P)) (new : HubView (QuotaPortsView P))
-      (v : VisitsPlace port_transition mid i answers new) → Visit mid i answers new v.place
-  visit mid i answers new v = by v.due v.place.1.made_progress v.looks v.turns
-    where
-      by : (due moved : Bool) → IsDueBy moved v.place.1.ports v.report due → TurnsIf port_transition due mid i v.turn new →
-          Visit mid i answers new v.place
-      by true moved looks takes =
-          let first = changed (OpensTurn port_transition v.turn) mid i takes.begun takes.begins in
-          let second = changed (IsTurned (Meters port_transition)) takes.begun i new takes.runs in
-          let own : takes.begins.0 ≡ v.place = same_value (slice_get mid.places i) takes.begins.0 v.place takes.begins.2 v.there in
-          let next : takes.runs.0 ≡ takes.begins.1 =
-          same_value (slice_get takes.begun.places i) takes.runs.0 takes.begins.1 takes.runs.2 first.0 in
-          record {
-            place = takes.runs.1;
-            there = second.0;
-            visited = inl (record {
-              begun = takes.begins.1;
-              begins = subst (λ (p : SessionView × QuotaPortsView P). IsBegun (Meters port_transition) p takes.begins.1) own
-                  takes.begins.4.0;
-              turned = subst (λ (p : SessionView × QuotaPortsView P). IsTurned (Meters port_transition) p takes.runs.1) next
-                  takes.runs.4;
-              began = λ x c. subst (λ (l : List (SystemCall P)). Contains l x) (sym v.asked)
-                  (Contains-append_right v.report v.turn x
-                  (subst (λ (l : List (SystemCall P)). Contains l x) (sym takes.begins.4.1)
-                  (subst (λ (p : SessionView × QuotaPortsView P). Contains (beginning p.1 takes.begins.1.1) x) (sym own) c)));
-            });
-            others = λ k far. second.1 k far ∙ first.1 k far;
-            count = second.2 ∙ first.2;
-          }
-      by false true looks stays = let due = looks.1 in absurd (cc)
-      by false false looks stays = record {
-        place = v.place;
-        there = ap (λ (h : HubView (QuotaPortsView P)). slice_get h.places i) stays.1 ∙ v.there;
-        visited = inr (record {
-          same = refl;
-          reported = subst (λ (l : List (SystemCall P)). Contains l (ReportsNews v.place.1.ports false)) (sym v.asked)
-              (Contains-append_left v.report v.turn (ReportsNews v.place.1.ports false)
-              (subst (λ (l : List (SystemCall P)). Contains l (ReportsNews v.place.1.ports false)) (sym looks)
-              (0, omega arith, refl)));
-        });
-        others = λ k far. ap (λ (h : HubView (QuotaPortsView P)). slice_get h.places k) stays.1;
-        count = ap (λ (h : HubView (QuotaPortsView P)). length h.places) stays.1;
-      }
-
-  -- ---- all visits of a round
-
-  below_count : (n : ℕ) (old : HubView (QuotaPortsView P)) (answers : List (SystemCall P)) (new : HubView (QuotaPortsView P)) →
-      TurnsBelow port_transition n old answers new → length new.places ≡ length old.places
-  below_count zero old answers new h = ap (λ (k : HubView (QuotaPortsView P)). length k.places) h.1
-  below_count (suc n) old answers new h = (visit h.0 n h.2 new h.5).count ∙ below_count n old h.1 h.0 h.4
-
-  -- the places that were not visited yet are as before
-  above_same : (n : ℕ) (old : HubView (QuotaPortsView P)) (answers : List (SystemCall P)) (new : HubView (QuotaPortsView P)) →
-      TurnsBelow port_transition n old answers new → (k : ℕ) → n ≤ k → slice_get new.places k ≡ slice_get old.places k
-  above_same zero old answers new h k far = ap (λ (hub : HubView (QuotaPortsView P)). slice_get hub.places k) h.1
-  above_same (suc n) old answers new h k far =
-      (visit h.0 n h.2 new h.5).others k (λ e. absurd (omega (arith, far, e)))
-      ∙ above_same n old h.1 h.0 h.4 k (omega (arith, far))
-
-  -- each of the others was visited once
-  record Below (answers : List (SystemCall P)) (new : HubView (QuotaPortsView P)) (k : ℕ)
-      (old : SessionView × QuotaPortsView P) : Type 0 where
-    place : SessionView × QuotaPortsView P
-    there : slice_get new.places k ≡ Some place
-    calls : List (SystemCall P)
-    visited : Visited calls old place
-    within : (x : SystemCall P) → Contains calls x → Contains answers x
-
-  below : (n : ℕ) (old : HubView (QuotaPortsView P)) (answers : List (SystemCall P)) (new : HubView (QuotaPortsView P)) →
-      TurnsBelow port_transition n old answers new → (k : ℕ) → k < n → (own : SessionView × QuotaPortsView P) →
-      slice_get old.places k ≡ Some own → Below answers new k own
-  below zero old answers new h k few own there = absurd (omega (arith, few))
-  below (suc n) old answers new h k few own there =
-      by (k == n) refl (λ less. below n old h.1 h.0 h.4 k less own there)
-    where
-      v : VisitsPlace port_transition h.0 n h.2 new
-      v = h.5
-
-      last : Visit h.0 n h.2 new v.place
-      last = visit h.0 n h.2 new v
-
-      by : (here : Bool) → (k == n) ≡ here → (k < n → Below h.1 h.0 k own) → Below answers new k own
-      by true e later =
-          let same = eqb-true k n e in
-          let before : slice_get h.0.places n ≡ Some own =
-          above_same n old h.1 h.0 h.4 n (omega arith)
-          ∙ subst (λ (m : ℕ). slice_get old.places m ≡ Some own) same there in
-          let mine : v.place ≡ own = same_value (slice_get h.0.places n) v.place own v.there before in
-          record {
-            place = last.place;
-            there = subst (λ (m : ℕ). slice_get new.places m ≡ Some last.place) (sym same) last.there;
-            calls = h.2;
-            visited = subst (λ (p : SessionView × QuotaPortsView P). Visited h.2 p last.place) mine last.visited;
-            within = λ x c. subst (λ (l : List (SystemCall P)). Contains l x) (sym h.3) (Contains-append_right h.1 h.2 x c);
-          }
-      by false e later =
-          let other : k ≡ n → ⊥ = λ same. let differ = eqb-false k n e in differ same in
-          let less : k < n = below_other k n few other in
-          let rest = later less in
-          record {
-            place = rest.place;
-            there = last.others k other ∙ rest.there;
-            calls = rest.calls;
-            visited = rest.visited;
-            within = λ x c. subst (λ (l : List (SystemCall P)). Contains l x) (sym h.3)
-                (Contains-append_left h.1 h.2 x (rest.within x c));
-          }
-
   -- ---- one session
 
   -- what is known of a session whose last turn made no progress, between the rounds of a run
@@ -219,7 +49,7 @@ module _ {P : Type 0} (port_transition : P → PortCall → P → Type 0) where
       (is_closed place.0 ≡ true) ⊎ IsIdleAtWait port_transition round place
 
   by_quota : (limits : Limits) (round : List (SystemCall P)) (old new : SessionView × QuotaPortsView P)
-      (t : Turned round old new) (left : Option ℕ) → t.begun.1.turns_left ≡ left → RestsOrCloses limits round new
+      (t : Turned port_transition round old new) (left : Option ℕ) → t.begun.1.turns_left ≡ left → RestsOrCloses limits round new
   by_quota limits round old new t None none = λ still run.
       let quiet = turn_begins_none t.begun.0 t.turned.exchange.call new.0 t.turned.exchange.session.in_order in
       let moved = turn_moved port_transition old t.begun new t.begins t.turned in
@@ -254,56 +84,77 @@ module _ {P : Type 0} (port_transition : P → PortCall → P → Type 0) where
       (sym some) (0, omega arith, refl)) in
       inr (record { idle = idle; asked = inl begins })
 
-  after_visit : (limits : Limits) (calls round : List (SystemCall P)) (old new : SessionView × QuotaPortsView P) →
-      ((x : SystemCall P) → Contains calls x → Contains round x) → Visited calls old new → Rests old →
-      RestsOrCloses limits round new
-  after_visit limits calls round old new within v rests = ⊎_elim
-      (λ (t : Turned calls old new). by_quota limits round old new (wider t) t.begun.1.turns_left refl)
-      (λ (s : Stayed calls old new). stays s)
-      v
+  -- a run of the machine leads to the state of a session
+  abbrev HasRun : Limits → SessionView × QuotaPortsView P → Type 0
+  HasRun limits place = (events : List Event) × (effects : List Effect) × Runs (initial_state limits) events effects place.0.state
+
+  -- the same between the visits of a round, with no call of it
+  abbrev IdleOrClosed : Limits → SessionView × QuotaPortsView P → Type 0
+  IdleOrClosed limits place = place.1.made_progress ≡ false → HasRun limits place →
+      (is_closed place.0 ≡ true) ⊎ IsIdleSession port_transition place
+
+  without_calls : (limits : Limits) (round : List (SystemCall P)) (now : SessionView × QuotaPortsView P) →
+      RestsOrCloses limits round now → IdleOrClosed limits now
+  without_calls limits round now h = λ still run. ⊎_elim
+      (λ (over : is_closed now.0 ≡ true). inl over)
+      (λ (idle : IsIdleAtWait port_transition round now). inr idle.idle)
+      (h still run)
+
+  -- a session that is passed over was idle or closed before, and the system was asked for news
+  passed_over : (limits : Limits) (round : List (SystemCall P)) (now : SessionView × QuotaPortsView P) →
+      IdleOrClosed limits now → Contains round (ReportsNews now.1.ports false) → RestsOrCloses limits round now
+  passed_over limits round now h c = λ still run. ⊎_elim
+      (λ (over : is_closed now.0 ≡ true). inl over)
+      (λ (idle : IsIdleSession port_transition now). inr (record { idle = idle; asked = inr c }))
+      (h still run)
+
+  visited : (limits : Limits) (round : List (SystemCall P)) (mid : HubView (QuotaPortsView P)) (i : ℕ)
+      (calls : List (SystemCall P)) (new : HubView (QuotaPortsView P)) →
+      ((x : SystemCall P) → Contains calls x → Contains round x) → All (IdleOrClosed limits) mid.places →
+      VisitsPlace port_transition mid i calls new →
+      (now : SessionView × QuotaPortsView P) × RestsOrCloses limits round now × Gets mid i now new
+  visited limits round mid i calls new within each v = by v.due v.place.1.made_progress v.looks v.turns
     where
-      wider : Turned calls old new → Turned round old new
-      wider t = record {
-        begun = t.begun;
-        begins = t.begins;
-        turned = t.turned;
-        began = λ x c. within x (t.began x c);
-      }
+      in_round : (part : List (SystemCall P)) → ((x : SystemCall P) → Contains part x → Contains (v.report ++ v.turn) x) →
+          (x : SystemCall P) → Contains part x → Contains round x
+      in_round part inside x c =
+          within x (subst (λ (l : List (SystemCall P)). Contains l x) (sym v.asked) (inside x c))
 
-      stays : Stayed calls old new → RestsOrCloses limits round new
-      stays s = λ still run.
-          let own : Rests new = subst (λ (p : SessionView × QuotaPortsView P). Rests p) (sym s.same) rests in
-          inr (record {
-            idle = own still;
-            asked = inr (subst (λ (p : SessionView × QuotaPortsView P). Contains round (ReportsNews p.1.ports false)) (sym s.same)
-                (within (ReportsNews old.1.ports false) s.reported));
-          })
+      own : IdleOrClosed limits v.place
+      own =
+          subst (IdleOrClosed limits) (get_or_from_slice_get mid.places i v.place v.place v.there)
+          (each i v.place (slice_get_within mid.places i v.place v.there))
 
-  by_places : (places : List (SessionView × QuotaPortsView P)) (Q : SessionView × QuotaPortsView P → Type 0) →
-      ((k : ℕ) (place : SessionView × QuotaPortsView P) → slice_get places k ≡ Some place → Q place) → All Q places
-  by_places [] Q each = All-nil Q
-  by_places (place ∷ places) Q each =
-      All-cons Q place places (each zero place refl) (by_places places Q (λ k p e. each (suc k) p e))
+      by : (due moved : Bool) → IsDueBy moved v.place.1.ports v.report due →
+          TakesTurns port_transition due (most_turns v.place.1.made_progress) mid i v.turn new →
+          (now : SessionView × QuotaPortsView P) × RestsOrCloses limits round now × Gets mid i now new
+      by true moved looks takes =
+          let last = some_turns port_transition (λ now. Unit {0}) (λ old begun now b t k. tt) (most_turns v.place.1.made_progress)
+          mid i v.turn new v.place (some_most port_transition v.place.1.made_progress) v.there tt takes in
+          let turned = wider port_transition v.turn round last.before last.place
+          (in_round v.turn (λ x c. Contains-append_right v.report v.turn x c)) last.turned in
+          (last.place, by_quota limits round last.before last.place turned turned.begun.1.turns_left refl, last.gets)
+      by false true looks stays = let due = looks.1 in absurd (cc)
+      by false false looks stays = (
+        v.place,
+        passed_over limits round v.place own
+            (in_round v.report (λ x c. Contains-append_left v.report v.turn x c) (ReportsNews v.place.1.ports false)
+            (subst (λ (l : List (SystemCall P)). Contains l (ReportsNews v.place.1.ports false)) (sym looks)
+            (0, omega arith, refl))),
+        gets_own i mid new v.place v.there stays.1,
+      )
 
-  all_visited : (limits : Limits) (round : List (SystemCall P)) (old new : HubView (QuotaPortsView P)) →
-      TurnsBelow port_transition (length old.places) old round new → All Rests old.places →
-      All (RestsOrCloses limits round) new.places
-  all_visited limits round old new h rests =
-      by_places new.places (RestsOrCloses limits round) each
-    where
-      each : (k : ℕ) (place : SessionView × QuotaPortsView P) → slice_get new.places k ≡ Some place →
-          RestsOrCloses limits round place
-      each k place there =
-          let count = below_count (length old.places) old round new h in
-          let few = slice_get_within new.places k place there in
-          let inside : k < length old.places = omega (arith, few, count) in
-          let own = slice_some old.places k inside in
-          let b = below (length old.places) old round new h k inside own.0 own.1 in
-          let same : b.place ≡ place = same_value (slice_get new.places k) b.place place b.there there in
-          let rested : Rests own.0 =
-          subst Rests (get_or_from_slice_get old.places k own.0 own.0 own.1) (All-get_or Rests old.places k own.0 inside rests) in
-          subst (λ (p : SessionView × QuotaPortsView P). RestsOrCloses limits round p) same
-          (after_visit limits b.calls round own.0 b.place b.within b.visited rested)
+  -- all visits of a round
+  abbrev AllVisited : Limits → List (SystemCall P) → HubView (QuotaPortsView P) → HubView (QuotaPortsView P) → Type 0
+  AllVisited limits round old new = All (RestsOrCloses limits round) new.places × (new.limits ≡ old.limits)
+      × (length new.places ≡ length old.places)
+
+  visited_round : (limits : Limits) (round : List (SystemCall P)) (old new : HubView (QuotaPortsView P)) →
+      TurnsAll port_transition old round new → All Rests old.places → AllVisited limits round old new
+  visited_round limits round old new h rests =
+      all_visited port_transition round (IdleOrClosed limits) (RestsOrCloses limits round) (without_calls limits round)
+      (visited limits round) old new
+      (All-weaker Rests (IdleOrClosed limits) (λ now own. λ still run. inr (own still)) old.places rests) h
 
   -- ---- a round
 
@@ -331,7 +182,7 @@ module _ {P : Type 0} (port_transition : P → PortCall → P → Type 0) where
         All (AtRest r.beginnings) new.hub.places
     round_rests round all old new rests r served =
         let connected = met (r.came.connecting == 0) old.hub r.came r.meeting r.connected new.counters r.finishes rests in
-        let turned = all_visited (run_limits settings) r.beginnings r.connected r.turned r.turns connected in
+        let turned = (visited_round (run_limits settings) r.beginnings r.connected r.turned r.turns connected).0 in
         let places : new.hub.places ≡ remaining r.turned.places =
         ap (λ (k : HubView (QuotaPortsView P)). k.places) r.removes.1 in
         let kept : All (RestsOrCloses (run_limits settings) r.beginnings) new.hub.places =
@@ -464,11 +315,11 @@ all_false false false true d done e = absurd (cc)
 all_false false false false true done e = absurd (cc)
 all_false false false false false true e = absurd (cc)
 
-first_false : (a b : Bool) → (a || b) ≡ false → a ≡ false
+pub first_false : (a b : Bool) → (a || b) ≡ false → a ≡ false
 first_false false b e = refl
 first_false true b e = absurd (cc)
 
-later_false : (a b : Bool) → (a || b) ≡ false → b ≡ false
+pub later_false : (a b : Bool) → (a || b) ≡ false → b ≡ false
 later_false false b e = e
 later_false true b e = absurd (cc)
 
@@ -658,7 +509,7 @@ module _ {P : Type 0} where
         ap (λ (k : HubView (QuotaPortsView P)). k.places) r.removes.1 ∙ kept in
         let count : length run.hub.places ≡ length mid.hub.places =
         ap length places
-        ∙ below_count port_transition (length r.connected.places) r.connected r.beginnings r.turned r.turns
+        ∙ (below_count port_transition (length r.connected.places) r.connected r.beginnings r.turned r.turns).1
         ∙ ap (λ (k : HubView (QuotaPortsView P)). length k.places) met.0 in
         let counters : run.counters ≡ heeded = met.1 ∙ came.0 in
         let same : may_accept heeded (length mid.hub.places) ≡ may_accept run.counters (length run.hub.places) =

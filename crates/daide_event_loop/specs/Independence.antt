@@ -1,6 +1,6 @@
 -- Sessions of runs do not influence one another: what a session's own port calls returned decides its state, its bytes,
 -- its counts and its end, whatever the other sessions, the system and the network do. (own)
-use Rattle.std.specs.Prelude.{◌≡◌, ℕ, Bool, List, [], ◌∷◌, length}
+use Rattle.std.specs.Prelude.{◌≡◌, ℕ, List, [], ◌∷◌, length}
 use Rattle.daide_frame.specs.declared.side.Side.{Side}
 use Rattle.daide_protocol.specs.Wires.{SessionView, queued, sent_bytes}
 use Rattle.daide_io.specs.declared.ports.ClockEvent.{ClockEvent}

@@ -3,3 +3,4 @@ pub mod Serving
 pub mod Served
 pub mod Independence
 pub mod Waiting
+pub mod Attendance

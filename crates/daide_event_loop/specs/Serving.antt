@@ -141,7 +141,7 @@ abbrev pub FinishesConnect : {P : Type 0} → HubView (QuotaPortsView P) → Adm
     HubView (QuotaPortsView P) → AdmissionCounters → Type 0
 FinishesConnect hub counters = MeetsWhere (counters.connecting == 0) hub counters
 
--- ---- each session that has news has a turn
+-- ---- each session that has news has turns
 
 -- a turn of a session begins with its own ports, and the system begins it with these while turns are left
 abbrev pub OpensTurn : {P : Type 0} → (P → PortCall → P → Type 0) → List (SystemCall P) →
@@ -161,13 +161,29 @@ abbrev pub IsDueBy : {P : Type 0} → Bool → P → List (SystemCall P) → Boo
 IsDueBy true ports answers due = (answers ≡ []) × (due ≡ true)
 IsDueBy false ports answers due = answers ≡ ReportsNews ports due ∷ []
 
--- a session that is due a turn has one turn; any other stays as it is, and the system is not called
-abbrev pub TurnsIf : {P : Type 0} → (P → PortCall → P → Type 0) → Bool → HubView (QuotaPortsView P) → ℕ →
-    List (SystemCall P) → HubView (QuotaPortsView P) → Type 0
-TurnsIf transition true old i answers new = TakesTurn transition old i answers new
-TurnsIf transition false old i answers new = (answers ≡ []) × (new ≡ old)
+-- The most turns of a session in one visit, by whether its last turn made progress: one if so, since sessions with bytes
+-- without end take turns; eight if it was at rest, so that a short frame passes in one visit. (own)
+abbrev pub most_turns : Bool → ℕ
+most_turns true = 1
+most_turns false = 8
 
--- the session at this place has one turn if it is due one, and none otherwise
+-- whether the last turn of the session at a place made progress; not if there is none at this place
+abbrev pub has_moved_in : {P : Type 0} → Option (SessionView × QuotaPortsView P) → Bool
+has_moved_in None = false
+has_moved_in (Some place) = place.1.made_progress
+
+-- A session that is due a turn has one, and then one more after each that made progress, but at most this many. A session
+-- that is due none stays as it is, and the system is not called.
+abbrev pub TakesTurns : {P : Type 0} → (P → PortCall → P → Type 0) → Bool → ℕ → HubView (QuotaPortsView P) → ℕ →
+    List (SystemCall P) → HubView (QuotaPortsView P) → Type 0
+TakesTurns transition false most old i answers new = (answers ≡ []) × (new ≡ old)
+TakesTurns transition true zero old i answers new = (answers ≡ []) × (new ≡ old)
+TakesTurns {P} transition true (suc most) old i answers new =
+    (mid : HubView (QuotaPortsView P)) × (first : List (SystemCall P)) × (second : List (SystemCall P))
+    × (answers ≡ first ++ second) × TakesTurn transition old i first mid
+    × TakesTurns transition (has_moved_in (slice_get mid.places i)) most mid i second new
+
+-- the session at this place has turns if it is due one, and none otherwise
 pub record VisitsPlace {P : Type 0} (transition : P → PortCall → P → Type 0) (old : HubView (QuotaPortsView P)) (i : ℕ)
     (answers : List (SystemCall P)) (new : HubView (QuotaPortsView P)) : Type 0 where
   pub place : SessionView × QuotaPortsView P
@@ -176,10 +192,10 @@ pub record VisitsPlace {P : Type 0} (transition : P → PortCall → P → Type 
   pub report : List (SystemCall P)
   pub turn : List (SystemCall P)
   pub looks : IsDueBy place.1.made_progress place.1.ports report due
-  pub turns : TurnsIf transition due old i turn new
+  pub turns : TakesTurns transition due (most_turns place.1.made_progress) old i turn new
   pub asked : answers ≡ report ++ turn
 
--- the sessions at the first n places have a turn each if they are due one, in their order
+-- the sessions at the first n places are visited, in their order
 abbrev pub TurnsBelow : {P : Type 0} → (P → PortCall → P → Type 0) → ℕ → HubView (QuotaPortsView P) →
     List (SystemCall P) → HubView (QuotaPortsView P) → Type 0
 TurnsBelow transition zero old answers new = (answers ≡ []) × (new ≡ old)
@@ -193,6 +209,13 @@ TurnsAll transition old answers new = TurnsBelow transition (length old.places) 
 
 abbrev pub any_moved : {P : Type 0} → List (SessionView × QuotaPortsView P) → Bool
 any_moved places = list_any (λ place. place.1.made_progress) places
+
+abbrev pub any_closed : {P : Type 0} → List (SessionView × QuotaPortsView P) → Bool
+any_closed places = list_any (λ place. is_closed place.0) places
+
+-- no session is closed
+abbrev pub AreOpen : {P : Type 0} → List (SessionView × QuotaPortsView P) → Type 0
+AreOpen places = any_closed places ≡ false
 
 -- ---- closed sessions are removed
 
@@ -277,7 +300,7 @@ wait_where false places = watches places ++ Waits ∷ []
 
 -- The system begins a round with orders, by which the status of each session may be shown, and no bot may be accepted
 -- any more. At most one bot is accepted, and at most one connect completes or fails. Each session that is due a turn has
--- one, which the system begins. Closed sessions are removed. There is one wait, exactly if no progress was made and the
+-- one, or more in a row, each of which the system begins. Closed sessions are removed. There is one wait, exactly if no progress was made and the
 -- run is not done. It watches the ports of each session that is left.
 pub record Round {P : Type 0} (transition : P → PortCall → P → Type 0) (old : ServiceView P)
     (answers : List (SystemCall P)) (new : ServiceView P) : Type 0 where

@@ -2,6 +2,7 @@
 
 ghost use Rattle.daide_event_loop.specs.Served.{SessionsAreServed, OrdersAreHeeded, MovesAreAnswered, TurnsAreCounted};
 ghost use Rattle.daide_event_loop.specs.Independence.{SessionsAreIndependent};
+ghost use Rattle.daide_event_loop.specs.Attendance.{RoundsAttendAll};
 ghost use Rattle.daide_event_loop.specs.Waiting.{RunsAreIdleAtWaits};
 
 use daide_io::ports::Ports;
@@ -57,4 +58,13 @@ pub fn sessions_are_independent<P: Ports, Q: Ports>()
 /// both.
 pub fn runs_are_idle_at_waits<P: Ports>()
     ensures { RunsAreIdleAtWaits P.transition }
+{}
+
+/// In each round each session is attended, whatever the others do: it had a turn, or the system reported no news for its
+/// ports (`IsAttended`). So a session with news has at least one turn in each round. Before it each other session has at
+/// most eight turns, and one that has bytes without end has one (`most_turns`).
+///
+/// Not said: how long a turn takes.
+pub fn rounds_attend_all<P: Ports>()
+    ensures { RoundsAttendAll P.transition }
 {}

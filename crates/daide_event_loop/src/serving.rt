@@ -3,12 +3,12 @@
 //!
 //! It uses no socket. The system is a parameter, so that tests can drive whole runs in memory.
 
-ghost use Rattle.std.specs.Prelude.{◌≡◌, ◌+◌, ◌<◌, ◌≤◌, ◌==◌, true, false, List, [], ◌∷◌, length, Some};
+ghost use Rattle.std.specs.Prelude.{◌≡◌, ◌+◌, ◌<◌, ◌≤◌, ◌==◌, ◌||◌, true, false, List, [], ◌∷◌, length, Some};
 ghost use Rattle.std.specs.Prelude.{OnOk, OnErr, IfOk, IfErr, IfSome, slice_get};
 ghost use Rattle.daide_io.specs.System.{SystemCall, Connects, TransitsBy};
 ghost use Rattle.daide_event_loop.specs.Serving.{shows, shows_where};
-ghost use Rattle.daide_event_loop.specs.Serving.{IsWithinQuotas, Admits, FinishesConnect, IsDueBy, TakesTurn, VisitsPlace};
-ghost use Rattle.daide_event_loop.specs.Serving.{TurnsAll, any_moved};
+ghost use Rattle.daide_event_loop.specs.Serving.{IsWithinQuotas, Admits, FinishesConnect, IsDueBy, TakesTurn, TakesTurns, VisitsPlace, most_turns};
+ghost use Rattle.daide_event_loop.specs.Serving.{TurnsAll, any_moved, has_moved_in, AreOpen};
 ghost use Rattle.daide_event_loop.specs.Serving.{RemovesClosed, parting};
 ghost use Rattle.daide_event_loop.specs.Serving.{is_reported, cause_by, end_by};
 ghost use Rattle.daide_event_loop.specs.Serving.{watches, wait_where, any_progress, Round, is_done, initial_service};
@@ -33,6 +33,10 @@ use std::alloc::{AllocError, Allocator, Global};
 use std::marker::Model;
 use thiserror::Error;
 
+/// The most turns of a session that was at rest, in one visit. A short frame takes four: its header and its body are read,
+/// and both are written. The fifth finds nothing more to do. A session whose last turn made progress has one turn.
+const MOST_TURNS: usize = 8;
+
 /// Why a run ended before all its bots were served.
 #[derive(Clone, Copy, Debug, PartialEq, Eq, Error)]
 pub enum ServeFault {
@@ -52,13 +56,14 @@ pub struct Service<P: Ports, A: Allocator = Global> {
 }
 
 impl<P: Ports, A: Allocator> Model for Service<P, A> {
-    ghost use Rattle.daide_event_loop.specs.Serving.{ServiceView, IsWithinQuotas};
+    ghost use Rattle.daide_event_loop.specs.Serving.{ServiceView, IsWithinQuotas, AreOpen};
 
     ghost Value = { ServiceView P };
 
     ghost view = { λ s. record { hub = s.hub; counters = s.counters } };
 
-    ghost invariant = { λ s. IsWithinQuotas s.hub s.counters };
+    // between rounds no closed session is held
+    ghost invariant = { λ s. IsWithinQuotas s.hub s.counters × AreOpen s.hub.places };
 }
 
 /// Shows the operator the status of each session, in order of place.
@@ -122,11 +127,13 @@ fn take_up_connect<P: Ports, A: Memory + Copy, S: System<P>>(
     system: &mut S,
 ) -> Result<bool, ServeFault>
     requires within { IsWithinQuotas hub.old counters.old }
+    requires are_open { AreOpen hub.old.places }
     requires under_way { (counters.old.connecting == 0) ≡ false }
     ensures finishes { IfOk result (λ progressed. (answers : List (SystemCall P))
         × TransitsBy S.transition system.old answers system.new
         × FinishesConnect hub.old counters.old answers hub.new counters.new × (progressed ≡ any_progress answers)) }
     ensures within { IsWithinQuotas hub.new counters.new }
+    ensures are_open { AreOpen hub.new.places }
     ensures refused { IfErr result (λ fault. fault ≡ ServeFault.Memory) }
     ensures broken_off { OnErr result ((ports : P)
         × TransitsBy S.transition system.old (Connects (Connect.Ready ports) ∷ []) system.new) }
@@ -159,11 +166,13 @@ fn finish_connect<P: Ports, A: Memory + Copy, S: System<P>>(
     counters: &mut AdmissionCounters,
     system: &mut S,
 ) -> Result<bool, ServeFault>
-    requires { IsWithinQuotas hub.old counters.old }
+    requires within { IsWithinQuotas hub.old counters.old }
+    requires are_open { AreOpen hub.old.places }
     ensures finishes { IfOk result (λ progressed. (answers : List (SystemCall P))
         × TransitsBy S.transition system.old answers system.new
         × FinishesConnect hub.old counters.old answers hub.new counters.new × (progressed ≡ any_progress answers)) }
     ensures within { IsWithinQuotas hub.new counters.new }
+    ensures are_open { AreOpen hub.new.places }
     ensures refused { IfErr result (λ fault. fault ≡ ServeFault.Memory) }
     ensures broken_off { OnErr result ((ports : P)
         × TransitsBy S.transition system.old (Connects (Connect.Ready ports) ∷ []) system.new
@@ -207,45 +216,108 @@ fn is_due<P: Ports, A: Allocator + Copy, S: System<P>>(
     ports.has_moved() || system.has_news(ports.ports())
 }
 
-/// Makes one turn of the session at a place if it is due one.
+/// Returns the most turns of a session in one visit, by whether its last turn made progress. So a session with bytes
+/// without end has one turn in a round, and a session at rest goes on until there is nothing to do.
+fn most_turns(has_moved: bool) -> usize
+    ensures { result ≡ most_turns has_moved }
+{
+    if has_moved { 1 } else { MOST_TURNS }
+}
+
+/// Makes a turn of the session at a place, and then one more after each that made progress, at most `most`.
+fn take_turns<P: Ports, A: Allocator + Copy, S: System<P>>(
+    hub: &mut Hub<QuotaPorts<P>, A>,
+    i: usize,
+    most: usize,
+    system: &mut S,
+)
+    requires { i < length hub.old.places }
+    ensures turns { (answers : List (SystemCall P)) × TransitsBy S.transition system.old answers system.new
+        × TakesTurns P.transition true most hub.old i answers hub.new }
+    ensures count { length hub.new.places ≡ length hub.old.places }
+{
+    for _turn in 0..most {
+        take_turn(hub, i, system);
+        if !hub.ports(i).has_moved() {
+            return;
+        }
+    }
+}
+
+/// What the visits of sessions found. So no other session is looked at again in a round.
+#[derive(Clone, Copy)]
+struct Findings {
+    /// Whether the last turn of a session made progress.
+    has_moved: bool,
+    /// Whether a session is closed after a turn.
+    has_closed: bool,
+}
+
+impl Findings {
+    /// Nothing was found.
+    const NONE: Findings = Findings {
+        has_moved: false,
+        has_closed: false,
+    };
+
+    /// Returns what these visits found, or others.
+    fn or(self, others: Findings) -> Findings
+        ensures moved { result.has_moved ≡ (self.has_moved || others.has_moved) }
+        ensures closed { result.has_closed ≡ (self.has_closed || others.has_closed) }
+    {
+        Findings {
+            has_moved: self.has_moved || others.has_moved,
+            has_closed: self.has_closed || others.has_closed,
+        }
+    }
+}
+
+/// Makes turns of the session at a place if it is due one. Returns whether its last turn made progress, and whether it is
+/// closed after a turn.
 fn visit<P: Ports, A: Allocator + Copy, S: System<P>>(
     hub: &mut Hub<QuotaPorts<P>, A>,
     i: usize,
     system: &mut S,
-)
+) -> Findings
     requires { i < length hub.old.places }
-    ensures { (answers : List (SystemCall P)) × TransitsBy S.transition system.old answers system.new
+    ensures visits { (answers : List (SystemCall P)) × TransitsBy S.transition system.old answers system.new
         × VisitsPlace P.transition hub.old i answers hub.new }
+    ensures moved { has_moved_in (slice_get hub.new.places i) ≡ result.has_moved }
+    ensures count { length hub.new.places ≡ length hub.old.places }
+    ensures closed { result.has_closed ≡ false → AreOpen hub.old.places → AreOpen hub.new.places }
 {
-    if is_due(hub, i, system) {
-        take_turn(hub, i, system);
+    let most = most_turns(hub.ports(i).has_moved());
+    if !is_due(hub, i, system) {
+        return Findings::NONE;
+    }
+    take_turns(hub, i, most, system);
+    Findings {
+        has_moved: hub.ports(i).has_moved(),
+        has_closed: hub.session(i).is_closed(),
     }
 }
 
-/// Makes one turn of each session that is due one, in order of place.
+/// Visits each session, in order of place. Returns whether the last turn of any session made progress, and whether any
+/// may be closed.
+///
+/// `closed`: no session was closed before, so only one that had a turn may be.
 fn turn_all<P: Ports, A: Allocator + Copy, S: System<P>>(
     hub: &mut Hub<QuotaPorts<P>, A>,
     system: &mut S,
-)
+) -> Findings
+    requires { AreOpen hub.old.places }
     ensures turns { (answers : List (SystemCall P)) × TransitsBy S.transition system.old answers system.new
         × TurnsAll P.transition hub.old answers hub.new }
     ensures max { hub.new.max ≡ hub.old.max }
     ensures count { length hub.new.places ≡ length hub.old.places }
+    ensures moved { result.has_moved ≡ any_moved hub.new.places }
+    ensures closed { result.has_closed ≡ false → AreOpen hub.new.places }
 {
+    let mut found = Findings::NONE;
     for i in 0..hub.count() {
-        visit(hub, i, system);
+        found = found.or(visit(hub, i, system));
     }
-}
-
-/// Returns true if any session made progress in its last turn.
-fn has_moved<P: Ports, A: Allocator + Copy>(hub: &Hub<QuotaPorts<P>, A>) -> bool
-    ensures { result ≡ any_moved hub.now.places }
-{
-    let mut made_progress = false;
-    for i in 0..hub.count() {
-        made_progress |= hub.ports(i).has_moved();
-    }
-    made_progress
+    found
 }
 
 /// Returns true if an event is the first one reported beyond the quota.
@@ -331,6 +403,25 @@ fn remove_closed<P: Ports, A: Allocator + Copy, S: System<P>>(
     removed
 }
 
+/// Removes the closed sessions, if there are any, from the last place to the first. Returns true if there were any.
+fn remove_if_closed<P: Ports, A: Allocator + Copy, S: System<P>>(
+    has_closed: bool,
+    hub: &mut Hub<QuotaPorts<P>, A>,
+    system: &mut S,
+) -> bool
+    requires { has_closed ≡ false → AreOpen hub.old.places }
+    ensures removes { (answers : List (SystemCall P)) × TransitsBy S.transition system.old answers system.new
+        × RemovesClosed hub.old answers hub.new × (result ≡ any_progress answers) }
+    ensures max { hub.new.max ≡ hub.old.max }
+    ensures fewer { length hub.new.places ≤ length hub.old.places }
+    ensures are_open { AreOpen hub.new.places }
+{
+    if !has_closed {
+        return false;
+    }
+    remove_closed(hub, system)
+}
+
 /// Has the system watch the ports of each session, in order of place.
 fn watch_all<P: Ports, A: Allocator + Copy, S: System<P>>(
     hub: &Hub<QuotaPorts<P>, A>,
@@ -385,16 +476,20 @@ impl<P: Ports, A: Memory + Copy> Service<P, A> {
     }
 
     /// Makes one round. It calls the system to begin the round, heeds its orders, accepts at most one bot, and takes up
-    /// at most one connect. Each session that is due a turn then has one, in order of place. Closed sessions are taken
-    /// out, from the last place to the first. If nothing moved in all this and the run is not done, it waits once.
+    /// at most one connect. Then it visits each session, in order of place: one that was at rest and for which there is
+    /// news has a turn, and one more after each that made progress, at most eight; one whose last turn made progress has
+    /// one. Closed sessions are taken out, from the last place to the first. If nothing moved in all this and the run is
+    /// not done, it waits once.
     ///
     /// `round`: if the orders require it, the status of each session is shown once before any other call, in order of
     /// place (`shows`). If they stop accepting, the bots accepted so far are all bots of the run, in this round and from
     /// then on (`closed`). Sessions and pending connects go on. A bot is accepted only below two limits: of sessions and
     /// pending connects at once, and of bots in all.
     /// A session is due a turn if its last turn made progress, if it is new, or else if the system has news for its
-    /// ports (`VisitsPlace`). The system begins each turn with the session's ports (`begin_turn`), and the turn is made by
-    /// the clauses of `turn` (`TakesTurn`). Exactly the sessions that are over and for which nothing waits are taken out.
+    /// ports (`VisitsPlace`, `TakesTurns`). The system begins each turn with the session's ports (`begin_turn`), and the
+    /// turn is made by the clauses of `turn` (`TakesTurn`). So a short frame passes in one visit, and a session with bytes
+    /// without end has one turn in a round, as all others like it. Exactly the sessions that are over and for which nothing
+    /// waits are taken out.
     /// It waits if and only if nothing moved and the run is not done. Then it watches the ports of each session (`watch`).
     ///
     /// `refused`: its only fault is no memory for a session.
@@ -415,11 +510,10 @@ impl<P: Ports, A: Memory + Copy> Service<P, A> {
         show_sessions(orders, &self.hub, system);
         let came = admit::<P, S>(self.hub.count(), &mut self.counters, system);
         let connected = finish_connect(&mut self.hub, &mut self.counters, system)?;
-        turn_all(&mut self.hub, system);
-        let made_progress = has_moved(&self.hub);
-        let removed = remove_closed(&mut self.hub, system);
+        let found = turn_all(&mut self.hub, system);
+        let removed = remove_if_closed(found.has_closed, &mut self.hub, system);
         rest(
-            came | connected | made_progress | removed | self.is_done(),
+            came | connected | found.has_moved | removed | self.is_done(),
             &self.hub,
             system,
         );

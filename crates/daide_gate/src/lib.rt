@@ -31,7 +31,8 @@ pub use daide_io::{
     system,
 };
 pub use daide_protocol::{
-    Account, Config, ConfigError, Deed, Ending, Note, Phase, SessionLimits, SideCounts, Summary,
+    Account, BotName, Config, ConfigError, Deed, Ending, Note, Phase, SessionLimits, SideCounts,
+    Summary,
 };
 pub use daide_session::{Session, SessionError};
 

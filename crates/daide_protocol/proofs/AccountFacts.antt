@@ -16,6 +16,7 @@ use Rattle.daide_grammar.specs.declared.level.Level.TheVariants.{L0, L20, L30, L
 use Rattle.daide_grammar.specs.Table.Symbols.{entries, may_end_of, table_answer}
 use Rattle.daide_protocol.specs.declared.account.Account.{Account}
 use Rattle.daide_protocol.specs.declared.account.SideCounts.{SideCounts}
+use Rattle.daide_protocol.specs.declared.bot_name.BotName.TheVariants.{Unknown}
 use Rattle.daide_protocol.specs.declared.note.Deed.{Deed}
 use Rattle.daide_protocol.specs.declared.note.Deed.TheVariants as Deeds
 use Rattle.daide_protocol.specs.declared.note.Note.{Note}
@@ -31,9 +32,9 @@ use Rattle.daide_protocol.proofs.SomeRun.{in_phase, outcome_of}
 abbrev counts : ℕ → ℕ → ℕ → SideCounts
 counts relayed prn huh = record { relayed = relayed; prn = prn; huh = huh }
 
--- the bot's counts, the server's, the faults and the level
+-- the bot's counts, the server's, the faults and the level; the name has facts of its own
 abbrev of : SideCounts → SideCounts → ℕ → Level → Account
-of bot server faults level = record { bot = bot; server = server; faults = faults; level = level }
+of bot server faults level = record { bot = bot; server = server; faults = faults; level = level; name = Unknown }
 
 -- ---- one effect
 

@@ -10,9 +10,12 @@ use Rattle.daide_grammar.specs.declared.level.Level.{Level}
 use Rattle.daide_reader.specs.declared.verdict.Verdict.{Verdict}
 use Rattle.daide_reader.specs.declared.verdict.Verdict.TheVariants.{Relay, Prn, Huh}
 use Rattle.daide_protocol.specs.declared.account.Account.{Account}
+use Rattle.daide_protocol.specs.declared.note.Deed.{Deed}
 use Rattle.daide_protocol.specs.declared.note.Deed.TheVariants as Deeds
 use Rattle.daide_protocol.specs.declared.note.Note.TheVariants as Notes
 use Rattle.daide_protocol.specs.Account.{level_after, frame_accounted, effect_accounted, accounted}
+use Rattle.daide_protocol.specs.BotName.{name_after}
+use Rattle.daide_protocol.specs.declared.bot_name.BotName.{BotName}
 use Rattle.daide_protocol.specs.Answers.{answer_bytes, answer_head}
 use Rattle.daide_protocol.specs.Machine.{Limits, Effect, deed_of, reply_to}
 use Rattle.daide_protocol.specs.Wires.{SessionView, account_after}
@@ -62,9 +65,50 @@ level_by_body top side head body Relay level =
 level_by_body top side head body Prn level = returned_prn top head.kind side _ _ level
 level_by_body top side head body (Huh place) level = returned_huh top head.kind side place _ _ level
 
+-- nor does it have a name
+unnamed_prn : (kind : Kind) (side : Side) (a b : List ℕ) (name : BotName) →
+    name_after kind side Deeds.Prn a name ≡ name_after kind side Deeds.Prn b name
+unnamed_prn Im side a b name = refl
+unnamed_prn Rm side a b name = refl
+unnamed_prn Dm Bot a b name = refl
+unnamed_prn Dm Server a b name = refl
+unnamed_prn Fm side a b name = refl
+unnamed_prn Em side a b name = refl
+
+unnamed_huh : (kind : Kind) (side : Side) (place : ℕ) (a b : List ℕ) (name : BotName) →
+    name_after kind side (Deeds.Huh place) a name ≡ name_after kind side (Deeds.Huh place) b name
+unnamed_huh Im side place a b name = refl
+unnamed_huh Rm side place a b name = refl
+unnamed_huh Dm Bot place a b name = refl
+unnamed_huh Dm Server place a b name = refl
+unnamed_huh Fm side place a b name = refl
+unnamed_huh Em side place a b name = refl
+
+name_by_body : (side : Side) (head : Head) (body : List ℕ) (v : Verdict) (name : BotName) →
+    name_after head.kind side (deed_of true v) (tokens_of (drop 4 (answer_bytes head body v))) name
+    ≡ name_after head.kind side (deed_of true v) (tokens_of body) name
+unfolding answer_bytes
+name_by_body side head body Relay name =
+    ap (λ (b : List ℕ). name_after head.kind side Deeds.Relayed (tokens_of b) name)
+    (behind_head (answer_head head Relay) body)
+name_by_body side head body Prn name = unnamed_prn head.kind side _ _ name
+name_by_body side head body (Huh place) name = unnamed_huh head.kind side place _ _ name
+
 -- an answer is accounted by the body of its frame
 pub answer_by_body : (top : Level) (side : Side) (head : Head) (body : List ℕ) (v : Verdict) (a : Account) →
     effect_accounted top (Notes.Frame head (deed_of true v)) (reply_to side head body v ∷ []) a
     ≡ frame_accounted top side head.kind (deed_of true v) (tokens_of body) a
-answer_by_body top Bot head body v a = rw (level_by_body top Bot head body v a.level) refl
-answer_by_body top Server head body v a = rw (level_by_body top Server head body v a.level) refl
+answer_by_body top Bot head body v a =
+    rw (level_by_body top Bot head body v a.level, name_by_body Bot head body v a.name) refl
+answer_by_body top Server head body v a =
+    rw (level_by_body top Server head body v a.level, name_by_body Server head body v a.name) refl
+
+-- the counts and the level of a frame, and then its name, are its account
+pub named_account : (top : Level) (side : Side) (kind : Kind) (deed : Deed) (tokens : List ℕ) (a counted new : Account) →
+    counted ≡ record (frame_accounted top side kind deed tokens a) { name = a.name } →
+    new ≡ record counted { name = name_after kind side deed tokens counted.name } →
+    new ≡ frame_accounted top side kind deed tokens a
+named_account top Bot kind deed tokens a counted new e k =
+    k ∙ ap (λ (x : Account). record x { name = name_after kind Bot deed tokens x.name }) e
+named_account top Server kind deed tokens a counted new e k =
+    k ∙ ap (λ (x : Account). record x { name = name_after kind Server deed tokens x.name }) e

@@ -8,6 +8,8 @@ pub mod SummaryLemmas
 pub mod GrowthLemmas
 pub mod EndingLemmas
 pub mod CountLemmas
+pub mod NameLemmas
+pub mod NameTextLemmas
 pub mod AccountLemmas
 pub mod AccountLevels
 pub mod CallLemmas
@@ -26,6 +28,7 @@ pub mod SessionFacts
 mod EndingFacts
 mod CountFacts
 mod AccountFacts
+mod NameFacts
 mod LevelRangeFacts
 pub mod WordedVerdicts
 pub mod WordedRuns

@@ -1,6 +1,6 @@
--- The account of a session: what was done with the frames of each side, the faults, and the level of press that was
--- last in force. What is counted, and that it is counted modulo 2^64, is (own); the level is by docs/PROTOCOL.md, "The
--- session".
+-- The account of a session: what was done with the frames of each side, the faults, the level of press that was last in
+-- force, and what the bot calls itself. What is counted, and that it is counted modulo 2^64, is (own); the level is by
+-- docs/PROTOCOL.md, "The session".
 use Rattle.std.specs.Prelude.{ℕ, ◌+◌, ◌%◌, ◌^◌, List, [], ◌∷◌, drop, Option, Some, None}
 use Rattle.daide_token.specs.Token.{tokens_of}
 use Rattle.daide_frame.specs.declared.side.Side.{Side}
@@ -11,11 +11,13 @@ use Rattle.daide_grammar.specs.declared.level.Level.{Level}
 use Rattle.daide_grammar.specs.declared.level.Level.TheVariants.{L0}
 use Rattle.daide_protocol.specs.declared.account.Account.{Account}
 use Rattle.daide_protocol.specs.declared.account.SideCounts.{SideCounts}
+use Rattle.daide_protocol.specs.declared.bot_name.BotName.TheVariants.{Unknown}
 use Rattle.daide_protocol.specs.declared.note.Deed.{Deed}
 use Rattle.daide_protocol.specs.declared.note.Deed.TheVariants.{Relayed, Dropped, Prn, Huh}
 use Rattle.daide_protocol.specs.declared.note.Note.{Note}
 use Rattle.daide_protocol.specs.declared.note.Note.TheVariants as Notes
 use Rattle.daide_protocol.specs.declared.summary.Summary.{Summary}
+use Rattle.daide_protocol.specs.BotName.{name_after}
 use Rattle.daide_protocol.specs.HloLevel.{level_reported}
 use Rattle.daide_protocol.specs.Machine.{Sent, Effect}
 use Rattle.daide_protocol.specs.Summary.{one_more}
@@ -25,7 +27,7 @@ no_frames = record { relayed = 0; prn = 0; huh = 0 }
 
 -- the account of a session without any effect
 abbrev pub nothing_accounted : Account
-nothing_accounted = record { bot = no_frames; server = no_frames; faults = 0; level = L0 }
+nothing_accounted = record { bot = no_frames; server = no_frames; faults = 0; level = L0; name = Unknown }
 
 -- ---- one more effect
 
@@ -49,17 +51,25 @@ frame_accounted top Bot kind deed tokens a = record {
   server = a.server;
   faults = a.faults;
   level = level_after top kind Bot deed tokens a.level;
+  name = name_after kind Bot deed tokens a.name;
 }
 frame_accounted top Server kind deed tokens a = record {
   bot = a.bot;
   server = frame_counted deed a.server;
   faults = a.faults;
   level = level_after top kind Server deed tokens a.level;
+  name = name_after kind Server deed tokens a.name;
 }
 
 -- the account after one more fault
 abbrev pub fault_accounted : Account → Account
-fault_accounted a = record { bot = a.bot; server = a.server; faults = one_more a.faults; level = a.level }
+fault_accounted a = record {
+  bot = a.bot;
+  server = a.server;
+  faults = one_more a.faults;
+  level = a.level;
+  name = a.name;
+}
 
 -- a frame belongs to the side that the sent frame answers
 abbrev pub answer_accounted : Level → Option Side → Kind → Deed → List ℕ → Account → Account

@@ -5,7 +5,9 @@ pub mod HloLevel
 pub mod Machine
 pub mod Config
 pub mod Summary
+pub mod BotName
 pub mod Account
+pub mod AccountText
 pub mod Wires
 pub mod Counts
 pub mod Weight

@@ -1,11 +1,15 @@
-//! The account of a session: its effects, counted by side, the level of press that was last in force, and the text of
-//! these.
+//! The account of a session: its effects, counted by side, the level of press that was last in force, what the bot
+//! calls itself, and the text of these.
 
-ghost use Rattle.std.specs.Prelude.{◌≡◌, ℕ, List};
+ghost use Rattle.std.specs.Prelude.{◌≡◌, ℕ, List, Some};
+ghost use Rattle.daide_token.specs.Token.{tokens_of};
+ghost use Rattle.daide_protocol.specs.AccountText.{account_text, name_part, rest_text, side_text};
+ghost use Rattle.daide_protocol.specs.BotName.{name_after};
 ghost use Rattle.daide_protocol.specs.HloLevel.{lvl_scan_of};
 ghost use Rattle.daide_protocol.specs.Account.{no_frames, nothing_accounted, frame_counted, frame_accounted};
 ghost use Rattle.daide_protocol.specs.Account.{fault_accounted, summary_of, level_after as next_level};
 
+use crate::bot_name::BotName;
 use crate::hlo::{LvlScan, level_reported};
 use crate::note::Deed;
 use crate::summary::Summary;
@@ -24,7 +28,7 @@ pub struct SideCounts {
     pub huh: u64,
 }
 
-/// The counts of each side, the faults, and the level of press that was last in force.
+/// The counts of each side, the faults, the level of press that was last in force, and what the bot calls itself.
 #[derive(Clone, Copy, Debug, PartialEq, Eq)]
 pub struct Account {
     /// The frames from the bot.
@@ -35,6 +39,8 @@ pub struct Account {
     pub faults: u64,
     /// The level that the last relayed RM or HLO of the server set; level 0 before.
     pub level: Level,
+    /// The name of the bot, by the last NME or IAM of it that was relayed.
+    pub name: BotName,
 }
 
 impl SideCounts {
@@ -92,18 +98,33 @@ impl Account {
             server: SideCounts::new(),
             faults: 0,
             level: Level::L0,
+            name: BotName::Unknown,
         }
     }
 
-    /// Counts one frame of a side by what was done with it, and records the level after it.
+    /// Counts one frame of a side by what was done with it, and records the level after it. It leaves the name to
+    /// `record_name`.
     pub fn count_frame(&mut self, top: Level, side: Side, kind: Kind, deed: Deed, found: LvlScan)
         ensures { (tokens : List ℕ) → found ≡ lvl_scan_of tokens →
-            self.new ≡ frame_accounted top side kind deed tokens self.old }
+            self.new ≡ record (frame_accounted top side kind deed tokens self.old) { name = self.old.name } }
     {
         self.level = level_after(top, kind, side, deed, found, self.level);
         match side {
             Side::Bot => self.bot.count(deed),
             Side::Server => self.server.count(deed),
+        }
+    }
+
+    /// Records the name after one frame of a side with this body, by what was done with it: an NME or IAM of the bot
+    /// that was relayed has one.
+    pub fn record_name(&mut self, side: Side, kind: Kind, deed: Deed, body: &[u8])
+        ensures { self.new
+            ≡ record self.old { name = name_after kind side deed (tokens_of body.now) self.old.name } }
+    {
+        if let (Kind::Dm, Side::Bot, Deed::Relayed) = (kind, side, deed)
+            && let Some(name) = BotName::in_message(body)
+        {
+            self.name = name;
         }
     }
 
@@ -127,20 +148,66 @@ impl Account {
     }
 }
 
-impl fmt::Display for Account {
-    /// Writes each side's counts before their names, the faults, and the level.
+impl fmt::Display for SideCounts {
+    ghost output = { λ counts. Some (side_text counts) };
+
+    /// Writes each count before its name.
+    #[tactic(auto, unfolding(crate::specs::AccountText::side_text))]
     fn fmt<W: fmt::Write>(&self, f: &mut fmt::Formatter<W>) -> fmt::Result {
-        let Account {
-            bot,
-            server,
-            faults,
-            level,
-        } = *self;
-        let number = level.number();
-        write!(
-            f,
-            "bot {} relayed {} prn {} huh; server {} relayed {} prn {} huh; {faults} faults; level {number}",
-            bot.relayed, bot.prn, bot.huh, server.relayed, server.prn, server.huh
-        )
+        let SideCounts { relayed, prn, huh } = *self;
+        write!(f, "{relayed} relayed {prn} prn {huh} huh")
+    }
+}
+
+/// The name of a bot as it follows the level; nothing if the bot has said none.
+#[derive(Clone, Copy)]
+struct NamePart {
+    name: BotName,
+}
+
+impl fmt::Display for NamePart {
+    ghost output = { λ part. Some (name_part part.name) };
+
+    #[tactic(auto, unfolding(crate::specs::AccountText::name_part))]
+    fn fmt<W: fmt::Write>(&self, f: &mut fmt::Formatter<W>) -> fmt::Result {
+        let name = self.name;
+        match name {
+            BotName::Unknown => Ok(()),
+            BotName::Nme(_) => write!(f, "; {name}"),
+            BotName::Iam(_) => write!(f, "; {name}"),
+        }
+    }
+}
+
+/// What follows the counts of the sides in the text of an account.
+#[derive(Clone, Copy)]
+struct AccountRest {
+    account: Account,
+}
+
+impl fmt::Display for AccountRest {
+    ghost output = { λ rest. Some (rest_text rest.account) };
+
+    #[tactic(auto, unfolding(crate::specs::AccountText::rest_text))]
+    fn fmt<W: fmt::Write>(&self, f: &mut fmt::Formatter<W>) -> fmt::Result {
+        let faults = self.account.faults;
+        let level = self.account.level.number();
+        let part = NamePart {
+            name: self.account.name,
+        };
+        write!(f, "; {faults} faults; level {level}{part}")
+    }
+}
+
+impl fmt::Display for Account {
+    ghost output = { λ account. Some (account_text account) };
+
+    /// Writes the counts of each side, the faults, the level, and the name of the bot if it has said one.
+    #[tactic(auto, unfolding(crate::specs::AccountText::account_text))]
+    fn fmt<W: fmt::Write>(&self, f: &mut fmt::Formatter<W>) -> fmt::Result {
+        let bot = self.bot;
+        let server = self.server;
+        let rest = AccountRest { account: *self };
+        write!(f, "bot {bot}; server {server}{rest}")
     }
 }

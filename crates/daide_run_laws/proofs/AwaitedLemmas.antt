@@ -1,21 +1,21 @@
 -- The wait of a round in which a bot may be accepted is for bots too.
-use Rattle.std.proofs.Common.{◌≡◌, ℕ, zero, suc, Bool, true, false, List, [], ◌∷◌, ◌++◌, length, refl, ap, ◌∙◌, subst}
-use Rattle.std.proofs.Common.{Option, Some, None}
+use Rattle.std.proofs.Common.{◌≡◌, ℕ, Bool, true, false, List, [], ◌∷◌, ◌++◌, length, refl, ap, ◌∙◌, subst}
 use Rattle.std.specs.Prelude.{All, is_none, ◌==◌}
 use Rattle.std.proofs.lemmas.List.Elements.{All-nil, All-cons, All-same, All-append}
 use Rattle.daide_protocol.specs.Wires.{SessionView, is_closed}
 use Rattle.daide_driver.specs.Hub.{HubView}
 use Rattle.daide_io.specs.Network.{NetworkCall}
 use Rattle.daide_io.specs.Ports.{PortCall}
-use Rattle.daide_io.specs.System.{SystemCall, ReportsNews, BeginsTurn, Watches, Accepts, Connects, Retires, Notifies, Waits, TransitsBy}
+use Rattle.daide_io.specs.System.{SystemCall, Watches, Accepts, Connects, Retires, Notifies, Waits, TransitsBy}
 use Rattle.daide_io.specs.declared.system.Connect.{Connect}
 use Rattle.daide_io.specs.declared.system.Connect.TheVariants.{Ready, Failed, Pending}
 use Rattle.daide_io.specs.declared.system.Notice.TheVariants.{CannotReach, TurnsSpent}
 use Rattle.daide_event_loop.specs.declared.admission_counters.AdmissionCounters.{AdmissionCounters}
-use Rattle.daide_event_loop.specs.QuotaPorts.{QuotaPortsView, beginning, beginning_where}
-use Rattle.daide_event_loop.specs.Serving.{AdmitsWhere, MeetsWhere, MeetsBy, IsDueBy, TurnsIf, TurnsBelow, VisitsPlace}
+use Rattle.daide_event_loop.specs.QuotaPorts.{QuotaPortsView}
+use Rattle.daide_event_loop.specs.Serving.{AdmitsWhere, MeetsWhere, MeetsBy, TurnsBelow}
 use Rattle.daide_event_loop.specs.Serving.{may_accept, heeding, opening, last_words, parting, end_of, retirement, retirement_where}
 use Rattle.daide_event_loop.specs.Serving.{retirements, watches}
+use Rattle.daide_event_loop.proofs.BeginningLemmas.{all_turns, turns_only}
 use Rattle.daide_event_loop.proofs.WaitingLemmas.{early, all_watched}
 use Rattle.daide_sockets.specs.Scheduling.{RunState, Schedules}
 use Rattle.daide_sockets.specs.Timers.{SessionTimers}
@@ -54,15 +54,6 @@ module _ {P : Type 0} where
       All-same IsAfterAccept calls (Connects h.0 ∷ h.1) h.2
       (All-cons IsAfterAccept (Connects h.0) h.1 tt (told_after h.0 hub counters h.1 new_hub new_counters h.3))
 
-  news_after : (moved : Bool) (ports : P) (calls : List (SystemCall P)) (due : Bool) → IsDueBy moved ports calls due →
-      AreAfter calls
-  news_after true ports calls due h = none calls h.0
-  news_after false ports calls due h = one calls (ReportsNews ports due) h tt
-
-  begun_after : (left : Option ℕ) (before after : P) → AreAfter (beginning_where left before after)
-  begun_after None before after = All-nil IsAfterAccept
-  begun_after (Some n) before after = one (BeginsTurn before after ∷ []) (BeginsTurn before after) refl tt
-
   last_after : (spent : Bool) → AreAfter (last_words spent)
   last_after true = one (last_words true) (Notifies TurnsSpent) refl tt
   last_after false = All-nil IsAfterAccept
@@ -85,26 +76,12 @@ module _ {P : Type 0} where
       All-cons IsAfterAccept (Watches place.1.ports) (watches places) tt (watches_after places)
 
 module _ {P : Type 0} (port_transition : P → PortCall → P → Type 0) where
-  turn_after : (due : Bool) (old : HubView (QuotaPortsView P)) (i : ℕ) (calls : List (SystemCall P))
-      (new : HubView (QuotaPortsView P)) → TurnsIf port_transition due old i calls new → AreAfter calls
-  turn_after false old i calls new h = none calls h.0
-  turn_after true old i calls new h =
-      let at = h.begins in
-      let opens = at.4 in
-      All-same IsAfterAccept calls (beginning at.0.1 at.1.1) opens.1
-      (begun_after at.1.1.turns_left at.0.1.ports at.1.1.ports)
-
-  visit_after : (old : HubView (QuotaPortsView P)) (i : ℕ) (calls : List (SystemCall P)) (new : HubView (QuotaPortsView P)) →
-      VisitsPlace port_transition old i calls new → AreAfter calls
-  visit_after old i calls new v =
-      both calls v.report v.turn v.asked (news_after v.place.1.made_progress v.place.1.ports v.report v.due v.looks)
-      (turn_after v.due old i v.turn new v.turns)
-
+  -- the visits of a round only ask for news and begin turns
   turns_after : (n : ℕ) (old : HubView (QuotaPortsView P)) (calls : List (SystemCall P)) (new : HubView (QuotaPortsView P)) →
       TurnsBelow port_transition n old calls new → AreAfter calls
-  turns_after zero old calls new h = none calls h.0
-  turns_after (suc n) old calls new h =
-      both calls h.1 h.2 h.3 (turns_after n old h.1 h.0 h.4) (visit_after h.0 n h.2 new h.5)
+  turns_after n old calls new h =
+      all_turns IsAfterAccept calls (λ ports news. tt) (λ before after. tt) (λ ports. tt)
+      (turns_only port_transition n old calls new h)
 
   -- ---- the accept
 

@@ -1,5 +1,5 @@
 -- The laws of `laws`, used at single values. A fact takes only the law, so that a weaker law does not check.
-use Rattle.std.proofs.Common.{◌≡◌, ◌<◌, ◌+◌, ◌-◌, ◌≤◌, true, false, List, [], ◌∷◌, ◌++◌, length, refl, ap, subst, ⊎_elim, arith, Option, Some, None}
+use Rattle.std.proofs.Common.{◌≡◌, ℕ, ◌<◌, ◌+◌, ◌-◌, ◌≤◌, Bool, true, false, List, [], ◌∷◌, ◌++◌, length, refl, ap, subst, ⊎_elim, arith, Option, Some, None}
 use Rattle.std.specs.Prelude.{All, Contains}
 use Rattle.std.specs.Duration.{as_nanos}
 use Rattle.std.specs.Time.{instant_nanos}
@@ -10,19 +10,25 @@ use Rattle.daide_frame.specs.declared.side.Side.TheVariants.{Bot, Server}
 use Rattle.daide_protocol.specs.Wires.{SessionView, room_of, queued, no_frame}
 use Rattle.daide_io.specs.Network.{NetworkCall}
 use Rattle.daide_io.specs.Ports.{PortCall}
-use Rattle.daide_io.specs.System.{SystemCall, Waits, TransitsBy}
+use Rattle.daide_io.specs.Streams.{StreamCall}
+use Rattle.daide_io.specs.System.{SystemCall, Accepts, Waits, TransitsBy}
+use Rattle.daide_io.specs.declared.system.Orders.{Orders}
+use Rattle.daide_settings.specs.BotsInAll.{bots_in_all}
 use Rattle.daide_settings.specs.declared.settings.Settings.{Settings}
 use Rattle.daide_event_loop.specs.QuotaPorts.{QuotaPortsView}
-use Rattle.daide_event_loop.specs.Serving.{ServiceView, Round, initial_service, is_done, may_accept, heeding, fresh}
+use Rattle.daide_event_loop.specs.Serving.{ServiceView, Round, Rounds, initial_service, is_done, may_accept, heeding, opening, fresh}
 use Rattle.daide_event_loop.specs.Served.{IsServed}
+use Rattle.daide_sockets.specs.Accepting.{is_accept_due, MakesAccept}
+use Rattle.daide_sockets.specs.declared.ports.SocketPorts.{SocketPorts}
 use Rattle.daide_sockets.specs.InTime.{IsAtMost}
 use Rattle.daide_sockets.specs.Table.{Table, IsNoTime}
-use Rattle.daide_sockets.specs.Scheduling.{RunState, Schedules, AwaitsBots}
+use Rattle.daide_sockets.specs.Scheduling.{RunState, Schedules, AwaitsBots, RunEvolves}
 use Rattle.daide_sockets.specs.Timers.{SessionTimers}
 use Rattle.daide_sockets.specs.Wakeups.{SessionSockets, Wakes, session_due}
 use Rattle.daide_run_laws.specs.FreedPlaces.{AreTimesOf, ClockGoesOn, IsTimed, HasDeadline, WaitsByDeadlines, deliveries}
 use Rattle.daide_run_laws.specs.FreedPlaces.{overdue_turns, CameFrom, IsQuietFor, NoSessionWaitsForEver, TimeoutsStay, DeadlinesPassSeldom}
 use Rattle.daide_run_laws.specs.NoLostWakeups.{Sleeps, WaitsAsleep, NoWakeupIsLost, NoBotWaits}
+use Rattle.daide_run_laws.specs.Room.{HasRoomForNext, EachBotHasRoom}
 
 module _ {P S N C : Type 0} (port_transition : P → PortCall → P → Type 0) (transition : N → NetworkCall C → N → Type 0)
     (view : P → SessionSockets S) (law : NoWakeupIsLost port_transition view transition) (settings : Settings) (round : List (SystemCall P)) (run : ServiceView P)
@@ -141,3 +147,26 @@ module _ {P S N C : Type 0} (port_transition : P → PortCall → P → Type 0) 
   -- while the listener is ready and no pause is under way, the wait takes no time
   ready_listener : old.acceptor.resumes_at ≡ None → old.acceptor.readiness.may_read ≡ true → IsNoTime awaited.rests.time
   ready_listener goes_on ready = awaited.awaits (rw (goes_on, ready) refl)
+
+module _ {P S N C : Type 0} (port_transition : P → PortCall → P → Type 0) (transition : N → NetworkCall C → N → Type 0)
+    (to_give taken : S → Option (List ℕ)) (calls : S → Option (List StreamCall)) (ports_in : P → SocketPorts S)
+    (law : EachBotHasRoom port_transition transition to_give taken calls ports_in) (settings : Settings)
+    (before : List (SystemCall P)) (orders : Orders) (run : ServiceView P) (first old new : RunState N S) (came : Bool)
+    (three : settings.max_sessions ≡ 3) (bots : bots_in_all settings ≡ 40) (room : old.room ≡ 3)
+    (none : first.acceptor.came ≡ 0) (no_arrivals : first.arrivals ≡ []) (no_closing : first.closing.streams ≡ [])
+    (rounds : Rounds port_transition 9 (initial_service settings) before run)
+    (may : may_accept (heeding orders run.counters) (length run.hub.places) ≡ true)
+    (trace : TransitsBy (RunEvolves transition to_give taken calls ports_in) first (before ++ opening orders run.hub.places) old)
+    (accept : RunEvolves transition to_give taken calls ports_in old (Accepts came) new) where
+  has_room : HasRoomForNext settings run old × (is_accept_due old.table old.acceptor.key old.acceptor.readiness
+      old.acceptor.resumes_at ≡ true → MakesAccept transition old.network)
+  has_room = law settings 9 before orders run first old new came (omega (arith, bots)) (omega (arith, three, room)) none no_arrivals
+      no_closing rounds may trace accept
+
+  -- with three sessions at most, and 256 sockets that close, one more bot is accepted beside two sessions or connects
+  beside_two : length old.closing.streams ≡ 256 → length run.hub.places + length old.arrivals ≤ 2
+  beside_two closing = let rows = has_room.0.rows in omega (arith, rows, closing, three)
+
+  -- while the listener is ready and no pause is under way, an accept is made
+  ready_accept : old.acceptor.resumes_at ≡ None → old.acceptor.readiness.may_read ≡ true → MakesAccept transition old.network
+  ready_accept goes_on ready = has_room.1 (rw (goes_on, ready) refl)

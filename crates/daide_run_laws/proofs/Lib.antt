@@ -9,4 +9,5 @@ pub mod Deadlines
 pub mod DeadlineLemmas
 pub mod OverdueLemmas
 pub mod StayLemmas
+pub mod RoomLemmas
 mod LawFacts

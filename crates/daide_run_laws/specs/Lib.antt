@@ -1,2 +1,3 @@
 pub mod NoLostWakeups
 pub mod FreedPlaces
+pub mod Room

@@ -3,6 +3,7 @@
 ghost use Rattle.daide_sockets.specs.Timers.{timers_of};
 ghost use Rattle.daide_run_laws.specs.FreedPlaces.{NoSessionWaitsForEver, TimeoutsStay, DeadlinesPassSeldom};
 ghost use Rattle.daide_run_laws.specs.NoLostWakeups.{NoWakeupIsLost, NoBotWaits};
+ghost use Rattle.daide_run_laws.specs.Room.{EachBotHasRoom};
 
 use daide_io::duplex::Duplex;
 use daide_io::network::Network;
@@ -51,6 +52,28 @@ pub fn no_bot_waits<S: Duplex + Drop, N: Network>()
 pub fn no_bot_waits_beside_records<S: Duplex + Drop, N: Network, W: Sink + Drop>()
     ensures { NoBotWaits ⟦<TimedRecording<SocketPorts<'static, S>, W> as Ports>⟧.transition (λ ports. timers_of ports.ports)
         N.transition }
+{}
+
+/// The sockets have room for each bot that the loop may accept. Take a run over sockets with no bot yet, any number of rounds,
+/// and an accept of its loop. The bots and the connects under way are as many as the loop counts. Two sockets for each
+/// session, two for each connect, those that close, the two listeners, four control connections, and two for one bot more are
+/// at most as many as the table of the run has rows (`HasRoomForNext`; `bind_sockets`: `rows`). The list of connects has room
+/// too, so an accept is made whenever it is due.
+///
+/// The list keeps the room with which it was created: for all sessions (`Sockets::new`: `room`). A run has at most 2^32 - 1
+/// bots.
+///
+/// Not said: that each row that is taken belongs to one of these sockets. It is read from the code: whoever drops a socket
+/// frees its row.
+pub fn each_bot_has_room<S: Duplex + Drop, N: Network>()
+    ensures { EachBotHasRoom ⟦<SocketPorts<'static, S> as Ports>⟧.transition N.transition S.to_give S.taken S.calls
+        (λ ports. ports) }
+{}
+
+/// The same of a run that records its sessions.
+pub fn each_bot_has_room_beside_records<S: Duplex + Drop, N: Network, W: Sink + Drop>()
+    ensures { EachBotHasRoom ⟦<TimedRecording<SocketPorts<'static, S>, W> as Ports>⟧.transition N.transition S.to_give S.taken
+        S.calls (λ ports. ports.ports) }
 {}
 
 /// No session waits for ever. Take a run over sockets whose settings have an idle timeout and a stall timeout, a session of

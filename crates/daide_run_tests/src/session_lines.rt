@@ -4,6 +4,7 @@ use daide_commands::RecordNotice;
 use daide_frame::code::Code;
 use daide_frame::side::Side;
 use daide_gate::{Account, Cause, Level, SessionEnd, SideCounts};
+use daide_protocol::BotName;
 use daide_protocol::ending::Ending;
 use daide_sockets::capacity::{Capacity, CapacityNotice, full_notice, pause_notice};
 use daide_sockets::session_notice::{Lasted, SessionNotice, Why, why_of};
@@ -119,6 +120,7 @@ fn lines_of_a_session(rt: HostRuntime) -> Result<(), Fail> {
             },
             faults: 6,
             level: Level::L20,
+            name: BotName::Unknown,
         },
     };
     let bot = "127.0.0.1:50000".parse()?;

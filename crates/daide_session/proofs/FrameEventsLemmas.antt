@@ -27,7 +27,9 @@ use Rattle.daide_protocol.specs.Machine.{untimely, frame_outcome, answered, im_a
 use Rattle.daide_protocol.specs.Machine.{one_effect, reply_to, destination, deed_of}
 use Rattle.daide_protocol.specs.declared.account.Account.{Account}
 use Rattle.daide_protocol.specs.declared.note.Deed.{Deed}
+use Rattle.daide_protocol.specs.declared.bot_name.BotName.{BotName}
 use Rattle.daide_protocol.specs.Account.{level_after, frame_accounted, accounted}
+use Rattle.daide_protocol.specs.BotName.{name_after}
 use Rattle.daide_grammar.specs.Words.{Words}
 use Rattle.daide_protocol.specs.Machine.{items_outcome, IsCorrectVerdict}
 use Rattle.daide_protocol.specs.Machine.{question_of}
@@ -359,14 +361,29 @@ level_of_held cap held top Dm len side deed level e = rw e refl
 level_of_held cap held top Fm len side deed level e = refl
 level_of_held cap held top Em len side deed level e = refl
 
+name_of_held : (cap : ℕ) (held : List ℕ) (kind : Kind) (len : ℕ) (side : Side) (deed : Deed) (name : BotName) →
+    head_in cap held ≡ Some (record { kind = kind; len = len }) →
+    name_after kind side deed (tokens_held cap held) name ≡ name_after kind side deed (tokens_of (drop 4 held)) name
+name_of_held cap held Im len side deed name e = refl
+name_of_held cap held Rm len side deed name e = refl
+name_of_held cap held Dm len side deed name e = rw e refl
+name_of_held cap held Fm len side deed name e = refl
+name_of_held cap held Em len side deed name e = refl
+
 frame_of_held : (cap : ℕ) (held : List ℕ) (top : Level) (head : Head) (side : Side) (deed : Deed) (a : Account) →
     head_in cap held ≡ Some head →
     frame_accounted top side head.kind deed (tokens_held cap held) a
     ≡ frame_accounted top side head.kind deed (tokens_of (drop 4 held)) a
 frame_of_held cap held top head Bot deed a e =
-    rw (level_of_held cap held top head.kind head.len Bot deed a.level e) refl
+    rw (
+      level_of_held cap held top head.kind head.len Bot deed a.level e,
+      name_of_held cap held head.kind head.len Bot deed a.name e,
+    ) refl
 frame_of_held cap held top head Server deed a e =
-    rw (level_of_held cap held top head.kind head.len Server deed a.level e) refl
+    rw (
+      level_of_held cap held top head.kind head.len Server deed a.level e,
+      name_of_held cap held head.kind head.len Server deed a.name e,
+    ) refl
 
 pub account_held : (t u : Channels) (side : Side) (top : Level) (head : Head) (deed : Deed) (a : Account) →
     Keeps side t u → IsAnswered (at t.sides side) (at u.sides side) →

@@ -66,8 +66,8 @@ fn begin<A: Allocator>(
     Note::Nothing
 }
 
-/// Handles a whole frame that passed its check: judges it, queues its answer, and counts the move. Drops the frame
-/// without counting it if the answer must not be sent.
+/// Handles a whole frame that passed its check: judges it, queues its answer, and counts the move. It records what the
+/// bot calls itself. It drops the frame without counting it if the answer must not be sent.
 #[inline(always)]
 fn answer<A: Allocator>(
     channels: &mut Channels<A>,
@@ -112,6 +112,9 @@ fn answer<A: Allocator>(
         deed,
         channels.found(side),
     );
+    protocol
+        .account
+        .record_name(side, head.kind, deed, channels.body(side));
     Note::Frame(head, deed)
 }
 

@@ -6,7 +6,8 @@ ghost use Rattle.daide_session_tests.specs.Retired.{KeepsRetired};
 use crate::relays::{NEVER, QUIET};
 use daide_gate::serving::serve;
 use daide_gate::settings::{Settings, read_settings};
-use daide_gate::system::{Connect, Notice, Orders, SessionEnd, SessionStatus, System};
+use daide_gate::system::{Cause, Connect, Notice, Orders, SessionEnd, SessionStatus, System};
+use daide_gate::{Level, Phase, SideCounts, Summary};
 use daide_test_support::memory_ports::{Call, MemoryPorts, Script, ScriptedRead};
 use daide_test_support::rows::holds;
 use std::alloc::Global;
@@ -50,6 +51,19 @@ pub(crate) struct Scene {
     pub(crate) bot: Script<'static>,
 }
 
+/// A status that was shown, without the name of its bot, and how many turns were begun with its ports.
+#[derive(Clone, Copy, PartialEq, Eq)]
+pub(crate) struct Shown {
+    pub(crate) turns: usize,
+    pub(crate) phase: Phase,
+    pub(crate) level: Level,
+    pub(crate) bot: SideCounts,
+    pub(crate) server: SideCounts,
+    pub(crate) faults: u64,
+    pub(crate) queued_to_bot: usize,
+    pub(crate) queued_to_server: usize,
+}
+
 /// A system that plays a scene. Its server is quiet.
 #[derive(Drop)]
 pub(crate) struct Harness {
@@ -64,10 +78,10 @@ pub(crate) struct Harness {
     pub(crate) most: usize,
     pub(crate) events: Vec<Event>,
     pub(crate) retired: Vec<MemoryPorts<'static>>,
-    /// The ends of the sessions, in the order of their retirement.
-    pub(crate) ends: Vec<SessionEnd>,
-    /// Each status that was shown, and how many turns were begun with its ports.
-    pub(crate) shown: Vec<(usize, SessionStatus)>,
+    /// The ends of the sessions, in the order of their retirement: cause and counts.
+    pub(crate) ends: Vec<(Cause, Summary)>,
+    /// Each status that was shown.
+    pub(crate) shown: Vec<Shown>,
 }
 
 impl Harness {
@@ -108,6 +122,27 @@ fn turns_begun(ports: &MemoryPorts<'static>) -> usize {
     turns
 }
 
+/// Returns a status as it is kept.
+fn shown_of(turns: usize, status: SessionStatus) -> Shown {
+    let SessionStatus {
+        phase,
+        level,
+        account,
+        queued_to_bot,
+        queued_to_server,
+    } = status;
+    Shown {
+        turns,
+        phase,
+        level,
+        bot: account.bot,
+        server: account.server,
+        faults: account.faults,
+        queued_to_bot,
+        queued_to_server,
+    }
+}
+
 impl System<MemoryPorts<'static>> for Harness {
     ghost transition = { λ old answer new. KeepsRetired old.retired.items answer new.retired.items };
 
@@ -120,7 +155,8 @@ impl System<MemoryPorts<'static>> for Harness {
 
     fn show(&mut self, ports: &MemoryPorts<'static>, status: SessionStatus) {
         self.note(Event::Shown);
-        let _ = self.shown.push((turns_begun(ports), status));
+        let shown = shown_of(turns_begun(ports), status);
+        let _ = self.shown.push(shown);
     }
 
     fn has_news(&mut self, _ports: &MemoryPorts<'static>) -> bool {
@@ -180,7 +216,7 @@ impl System<MemoryPorts<'static>> for Harness {
         self.held = self.held.saturating_sub(1);
         self.note(Event::Retired);
         let _ = self.retired.push(ports);
-        let _ = self.ends.push(end);
+        let _ = self.ends.push((end.cause, end.account.summary()));
     }
 
     fn tell(&mut self, notice: Notice) {

@@ -1,12 +1,12 @@
 //! The operator's orders in whole runs in memory: bots are accepted no more, and each session is shown.
 
 use crate::harness::{
-    ENDING, ENDS, ENDS_LATER, Event, Fate, Harness, Limits, OPENS_ALONE, Scene, assert_run,
+    ENDING, ENDS, ENDS_LATER, Event, Fate, Harness, Limits, OPENS_ALONE, Scene, Shown, assert_run,
     settings,
 };
 use daide_gate::serving::Service;
-use daide_gate::system::{Notice, Orders, SessionStatus};
-use daide_gate::{Account, Level, Phase, SideCounts};
+use daide_gate::system::{Notice, Orders};
+use daide_gate::{Level, Phase, SideCounts};
 use daide_test_support::memory_ports::{MemoryPorts, Script, ScriptedRead};
 use daide_test_support::rows::{holds, same};
 use std::alloc::Global;
@@ -75,6 +75,7 @@ const ORDERED_RUNS: &[(Scene, Limits, &[Event])] = &[
             Event::Begun,
             Event::News,
             Event::TurnBegun,
+            Event::TurnBegun,
             Event::News,
             Event::TurnBegun,
             Event::Retired,
@@ -85,6 +86,7 @@ const ORDERED_RUNS: &[(Scene, Limits, &[Event])] = &[
             Event::Waited,
             Event::Begun,
             Event::News,
+            Event::TurnBegun,
             Event::TurnBegun,
             Event::Retired,
         ],
@@ -130,6 +132,7 @@ const ORDERED_RUNS: &[(Scene, Limits, &[Event])] = &[
             Event::Shown,
             Event::News,
             Event::TurnBegun,
+            Event::TurnBegun,
             Event::Retired,
         ],
     ),
@@ -163,26 +166,23 @@ const STATUSES: &[(usize, Phase, u64, usize)] = &[
 ];
 
 /// Checks a status that was shown, of a session without a level, a refusal and bytes for its bot.
-fn assert_status(
-    shown: &(usize, SessionStatus),
-    want: &(usize, Phase, u64, usize),
-) -> Result<(), Fail> {
+fn assert_status(shown: &Shown, want: &(usize, Phase, u64, usize)) -> Result<(), Fail> {
     let (turns, phase, relayed, queued_to_server) = *want;
-    let status = SessionStatus {
+    let status = Shown {
+        turns,
         phase,
         level: Level::L0,
-        account: Account {
-            bot: SideCounts {
-                relayed,
-                prn: 0,
-                huh: 0,
-            },
-            ..Account::new()
+        bot: SideCounts {
+            relayed,
+            prn: 0,
+            huh: 0,
         },
+        server: SideCounts::new(),
+        faults: 0,
         queued_to_bot: 0,
         queued_to_server,
     };
-    holds(*shown == (turns, status), "the status")
+    holds(*shown == status, "the status")
 }
 
 #[test]

@@ -20,7 +20,8 @@ use std::alloc::Global;
 use std::fmt::Display;
 use std::test::Fail;
 
-/// A scene | its limits | the calls of the system.
+/// A scene | its limits | the calls of the system. A session that was at rest has one turn more after the one in which its
+/// bot ended.
 const RUNS: &[(Scene, Limits, &[Event])] = &[
     // an accept without a bot, a pending connect, waits that return at once
     (
@@ -83,6 +84,7 @@ const RUNS: &[(Scene, Limits, &[Event])] = &[
             Event::Begun,
             Event::News,
             Event::TurnBegun,
+            Event::TurnBegun,
             Event::Retired,
             Event::Begun,
             Event::Came,
@@ -90,6 +92,7 @@ const RUNS: &[(Scene, Limits, &[Event])] = &[
             Event::TurnBegun,
             Event::Begun,
             Event::News,
+            Event::TurnBegun,
             Event::TurnBegun,
             Event::Retired,
         ],
@@ -144,9 +147,11 @@ const RUNS: &[(Scene, Limits, &[Event])] = &[
             Event::News,
             Event::TurnBegun,
             Event::TurnBegun,
+            Event::TurnBegun,
             Event::Retired,
             Event::Begun,
             Event::News,
+            Event::TurnBegun,
             Event::TurnBegun,
             Event::Retired,
         ],
@@ -240,9 +245,11 @@ const RUNS: &[(Scene, Limits, &[Event])] = &[
             Event::NoNews,
             Event::News,
             Event::TurnBegun,
+            Event::TurnBegun,
             Event::Retired,
             Event::Begun,
             Event::News,
+            Event::TurnBegun,
             Event::TurnBegun,
             Event::Retired,
         ],
@@ -275,7 +282,6 @@ const SPENT: &[Event] = &[
     Event::Waited,
     Event::Begun,
     Event::News,
-    Event::Begun,
     Event::Told(Notice::TurnsSpent),
     Event::Retired,
 ];
@@ -295,8 +301,8 @@ fn assert_spent(alloc: Global, stage: &Harness) -> Result<(), Fail> {
     }
 }
 
-/// A bot's IM is read in two turns and written in two. When its turns are spent, an FM is queued for the server. The
-/// write then fails, so the server is sent only the IM.
+/// A bot's IM is read in two turns and written in two. When its turns are spent, an FM is queued for the server. In the
+/// next turn of the same visit the write fails, so the server is sent only the IM.
 #[test]
 fn spent_turns_end_an_open_wire(rt: HostRuntime) -> Result<(), Fail> {
     let stage = stage_after(rt.alloc(), OPENING, (1, 1, 5))?;
@@ -344,10 +350,7 @@ fn assert_end(alloc: Global, row: &(Scene, Limits, Cause, [u64; 4])) -> Result<(
     let (scene, limits, cause, counts) = row;
     let stage = stage_after(alloc, *scene, *limits)?;
     match stage.ends.as_slice() {
-        [end] => holds(
-            end.cause == *cause && counts_of(end.account.summary()) == *counts,
-            "the end",
-        ),
+        [(told, summary)] => holds(*told == *cause && counts_of(*summary) == *counts, "the end"),
         _ => Err(Fail::new("there is one end")),
     }
 }

@@ -1,7 +1,7 @@
 -- The deadlines of a closing stream, as it is advanced, and along the calls of a run.
-use Rattle.std.proofs.Common.{◌≡◌, ◌⊎◌, ℕ, ◌+◌, ◌-◌, ◌<◌, ◌≤◌, Bool, true, false, List, [], ◌∷◌, ◌++◌, length, refl, sym, ap, ◌∙◌, subst, arith}
+use Rattle.std.proofs.Common.{◌≡◌, ◌⊎◌, ℕ, suc, ◌+◌, ◌-◌, ◌<◌, ◌≤◌, Bool, true, false, List, [], ◌∷◌, ◌++◌, length, refl, sym, ap, ◌∙◌, subst, arith}
 use Rattle.std.proofs.Common.{inl, inr, ⊎_elim, Option, Some, None}
-use Rattle.std.specs.Prelude.{◌||◌, ◌&&◌, not, max, nat_lt, nat_eq, if◌then◌else◌, remove, All}
+use Rattle.std.specs.Prelude.{◌||◌, ◌&&◌, not, max, nat_lt, nat_le, nat_eq, if◌then◌else◌, remove, All, Contains}
 use Rattle.std.specs.Duration.{as_nanos}
 use Rattle.std.specs.Time.{instant_nanos, FitsClock}
 use Rattle.std.specs.declared.time.Duration.{Duration}
@@ -13,14 +13,21 @@ use Rattle.daide_io.specs.Streams.{StreamCall}
 use Rattle.daide_io.specs.System.{SystemCall, Begins, Shows, ReportsNews, BeginsTurn, Watches, Accepts, Connects, Retires}
 use Rattle.daide_io.specs.System.{Notifies, Waits, TransitsBy}
 use Rattle.daide_io.specs.declared.system.Connect.TheVariants.{Ready, Failed, Pending}
-use Rattle.daide_sockets.specs.Beside.{closing_due}
+use Rattle.daide_sockets.specs.Beside.{closing_due, stage_due}
 use Rattle.daide_sockets.specs.ClosingTime.{IsReadingFor, ReadingsGoOn, LingersBy, overdue_looks, ClosesSince, IsClosingInTime}
+use Rattle.daide_sockets.specs.ClosingTime.{IsWithinBound, bound_of, readings_of}
 use Rattle.daide_sockets.specs.ClosingTime.{ClosingSocketsLeave}
-use Rattle.daide_sockets.specs.Lingering.{ClosingStream, ClosingList, IsWriting, IsWritingOver, WritesOut, Lingers, LingersOn}
-use Rattle.daide_sockets.specs.Lingering.{begins_closing, with_report, end_time, IsLookedAt, LooksAtEach, ClosingsGoOn, in_pass}
-use Rattle.daide_sockets.specs.Pairing.{Paired, RunSockets, Closes, Transits, with_room}
+use Rattle.daide_sockets.specs.Lingering.{ClosingStream, ClosingList, IsWriting, IsWritingOver, WritesOut, Lingers, AdvancesOn}
+use Rattle.daide_sockets.specs.Lingering.{IsClosingBound}
+use Rattle.daide_sockets.specs.Lingering.{begins_closing, with_report, end_time, IsLookedAt, LooksAtEach, LooksAround, in_pass}
+use Rattle.daide_sockets.specs.Pairing.{Paired, ClosesAt, with_room}
+use Rattle.daide_sockets.specs.Scheduling.{RunState, ClosesByClock}
 use Rattle.daide_sockets.specs.Sockets.{is_some_byte}
+use Rattle.daide_sockets.specs.Table.{earlier}
 use Rattle.daide_sockets.specs.Times.{IsAfter, IsStallEnd, StallsNext, has_stalled, is_past, is_time_over}
+
+later_contains : {A : Type 0} (first : A) (rest : List A) (one : A) → Contains rest one → Contains (first ∷ rest) one
+later_contains first rest one c = let inside = c.1 in (suc c.0, omega (arith, inside), c.2)
 
 -- ---- whether a stream is being written
 
@@ -46,11 +53,11 @@ module _ {S : Type 0} where
   never_both : (stream : Buffer S) → IsWriting stream → IsWritingOver stream → ⊥
   never_both stream h over = let none = ap length (over h.0) in let some = h.1 in absurd (omega (arith, none, some))
 
-  due_writing : (closing : ClosingStream S) → IsWriting closing.stream → closing_due closing ≡ closing.stalls_at
+  due_writing : (closing : ClosingStream S) → IsWriting closing.stream → stage_due closing ≡ closing.stalls_at
   due_writing closing h =
       ap (λ (b : Bool). if b then closing.stalls_at else closing.released_at) (is_writing closing.stream h)
 
-  due_over : (closing : ClosingStream S) → IsWritingOver closing.stream → closing_due closing ≡ closing.released_at
+  due_over : (closing : ClosingStream S) → IsWritingOver closing.stream → stage_due closing ≡ closing.released_at
   due_over closing h =
       ap (λ (b : Bool). if b then closing.stalls_at else closing.released_at) (is_over closing.stream h)
 
@@ -73,6 +80,23 @@ module _ {S : Type 0} where
 
 -- ---- moments
 
+abbrev nanos_or : ℕ → Option Instant → ℕ
+nanos_or d None = d
+nanos_or d (Some moment) = instant_nanos moment
+
+-- a moment after a moment after a reading
+pub after_both : (now : Option Instant) (a b : ℕ) (mid moment : Option Instant) → IsAfter now a mid → IsAfter mid b moment →
+    IsAfter now (a + b) moment
+after_both None a b mid moment h k = ap_none mid moment h k
+  where
+    ap_none : (mid moment : Option Instant) → mid ≡ None → IsAfter mid b moment → moment ≡ None
+    ap_none None moment h k = k
+    ap_none (Some at) moment h k = absurd (cc)
+after_both (Some now) a b None moment h k = subst (λ (m : Option Instant). IsAfter (Some now) (a + b) m) (sym k)
+    (λ fits. h (omega (arith, fits)))
+after_both (Some now) a b (Some mid) None h k = λ fits. k (omega (arith, fits, h))
+after_both (Some now) a b (Some mid) (Some moment) h k = omega (arith, h, k)
+
 after_there : (now : Instant) (time : ℕ) (moment : Option Instant) → FitsClock (instant_nanos now + time) →
     IsAfter (Some now) time moment → (at : Instant) × (moment ≡ Some at) × (instant_nanos at ≡ instant_nanos now + time)
 after_there now time None fits h = absurd (h fits)
@@ -86,9 +110,51 @@ second_false : (a b : Bool) → (a || b) ≡ false → b ≡ false
 second_false false b e = e
 second_false true b e = absurd (cc)
 
+-- a bound that is not past leaves the deadline of the stage
+not_past_bound : (now stage bound : Option Instant) → is_past now bound ≡ false →
+    is_past now (earlier stage bound) ≡ is_past now stage
+not_past_bound None stage bound e = refl
+not_past_bound (Some now) None bound e = e
+not_past_bound (Some now) (Some stage) None e = refl
+not_past_bound (Some now) (Some stage) (Some bound) e = by (nat_le (instant_nanos stage) (instant_nanos bound)) refl
+  where
+    by : (t : Bool) → nat_le (instant_nanos stage) (instant_nanos bound) ≡ t →
+        is_past (Some now) (if t then Some stage else Some bound) ≡ is_past (Some now) (Some stage)
+    by true n = refl
+    by false n = grind (arith, n, e)
+
+-- a moment that is not past at a reading is after it
+not_past_yet : (now bound : Instant) → is_past (Some now) (Some bound) ≡ false → instant_nanos now < instant_nanos bound
+not_past_yet now bound e = grind (arith, e)
+
 -- a moment that is at most this long after a reading
 abbrev IsThereBy : Option Instant → ℕ → Type 0
 IsThereBy moment most = (at : Instant) × (moment ≡ Some at) × (instant_nanos at ≤ most)
+
+-- the earlier of two moments is there by the time of either
+first_there : (one other : Option Instant) (most : ℕ) → IsThereBy one most → IsThereBy (earlier one other) most
+first_there None other most h = absurd (cc)
+first_there (Some a) None most h = h
+first_there (Some a) (Some b) most h = by (nat_le (instant_nanos a) (instant_nanos b)) refl
+  where
+    exact : instant_nanos a ≤ most
+    exact = subst (λ (o : Option Instant). nanos_or most o ≤ most) (sym h.1) h.2
+
+    by : (t : Bool) → nat_le (instant_nanos a) (instant_nanos b) ≡ t → IsThereBy (if t then Some a else Some b) most
+    by true e = (a, refl, exact)
+    by false e = (b, refl, grind (arith, e, exact))
+
+second_there : (one other : Option Instant) (most : ℕ) → IsThereBy other most → IsThereBy (earlier one other) most
+second_there None other most h = h
+second_there (Some a) None most h = absurd (cc)
+second_there (Some a) (Some b) most h = by (nat_le (instant_nanos a) (instant_nanos b)) refl
+  where
+    exact : instant_nanos b ≤ most
+    exact = subst (λ (o : Option Instant). nanos_or most o ≤ most) (sym h.1) h.2
+
+    by : (t : Bool) → nat_le (instant_nanos a) (instant_nanos b) ≡ t → IsThereBy (if t then Some a else Some b) most
+    by true e = (a, refl, grind (arith, e, exact))
+    by false e = (b, refl, exact)
 
 stall_there : (stall : Duration) (reading : Option Instant) (last : Instant) (moment : Option Instant) →
     IsReadingFor stall reading last → IsStallEnd reading (Some stall) moment →
@@ -150,14 +216,19 @@ module _ {S : Type 0} (to_give taken : S → Option (List ℕ)) (calls : S → O
   -- A stream that was advanced at or past its deadline, and stays, is not written any more. Before it was.
   step_left : (now : Option Instant) (old new : ClosingStream S) → Lingers to_give taken calls now old new → IsSet old →
       (if is_past now (closing_due old) then 1 else 0) + left new ≤ left old
-  step_left now old new step set = by (is_past now (closing_due old)) refl step.1
+  step_left now old new step set =
+      let same : is_past now (closing_due old) ≡ is_past now (stage_due old) =
+      not_past_bound now (stage_due old) old.closes_at step.1.0 in
+      let most = by (is_past now (stage_due old)) refl step.1.1 in
+      let counted = ap count same in
+      omega (arith, most, counted)
     where
       count : Bool → ℕ
       count b = if b then 1 else 0
 
-      by : (past : Bool) → is_past now (closing_due old) ≡ past →
-          LingersOn to_give taken calls now (with_report step.0 old) new →
-          (if is_past now (closing_due old) then 1 else 0) + left new ≤ left old
+      by : (past : Bool) → is_past now (stage_due old) ≡ past →
+          AdvancesOn to_give taken calls now (with_report step.0 old) new →
+          (if is_past now (stage_due old) then 1 else 0) + left new ≤ left old
       by past e (inr h) =
           let pull = h.0 in
           let over = h.1 in
@@ -167,13 +238,13 @@ module _ {S : Type 0} (to_give taken : S → Option (List ℕ)) (calls : S → O
           λ fine. dropped.unwritten.write_buffer ∙ over (sym dropped.failed ∙ fine) in
           let after = left_over new still in
           let late : is_time_over now new.released_at ≡ false = second_false (is_last_piece pull new.quota) (is_time_over now new.released_at) h.3 in
-          let early : is_past now (closing_due old) ≡ false =
+          let early : is_past now (stage_due old) ≡ false =
           ap (λ (m : Option Instant). is_past now m) (due_over old over ∙ sym dropped.released_at)
           ∙ not_over_yet now new.released_at late in
-          let zero : (if is_past now (closing_due old) then 1 else 0) ≡ 0 = ap count early in
+          let zero : (if is_past now (stage_due old) then 1 else 0) ≡ 0 = ap count early in
           omega (arith, none, after, zero)
       by false e (inl h) =
-          let zero : (if is_past now (closing_due old) then 1 else 0) ≡ 0 = ap count e in
+          let zero : (if is_past now (stage_due old) then 1 else 0) ≡ 0 = ap count e in
           let most = left_most new in
           let one = left_writing old h.0 in
           omega (arith, zero, most, one)
@@ -186,14 +257,14 @@ module _ {S : Type 0} (to_give taken : S → Option (List ℕ)) (calls : S → O
           w.failed ∙ ap (λ (s : Buffer S). s.has_failed) (w.tries.gives_up stalled).0 in
           let after = left_over new (λ fine. absurd (cc)) in
           let one = left_writing old h.0 in
-          let whole : (if is_past now (closing_due old) then 1 else 0) ≡ 1 = ap count e in
+          let whole : (if is_past now (stage_due old) then 1 else 0) ≡ 1 = ap count e in
           omega (arith, after, one, whole)
 
   step_set : (now : Option Instant) (old new : ClosingStream S) → Lingers to_give taken calls now old new → IsSet old →
       IsSet new
-  step_set now old new step set = by step.1
+  step_set now old new step set = by step.1.1
     where
-      by : LingersOn to_give taken calls now (with_report step.0 old) new → IsSet new
+      by : AdvancesOn to_give taken calls now (with_report step.0 old) new → IsSet new
       by (inl h) = writes_set now (with_report step.0 old) new h.1 (set h.0)
       by (inr h) = λ writing. absurd (never_both new.stream writing
           (λ fine. h.2.unwritten.write_buffer ∙ h.1 (sym h.2.failed ∙ fine)))
@@ -201,7 +272,7 @@ module _ {S : Type 0} (to_give taken : S → Option (List ℕ)) (calls : S → O
   step_due : (now : Option Instant) (before last : Instant) (old new : ClosingStream S) →
       Lingers to_give taken calls now old new → IsSet old → IsReadingFor stall now last →
       instant_nanos before ≤ instant_nanos last → IsDue before old → IsDue last new
-  step_due now before last old new step set r order due = by step.1
+  step_due now before last old new step set r order due = by step.1.1
     where
       early : IsWriting old.stream → (moment : Instant) → old.stalls_at ≡ Some moment →
           instant_nanos moment ≤ instant_nanos last + as_nanos stall
@@ -218,7 +289,7 @@ module _ {S : Type 0} (to_give taken : S → Option (List ℕ)) (calls : S → O
           same : (a b : Instant) (m : Option Instant) → m ≡ Some a → m ≡ Some b → a ≡ b
           same a b m e f = cc
 
-      by : LingersOn to_give taken calls now (with_report step.0 old) new → IsDue last new
+      by : AdvancesOn to_give taken calls now (with_report step.0 old) new → IsDue last new
       by (inl h) = writes_due now last (with_report step.0 old) new h.1 (set h.0) r (early h.0)
       by (inr h) =
           let still : IsWritingOver new.stream = λ fine. h.2.unwritten.write_buffer ∙ h.1 (sym h.2.failed ∙ fine) in
@@ -255,12 +326,54 @@ module _ {S : Type 0} (to_give taken : S → Option (List ℕ)) (calls : S → O
       step_due now clock.0 last h.0 new h.2 (since_set readings first h.0 h.1 set) clock.2 clock.3
       (since_due start readings clock.0 first h.0 h.1 set clock.1 begun)
 
-  in_time : (closing : ClosingStream S) → ClosesSince to_give taken calls (Some stall) closing →
-      IsClosingInTime to_give taken calls stall closing
-  in_time closing since = record { since = since; overdue = few; deadline = deadline }
+  -- a stream that closes by the readings of a clock
+  abbrev Since : List (Option Instant) → ClosingStream S → Type 0
+  Since clock closing = (since : ClosesSince to_give taken calls (Some stall) closing)
+      × All (λ reading. Contains clock reading) (since.start ∷ since.readings)
+
+  -- its bound never changes
+  step_bound : (now : Option Instant) (old new : ClosingStream S) → Lingers to_give taken calls now old new →
+      new.closes_at ≡ old.closes_at
+  step_bound now old new step = by step.1.1
     where
+      by : AdvancesOn to_give taken calls now (with_report step.0 old) new → new.closes_at ≡ old.closes_at
+      by (inl h) = h.1.closes_at
+      by (inr h) = h.2.closes_at
+
+  since_bound : (readings : List (Option Instant)) (first new : ClosingStream S) →
+      LingersBy to_give taken calls readings first new → new.closes_at ≡ first.closes_at
+  since_bound [] first new h = ap (λ (c : ClosingStream S). c.closes_at) h
+  since_bound (now ∷ readings) first new h = step_bound now h.0 new h.2 ∙ since_bound readings first h.0 h.1
+
+  -- so it is not past at any reading at which the stream was advanced
+  since_before : (bound : Instant) (most : ℕ) → instant_nanos bound ≡ most → (readings : List (Option Instant))
+      (first new : ClosingStream S) → LingersBy to_give taken calls readings first new → first.closes_at ≡ Some bound →
+      All (λ reading. (now : Instant) → reading ≡ Some now → instant_nanos now < most) readings
+  since_before bound most exact [] first new h is =
+      All-nil (λ (reading : Option Instant). (now : Instant) → reading ≡ Some now → instant_nanos now < most)
+  since_before bound most exact (last ∷ readings) first new h is =
+      All-cons (λ (reading : Option Instant). (now : Instant) → reading ≡ Some now → instant_nanos now < most) last readings
+      own (since_before bound most exact readings first h.0 h.1 is)
+    where
+      own : (now : Instant) → last ≡ Some now → instant_nanos now < most
+      own now e =
+          let moment : h.0.closes_at ≡ Some bound = since_bound readings first h.0 h.1 ∙ is in
+          let late : is_past (Some now) (Some bound) ≡ false =
+          subst (λ (m : Option Instant). is_past (Some now) m ≡ false) moment
+          (subst (λ (r : Option Instant). is_past r h.0.closes_at ≡ false) e h.2.1.0) in
+          let yet = not_past_yet now bound late in
+          omega (arith, yet, exact)
+
+  in_time : (clock : List (Option Instant)) (closing : ClosingStream S) → Since clock closing →
+      IsClosingInTime to_give taken calls stall clock closing
+  in_time clock closing own =
+      record { since = since; by_clock = own.1; overdue = few; deadline = deadline; bound = within }
+    where
+      since : ClosesSince to_give taken calls (Some stall) closing
+      since = own.0
+
       set : IsSet since.first
-      set = writes_set since.start (begins_closing (Some stall) since.key since.known since.stream) since.first since.begins refl
+      set = writes_set since.start (begins_closing (Some stall) since.bound since.key since.known since.stream) since.first since.begins refl
 
       few : overdue_looks to_give taken calls since.readings since.first closing since.looks ≤ 1
       few =
@@ -270,149 +383,199 @@ module _ {S : Type 0} (to_give taken : S → Option (List ℕ)) (calls : S → O
 
       begun : (at : Instant) → IsReadingFor stall since.start at → IsDue at since.first
       begun at r =
-          writes_due since.start at (begins_closing (Some stall) since.key since.known since.stream) since.first since.begins refl r
+          writes_due since.start at (begins_closing (Some stall) since.bound since.key since.known since.stream) since.first since.begins refl r
           (λ moment e. absurd (cc))
 
       deadline : (last : Instant) → ReadingsGoOn stall since.start since.readings last → (due : Instant)
           × (closing_due closing ≡ Some due) × (instant_nanos due ≤ instant_nanos last + max (as_nanos stall) end_time)
-      deadline last clock = ⊎_elim
+      deadline last clock = first_there (stage_due closing) closing.closes_at (instant_nanos last + max (as_nanos stall) end_time)
+          (⊎_elim
           (λ (d : IsWriting closing.stream × IsThereBy closing.stalls_at (instant_nanos last + as_nanos stall)).
           let most = d.1.2 in (d.1.0, due_writing closing d.0 ∙ d.1.1, omega (arith, most)))
           (λ (d : IsWritingOver closing.stream × IsThereBy closing.released_at (instant_nanos last + end_time)).
           let most = d.1.2 in (d.1.0, due_over closing d.0 ∙ d.1.1, omega (arith, most)))
-          (since_due since.start since.readings last since.first closing since.looks set clock begun)
+          (since_due since.start since.readings last since.first closing since.looks set clock begun))
+
+      within : (begun : Instant) → since.start ≡ Some begun → FitsClock (bound_of stall begun) →
+          IsWithinBound to_give taken calls stall begun since.readings closing
+      within begun is fits =
+          let there = after_there begun (as_nanos stall + end_time) since.bound fits
+          (subst (λ (o : Option Instant). IsAfter o (as_nanos stall + end_time) since.bound) is since.bounded) in
+          let exact = there.2 in
+          let first = since.begins.closes_at ∙ there.1 in
+          record {
+            before = since_before there.0 (bound_of stall begun) exact since.readings since.first closing since.looks first;
+            due = second_there (stage_due closing) closing.closes_at (bound_of stall begun) (
+              there.0,
+              since_bound since.readings since.first closing since.looks ∙ first,
+              omega (arith, exact),
+            );
+          }
 
   -- ---- along the calls of a run
 
-  abbrev Since : ClosingStream S → Type 0
-  Since = ClosesSince to_give taken calls (Some stall)
+  module _ (clock : List (Option Instant)) where
+    abbrev Own : ClosingStream S → Type 0
+    Own = Since clock
 
-  -- each closing stream has begun so, and so will each further one
-  abbrev AllSince : ClosingList S → Type 0
-  AllSince list = All Since list.streams × (list.stall_time ≡ Some stall)
+    -- each closing stream has begun so, and so will each further one
+    abbrev AllSince : ClosingList S → Type 0
+    AllSince list = All Own list.streams × (list.stall_time ≡ Some stall)
 
-  one_more : (now : Option Instant) (old new : ClosingStream S) → Lingers to_give taken calls now old new → Since old →
-      Since new
-  one_more now old new step since = record {
-    start = since.start;
-    key = since.key;
-    known = since.known;
-    stream = since.stream;
-    first = since.first;
-    begins = since.begins;
-    readings = now ∷ since.readings;
-    looks = (old, since.looks, step);
-  }
+    one_more : (now : Option Instant) (old new : ClosingStream S) → Contains clock now →
+        Lingers to_give taken calls now old new → Own old → Own new
+    one_more now old new there step own =
+        let since = own.0 in
+        let In : Option Instant → Type 0 = λ reading. Contains clock reading in (
+          record {
+            start = since.start;
+            key = since.key;
+            known = since.known;
+            stream = since.stream;
+            first = since.first;
+            bound = since.bound;
+            bounded = since.bounded;
+            begins = since.begins;
+            readings = now ∷ since.readings;
+            looks = (old, since.looks, step);
+          },
+          All-cons In since.start (now ∷ since.readings) (All-head In since.start since.readings own.1)
+              (All-cons In now since.readings there (All-tail In since.start since.readings own.1)),
+        )
 
-  each_since : (now : Option Instant) (seen moved : List (ClosingStream S)) →
-      LooksAtEach to_give taken calls now seen moved → All Since seen → All Since moved
-  each_since now [] moved h all = All-same Since moved [] h all
-  each_since now (stream ∷ seen) moved h all = by (each_since now seen h.0 h.1 (All-tail Since stream seen all)) h.2
-    where
-      by : All Since h.0 → IsLookedAt to_give taken calls now stream h.0 moved → All Since moved
-      by rest (inl stays) = All-same Since moved (stays.0 ∷ h.0) stays.1
-          (All-cons Since stays.0 h.0 (one_more now stream stays.0 stays.2 (All-head Since stream seen all)) rest)
-      by rest (inr leaves) = All-same Since moved h.0 leaves.0 rest
+    each_since : (now : Option Instant) (seen moved : List (ClosingStream S)) → Contains clock now →
+        LooksAtEach to_give taken calls now seen moved → All Own seen → All Own moved
+    each_since now [] moved there h all = All-same Own moved [] h all
+    each_since now (stream ∷ seen) moved there h all = by (each_since now seen h.0 there h.1 (All-tail Own stream seen all)) h.2
+      where
+        by : All Own h.0 → IsLookedAt to_give taken calls now stream h.0 moved → All Own moved
+        by rest (inl stays) = All-same Own moved (stays.0 ∷ h.0) stays.1
+            (All-cons Own stays.0 h.0 (one_more now stream stays.0 there stays.2 (All-head Own stream seen all)) rest)
+        by rest (inr leaves) = All-same Own moved h.0 leaves.0 rest
 
-  front_part : (xs ys : List (ClosingStream S)) → All Since (xs ++ ys) → All Since xs
-  front_part [] ys all = All-nil Since
-  front_part (x ∷ xs) ys all =
-      All-cons Since x xs (All-head Since x (xs ++ ys) all) (front_part xs ys (All-tail Since x (xs ++ ys) all))
+    front_part : (xs ys : List (ClosingStream S)) → All Own (xs ++ ys) → All Own xs
+    front_part [] ys all = All-nil Own
+    front_part (x ∷ xs) ys all =
+        All-cons Own x xs (All-head Own x (xs ++ ys) all) (front_part xs ys (All-tail Own x (xs ++ ys) all))
 
-  back_part : (xs ys : List (ClosingStream S)) → All Since (xs ++ ys) → All Since ys
-  back_part [] ys all = all
-  back_part (x ∷ xs) ys all = back_part xs ys (All-tail Since x (xs ++ ys) all)
+    back_part : (xs ys : List (ClosingStream S)) → All Own (xs ++ ys) → All Own ys
+    back_part [] ys all = all
+    back_part (x ∷ xs) ys all = back_part xs ys (All-tail Own x (xs ++ ys) all)
 
-  pass_since : (old : ClosingList S) → AllSince old → AllSince (in_pass old)
-  pass_since old all = by (nat_eq old.next old.pass_end)
-    where
-      by : (b : Bool) → AllSince (if b then record old { next = 0; pass_end = length old.streams } else old)
-      by true = all
-      by false = all
+    pass_since : (old : ClosingList S) → AllSince old → AllSince (in_pass old)
+    pass_since old all = by (nat_eq old.next old.pass_end)
+      where
+        by : (b : Bool) → AllSince (if b then record old { next = 0; pass_end = length old.streams } else old)
+        by true = all
+        by false = all
 
-  round_since : (old new : ClosingList S) → ClosingsGoOn to_give taken calls old new → AllSince old → AllSince new
-  round_since old new h all =
-      let pass = pass_since old all in
-      let looked = h.1.looked in
-      let parts = All-same Since (looked.front ++ looked.seen ++ looked.rest) (in_pass old).streams (sym looked.before) pass.0 in
-      let first = front_part (looked.front ++ looked.seen) looked.rest parts in (
-        All-same Since new.streams (looked.front ++ looked.moved ++ looked.rest) looked.after
-            (All-append Since (looked.front ++ looked.moved) looked.rest
-            (All-append Since looked.front looked.moved (front_part looked.front looked.seen first)
-            (each_since h.0 looked.seen looked.moved looked.looked (back_part looked.front looked.seen first)))
-            (back_part (looked.front ++ looked.seen) looked.rest parts)),
-        h.1.stall_time ∙ pass.1,
-      )
+    round_since : (now : Option Instant) (old new : ClosingList S) → Contains clock now →
+        LooksAround to_give taken calls now (in_pass old) new → AllSince old → AllSince new
+    round_since now old new there h all =
+        let pass = pass_since old all in
+        let looked = h.looked in
+        let parts = All-same Own (looked.front ++ looked.seen ++ looked.rest) (in_pass old).streams (sym looked.before) pass.0 in
+        let first = front_part (looked.front ++ looked.seen) looked.rest parts in (
+          All-same Own new.streams (looked.front ++ looked.moved ++ looked.rest) looked.after
+              (All-append Own (looked.front ++ looked.moved) looked.rest
+              (All-append Own looked.front looked.moved (front_part looked.front looked.seen first)
+              (each_since now looked.seen looked.moved there looked.looked (back_part looked.front looked.seen first)))
+              (back_part (looked.front ++ looked.seen) looked.rest parts)),
+          h.stall_time ∙ pass.1,
+        )
 
-  without_first : (xs : List (ClosingStream S)) → All Since xs → All Since (remove xs 0)
-  without_first [] all = all
-  without_first (x ∷ xs) all = All-tail Since x xs all
+    without_first : (xs : List (ClosingStream S)) → All Own xs → All Own (remove xs 0)
+    without_first [] all = all
+    without_first (x ∷ xs) all = All-tail Own x xs all
 
-  room_since : (old : ClosingList S) → AllSince old → AllSince (with_room old)
-  room_since old all = by (nat_lt (length old.streams) 256)
-    where
-      by : (b : Bool) → AllSince (if b then old
-          else record old { streams = remove old.streams 0; next = old.next - 1; pass_end = old.pass_end - 1 })
-      by true = all
-      by false = (without_first old.streams all.0, all.1)
+    room_since : (old : ClosingList S) → AllSince old → AllSince (with_room old)
+    room_since old all = by (nat_lt (length old.streams) 256)
+      where
+        by : (b : Bool) → AllSince (if b then old
+            else record old { streams = remove old.streams 0; next = old.next - 1; pass_end = old.pass_end - 1 })
+        by true = all
+        by false = (without_first old.streams all.0, all.1)
 
-  closes_since : (old : ClosingList S) (stream : Buffer S) (new : ClosingList S) → Closes to_give taken calls old stream new →
-      AllSince old → AllSince new
-  closes_since old stream new h all =
-      let room = room_since old all in
-      let at = h.1 in
-      let own : Since at.last = record {
-        start = h.0;
-        key = at.key;
-        known = at.known;
-        stream = stream;
-        first = at.last;
-        begins = subst (λ (t : Option Duration). WritesOut to_give taken calls h.0 (begins_closing t at.key at.known stream) at.last)
-            all.1 at.writes;
-        readings = [];
-        looks = refl;
-      } in (
-        All-same Since new.streams ((with_room old).streams ++ at.last ∷ []) (ap (λ (l : ClosingList S). l.streams) at.now)
-            (All-push Since (with_room old).streams at.last room.0 own),
-        ap (λ (l : ClosingList S). l.stall_time) at.now ∙ room.1,
-      )
+    closes_since : (reading : Option Instant) (old : ClosingList S) (stream : Buffer S) (new : ClosingList S) →
+        Contains clock reading → ClosesAt to_give taken calls reading old stream new → AllSince old → AllSince new
+    closes_since reading old stream new there at all =
+        let room = room_since old all in
+        let In : Option Instant → Type 0 = λ moment. Contains clock moment in
+        let own : Own at.last = (
+          record {
+            start = reading;
+            key = at.key;
+            known = at.known;
+            stream = stream;
+            first = at.last;
+            bound = at.bound;
+            bounded = subst (λ (t : Option Duration). IsClosingBound reading t at.bound) all.1 at.bounded;
+            begins = subst (λ (t : Option Duration).
+                WritesOut to_give taken calls reading (begins_closing t at.bound at.key at.known stream) at.last) all.1 at.writes;
+            readings = [];
+            looks = refl;
+          },
+          All-cons In reading [] there (All-nil In),
+        ) in (
+          All-same Own new.streams ((with_room old).streams ++ at.last ∷ []) (ap (λ (l : ClosingList S). l.streams) at.now)
+              (All-push Own (with_room old).streams at.last room.0 own),
+          ap (λ (l : ClosingList S). l.stall_time) at.now ∙ room.1,
+        )
 
-  same_since : (old new : ClosingList S) → new ≡ old → AllSince old → AllSince new
-  same_since old new e all = subst AllSince (sym e) all
+    same_since : (old new : ClosingList S) → new ≡ old → AllSince old → AllSince new
+    same_since old new e all = subst AllSince (sym e) all
 
-  module _ {P : Type 0} (pair : P → Paired S) where
-    abbrev list_of : RunSockets S → ClosingList S
-    list_of sockets = sockets.closing
+    module _ {N P : Type 0} (pair : P → Paired S) where
+      abbrev Step : RunState N S → SystemCall P → RunState N S → Type 0
+      Step = ClosesByClock to_give taken calls pair
 
-    call_since : (call : SystemCall P) (old new : RunSockets S) → Transits to_give taken calls pair old call new →
-        AllSince old.closing → AllSince new.closing
-    call_since (Begins orders) old new h all = round_since old.closing new.closing h.2 all
-    call_since (Shows ports status) old new h all = same_since old.closing new.closing (ap list_of h) all
-    call_since (ReportsNews ports news) old new h all = same_since old.closing new.closing (ap list_of h) all
-    call_since (BeginsTurn before after) old new h all = same_since old.closing new.closing (ap list_of h) all
-    call_since (Watches ports) old new h all = same_since old.closing new.closing (ap list_of h) all
-    call_since (Accepts true) old new h all = same_since old.closing new.closing h.closing all
-    call_since (Accepts false) old new h all = same_since old.closing new.closing (ap list_of h) all
-    call_since (Connects (Ready ports)) old new h all = same_since old.closing new.closing h.4 all
-    call_since (Connects Failed) old new h all = closes_since old.closing h.0.bot new.closing h.2 all
-    call_since (Connects Pending) old new h all = same_since old.closing new.closing h.2 all
-    call_since (Retires ports end) old new h all =
-        closes_since h.0.0 (pair ports).server new.closing h.0.2 (closes_since old.closing (pair ports).bot h.0.0 h.0.1 all)
-    call_since (Notifies notice) old new h all = same_since old.closing new.closing (ap list_of h) all
-    call_since Waits old new h all = same_since old.closing new.closing (ap list_of h) all
+      call_since : (call : SystemCall P) (old new : RunState N S) → Contains clock old.table.reading →
+          Contains clock new.table.reading → Step old call new → AllSince old.closing → AllSince new.closing
+      call_since (Begins orders) old new here there h all =
+          round_since new.table.reading old.closing new.closing there h all
+      call_since (Shows ports status) old new here there h all = same_since old.closing new.closing h all
+      call_since (ReportsNews ports news) old new here there h all = same_since old.closing new.closing h all
+      call_since (BeginsTurn before after) old new here there h all = same_since old.closing new.closing h all
+      call_since (Watches ports) old new here there h all = same_since old.closing new.closing h all
+      call_since (Accepts came) old new here there h all = same_since old.closing new.closing h all
+      call_since (Connects (Ready ports)) old new here there h all = same_since old.closing new.closing h all
+      call_since (Connects Failed) old new here there h all =
+          closes_since old.table.reading old.closing h.0 new.closing here h.1 all
+      call_since (Connects Pending) old new here there h all = same_since old.closing new.closing h all
+      call_since (Retires ports end) old new here there h all =
+          closes_since old.table.reading h.0 (pair ports).server new.closing here h.2
+          (closes_since old.table.reading old.closing (pair ports).bot h.0 here h.1 all)
+      call_since (Notifies notice) old new here there h all = same_since old.closing new.closing h all
+      call_since Waits old new here there h all = same_since old.closing new.closing h all
 
-    calls_since : (answers : List (SystemCall P)) (old new : RunSockets S) →
-        TransitsBy (Transits to_give taken calls pair) old answers new → AllSince old.closing → AllSince new.closing
-    calls_since [] old new h all = same_since old.closing new.closing (ap list_of h) all
-    calls_since (call ∷ answers) old new h all = calls_since answers h.0 new h.2 (call_since call old h.0 h.1 all)
+      abbrev readings : (answers : List (SystemCall P)) (old new : RunState N S) → TransitsBy Step old answers new →
+          List (Option Instant)
+      readings = readings_of Step
 
-pub closing_sockets_leave : {P S : Type 0} (to_give taken : S → Option (List ℕ)) (calls : S → Option (List StreamCall)) →
-    ClosingSocketsLeave to_give taken calls P
+      -- the first reading is that of the table
+      first_reading : (answers : List (SystemCall P)) (old new : RunState N S) (h : TransitsBy Step old answers new) →
+          Contains (readings answers old new h) old.table.reading
+      first_reading [] old new h = (0, omega arith, refl)
+      first_reading (call ∷ answers) old new h = (0, omega arith, refl)
+
+      calls_since : (answers : List (SystemCall P)) (old new : RunState N S) (h : TransitsBy Step old answers new) →
+          ((reading : Option Instant) → Contains (readings answers old new h) reading → Contains clock reading) →
+          AllSince old.closing → AllSince new.closing
+      calls_since [] old new h within all =
+          same_since old.closing new.closing (ap (λ (s : RunState N S). s.closing) h) all
+      calls_since (call ∷ answers) old new h within all =
+          let later : (reading : Option Instant) → Contains (readings answers h.0 new h.2) reading → Contains clock reading =
+          λ reading c. within reading (later_contains old.table.reading (readings answers h.0 new h.2) reading c) in
+          calls_since answers h.0 new h.2 later
+          (call_since call old h.0 (within old.table.reading (0, omega arith, refl))
+          (later h.0.table.reading (first_reading answers h.0 new h.2)) h.1 all)
+
+pub closing_sockets_leave : {N P S : Type 0} (to_give taken : S → Option (List ℕ)) (calls : S → Option (List StreamCall)) →
+    ClosingSocketsLeave to_give taken calls N P
 closing_sockets_leave to_give taken calls = λ pair old new answers stall none set goes.
-    All-weaker (ClosesSince to_give taken calls (Some stall)) (IsClosingInTime to_give taken calls stall)
-    (in_time to_give taken calls stall) new.closing.streams
-    (calls_since to_give taken calls stall pair answers old new goes (
-      All-same (ClosesSince to_give taken calls (Some stall)) old.closing.streams [] none
-          (All-nil (ClosesSince to_give taken calls (Some stall))),
-      set,
-    )).0
+    let clock = readings_of (ClosesByClock to_give taken calls pair) answers old new goes in
+    let Own = Since to_give taken calls stall clock in
+    All-weaker Own (IsClosingInTime to_give taken calls stall clock) (in_time to_give taken calls stall clock)
+    new.closing.streams
+    (calls_since to_give taken calls stall clock pair answers old new goes (λ reading c. c)
+    (All-same Own old.closing.streams [] none (All-nil Own), set)).0

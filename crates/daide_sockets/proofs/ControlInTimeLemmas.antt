@@ -6,9 +6,10 @@ use Rattle.std.specs.declared.time.Duration.{Duration}
 use Rattle.std.specs.declared.time.Instant.{Instant}
 use Rattle.daide_sockets.specs.Control.{has_control_work, control_due}
 use Rattle.daide_sockets.specs.ControlInTime.{IsPlaceInTime, ControlWaitsAreInTime}
-use Rattle.daide_sockets.specs.ControlSlots.{places, has_free, watching_places, watching_listener}
+use Rattle.daide_sockets.specs.ControlSlots.{places, has_free, watching_control, watching_places, watching_listener}
 use Rattle.daide_sockets.specs.InTime.{IsInTimeFor, watching_all}
 use Rattle.daide_sockets.specs.Table.{Table, watching, IsWaitTime}
+use Rattle.daide_sockets.specs.declared.control.Control.{Control}
 use Rattle.daide_sockets.specs.declared.control.ControlListener.{ControlListener}
 use Rattle.daide_sockets.specs.declared.control_connection.ControlConnection.{ControlConnection}
 use Rattle.daide_sockets.proofs.InTimeLemmas.{sessions_in_time}
@@ -33,6 +34,20 @@ same_clock : (table : Table) (has_room : Bool) (found : Option ControlListener) 
 same_clock table has_room None = refl
 same_clock table true (Some listener) = refl
 same_clock table false (Some listener) = refl
+
+places_clock : {S : Type 0} (table : Table) (rest : List (Option (ControlConnection S))) →
+    (watching_places table rest).reading ≡ table.reading
+places_clock table [] = refl
+places_clock table (None ∷ rest) = places_clock table rest
+places_clock table (Some connection ∷ rest) =
+    places_clock (watching table (has_control_work connection) (control_due connection)) rest
+
+-- what a wait watches of the control socket leaves the reading of the clock
+pub control_clock : {S : Type 0} (table : Table) (control : Control S) →
+    (watching_control table control).reading ≡ table.reading
+control_clock table control =
+    places_clock (watching_listener table (has_free (places control.slots)) control.listener) (places control.slots)
+    ∙ same_clock table (has_free (places control.slots)) control.listener
 
 abbrev listener_or : ControlListener → Option ControlListener → ControlListener
 listener_or other None = other

@@ -1,6 +1,6 @@
 -- The laws of `laws`, each used once. A fact takes only its law, so that a weaker law does not check.
 use Rattle.std.proofs.Common.{◌≡◌, ℕ, ◌+◌, ◌≤◌, Bool, true, false, List, [], ◌∷◌, Option, Some, None, length, refl, ap, ◌∙◌, subst, arith}
-use Rattle.std.specs.Prelude.{◌||◌, All}
+use Rattle.std.specs.Prelude.{◌<◌, ◌||◌, All, Contains}
 use Rattle.std.proofs.lemmas.List.Elements.{All-contains, All-head, All-tail}
 use Rattle.std.specs.Duration.{as_nanos}
 use Rattle.std.specs.Time.{instant_nanos}
@@ -14,7 +14,8 @@ use Rattle.daide_sockets.specs.Lingering.{ClosingStream}
 use Rattle.daide_sockets.specs.Beside.{WaitsAreInTimeBeside, may_close_on, closing_due, may_connect, others_watched}
 use Rattle.daide_sockets.specs.Accounted.{SocketsAreAccounted}
 use Rattle.daide_sockets.specs.PairedOnce.{SessionsComeOnce, is_same}
-use Rattle.daide_sockets.specs.ClosingTime.{ReadingsGoOn, overdue_looks, IsClosingInTime, ClosingSocketsLeave}
+use Rattle.daide_sockets.specs.ClosingTime.{ReadingsGoOn, overdue_looks, bound_of, readings_of, IsClosingInTime, ClosingSocketsLeave}
+use Rattle.daide_sockets.specs.Scheduling.{RunState, ClosesByClock}
 use Rattle.daide_sockets.specs.Table.{Table, IsWaitTime}
 use Rattle.daide_sockets.specs.InTime.{WaitsAreInTime, IsInTimeFor, watching_all}
 use Rattle.daide_sockets.specs.Control.{has_work_at}
@@ -120,25 +121,49 @@ control_is_accepted S law table control listener time free there ready lasts =
     is_place_free p || has_free (control.slots.second ∷ control.slots.third ∷ control.slots.fourth ∷ [])) free) there).work
     ready
 
--- While the only socket that closes is advanced, and with a stall timeout of seven seconds, its deadline is at most as long
--- after it was advanced last, and it was advanced at most once at or past one.
-closing_within_seven : {P S : Type 0} (to_give taken : S → Option (List ℕ)) (calls : S → Option (List StreamCall)) →
-    ClosingSocketsLeave to_give taken calls P → (pair : P → Paired S) (old new : RunSockets S) (stall : Duration)
-    (closing : ClosingStream S) → as_nanos stall ≡ 7000000000 → old.closing.streams ≡ [] →
-    old.closing.stall_time ≡ Some stall → new.closing.streams ≡ closing ∷ [] →
-    TransitsBy (Transits to_give taken calls pair) old (Accepts true ∷ Connects Failed ∷ []) new →
-    (in_time : IsClosingInTime to_give taken calls stall closing)
-    × (overdue_looks to_give taken calls in_time.since.readings in_time.since.first closing in_time.since.looks ≤ 1)
-    × ((last : Instant) → ReadingsGoOn stall in_time.since.start in_time.since.readings last → (due : Instant)
-    × (closing_due closing ≡ Some due) × (instant_nanos due ≤ instant_nanos last + 7000000000))
-closing_within_seven {S = S} to_give taken calls law pair old new stall closing seven none set one goes =
-    let own = All-head (IsClosingInTime to_give taken calls stall) closing []
-    (subst (λ (l : List (ClosingStream S)). All (IsClosingInTime to_give taken calls stall) l) one
-    (law pair old new (Accepts true ∷ Connects Failed ∷ []) stall none set goes)) in (
-      own,
-      own.overdue,
-      λ last clock.
-          let at = own.deadline last clock in
-          let within = at.2 in
-          (at.0, at.1, omega (arith, within, seven)),
-    )
+module _ {N P S : Type 0} (to_give taken : S → Option (List ℕ)) (calls : S → Option (List StreamCall))
+    (law : ClosingSocketsLeave to_give taken calls N P) (pair : P → Paired S) (old new : RunState N S) (stall : Duration)
+    (closing : ClosingStream S) (seven : as_nanos stall ≡ 7000000000) (none : old.closing.streams ≡ [])
+    (set : old.closing.stall_time ≡ Some stall) (one : new.closing.streams ≡ closing ∷ [])
+    (goes : TransitsBy (ClosesByClock to_give taken calls pair) old (Accepts true ∷ Connects Failed ∷ []) new) where
+  abbrev clock : List (Option Instant)
+  clock = readings_of (ClosesByClock to_give taken calls pair) (Accepts true ∷ Connects Failed ∷ []) old new goes
+
+  in_time : IsClosingInTime to_give taken calls stall clock closing
+  in_time = All-head (IsClosingInTime to_give taken calls stall clock) closing []
+      (subst (λ (l : List (ClosingStream S)). All (IsClosingInTime to_give taken calls stall clock) l) one
+      (law pair old new (Accepts true ∷ Connects Failed ∷ []) stall none set goes))
+
+  -- While the only socket that closes is advanced, and with a stall timeout of seven seconds, its deadline is at most as long
+  -- after it was advanced last.
+  closing_within_seven : (last : Instant) → ReadingsGoOn stall in_time.since.start in_time.since.readings last →
+      (due : Instant) × (closing_due closing ≡ Some due) × (instant_nanos due ≤ instant_nanos last + 7000000000)
+  closing_within_seven last goes_on =
+      let at = in_time.deadline last goes_on in
+      let within = at.2 in
+      (at.0, at.1, omega (arith, within, seven))
+
+  -- it was advanced at most once at or past a deadline
+  closing_overdue_once :
+      overdue_looks to_give taken calls in_time.since.readings in_time.since.first closing in_time.since.looks ≤ 1
+  closing_overdue_once = in_time.overdue
+
+  -- It began at a reading of the run's clock. If that is the first second, it was advanced at no reading at or past the ninth.
+  closing_leaves_by_nine : Contains clock in_time.since.start × ((begun now : Instant) → in_time.since.start ≡ Some begun →
+      instant_nanos begun ≡ 1000000000 → Contains in_time.since.readings (Some now) → 9000000000 ≤ instant_nanos now → ⊥)
+  closing_leaves_by_nine = (
+    All-head (λ (reading : Option Instant). Contains clock reading) in_time.since.start in_time.since.readings in_time.by_clock,
+    λ begun now start first there late.
+        let before = All-contains (λ (reading : Option Instant). (at : Instant) → reading ≡ Some at →
+        instant_nanos at < bound_of stall begun) in_time.since.readings (Some now)
+        (in_time.bound begun start (omega (arith, first, seven))).before there now refl in
+        omega (arith, before, late, first, seven),
+  )
+
+  -- and its deadline is not after that
+  closing_due_by_nine : (begun : Instant) → in_time.since.start ≡ Some begun → instant_nanos begun ≡ 1000000000 →
+      (due : Instant) × (closing_due closing ≡ Some due) × (instant_nanos due ≤ 9000000000)
+  closing_due_by_nine begun start first =
+      let at = (in_time.bound begun start (omega (arith, first, seven))).due in
+      let within = at.2 in
+      (at.0, at.1, omega (arith, within, first, seven))

@@ -6,7 +6,7 @@ mod AtRestLemmas
 pub mod InTimeLemmas
 mod BesideLemmas
 mod FinishingLemmas
-mod AccountedLemmas
+pub mod AccountedLemmas
 mod ClosingTimeLemmas
 pub mod SchedulingLemmas
 mod AcceptLemmas

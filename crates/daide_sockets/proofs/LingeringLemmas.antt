@@ -18,7 +18,7 @@ use Rattle.daide_sockets.specs.Pairing.{with_room}
 use Rattle.daide_sockets.specs.Times.{StallsNext, has_stalled, is_time_over}
 use Rattle.daide_sockets.specs.Lingering.{ClosingStream, ClosingList, Discards, Lingers, Leaves, IsLookedAt, LooksAtOne}
 use Rattle.daide_sockets.specs.Lingering.{LooksAtEach, LooksAlong, IsWriting, IsWritingOver, ClosingsGoOn, GoOnFor, is_released}
-use Rattle.daide_sockets.specs.Lingering.{TriesWriting, LooksAround, LeavesNow}
+use Rattle.daide_sockets.specs.Lingering.{TriesWriting, LooksAround, IsReleasedNow}
 
 -- ---- lists
 
@@ -219,7 +219,7 @@ module _ {S : Type 0} (to_give taken : S → Option (List ℕ)) (calls : S → O
     -- a stream whose last piece was dropped leaves
     pub last_leaves : (old new : ClosingStream S) (result : Bool) →
         ((pull : Pull) × Discards to_give taken calls pull old new × (result ≡ is_released now pull new)) →
-        not result ≡ false → IsWritingOver old.stream → LeavesNow to_give taken calls now old
+        not result ≡ false → IsWritingOver old.stream → IsReleasedNow to_give taken calls now old
     last_leaves old new true h e over = (new, h.0, over, h.1, sym h.2)
     last_leaves old new false h e over = absurd (cc)
 
@@ -227,13 +227,13 @@ module _ {S : Type 0} (to_give taken : S → Option (List ℕ)) (calls : S → O
     pub piece_dropped : (old new was : ClosingStream S) (bytes : List ℕ) (pull : Pull)
         (last late result : Bool) → was ≡ old → was.quota ≡ new.quota + length bytes →
         Passes to_give taken was.stream bytes [] new.stream → WritesNothing taken was.stream new.stream →
-        new.stream.has_failed ≡ was.stream.has_failed → new.released_at ≡ was.released_at →
+        new.stream.has_failed ≡ was.stream.has_failed → new.released_at ≡ was.released_at → new.closes_at ≡ was.closes_at →
         new.key ≡ was.key → IsBufferedPull calls (min was.quota 4096) was.known was.stream pull new.known new.stream →
         (0 < length was.stream.read_buffer →
         pull ≡ Got (min (length was.stream.read_buffer) (min was.quota 4096))) →
         last ≡ is_last_piece pull new.quota → late ≡ is_time_over now new.released_at → result ≡ (last || late) →
         (pull : Pull) × Discards to_give taken calls pull old new × (result ≡ is_released now pull new)
-    piece_dropped old new was bytes pull last late result e quota passes unwritten failed stays key pulled ahead is_last
+    piece_dropped old new was bytes pull last late result e quota passes unwritten failed stays bound key pulled ahead is_last
         is_late either =
         subst (λ (o : ClosingStream S). (p : Pull) × Discards to_give taken calls p o new
         × (result ≡ is_released now p new)) e (
@@ -248,6 +248,7 @@ module _ {S : Type 0} (to_give taken : S → Option (List ℕ)) (calls : S → O
             pulled = pulled;
             ahead = ahead;
             released_at = stays;
+            closes_at = bound;
           },
           either ∙ ap (λ (b : Bool). b || late) is_last ∙ ap (λ (b : Bool). is_last_piece pull new.quota || b) is_late,
         )

@@ -3,10 +3,16 @@ use Rattle.std.proofs.Common.{◌≡◌, ℕ, zero, suc, ◌+◌, ◌<◌, ◌�
 use Rattle.std.proofs.Common.{refl, ap, sym, ◌∙◌, arith}
 use Rattle.std.specs.Prelude.{slice_set, if◌then◌else◌}
 use Rattle.std.proofs.Math.Seq.{drop-cons}
+use Rattle.std.specs.Prelude.{◌||◌}
+use Rattle.daide_buffered_io.specs.declared.readiness.Readiness.{Readiness}
 use Rattle.daide_io.specs.declared.network.SocketEvent.{SocketEvent}
 use Rattle.daide_sockets.specs.declared.table.Row.{Row}
 use Rattle.daide_sockets.specs.Table.{with_events, with_event}
 use Rattle.daide_sockets.specs.Table.{Table, taken_row, row_at, first_free, with_taken, changed, no_report, report_at, TakesRow}
+use Rattle.daide_sockets.specs.Table.{has_report, is_reported_at, merged, without_report}
+
+true_not_false : true ≡ false → ⊥
+true_not_false h = absurd (cc)
 
 pub next_noted : (rows : List Row) (news : List SocketEvent) (i : ℕ) (event : SocketEvent) → i < length news →
     event ≡ get_or news i event → with_events rows (drop i news) ≡ with_events (with_event rows event) (drop (suc i) news)
@@ -83,3 +89,52 @@ report_taken [] zero = refl
 report_taken [] (suc key) = refl
 report_taken (row ∷ rows) zero = refl
 report_taken (row ∷ rows) (suc key) = report_taken rows key
+
+-- ---- a row of which nothing is reported
+
+-- a report without anything is no report
+pub nothing_reported : (report : Readiness) → has_report report ≡ false → report ≡ no_report
+nothing_reported report none = by report.may_read report.may_write report.reads_on none
+  where
+    by : (may_read may_write reads_on : Bool) → (may_read || may_write || reads_on) ≡ false →
+        record { may_read = may_read; may_write = may_write; reads_on = reads_on } ≡ no_report
+    by false false false h = refl
+    by false false true h = absurd (true_not_false h)
+    by false true reads_on h = absurd (true_not_false h)
+    by true may_write reads_on h = absurd (true_not_false h)
+
+-- no report adds nothing
+pub merged_with_nothing : (known report : Readiness) → has_report report ≡ false → known ≡ merged known report
+merged_with_nothing known report none =
+    by known.may_read known.may_write known.reads_on
+    ∙ ap (λ (r : Readiness). merged known r) (sym (nothing_reported report none))
+  where
+    by : (may_read may_write reads_on : Bool) →
+        record { may_read = may_read; may_write = may_write; reads_on = reads_on }
+        ≡ merged (record { may_read = may_read; may_write = may_write; reads_on = reads_on }) no_report
+    by false false false = refl
+    by false false true = refl
+    by false true false = refl
+    by false true true = refl
+    by true may_write reads_on = by_read may_write reads_on
+      where
+        by_read : (may_write reads_on : Bool) →
+            record { may_read = true; may_write = may_write; reads_on = reads_on }
+            ≡ merged (record { may_read = true; may_write = may_write; reads_on = reads_on }) no_report
+        by_read false false = refl
+        by_read false true = refl
+        by_read true false = refl
+        by_read true true = refl
+
+-- the rows stay as they are without the report of one that has none
+unreported : (rows : List Row) (key : ℕ) → (row_at rows key).report ≡ no_report →
+    rows ≡ changed rows key (record (row_at rows key) { report = no_report })
+unreported [] zero none = refl
+unreported [] (suc key) none = refl
+unreported (row ∷ rows) zero none = ap (λ (report : Readiness). record row { report = report } ∷ rows) none
+unreported (row ∷ rows) (suc key) none = ap (λ (l : List Row). row ∷ l) (unreported rows key none)
+
+pub table_unreported : (table : Table) (key : ℕ) → is_reported_at table key ≡ false → table ≡ without_report table key
+table_unreported table key none =
+    ap (λ (l : List Row). record table { rows = l })
+    (unreported table.rows key (nothing_reported (row_at table.rows key).report none))

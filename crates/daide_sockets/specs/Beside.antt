@@ -10,7 +10,7 @@ use Rattle.daide_sockets.specs.InTime.{IsInTimeFor, watching_all}
 use Rattle.daide_sockets.specs.Lingering.{ClosingStream}
 use Rattle.daide_sockets.specs.Pairing.{Arriving, ConnectRow}
 use Rattle.daide_sockets.specs.Sockets.{is_some_byte}
-use Rattle.daide_sockets.specs.Table.{Table, IsWaitTime, merged, report_at}
+use Rattle.daide_sockets.specs.Table.{Table, IsWaitTime, earlier, merged, report_at}
 
 -- ---- a closing stream
 
@@ -24,11 +24,15 @@ may_step known stream = if is_some_byte stream.write_buffer && not stream.has_fa
 abbrev pub may_close_on : {S : Type 0} → Table → ClosingStream S → Bool
 may_close_on table closing = may_step (merged closing.known (report_at table closing.key)) closing.stream
 
--- the deadline of a closing stream: of its peer's stall timeout while buffered bytes may be written, and then of its
--- release
-abbrev pub closing_due : {S : Type 0} → ClosingStream S → Option Instant
-closing_due closing = if is_some_byte closing.stream.write_buffer && not closing.stream.has_failed then closing.stalls_at
+-- the deadline of the stage of a closing stream: of its peer's stall timeout while buffered bytes may be written, and then
+-- of its release
+abbrev pub stage_due : {S : Type 0} → ClosingStream S → Option Instant
+stage_due closing = if is_some_byte closing.stream.write_buffer && not closing.stream.has_failed then closing.stalls_at
     else closing.released_at
+
+-- the deadline of a closing stream: of its stage, or its bound, whichever is earlier
+abbrev pub closing_due : {S : Type 0} → ClosingStream S → Option Instant
+closing_due closing = earlier (stage_due closing) closing.closes_at
 
 -- each closing stream, as a wait watches it
 abbrev pub closings_watched : {S : Type 0} → Table → List (ClosingStream S) → List (Bool × Option Instant)

@@ -1,5 +1,5 @@
 -- How long a stream closes: its deadlines since its closing began, and how often they pass. (own)
-use Rattle.std.specs.Prelude.{◌≡◌, ◌≤◌, ℕ, ◌+◌, max, if◌then◌else◌, List, [], ◌∷◌, Option, Some, All}
+use Rattle.std.specs.Prelude.{◌≡◌, ◌≤◌, ◌<◌, ℕ, ◌+◌, max, if◌then◌else◌, List, [], ◌∷◌, Option, Some, All, Contains}
 use Rattle.std.specs.Duration.{as_nanos}
 use Rattle.std.specs.Time.{instant_nanos, FitsClock}
 use Rattle.std.specs.declared.time.Duration.{Duration}
@@ -9,8 +9,9 @@ use Rattle.daide_buffered_io.specs.declared.readiness.Readiness.{Readiness}
 use Rattle.daide_io.specs.Streams.{StreamCall}
 use Rattle.daide_io.specs.System.{SystemCall, TransitsBy}
 use Rattle.daide_sockets.specs.Beside.{closing_due}
-use Rattle.daide_sockets.specs.Lingering.{ClosingStream, begins_closing, WritesOut, Lingers, end_time}
-use Rattle.daide_sockets.specs.Pairing.{Paired, RunSockets, Transits}
+use Rattle.daide_sockets.specs.Lingering.{ClosingStream, IsClosingBound, begins_closing, WritesOut, Lingers, end_time}
+use Rattle.daide_sockets.specs.Pairing.{Paired}
+use Rattle.daide_sockets.specs.Scheduling.{RunState, ClosesByClock}
 use Rattle.daide_sockets.specs.Times.{is_past}
 
 -- ---- the premise
@@ -27,6 +28,20 @@ abbrev pub ReadingsGoOn : Duration → Option Instant → List (Option Instant) 
 ReadingsGoOn stall start [] last = IsReadingFor stall start last
 ReadingsGoOn stall start (reading ∷ readings) last = (before : Instant) × ReadingsGoOn stall start readings before
     × IsReadingFor stall reading last × (instant_nanos before ≤ instant_nanos last)
+
+-- the readings of the clock that the table of a run had, before each of these calls and after the last
+abbrev pub readings_of : {N P S : Type 0} (transition : RunState N S → SystemCall P → RunState N S → Type 0)
+    (answers : List (SystemCall P)) (old new : RunState N S) → TransitsBy transition old answers new → List (Option Instant)
+readings_of transition [] old new by = old.table.reading ∷ []
+readings_of transition (answer ∷ answers) old new by =
+    old.table.reading ∷ readings_of transition answers by.0 new by.2
+
+-- ---- a closing stream
+
+-- The bound of a stream whose closing began at this moment, in nanoseconds: the stall timeout and the second for the peer's
+-- end later.
+abbrev pub bound_of : Duration → Instant → ℕ
+bound_of stall begun = instant_nanos begun + (as_nanos stall + end_time)
 
 module _ {S : Type 0} (to_give taken : S → Option (List ℕ)) (calls : S → Option (List StreamCall)) where
   -- a stream was advanced at these readings of the clock, the last one first, and stayed each time
@@ -48,20 +63,35 @@ module _ {S : Type 0} (to_give taken : S → Option (List ℕ)) (calls : S → O
     pub known : Readiness
     pub stream : Buffer S
     pub first : ClosingStream S
-    pub begins : WritesOut to_give taken calls start (begins_closing stall_time key known stream) first
+    pub bound : Option Instant
+    pub bounded : IsClosingBound start stall_time bound
+    pub begins : WritesOut to_give taken calls start (begins_closing stall_time bound key known stream) first
     pub readings : List (Option Instant)
     pub looks : LingersBy readings first closing
 
-  -- A stream that still closes, of which the peer has a stall timeout. It was advanced at most once at or past a deadline.
-  -- While the clock goes on it has a deadline, at most the stall timeout or a second after it was advanced last.
-  pub record IsClosingInTime (stall : Duration) (closing : ClosingStream S) : Type 0 where
+  -- A stream that still closes, and began at this moment. At each reading of the clock at which it was advanced since, it was
+  -- within its bound: the stall timeout and a second after that moment. Its deadline is not after its bound.
+  pub record IsWithinBound (stall : Duration) (begun : Instant) (readings : List (Option Instant)) (closing : ClosingStream S) :
+      Type 0 where
+    pub before : All (λ reading. (now : Instant) → reading ≡ Some now → instant_nanos now < bound_of stall begun) readings
+    pub due : (due : Instant) × (closing_due closing ≡ Some due) × (instant_nanos due ≤ bound_of stall begun)
+
+  -- A stream that still closes, of which the peer has a stall timeout. It began, and was advanced since, at readings of this
+  -- clock. It was advanced at most once at or past a deadline. While the clock goes on it has a deadline, at most the stall
+  -- timeout or a second after it was advanced last. Whether or not the clock goes on, it is within its bound.
+  pub record IsClosingInTime (stall : Duration) (clock : List (Option Instant)) (closing : ClosingStream S) : Type 0 where
     pub since : ClosesSince (Some stall) closing
+    pub by_clock : All (λ reading. Contains clock reading) (since.start ∷ since.readings)
     pub overdue : overdue_looks since.readings since.first closing since.looks ≤ 1
     pub deadline : (last : Instant) → ReadingsGoOn stall since.start since.readings last → (due : Instant)
         × (closing_due closing ≡ Some due) × (instant_nanos due ≤ instant_nanos last + max (as_nanos stall) end_time)
+    pub bound : (begun : Instant) → since.start ≡ Some begun → FitsClock (bound_of stall begun) →
+        IsWithinBound stall begun since.readings closing
 
-  -- Sockets of a run of which none closed, after any trace of system calls: each closing stream is in time.
-  abbrev pub ClosingSocketsLeave : Type 0 → Type 0
-  ClosingSocketsLeave P = (pair : P → Paired S) (old new : RunSockets S) (answers : List (SystemCall P)) (stall : Duration) →
+  -- Sockets of a run of which none closed, after any trace of system calls: each closing stream is in time, by the readings
+  -- of the clock that the table of the run had. `pair` is the content of ports.
+  abbrev pub ClosingSocketsLeave : Type 0 → Type 0 → Type 0
+  ClosingSocketsLeave N P = (pair : P → Paired S) (old new : RunState N S) (answers : List (SystemCall P)) (stall : Duration) →
       old.closing.streams ≡ [] → old.closing.stall_time ≡ Some stall →
-      TransitsBy (Transits to_give taken calls pair) old answers new → All (IsClosingInTime stall) new.closing.streams
+      (by : TransitsBy (ClosesByClock to_give taken calls pair) old answers new) →
+      All (IsClosingInTime stall (readings_of (ClosesByClock to_give taken calls pair) answers old new by)) new.closing.streams

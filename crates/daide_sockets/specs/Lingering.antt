@@ -2,6 +2,7 @@
 -- stream is released. (own)
 use Rattle.std.specs.Prelude.{◌≡◌, ◌⊎◌, ℕ, zero, suc, ◌+◌, ◌<◌, ◌||◌, min, nat_eq, nat_lt, if◌then◌else◌, Bool, true, false}
 use Rattle.std.specs.Prelude.{List, [], ◌∷◌, ◌++◌, length, Option, Some, None, slice_get, slice_set, remove}
+use Rattle.std.specs.Duration.{as_nanos}
 use Rattle.std.specs.declared.time.Duration.{Duration}
 use Rattle.std.specs.declared.time.Instant.{Instant}
 use Rattle.daide_io.specs.declared.ports.Pull.{Pull}
@@ -11,10 +12,11 @@ use Rattle.daide_buffered_io.specs.Buffers.{Buffer, Passes, ReadsNothing, Writes
 use Rattle.daide_buffered_io.specs.Calls.{is_last_piece}
 use Rattle.daide_io.specs.Streams.{StreamCall}
 use Rattle.daide_sockets.specs.Table.{merged}
-use Rattle.daide_sockets.specs.Times.{IsAfter, StallsNext, has_stalled, is_time_over}
+use Rattle.daide_sockets.specs.Times.{IsAfter, StallsNext, has_stalled, is_past, is_time_over}
 
 -- a closing stream: the key of its row; what is known of it without a call; its peer's stall timeout, and when that
--- expires; how many more bytes may be dropped; and the deadline of its release, none before its writing is over
+-- expires; how many more bytes may be dropped; the deadline of its release, none before its writing is over; and the bound
+-- of its closing, none without a stall timeout
 pub record ClosingStream (S : Type 0) : Type 0 where
   pub stream : Buffer S
   pub key : ℕ
@@ -23,6 +25,7 @@ pub record ClosingStream (S : Type 0) : Type 0 where
   pub stalls_at : Option Instant
   pub quota : ℕ
   pub released_at : Option Instant
+  pub closes_at : Option Instant
 
 -- The closing streams, oldest first. A pass advances each stream that was closing when it began: those before `next`
 -- were advanced, those from there to `pass_end` are next, and those after it came since. Each has this stall timeout.
@@ -44,9 +47,15 @@ drop_quota = 1048576
 abbrev pub end_time : ℕ
 end_time = 1000000000
 
--- a stream whose closing begins: its peer's stall timeout starts again
-abbrev pub begins_closing : {S : Type 0} → Option Duration → ℕ → Readiness → Buffer S → ClosingStream S
-begins_closing time key known stream = record {
+-- The bound of a closing that begins at this reading of the clock: the peer's stall timeout and the second for its end
+-- later. There is none without a stall timeout.
+abbrev pub IsClosingBound : Option Instant → Option Duration → Option Instant → Type 0
+IsClosingBound now None bound = bound ≡ None
+IsClosingBound now (Some time) bound = IsAfter now (as_nanos time + end_time) bound
+
+-- a stream whose closing begins, with this bound: its peer's stall timeout starts again
+abbrev pub begins_closing : {S : Type 0} → Option Duration → Option Instant → ℕ → Readiness → Buffer S → ClosingStream S
+begins_closing time bound key known stream = record {
   stream = stream;
   key = key;
   known = known;
@@ -54,6 +63,7 @@ begins_closing time key known stream = record {
   stalls_at = None;
   quota = drop_quota;
   released_at = None;
+  closes_at = bound;
 }
 
 -- a stream that took a report of its row
@@ -103,6 +113,7 @@ pub record WritesOut {S : Type 0} (to_give taken : S → Option (List ℕ)) (cal
   pub stalls_at : new.stalls_at ≡ tried.stalls_at
   pub flushes : Flushes to_give taken old.stream new.stream
   pub quota : new.quota ≡ old.quota
+  pub closes_at : new.closes_at ≡ old.closes_at
   pub stage : (IsWriting new.stream × (new.released_at ≡ old.released_at))
       ⊎ (IsWritingOver new.stream × IsAfter now end_time new.released_at)
 
@@ -120,23 +131,36 @@ pub record Discards {S : Type 0} (to_give taken : S → Option (List ℕ)) (call
   pub ahead : 0 < length old.stream.read_buffer →
       pull ≡ Got (min (length old.stream.read_buffer) (min old.quota 4096))
   pub released_at : new.released_at ≡ old.released_at
+  pub closes_at : new.closes_at ≡ old.closes_at
 
 -- After this pull it is released: at the stream's end, at the end of its quota, or if its time is over.
 abbrev pub is_released : {S : Type 0} → Option Instant → Pull → ClosingStream S → Bool
 is_released now pull stream = is_last_piece pull stream.quota || is_time_over now stream.released_at
 
--- One step of a stream that stays: while bytes are buffered, they are written, and then the bytes received are dropped.
-abbrev pub LingersOn : {S : Type 0} → (S → Option (List ℕ)) → (S → Option (List ℕ)) → (S → Option (List StreamCall)) →
+-- One step in stages: while bytes are buffered, they are written, and then the bytes received are dropped.
+abbrev pub AdvancesOn : {S : Type 0} → (S → Option (List ℕ)) → (S → Option (List ℕ)) → (S → Option (List StreamCall)) →
     Option Instant → ClosingStream S → ClosingStream S → Type 0
-LingersOn to_give taken calls now old new = (IsWriting old.stream × WritesOut to_give taken calls now old new)
+AdvancesOn to_give taken calls now old new = (IsWriting old.stream × WritesOut to_give taken calls now old new)
     ⊎ ((pull : Pull) × IsWritingOver old.stream × Discards to_give taken calls pull old new
     × (is_released now pull new ≡ false))
 
--- The last step of a stream that is released: not before its writing is over.
+-- The last step in stages, of a stream that is released: not before its writing is over.
+abbrev pub IsReleasedNow : {S : Type 0} → (S → Option (List ℕ)) → (S → Option (List ℕ)) → (S → Option (List StreamCall)) →
+    Option Instant → ClosingStream S → Type 0
+IsReleasedNow {S} to_give taken calls now old = (last : ClosingStream S) × (pull : Pull) × IsWritingOver old.stream
+    × Discards to_give taken calls pull old last × (is_released now pull last ≡ true)
+
+-- One step of a stream that stays: its bound is not past at this reading of the clock.
+abbrev pub LingersOn : {S : Type 0} → (S → Option (List ℕ)) → (S → Option (List ℕ)) → (S → Option (List StreamCall)) →
+    Option Instant → ClosingStream S → ClosingStream S → Type 0
+LingersOn to_give taken calls now old new =
+    (is_past now old.closes_at ≡ false) × AdvancesOn to_give taken calls now old new
+
+-- The last step of a stream: its bound is past at this reading of the clock, or it is released.
 abbrev pub LeavesNow : {S : Type 0} → (S → Option (List ℕ)) → (S → Option (List ℕ)) → (S → Option (List StreamCall)) →
     Option Instant → ClosingStream S → Type 0
-LeavesNow {S} to_give taken calls now old = (last : ClosingStream S) × (pull : Pull) × IsWritingOver old.stream
-    × Discards to_give taken calls pull old last × (is_released now pull last ≡ true)
+LeavesNow to_give taken calls now old =
+    (is_past now old.closes_at ≡ true) ⊎ IsReleasedNow to_give taken calls now old
 
 -- a stream takes a report of its row, and then makes a step and stays
 abbrev pub Lingers : {S : Type 0} → (S → Option (List ℕ)) → (S → Option (List ℕ)) → (S → Option (List StreamCall)) →

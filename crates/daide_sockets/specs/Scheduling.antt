@@ -11,8 +11,9 @@ use Rattle.daide_sockets.specs.declared.admission.Acceptor.{Acceptor}
 use Rattle.daide_sockets.specs.declared.ports.SocketPorts.{SocketPorts}
 use Rattle.daide_sockets.specs.Accepting.{is_accept_due, MakesAccept}
 use Rattle.daide_sockets.specs.Beside.{listener_watched, others_watched}
-use Rattle.daide_sockets.specs.Lingering.{ClosingList}
-use Rattle.daide_sockets.specs.Pairing.{Arriving, Paired, RunSockets, Transits}
+use Rattle.daide_buffered_io.specs.Buffers.{Buffer}
+use Rattle.daide_sockets.specs.Lingering.{ClosingList, LooksAround, in_pass}
+use Rattle.daide_sockets.specs.Pairing.{Arriving, Paired, RunSockets, ClosesAt, ClosesBothAt, Transits}
 use Rattle.daide_sockets.specs.Table.{Table, IsNoTime}
 use Rattle.daide_sockets.specs.Timers.{SessionTimers, BeginsAt, timers_of}
 use Rattle.daide_sockets.specs.Wakeups.{Wakes, RestsOnce}
@@ -98,6 +99,29 @@ Schedules transition timers old (Watches ports) new = SameSchedule old new
 Schedules transition timers old (Retires ports end) new = SameSchedule old new
 Schedules transition timers old (Notifies notice) new = SameSchedule old new
 
+-- ---- closing streams
+
+-- What a system call does to the closing streams, by the clock. A round advances them at the reading that the table has when
+-- its beginning is over. The bot of a failed connect, and both sockets of a session that is retired, begin to close at the
+-- table's reading. No other call changes them. `pair` is the content of ports.
+abbrev pub ClosesByClock : {N P S : Type 0} → (S → Option (List ℕ)) → (S → Option (List ℕ)) → (S → Option (List StreamCall)) →
+    (P → Paired S) → RunState N S → SystemCall P → RunState N S → Type 0
+ClosesByClock to_give taken calls pair old (Begins orders) new =
+    LooksAround to_give taken calls new.table.reading (in_pass old.closing) new.closing
+ClosesByClock {S = S} to_give taken calls pair old (Connects Failed) new =
+    (bot : Buffer S) × ClosesAt to_give taken calls old.table.reading old.closing bot new.closing
+ClosesByClock to_give taken calls pair old (Retires ports end) new =
+    ClosesBothAt to_give taken calls old.table.reading old.closing (pair ports) new.closing
+ClosesByClock to_give taken calls pair old (Connects (Ready ports)) new = new.closing ≡ old.closing
+ClosesByClock to_give taken calls pair old (Connects Pending) new = new.closing ≡ old.closing
+ClosesByClock to_give taken calls pair old (Accepts came) new = new.closing ≡ old.closing
+ClosesByClock to_give taken calls pair old (Shows ports status) new = new.closing ≡ old.closing
+ClosesByClock to_give taken calls pair old (ReportsNews ports news) new = new.closing ≡ old.closing
+ClosesByClock to_give taken calls pair old (BeginsTurn before after) new = new.closing ≡ old.closing
+ClosesByClock to_give taken calls pair old (Watches ports) new = new.closing ≡ old.closing
+ClosesByClock to_give taken calls pair old (Notifies notice) new = new.closing ≡ old.closing
+ClosesByClock to_give taken calls pair old Waits new = new.closing ≡ old.closing
+
 -- ---- a wait for bots
 
 -- a wait that takes no time while an accept is due
@@ -110,7 +134,8 @@ pub record AwaitsBots {N C S : Type 0} (transition : N → NetworkCall C → N �
 -- ---- all of it
 
 -- All that a system call does to the sockets of a run: to its bots and its closing streams (`Transits`), as far as a
--- session's wait needs it (`Wakes`), and what it schedules (`Schedules`). `ports_in` is the content of ports.
+-- session's wait needs it (`Wakes`), what it schedules (`Schedules`), and to its closing streams by the clock
+-- (`ClosesByClock`). `ports_in` is the content of ports.
 abbrev pub RunEvolves : {N C P S : Type 0} → (N → NetworkCall C → N → Type 0) → (S → Option (List ℕ)) →
     (S → Option (List ℕ)) → (S → Option (List StreamCall)) → (P → SocketPorts S) → RunState N S → SystemCall P →
     RunState N S → Type 0
@@ -118,3 +143,4 @@ RunEvolves transition to_give taken calls ports_in old call new =
     Transits to_give taken calls (λ ports. pair_of (ports_in ports)) (sockets_in old) call (sockets_in new)
     × Wakes transition (λ ports. (timers_of (ports_in ports)).sockets) (old.network, old.table) call (new.network, new.table)
     × Schedules transition (λ ports. timers_of (ports_in ports)) old call new
+    × ClosesByClock to_give taken calls (λ ports. pair_of (ports_in ports)) old call new

@@ -8,6 +8,7 @@ ghost use Rattle.daide_sockets.specs.InTime.{WaitsAreInTime};
 ghost use Rattle.daide_sockets.specs.PairedOnce.{SessionsComeOnce};
 
 use daide_io::duplex::Duplex;
+use daide_io::network::Network;
 use daide_io::ports::Ports;
 
 /// Over any calls of the sockets of a run, no session's ports come twice. Each bot that came is joined at most once, by
@@ -42,21 +43,25 @@ pub fn waits_are_in_time_beside<S: Duplex + Drop>()
 /// that is none of these any more was closed. So beside the listener a run holds two sockets for each bot that waits, two
 /// for each session, and those that close.
 ///
-/// Not said: that the rows of the table are as many. A row is taken only below the most rows of the table, which are two for
-/// each session, 256, and one (`take_row`: `few`; `most_sockets`).
+/// `each_bot_has_room` joins this with the loop's counts, against the rows of the table.
 pub fn sockets_are_accounted<P: Ports, S: Duplex + Drop>()
     ensures { SocketsAreAccounted P S.to_give S.taken S.calls }
 {}
 
-/// No socket closes for ever. Take a run over sockets with a stall timeout. Each socket that closes has a deadline while the
-/// clock goes on: at most the stall timeout after it was advanced last, or a second once its writing is over. As long as it
-/// closes, it was advanced at most once at or past a deadline that it had: then its writing was over. So the next time that
-/// it is advanced at its deadline or past it, it leaves (`IsClosingInTime`). The premise is about the clock alone.
+/// No socket closes for ever. Take a run over sockets with a stall timeout. The bound of a socket that closes is the stall
+/// timeout and a second after the reading of the clock at which it began. It is advanced at no reading at or past its bound:
+/// there it leaves, whatever its peer does, and whether or not the clock went on (`IsWithinBound`). Each wait ends by its
+/// bound at the latest (`waits_are_in_time_beside`), since its deadline is not after it, and reads the clock (`RestsOnce`).
 ///
-/// Each wait ends by that deadline (`waits_are_in_time_beside`). A socket may leave before: at its peer's end, after 1 MiB,
-/// or as the oldest of 256.
+/// The readings are those that the table of the run has at its calls, as the sockets' own `transition` says
+/// (`ClosesByClock`).
 ///
-/// Not said: how long a peer may go on that takes a byte before each stall timeout is over.
-pub fn closing_sockets_leave<P: Ports, S: Duplex + Drop>()
-    ensures { ClosingSocketsLeave S.to_give S.taken S.calls P }
+/// While the clock goes on it has a deadline that is at most the stall timeout after it was advanced last, or a second once
+/// its writing is over. As long as it closes, it was advanced at most once at or past a deadline that it had
+/// (`IsClosingInTime`).
+///
+/// A socket may leave before: at its peer's end, after 1 MiB, a second after its last byte was written, or as the oldest of
+/// more than 256 (`sockets_are_accounted`).
+pub fn closing_sockets_leave<P: Ports, S: Duplex + Drop, N: Network>()
+    ensures { ClosingSocketsLeave S.to_give S.taken S.calls N P }
 {}

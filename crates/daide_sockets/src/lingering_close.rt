@@ -10,10 +10,10 @@ ghost use Rattle.daide_io.specs.declared.ports.Pull.{Pull};
 ghost use Rattle.daide_io.specs.Ports.{AppendsTo};
 ghost use Rattle.daide_buffered_io.specs.Buffers.{Passes, ReadsNothing, WritesNothing};
 ghost use Rattle.daide_io.specs.Streams.{StreamCall, WritingEnded};
-ghost use Rattle.daide_sockets.specs.Beside.{may_close_on, closing_due, closings_watched};
+ghost use Rattle.daide_sockets.specs.Beside.{may_close_on, closing_due, stage_due, closings_watched};
 ghost use Rattle.daide_sockets.specs.Finishing.{FinishesAll};
 ghost use Rattle.daide_sockets.specs.InTime.{watching_all};
-ghost use Rattle.daide_sockets.specs.Lingering.{ClosingStream, ClosingList, begins_closing, no_closing, TriesWriting, WritesOut};
+ghost use Rattle.daide_sockets.specs.Lingering.{ClosingStream, ClosingList, IsClosingBound, begins_closing, no_closing, TriesWriting, WritesOut};
 ghost use Rattle.daide_sockets.specs.Lingering.{Discards, is_released, LingersOn, LeavesNow, with_report, LooksAtOne, LooksAlong};
 ghost use Rattle.daide_sockets.specs.Lingering.{in_pass, LooksAround, GoOnFor};
 ghost use Rattle.daide_sockets.specs.Table.{report_at, watching};
@@ -23,7 +23,7 @@ ghost use Rattle.daide_sockets.specs.Pairing.{ClosesAt, ClosesBothAt, with_room}
 use crate::poller::Poller;
 use crate::ports::SocketPorts;
 use crate::socket::Socket;
-use crate::table::{SocketTable, after, is_time_over, merged};
+use crate::table::{SocketTable, after, earlier, is_past, is_time_over, merged};
 use daide_buffered_io::dropping::Dropping;
 use daide_io::duplex::Duplex;
 use daide_io::network::Network;
@@ -43,6 +43,17 @@ const MOST_LOOKS: usize = 8;
 /// The most sockets that close at once. A further one closes the oldest.
 pub const MOST_CLOSING: usize = 256;
 
+/// Returns the bound of a closing that begins at this reading of the clock: the stall timeout and the time for the peer's
+/// end later. `None` for never.
+fn closing_bound(now: Option<Instant>, stall_time: Option<Duration>) -> Option<Instant>
+    ensures { IsClosingBound now stall_time result }
+{
+    match stall_time {
+        None => None,
+        Some(time) => after(after(now, time), Duration::from_secs(SECONDS)),
+    }
+}
+
 /// A closing socket. Its writing is over once no buffered byte may still be written.
 #[derive(Drop)]
 struct LingeringClose<'w, S: Duplex + Drop> {
@@ -52,6 +63,9 @@ struct LingeringClose<'w, S: Duplex + Drop> {
     /// The moment at which it is closed at the latest, counted from the reading of the clock at which its writing was
     /// over.
     released_at: Option<Instant>,
+    /// The moment at which it is closed at the latest, whatever its peer does, counted from the reading of the clock at
+    /// which it began. `None` without a stall timeout.
+    closes_at: Option<Instant>,
 }
 
 impl<'w, S: Duplex + Drop> Model for LingeringClose<'w, S> {
@@ -67,13 +81,21 @@ impl<'w, S: Duplex + Drop> Model for LingeringClose<'w, S> {
       stalls_at = c.socket.stalls_at;
       quota = c.rest;
       released_at = c.released_at;
+      closes_at = c.closes_at;
     } };
 }
 
 impl<'w, S: Duplex + Drop> LingeringClose<'w, S> {
-    /// Begins with a socket that no session reads any more. Its peer has this time to take bytes; `None` for ever.
-    fn new(socket: Socket<'w, S>, stall_time: Option<Duration>) -> LingeringClose<'w, S>
-        ensures { result ≡ begins_closing stall_time socket.entry.key socket.entry.readiness socket.entry.stream }
+    /// Begins with a socket that no session reads any more, at this reading of the clock. Its peer has this time to take
+    /// bytes; `None` for ever.
+    fn new(
+        socket: Socket<'w, S>,
+        stall_time: Option<Duration>,
+        now: Option<Instant>,
+    ) -> LingeringClose<'w, S>
+        ensures begins { result ≡ begins_closing stall_time result.closes_at socket.entry.key socket.entry.readiness
+            socket.entry.stream }
+        ensures bound { IsClosingBound now stall_time result.closes_at }
     {
         let mut socket = socket;
         // Until the buffered bytes are written, the stall timeout is the only deadline.
@@ -82,6 +104,7 @@ impl<'w, S: Duplex + Drop> LingeringClose<'w, S> {
             socket,
             rest: Dropping::new(MOST_DROPPED),
             released_at: None,
+            closes_at: closing_bound(now, stall_time),
         }
     }
 
@@ -92,6 +115,7 @@ impl<'w, S: Duplex + Drop> LingeringClose<'w, S> {
         ensures unwritten { WritesNothing S.taken self.old.stream self.new.stream }
         ensures failed { self.new.stream.has_failed ≡ self.old.stream.has_failed }
         ensures stays { (self.new.quota ≡ self.old.quota) × (self.new.released_at ≡ self.old.released_at) }
+        ensures bound { self.new.closes_at ≡ self.old.closes_at }
         ensures stalls { (self.new.stall_time ≡ self.old.stall_time) × (self.new.stalls_at ≡ self.old.stalls_at) }
         ensures known { (self.new.key ≡ self.old.key) × (self.new.known ≡ self.old.known) }
         ensures told { self.old.stream.write_buffer ≡ [] → AppendsTo (S.calls self.old.stream.stream) (WritingEnded ∷ [])
@@ -110,6 +134,7 @@ impl<'w, S: Duplex + Drop> LingeringClose<'w, S> {
         ensures passes { Passes S.to_give S.taken self.old.stream [] [] self.new.stream }
         ensures unread { ReadsNothing S.to_give self.old.stream self.new.stream }
         ensures stays { (self.new.quota ≡ self.old.quota) × (self.new.released_at ≡ self.old.released_at) }
+        ensures bound { self.new.closes_at ≡ self.old.closes_at }
         ensures tries { TriesWriting S.calls now self.old self.new }
     {
         self.socket.give_up_stalled(now);
@@ -160,14 +185,19 @@ impl<'w, S: Duplex + Drop> LingeringClose<'w, S> {
 
     /// Makes a step of closing a socket, and returns false if it is to be closed now.
     ///
-    /// `lingers`: while bytes are buffered for it, they are written. After that it drops a piece of the bytes received.
+    /// `lingers`: it stays only while its bound is not past. While bytes are buffered for it, they are written. After that
+    /// it drops a piece of the bytes received.
     ///
-    /// `leaves`: it leaves only after its writing is over. Then it leaves at the stream's end, once 1 MiB was dropped,
-    /// or a second later by the reading of the clock. It leaves at once if the clock can't be read (`LeavesNow`).
+    /// `leaves`: before its bound it leaves only after its writing is over. Then it leaves at the stream's end, once 1 MiB
+    /// was dropped, or a second later by the reading of the clock. It leaves at once if the clock can't be read
+    /// (`LeavesNow`).
     fn lingers(&mut self, now: Option<Instant>) -> bool
         ensures lingers { result ≡ true → LingersOn S.to_give S.taken S.calls now self.old self.new }
         ensures leaves { result ≡ false → LeavesNow S.to_give S.taken S.calls now self.old }
     {
+        if is_past(now, self.closes_at) {
+            return false;
+        }
         if self.socket.stream.is_behind() {
             self.end_writing(now);
             return true;
@@ -211,15 +241,23 @@ impl<'w, S: Duplex + Drop> LingeringClose<'w, S> {
         }
     }
 
-    /// Returns its deadline: of its peer's stall timeout while buffered bytes may be written, and then of its release.
-    fn due(&self) -> Option<Instant>
-        ensures { result ≡ closing_due self.now }
+    /// Returns the deadline of its stage: of its peer's stall timeout while buffered bytes may be written, and then of its
+    /// release.
+    fn stage_due(&self) -> Option<Instant>
+        ensures { result ≡ stage_due self.now }
     {
         if self.socket.stream.is_behind() {
             self.socket.stalls_at()
         } else {
             self.released_at
         }
+    }
+
+    /// Returns its deadline: of its stage, or its bound, whichever is earlier.
+    fn due(&self) -> Option<Instant>
+        ensures { result ≡ closing_due self.now }
+    {
+        earlier(self.stage_due(), self.closes_at)
     }
 
     /// Has the next wait watch it.
@@ -392,7 +430,7 @@ impl<'w, S: Duplex + Drop> Closings<'w, S> {
     {
         let now = table.now();
         self.make_room(table);
-        let mut closing = LingeringClose::new(socket, self.stall_time);
+        let mut closing = LingeringClose::new(socket, self.stall_time, now);
         closing.end_writing(now);
         self.sockets.push(closing);
     }

@@ -43,33 +43,11 @@ impl IdleTimeout {
         timeout_end(self.reading, self.time)
     }
 
-    /// Returns the moment at which the idle timeout of a socket expires after this pull, by the moment before it. It
-    /// starts again if the side sent something.
-    fn end_after(self, pull: Pull, before: Option<Instant>) -> Option<Instant>
-        ensures starts { is_got pull ≡ true → IsStallEnd self.reading self.time result }
-        ensures goes_on { is_got pull ≡ false → result ≡ before }
-    {
-        match pull {
-            Pull::Got(_) => self.end(),
-            Pull::Idle | Pull::Ended => before,
-        }
-    }
-
     /// Returns true if the idle timeout of a socket is over; never true without one.
     fn is_over(self, silent_from: Option<Instant>) -> bool
         ensures { result ≡ has_stalled self.time self.reading silent_from }
     {
         self.time.is_some() && is_past(self.reading, silent_from)
-    }
-}
-
-/// Returns the reading of the clock at which a peer last sent something, after this pull.
-fn heard_after(pull: Pull, now: Option<Instant>, before: Option<Instant>) -> Option<Instant>
-    ensures some { pulled_len pull ≢ 0 → result ≡ now }
-{
-    match pull {
-        Pull::Got(_) => now,
-        Pull::Idle | Pull::Ended => before,
     }
 }
 
@@ -91,7 +69,7 @@ fn heard_after(pull: Pull, now: Option<Instant>, before: Option<Instant>) -> Opt
 ///
 /// `own_time`, `other_time`: a pull ends no stall timeout. That of the other side goes on while its peer takes no byte.
 fn pull_or_flush_peer<S: Duplex + Drop>(
-    idle: IdleTimeout,
+    idle: &IdleTimeout,
     own: &mut Socket<'_, S>,
     other: &mut Socket<'_, S>,
     buffer: &mut [u8],
@@ -106,18 +84,18 @@ fn pull_or_flush_peer<S: Duplex + Drop>(
     // a side that does not count as ended by a timeout is reported as its stream is read; one that is late is read once
     ensures asked { own.new.timed.is_silent ≡ false → own.new.timed.ends_stalled ≡ false →
         IsBufferedPull S.calls (length buffer.old)
-        (read_if (has_stalled idle.time idle.reading own.old.silent_from) own.old.readiness)
+        (read_if (has_stalled idle.now.time idle.now.reading own.old.silent_from) own.old.readiness)
         own.old.stream result own.new.readiness own.new.stream }
     // a side is marked as silent or stalled only with an end, and without an idle timeout never as silent
     ensures silent { result ≢ Pull.Ended → own.new.timed ≡ own.old.timed }
-    ensures patient { IsNone idle.time → own.new.timed.is_silent ≡ own.old.timed.is_silent }
+    ensures patient { IsNone idle.now.time → own.new.timed.is_silent ≡ own.old.timed.is_silent }
     // a timeout that is not over ends nothing, and one that is over ends a side that sends nothing
-    ensures early { has_stalled idle.time idle.reading own.old.silent_from ≡ false →
+    ensures early { has_stalled idle.now.time idle.now.reading own.old.silent_from ≡ false →
         own.new.timed.is_silent ≡ own.old.timed.is_silent }
-    ensures late { has_stalled idle.time idle.reading own.old.silent_from ≡ true → result ≢ Pull.Idle }
+    ensures late { has_stalled idle.now.time idle.now.reading own.old.silent_from ≡ true → result ≢ Pull.Idle }
     // the timeout starts again with what a side sends
-    ensures starts { pulled_len result ≢ 0 → IsStallEnd idle.reading idle.time own.new.silent_from }
-    ensures heard { pulled_len result ≢ 0 → own.new.heard_at ≡ idle.reading }
+    ensures starts { pulled_len result ≢ 0 → IsStallEnd idle.now.reading idle.now.time own.new.silent_from }
+    ensures heard { pulled_len result ≢ 0 → own.new.heard_at ≡ idle.now.reading }
     ensures goes_on { result ≡ Pull.Idle → own.new.silent_from ≡ own.old.silent_from }
     ensures stays { own.old.timed.is_silent ≡ true → own.new.timed.is_silent ≡ true }
     // a side counts as ended for a stall only if its writes fail for that
@@ -134,18 +112,22 @@ fn pull_or_flush_peer<S: Duplex + Drop>(
     ensures pulled { IsPulled (length buffer.old) result own.old own.new }
     ensures other_stays { StaysUnread S.calls other.old other.new }
     // the timeouts of both
-    ensures own_time { PullsInTime idle.reading idle.time result own.old own.new }
-    ensures other_time { FlushesInTime idle.reading other.old other.new }
+    ensures own_time { PullsInTime idle.now.reading idle.now.time result own.old own.new }
+    ensures other_time { FlushesInTime idle.now.reading other.old other.new }
 {
     let is_late = idle.is_over(own.silent_from);
     if is_late {
         own.readiness.may_read = true;
     }
     let pull = own.pull(buffer);
-    if pull != Pull::Idle {
-        own.silent_from = idle.end_after(pull, own.silent_from);
-        own.heard_at = heard_after(pull, idle.reading, own.heard_at);
-        return pull;
+    match pull {
+        Pull::Got(_) => {
+            own.silent_from = idle.end();
+            own.heard_at = idle.reading;
+            return pull;
+        }
+        Pull::Ended => return pull,
+        Pull::Idle => {}
     }
     other.flush_gathered(idle.reading);
     if own.timed.is_stalled {
@@ -477,10 +459,8 @@ impl<'w, S: Drop> SocketPorts<'w, S> {
     {
         self.stops = false;
         self.idle.reading = now;
-        self.held_for_bot = self.held_for_bot.with_turn(self.bot.stream.behind_len());
-        self.held_for_server = self
-            .held_for_server
-            .with_turn(self.server.stream.behind_len());
+        self.held_for_bot = self.held_for_bot.with_turn(&self.bot.stream);
+        self.held_for_server = self.held_for_server.with_turn(&self.server.stream);
     }
 }
 
@@ -628,8 +608,8 @@ impl<S: Duplex + Drop> Ports for SocketPorts<'_, S> {
             (stream_of (self.new.server, self.new.bot) side).readiness (stream_of (self.new.server, self.new.bot) side).stream }
     {
         match side {
-            Side::Bot => pull_or_flush_peer(self.idle, &mut self.bot, &mut self.server, buffer),
-            Side::Server => pull_or_flush_peer(self.idle, &mut self.server, &mut self.bot, buffer),
+            Side::Bot => pull_or_flush_peer(&self.idle, &mut self.bot, &mut self.server, buffer),
+            Side::Server => pull_or_flush_peer(&self.idle, &mut self.server, &mut self.bot, buffer),
         }
     }
 

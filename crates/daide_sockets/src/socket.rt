@@ -143,6 +143,10 @@ impl<'w, S: Drop> Socket<'w, S> {
         } }
         ensures table { table.new ≡ without_report table.old self.old.key }
     {
+        // Most turns begin without a report.
+        if !table.is_reported_at(self.key) {
+            return;
+        }
         let report = table.take_report(self.key);
         self.note_report(report);
     }
@@ -280,9 +284,9 @@ impl<S: Duplex + Drop> Socket<'_, S> {
         }
         let pull = self.stream.pull(self.pool, &mut self.readiness, buffer);
         self.gave = matches!(pull, Pull::Got(_));
-        let is_left = self.readiness.may_read || self.stream.is_ahead();
-        if is_left && is_nothing(pull) && !buffer.is_empty() {
-            self.tries_again = true;
+        if is_nothing(pull) && !buffer.is_empty() {
+            let is_left = self.readiness.may_read || self.stream.is_ahead();
+            self.tries_again = self.tries_again || is_left;
         }
         pull
     }
@@ -389,10 +393,14 @@ impl TurnsHeld {
     /// The state with an empty write buffer.
     pub(crate) const NONE: TurnsHeld = TurnsHeld { turns: 0, len: 0 };
 
-    /// Returns the state after one more turn began with `len` bytes buffered. If these are fewer than in the turn
-    /// before, some were written in it.
-    pub(crate) fn with_turn(self, len: usize) -> TurnsHeld {
-        let turns = if len == 0 || len < self.len {
+    /// Returns the state after one more turn began. If fewer bytes are buffered than in the turn before, some were written
+    /// in it.
+    pub(crate) fn with_turn<S: Drop>(self, stream: &Buffered<S>) -> TurnsHeld {
+        if stream.is_written() {
+            return TurnsHeld::NONE;
+        }
+        let len = stream.behind_len();
+        let turns = if len < self.len {
             0
         } else {
             self.turns.saturating_add(1)

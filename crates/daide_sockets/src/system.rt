@@ -476,11 +476,12 @@ impl<'w, N: Network, E: Write + Drop> System<SocketPorts<'w, N::Connection>> for
     }
 
     fn accept(&mut self) -> bool {
-        let Some(began) = self.accept_next() else {
+        // Most rounds end here.
+        if !self.acceptor.is_due(&self.poller.table) {
+            self.acceptor.await_bots();
             return false;
-        };
-        self.tell_of_session(began);
-        true
+        }
+        self.accept_due()
     }
 
     fn connected(&mut self) -> Connect<SocketPorts<'w, N::Connection>> {

@@ -2,6 +2,10 @@
 -- docs/FORMATS.md by hand.
 use Rattle.std.proofs.Common.{◌≡◌, ℕ, ◌++◌, true, false, List, [], ◌∷◌, Some, None, codes, refl}
 use Rattle.std.specs.Fmt.{digits}
+use Rattle.daide_token.specs.Names.{name_of, names}
+use Rattle.daide_token.specs.Text.{text_with}
+use Rattle.daide_protocol.specs.declared.bot_name.BotName.TheVariants.{Unknown, Nme}
+use Rattle.daide_protocol.specs.BotName.{kept}
 use Rattle.std.specs.declared.net.socket_addr.SocketAddr.{SocketAddr}
 use Rattle.std.specs.declared.net.socket_addr.SocketAddr.TheVariants.{V4}
 use Rattle.daide_grammar.specs.declared.level.Level.TheVariants.{L0, L20}
@@ -37,6 +41,7 @@ first = record {
     server = record { relayed = 95; prn = 7; huh = 8 };
     faults = 6;
     level = L20;
+    name = Nme (kept (codes "Al\"b\\rt"));
   };
   queued_to_bot = 10;
   queued_to_server = 12;
@@ -58,6 +63,7 @@ second = record {
     server = record { relayed = 0; prn = 0; huh = 0 };
     faults = 0;
     level = L0;
+    name = Unknown;
   };
   queued_to_bot = 0;
   queued_to_server = 0;
@@ -72,34 +78,34 @@ second = record {
 abbrev columns : List ℕ
 columns =
     codes "                      from the bot   from the server\n"
-    ++ codes "session  phase   relayed  PRN  HUH relayed  PRN  HUH  to bot to server  bot idle server idle   port bot\n"
+    ++ codes "session  phase   relayed  PRN  HUH relayed  PRN  HUH  to bot to server  bot idle server idle   port bot and its name\n"
 
 table_of_none : status_text Table idle_run [] ≡ codes "0 open, 0 connecting, 0 served, 0 unreached, up 7 s\n" ++ columns
-unfolding digits
+unfolding digits text_with name_of names
 table_of_none = refl
 
 abbrev busy_line : List ℕ
 busy_line = codes "2 open, 1 connecting, 30 served, 4 unreached, up 125 s; bots may wait for a place; stopping\n"
 
 abbrev first_line : List ℕ
-first_line = codes "      1  open 20      87    2    3      95    7    8      40        16         0          61  40000 127.0.0.1:50000\n"
+first_line = codes "      1  open 20      87    2    3      95    7    8      40        16         0          61  40000 127.0.0.1:50000 NME 'Al\"b\\rt'\n"
 
 abbrev second_line : List ℕ
 second_line = codes "     12  wait RM       1    0    0       0    0    0       0         8         5           -      - 10.0.0.7:6\n"
 
 table_of_one : status_text Table busy_run (first ∷ []) ≡ busy_line ++ columns ++ first_line
-unfolding digits
+unfolding digits text_with name_of names
 table_of_one = refl
 
 table_of_two : status_text Table busy_run (first ∷ second ∷ []) ≡ busy_line ++ columns ++ first_line ++ second_line
-unfolding digits
+unfolding digits text_with name_of names
 table_of_two = refl
 
 -- ---- as a document
 
 document_of_none : status_text Json idle_run []
     ≡ codes "{\"open\":0,\"connecting\":0,\"served\":0,\"unreached\":0,\"bots_may_wait\":false,\"stopping\":false,\"seconds\":7,\"sessions\":[\n]}\n"
-unfolding digits
+unfolding digits text_with name_of names
 document_of_none = refl
 
 abbrev busy_members : List ℕ
@@ -108,23 +114,23 @@ busy_members =
 
 abbrev first_object : List ℕ
 first_object =
-    codes "{\"session\":1,\"bot\":\"127.0.0.1:50000\",\"phase\":\"open\",\"level\":20,\"port_to_server\":40000,\"relayed\":{\"bot\":87,\"server\":95},\"prn\":{\"bot\":2,\"server\":7}"
+    codes "{\"session\":1,\"bot\":\"127.0.0.1:50000\",\"phase\":\"open\",\"level\":20,\"port_to_server\":40000,\"name\":\"NME 'Al\\\"b\\\\rt'\",\"relayed\":{\"bot\":87,\"server\":95},\"prn\":{\"bot\":2,\"server\":7}"
     ++ codes ",\"huh\":{\"bot\":3,\"server\":8},\"faults\":6"
     ++ codes ",\"queued\":{\"bot\":10,\"server\":12},\"held\":{\"bot\":30,\"server\":4},\"idle_seconds\":{\"bot\":0,\"server\":61}}"
 
 abbrev second_object : List ℕ
 second_object =
-    codes "{\"session\":12,\"bot\":\"10.0.0.7:6\",\"phase\":\"wait RM\",\"level\":0,\"port_to_server\":null,\"relayed\":{\"bot\":1,\"server\":0},\"prn\":{\"bot\":0,\"server\":0}"
+    codes "{\"session\":12,\"bot\":\"10.0.0.7:6\",\"phase\":\"wait RM\",\"level\":0,\"port_to_server\":null,\"name\":null,\"relayed\":{\"bot\":1,\"server\":0},\"prn\":{\"bot\":0,\"server\":0}"
     ++ codes ",\"huh\":{\"bot\":0,\"server\":0},\"faults\":0"
     ++ codes ",\"queued\":{\"bot\":0,\"server\":0},\"held\":{\"bot\":0,\"server\":8},\"idle_seconds\":{\"bot\":5,\"server\":null}}"
 
 document_of_one : status_text Json busy_run (first ∷ []) ≡ busy_members ++ first_object ++ codes "\n]}\n"
-unfolding digits
+unfolding digits text_with name_of names
 document_of_one = refl
 
 document_of_two : status_text Json busy_run (first ∷ second ∷ [])
     ≡ busy_members ++ first_object ++ codes ",\n" ++ second_object ++ codes "\n]}\n"
-unfolding digits
+unfolding digits text_with name_of names
 document_of_two = refl
 
 -- ---- as metrics
@@ -153,7 +159,7 @@ metrics_of_none : status_text Prometheus idle_run []
     ++ codes "# HELP daide_gate_stopping Whether the run accepts no further bot.\n# TYPE daide_gate_stopping gauge\ndaide_gate_stopping 0\n"
     ++ codes "# HELP daide_gate_up_seconds Seconds since the run began.\n# TYPE daide_gate_up_seconds gauge\ndaide_gate_up_seconds 7\n"
     ++ frames_head ++ waiting_head ++ idle_head ++ level_head
-unfolding digits
+unfolding digits text_with name_of names
 metrics_of_none = refl
 
 abbrev busy_metrics : List ℕ
@@ -187,12 +193,12 @@ first_idle =
     ++ codes "daide_gate_session_idle_seconds{session=\"1\",bot=\"127.0.0.1:50000\",side=\"server\"} 61\n"
 
 abbrev first_level : List ℕ
-first_level = codes "daide_gate_session_level{session=\"1\",bot=\"127.0.0.1:50000\",phase=\"open\"} 20\n"
+first_level = codes "daide_gate_session_level{session=\"1\",bot=\"127.0.0.1:50000\",phase=\"open\",name=\"NME 'Al\\\"b\\\\rt'\"} 20\n"
 
 metrics_of_one : status_text Prometheus busy_run (first ∷ [])
     ≡ busy_metrics ++ frames_head ++ first_frames ++ waiting_head ++ first_waiting ++ idle_head ++ first_idle ++ level_head
     ++ first_level
-unfolding digits
+unfolding digits text_with name_of names
 metrics_of_one = refl
 
 -- a side that has sent nothing has no sample
@@ -210,5 +216,5 @@ metrics_of_two : status_text Prometheus busy_run (first ∷ second ∷ [])
     ++ codes "daide_gate_session_waiting_bytes{session=\"12\",bot=\"10.0.0.7:6\",side=\"server\"} 8\n"
     ++ idle_head ++ first_idle ++ codes "daide_gate_session_idle_seconds{session=\"12\",bot=\"10.0.0.7:6\",side=\"bot\"} 5\n"
     ++ level_head ++ first_level ++ codes "daide_gate_session_level{session=\"12\",bot=\"10.0.0.7:6\",phase=\"wait RM\"} 0\n"
-unfolding digits
+unfolding digits text_with name_of names
 metrics_of_two = refl

@@ -1,10 +1,13 @@
 -- The status of a run as a table: a line of the run, the names of the columns, and a line for each session. (own)
-use Rattle.std.specs.Prelude.{ℕ, ◌+◌, ◌++◌, List, codes}
+use Rattle.std.specs.Prelude.{ℕ, ◌+◌, ◌++◌, List, [], codes}
 use Rattle.std.specs.Fmt.{decimal}
 use Rattle.std.specs.Net.Text.{socket_text}
 use Rattle.daide_grammar.specs.declared.level.Level.{Level}
 use Rattle.daide_grammar.specs.declared.level.Level.TheVariants.{L0, L10, L20, L30, L40, L50, L60}
 use Rattle.daide_protocol.specs.declared.account.SideCounts.{SideCounts}
+use Rattle.daide_protocol.specs.declared.bot_name.BotName.{BotName}
+use Rattle.daide_protocol.specs.declared.bot_name.BotName.TheVariants.{Unknown, Nme, Iam}
+use Rattle.daide_protocol.specs.BotName.{name_text}
 use Rattle.daide_protocol.specs.declared.phase.Phase.{Phase}
 use Rattle.daide_protocol.specs.declared.phase.Phase.TheVariants.{WaitIm, WaitRm, Open, Over}
 use Rattle.daide_status.specs.declared.snapshot.RunStatus.{RunStatus}
@@ -45,19 +48,33 @@ abbrev pub table_head : RunStatus → List ℕ
 table_head run =
     run_line run
     ++ codes "                      from the bot   from the server\n"
-    ++ codes "session  phase   relayed  PRN  HUH relayed  PRN  HUH  to bot to server  bot idle server idle   port bot\n"
+    ++ codes "session  phase   relayed  PRN  HUH relayed  PRN  HUH  to bot to server  bot idle server idle   port bot and its name\n"
 
 -- the counts of a side
 abbrev pub side_cells : SideCounts → List ℕ
 side_cells c =
     right_aligned 8 (decimal c.relayed) ++ right_aligned 5 (decimal c.prn) ++ right_aligned 5 (decimal c.huh)
 
--- the line of a session; the bytes for a side are those of the session's queue and those that the side's socket holds
-abbrev pub table_row : SessionRow → List ℕ
-table_row row =
+-- the name of a bot after its address; nothing if the bot has said none
+abbrev pub name_cell : BotName → List ℕ
+name_cell Unknown = []
+name_cell (Nme text) = codes " " ++ name_text (Nme text)
+name_cell (Iam power) = codes " " ++ name_text (Iam power)
+
+-- the bot of a session, and the end of its line
+abbrev pub bot_cells : SessionRow → List ℕ
+bot_cells row = codes " " ++ socket_text row.bot ++ name_cell row.account.name ++ codes "\n"
+
+-- the columns of a session before its bot; the bytes for a side are those of the session's queue and those that the
+-- side's socket holds
+abbrev pub number_cells : SessionRow → List ℕ
+number_cells row =
     right_aligned 7 (decimal row.number) ++ codes "  " ++ phase_cell row.phase row.level
     ++ side_cells row.account.bot ++ side_cells row.account.server
     ++ right_aligned 8 (decimal (row.queued_to_bot + row.held_to_bot))
     ++ right_aligned 10 (decimal (row.queued_to_server + row.held_to_server))
     ++ number_or_dash 10 row.bot_idle ++ number_or_dash 12 row.server_idle ++ number_or_dash 7 row.port_to_server
-    ++ codes " " ++ socket_text row.bot ++ codes "\n"
+
+-- the line of a session
+abbrev pub table_row : SessionRow → List ℕ
+table_row row = number_cells row ++ bot_cells row

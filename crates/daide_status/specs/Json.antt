@@ -1,13 +1,16 @@
--- The status of a run as one JSON document. An address and the name of a phase need no escape. (own)
+-- The status of a run as one JSON document. An address and the name of a phase need no escape; a bot's name may need one,
+-- and has printable characters alone. (own)
 use Rattle.std.specs.Prelude.{ℕ, ◌++◌, Bool, if◌then◌else◌, List, [], ◌∷◌, codes}
 use Rattle.std.specs.List.{flat_map}
 use Rattle.std.specs.Fmt.{decimal}
 use Rattle.std.specs.Net.Text.{socket_text}
 use Rattle.daide_grammar.specs.Level.{level_number}
 use Rattle.daide_protocol.specs.declared.account.Account.{Account}
+use Rattle.daide_protocol.specs.declared.bot_name.BotName.{BotName}
+use Rattle.daide_protocol.specs.declared.bot_name.BotName.TheVariants.{Unknown, Nme, Iam}
 use Rattle.daide_status.specs.declared.snapshot.RunStatus.{RunStatus}
 use Rattle.daide_status.specs.declared.snapshot.SessionRow.{SessionRow}
-use Rattle.daide_status.specs.Pieces.{phase_name, number_or_null}
+use Rattle.daide_status.specs.Pieces.{phase_name, number_or_null, quoted_name}
 
 -- a flag
 abbrev pub json_flag : Bool → List ℕ
@@ -39,9 +42,18 @@ json_session row =
 abbrev pub json_port : SessionRow → List ℕ
 json_port row = codes ",\"port_to_server\":" ++ number_or_null row.port_to_server
 
+-- what the bot calls itself, or `null`
+abbrev pub name_or_null : BotName → List ℕ
+name_or_null Unknown = codes "null"
+name_or_null (Nme text) = quoted_name (Nme text)
+name_or_null (Iam power) = quoted_name (Iam power)
+
+abbrev pub json_name : BotName → List ℕ
+json_name name = codes ",\"name\":" ++ name_or_null name
+
 -- all that comes before the counts
 abbrev pub json_identity : SessionRow → List ℕ
-json_identity row = json_session row ++ json_port row
+json_identity row = json_session row ++ json_port row ++ json_name row.account.name
 
 -- two numbers, of the bot and of the server
 abbrev pub json_sides : List ℕ → ℕ → ℕ → List ℕ

@@ -1,13 +1,15 @@
--- The status of a run in the text format of Prometheus. An address and the name of a phase need no escape in a label.
--- (own)
+-- The status of a run in the text format of Prometheus. An address and the name of a phase need no escape in a label; a
+-- bot's name may need one, and has printable characters alone. (own)
 use Rattle.std.specs.Prelude.{ℕ, ◌+◌, ◌++◌, Bool, true, false, List, [], Option, Some, None, codes}
 use Rattle.std.specs.Fmt.{decimal}
 use Rattle.std.specs.Net.Text.{socket_text}
 use Rattle.daide_grammar.specs.Level.{level_number}
+use Rattle.daide_protocol.specs.declared.bot_name.BotName.{BotName}
+use Rattle.daide_protocol.specs.declared.bot_name.BotName.TheVariants.{Unknown, Nme, Iam}
 use Rattle.daide_protocol.specs.declared.phase.Phase.{Phase}
 use Rattle.daide_status.specs.declared.snapshot.RunStatus.{RunStatus}
 use Rattle.daide_status.specs.declared.snapshot.SessionRow.{SessionRow}
-use Rattle.daide_status.specs.Pieces.{phase_name}
+use Rattle.daide_status.specs.Pieces.{phase_name, quoted_name}
 
 -- the help and the type of a metric
 abbrev pub metric_head : List ℕ → List ℕ → List ℕ → List ℕ
@@ -92,9 +94,26 @@ idle_samples row =
 abbrev pub phase_label : Phase → List ℕ
 phase_label phase = codes "phase=\"" ++ phase_name phase ++ codes "\""
 
--- the level of a session, with its phase
+-- the label of a bot's name, if the bot has said one
+abbrev pub name_label : BotName → List ℕ
+name_label Unknown = []
+name_label (Nme text) = codes ",name=" ++ quoted_name (Nme text)
+name_label (Iam power) = codes ",name=" ++ quoted_name (Iam power)
+
+-- the sample of a session's level up to the labels of its phase and its name
+abbrev pub level_front : SessionRow → List ℕ
+level_front row =
+    codes "daide_gate_session_level{session=\"" ++ decimal row.number ++ codes "\",bot=\"" ++ socket_text row.bot
+    ++ codes "\","
+
+-- the end of a sample
+abbrev pub sample_end : ℕ → List ℕ
+sample_end value = codes "} " ++ decimal value ++ codes "\n"
+
+-- the level of a session, with its phase and its bot's name
 abbrev pub level_sample : SessionRow → List ℕ
-level_sample row = session_sample (codes "session_level") row (phase_label row.phase) (level_number row.level)
+level_sample row =
+    level_front row ++ phase_label row.phase ++ name_label row.account.name ++ sample_end (level_number row.level)
 
 -- a metric of the sessions, with all its samples
 abbrev pub session_metric : List ℕ → List ℕ → List ℕ → List ℕ → List ℕ

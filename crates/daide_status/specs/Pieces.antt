@@ -1,9 +1,12 @@
 -- The pieces of which the texts of a status are made. (own)
-use Rattle.std.specs.Prelude.{ℕ, ◌-◌, ◌++◌, Bool, true, false, List, [], Option, Some, None, codes, length}
-use Rattle.std.specs.List.{repeat}
+use Rattle.std.specs.Prelude.{ℕ, ◌-◌, ◌++◌, ◌==◌, ◌||◌, Bool, true, false, if◌then◌else◌, List, [], ◌∷◌}
+use Rattle.std.specs.Prelude.{Option, Some, None, codes, length}
+use Rattle.std.specs.List.{flat_map, repeat}
 use Rattle.std.specs.Fmt.{decimal}
 use Rattle.daide_protocol.specs.declared.phase.Phase.{Phase}
 use Rattle.daide_protocol.specs.declared.phase.Phase.TheVariants.{WaitIm, WaitRm, Open, Over}
+use Rattle.daide_protocol.specs.declared.bot_name.BotName.{BotName}
+use Rattle.daide_protocol.specs.BotName.{name_text}
 
 -- a text after as many spaces as it is shorter than a width
 abbrev pub right_aligned : ℕ → List ℕ → List ℕ
@@ -30,3 +33,15 @@ number_or_null None = codes "null"
 abbrev pub text_if : Bool → List ℕ → List ℕ
 text_if true text = text
 text_if false text = []
+
+-- a byte of a text between double quotes: a quote and a backslash have a backslash before them
+abbrev pub escaped_byte : ℕ → List ℕ
+escaped_byte b = if (b == 34) || (b == 92) then 92 ∷ b ∷ [] else b ∷ []
+
+-- a text between double quotes
+abbrev pub quoted : List ℕ → List ℕ
+quoted text = codes "\"" ++ flat_map escaped_byte text ++ codes "\""
+
+-- the text of a name between double quotes
+abbrev pub quoted_name : BotName → List ℕ
+quoted_name name = quoted (name_text name)

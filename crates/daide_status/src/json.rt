@@ -1,11 +1,11 @@
 //! The status as one JSON document: the members of the run, and an array with an object for each session.
 
 ghost use Rattle.std.specs.Prelude.{◌≡◌, ◌++◌, OnOk};
-ghost use Rattle.daide_status.specs.Json.{json_counts, json_faults, json_head, json_identity, json_idle, json_port, json_row, json_run_counts, json_run_state, json_sides, json_session};
+ghost use Rattle.daide_status.specs.Json.{json_counts, json_faults, json_head, json_identity, json_idle, json_name, json_port, json_row, json_run_counts, json_run_state, json_sides, json_session, name_or_null};
 
-use crate::pieces::{phase_name, port_number, put_or_null};
+use crate::pieces::{phase_name, port_number, put_or_null, put_quoted_name};
 use crate::snapshot::{RunStatus, SessionRow};
-use daide_protocol::Account;
+use daide_protocol::{Account, BotName};
 use std::io;
 use std::io::Write;
 
@@ -75,12 +75,32 @@ fn put_port(row: &SessionRow, out: &mut Vec<u8>) -> io::Result<()>
     put_or_null(port_number(row.port_to_server), out)
 }
 
+/// Appends what the bot calls itself, or `null`.
+fn put_name_or_null(name: &BotName, out: &mut Vec<u8>) -> io::Result<()>
+    ensures { OnOk result (out.new.items ≡ out.old.items ++ name_or_null name.now) }
+{
+    match name {
+        BotName::Unknown => out.write_all(b"null"),
+        BotName::Nme(_) => put_quoted_name(name, out),
+        BotName::Iam(_) => put_quoted_name(name, out),
+    }
+}
+
+/// Appends what the bot calls itself as a member.
+fn put_name_member(name: &BotName, out: &mut Vec<u8>) -> io::Result<()>
+    ensures { OnOk result (out.new.items ≡ out.old.items ++ json_name name.now) }
+{
+    out.write_all(b",\"name\":")?;
+    put_name_or_null(name, out)
+}
+
 /// Appends all that comes before the counts of a session.
 fn put_identity(row: &SessionRow, out: &mut Vec<u8>) -> io::Result<()>
     ensures { OnOk result (out.new.items ≡ out.old.items ++ json_identity row.now) }
 {
     put_session(row, out)?;
-    put_port(row, out)
+    put_port(row, out)?;
+    put_name_member(&row.account.name, out)
 }
 
 /// Appends two numbers, of the bot and of the server, as a member.

@@ -3,11 +3,12 @@
 ghost use Rattle.std.specs.Prelude.{◌≡◌, ◌+◌, ◌++◌, [], OnOk, codes};
 ghost use Rattle.daide_status.specs.Metrics.{bot_samples, server_samples, flag_number, frame_samples, idle_samples, idle_sample, level_sample};
 ghost use Rattle.daide_status.specs.Metrics.{metric_head, metrics_head, phase_label, run_metric, session_sample, waiting_samples};
-ghost use Rattle.daide_status.specs.Metrics.{run_sample, session_metric, session_metrics, waiting_metrics};
+ghost use Rattle.daide_status.specs.Pieces.{quoted_name};
+ghost use Rattle.daide_status.specs.Metrics.{level_front, name_label, run_sample, sample_end, session_metric, session_metrics, waiting_metrics};
 
-use crate::pieces::sum;
+use crate::pieces::{put_quoted_name, sum};
 use crate::snapshot::{RunStatus, SessionRow};
-use daide_protocol::Phase;
+use daide_protocol::{BotName, Phase};
 use std::alloc::Global;
 use std::io;
 use std::io::Write;
@@ -236,13 +237,52 @@ fn phase_label(phase: Phase) -> &'static str
     }
 }
 
-/// Appends the level of a session, with its phase.
+/// Appends the label of a name that is known.
+fn put_known_name(name: &BotName, out: &mut Vec<u8>) -> io::Result<()>
+    ensures { OnOk result (out.new.items ≡ out.old.items ++ (codes ",name=" ++ quoted_name name.now)) }
+{
+    out.write_all(b",name=")?;
+    put_quoted_name(name, out)
+}
+
+/// Appends the label of a bot's name, if the bot has said one.
+fn put_name_label(name: &BotName, out: &mut Vec<u8>) -> io::Result<()>
+    ensures { OnOk result (out.new.items ≡ out.old.items ++ name_label name.now) }
+{
+    match name {
+        BotName::Unknown => Ok(()),
+        BotName::Nme(_) => put_known_name(name, out),
+        BotName::Iam(_) => put_known_name(name, out),
+    }
+}
+
+/// Appends the sample of a session's level up to the labels of its phase and its name.
+fn put_level_front(row: &SessionRow, out: &mut Vec<u8>) -> io::Result<()>
+    ensures { OnOk result (out.new.items ≡ out.old.items ++ level_front row.now) }
+{
+    let number = row.number;
+    let bot = row.bot;
+    write!(
+        out,
+        "daide_gate_session_level{{session=\"{number}\",bot=\"{bot}\","
+    )
+}
+
+/// Appends the end of a sample.
+fn put_sample_end(value: u64, out: &mut Vec<u8>) -> io::Result<()>
+    ensures { OnOk result (out.new.items ≡ out.old.items ++ sample_end value) }
+{
+    writeln!(out, "}} {value}")
+}
+
+/// Appends the level of a session, with its phase and its bot's name.
 pub(crate) fn put_level(row: &SessionRow, out: &mut Vec<u8>) -> io::Result<()>
     ensures { OnOk result (out.new.items ≡ out.old.items ++ level_sample row.now) }
 {
-    let label = phase_label(row.phase);
-    let level = row.level.number();
-    put_sample("session_level", row, label, level as u128, out)
+    put_level_front(row, out)?;
+    out.write_all(phase_label(row.phase).as_bytes())?;
+    put_name_label(&row.account.name, out)?;
+    put_sample_end(row.level.number() as u64, out)
 }
 
 /// Appends a metric of the sessions with all its samples.

@@ -1,10 +1,13 @@
 //! The pieces of which the texts are made.
 
 ghost use Rattle.std.specs.Prelude.{◌≡◌, ◌+◌, ◌++◌, OnOk};
+ghost use Rattle.std.specs.List.{flat_map};
 ghost use Rattle.std.specs.Fmt.{decimal};
 ghost use Rattle.daide_status.specs.Pieces.{phase_name, right_aligned, number_or_dash, number_or_null, text_if};
+ghost use Rattle.daide_status.specs.Pieces.{escaped_byte, quoted, quoted_name};
 
-use daide_protocol::Phase;
+use daide_protocol::bot_name::TEXT_ROOM;
+use daide_protocol::{BotName, Phase};
 use std::io;
 use std::io::Write;
 
@@ -73,4 +76,44 @@ pub(crate) fn put_if(holds: bool, text: &str, out: &mut Vec<u8>) -> io::Result<(
     } else {
         Ok(())
     }
+}
+
+/// Appends a byte of a text between double quotes.
+fn put_escaped_byte(byte: u8, out: &mut Vec<u8>) -> io::Result<()>
+    ensures { OnOk result (out.new.items ≡ out.old.items ++ escaped_byte byte) }
+{
+    if byte == b'"' || byte == b'\\' {
+        return out.write_all(&[b'\\', byte]);
+    }
+    out.write_all(&[byte])
+}
+
+/// Appends the bytes of a text between double quotes.
+fn put_escaped(text: &[u8], out: &mut Vec<u8>) -> io::Result<()>
+    ensures { OnOk result (out.new.items ≡ out.old.items ++ flat_map escaped_byte text.now) }
+{
+    let mut rest = text;
+    'bytes: while let [byte, others @ ..] = rest {
+        put_escaped_byte(*byte, out)?;
+        rest = others;
+    }
+    Ok(())
+}
+
+/// Appends a text between double quotes.
+fn put_quoted(text: &[u8], out: &mut Vec<u8>) -> io::Result<()>
+    ensures { OnOk result (out.new.items ≡ out.old.items ++ quoted text.now) }
+{
+    out.write_all(b"\"")?;
+    put_escaped(text, out)?;
+    out.write_all(b"\"")
+}
+
+/// Appends the text of a name between double quotes.
+pub(crate) fn put_quoted_name(name: &BotName, out: &mut Vec<u8>) -> io::Result<()>
+    ensures { OnOk result (out.new.items ≡ out.old.items ++ quoted_name name.now) }
+{
+    let mut line = [0; TEXT_ROOM];
+    let len = name.put_text(&mut line);
+    put_quoted(&line[..len], out)
 }

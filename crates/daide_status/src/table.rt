@@ -1,13 +1,13 @@
-//! The status in aligned columns. Its lines have at most 121 bytes, except those with an address of IPv6 or with a number
-//! that is longer than its column.
+//! The status in aligned columns. Its lines have at most 121 bytes before a bot's name, except those with an address of
+//! IPv6 or with a number that is longer than its column.
 
 ghost use Rattle.std.specs.Prelude.{◌≡◌, ◌++◌, OnOk};
-ghost use Rattle.daide_status.specs.Columns.{open_cell, phase_cell, run_line, side_cells, table_head, table_row, totals};
+ghost use Rattle.daide_status.specs.Columns.{bot_cells, name_cell, number_cells, open_cell, phase_cell, run_line, side_cells, table_head, table_row, totals};
 
 use crate::pieces::{port_number, put_if, put_or_dash, put_right, sum};
 use crate::snapshot::{RunStatus, SessionRow};
 use daide_grammar::Level;
-use daide_protocol::{Phase, SideCounts};
+use daide_protocol::{BotName, Phase, SideCounts};
 use std::io;
 use std::io::Write;
 
@@ -72,7 +72,7 @@ pub(crate) fn put_table_head(run: &RunStatus, out: &mut Vec<u8>) -> io::Result<(
 {
     put_run_line(run, out)?;
     out.write_all(
-        b"                      from the bot   from the server\nsession  phase   relayed  PRN  HUH relayed  PRN  HUH  to bot to server  bot idle server idle   port bot\n",
+        b"                      from the bot   from the server\nsession  phase   relayed  PRN  HUH relayed  PRN  HUH  to bot to server  bot idle server idle   port bot and its name\n",
     )
 }
 
@@ -85,11 +85,31 @@ fn put_side(counts: &SideCounts, out: &mut Vec<u8>) -> io::Result<()>
     put_right(5, counts.huh as u128, out)
 }
 
-/// Appends the line of a session.
-pub(crate) fn put_table_row(row: &SessionRow, out: &mut Vec<u8>) -> io::Result<()>
-    ensures { OnOk result (out.new.items ≡ out.old.items ++ table_row row.now) }
+/// Appends the name of a bot after its address.
+fn put_name_cell(name: BotName, out: &mut Vec<u8>) -> io::Result<()>
+    ensures { OnOk result (out.new.items ≡ out.old.items ++ name_cell name) }
+{
+    match name {
+        BotName::Unknown => Ok(()),
+        BotName::Nme(_) => write!(out, " {name}"),
+        BotName::Iam(_) => write!(out, " {name}"),
+    }
+}
+
+/// Appends the bot of a session, and the end of its line.
+fn put_bot(row: &SessionRow, out: &mut Vec<u8>) -> io::Result<()>
+    ensures { OnOk result (out.new.items ≡ out.old.items ++ bot_cells row.now) }
 {
     let bot = row.bot;
+    write!(out, " {bot}")?;
+    put_name_cell(row.account.name, out)?;
+    writeln!(out)
+}
+
+/// Appends the columns of a session before its bot.
+fn put_number_cells(row: &SessionRow, out: &mut Vec<u8>) -> io::Result<()>
+    ensures { OnOk result (out.new.items ≡ out.old.items ++ number_cells row.now) }
+{
     put_right(7, row.number as u128, out)?;
     out.write_all(b"  ")?;
     out.write_all(phase_cell(row.phase, row.level).as_bytes())?;
@@ -99,6 +119,13 @@ pub(crate) fn put_table_row(row: &SessionRow, out: &mut Vec<u8>) -> io::Result<(
     put_right(10, sum(row.queued_to_server, row.held_to_server), out)?;
     put_or_dash(10, row.bot_idle, out)?;
     put_or_dash(12, row.server_idle, out)?;
-    put_or_dash(7, port_number(row.port_to_server), out)?;
-    writeln!(out, " {bot}")
+    put_or_dash(7, port_number(row.port_to_server), out)
+}
+
+/// Appends the line of a session.
+pub(crate) fn put_table_row(row: &SessionRow, out: &mut Vec<u8>) -> io::Result<()>
+    ensures { OnOk result (out.new.items ≡ out.old.items ++ table_row row.now) }
+{
+    put_number_cells(row, out)?;
+    put_bot(row, out)
 }

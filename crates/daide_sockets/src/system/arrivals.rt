@@ -2,10 +2,13 @@
 
 ghost use Rattle.std.specs.Duration.{as_nanos};
 ghost use Rattle.std.specs.Prelude.{◌≡◌, ◌+◌, ◌<◌, IfSome, IfNone, None, Some, true, length, not, vec_capacity};
+ghost use Rattle.daide_io.specs.System.{Accepts};
+ghost use Rattle.daide_buffered_io.specs.Buffers.{Buffer};
 ghost use Rattle.daide_sockets.specs.Accepting.{is_accept_due, MakesAccept, GivesConnection};
 ghost use Rattle.daide_sockets.specs.declared.ports.SocketPorts.{SocketPorts as PortsOf};
-ghost use Rattle.daide_sockets.specs.Pairing.{FirstArrivalEvolves, Closes, Comes, ComesWith};
+ghost use Rattle.daide_sockets.specs.Pairing.{FirstArrivalEvolves, ClosesAt, Comes, ComesWith};
 ghost use Rattle.daide_sockets.specs.Present.{IsAllowed, IsPresentWith, position_of, without_at};
+ghost use Rattle.daide_sockets.specs.Scheduling.{RunEvolves, run_state};
 ghost use Rattle.daide_sockets.specs.Timers.{BeginsAt, timers_of};
 
 use super::Sockets;
@@ -40,8 +43,8 @@ impl<'w, N: Network, E: Write + Drop> Sockets<'w, N, E> {
 
     /// Ends the session of a bot whose server was unreachable, and starts the close of its socket.
     fn let_go(&mut self, left: Unreached<'w, N::Connection>)
-        ensures closes { Closes N.Connection.to_give N.Connection.taken
-            N.Connection.calls self.old.closings left.entry.bot.stream self.new.closings }
+        ensures closes { ClosesAt N.Connection.to_give N.Connection.taken N.Connection.calls
+            self.old.poller.table.reading self.old.closings left.entry.bot.stream self.new.closings }
         ensures came { self.new.acceptor.came ≡ self.old.acceptor.came }
         ensures arrivals { self.new.arrivals.items ≡ self.old.arrivals.items }
         ensures numbers { self.new.present.numbers.items
@@ -68,6 +71,8 @@ impl<'w, N: Network, E: Write + Drop> Sockets<'w, N, E> {
     ///
     /// `given_up`: after a request that sessions end now, the connect is given up.
     ///
+    /// `closes`: the socket of a bot that is given up begins to close at the table's reading of the clock.
+    ///
     /// `begins`: ports begin at the table's reading of the clock, with the timeouts of the run.
     pub(super) fn look_at_first(&mut self) -> Connect<SocketPorts<'w, N::Connection>>
         requires { 0 < length self.old.arrivals.items }
@@ -77,6 +82,8 @@ impl<'w, N: Network, E: Write + Drop> Sockets<'w, N, E> {
             (λ ports. record { number = ports.number; bot = ports.bot.stream; server = ports.server.stream })
             (record { came = self.old.acceptor.came; arrivals = self.old.arrivals.items; closing = self.old.closings })
             result (record { came = self.new.acceptor.came; arrivals = self.new.arrivals.items; closing = self.new.closings }) }
+        ensures closes { result ≡ Connect.Failed → (bot : Buffer N.Connection) × ClosesAt N.Connection.to_give
+            N.Connection.taken N.Connection.calls self.old.poller.table.reading self.old.closings bot self.new.closings }
         ensures begins { (ports : PortsOf N.Connection) → result ≡ Connect.Ready ports →
             BeginsAt self.old.poller.table.reading (self.old.idle_time, self.old.stall_time) (timers_of ports) }
         ensures clock { self.new.poller.table.reading ≡ self.old.poller.table.reading }
@@ -154,10 +161,6 @@ impl<'w, N: Network, E: Write + Drop> Sockets<'w, N, E> {
         ensures timeouts { (self.new.idle_time ≡ self.old.idle_time) × (self.new.stall_time ≡ self.old.stall_time) }
     {
         self.acceptor.await_bots();
-        // Most rounds end here.
-        if !self.acceptor.is_due(&self.poller.table) {
-            return None;
-        }
         if self.arrivals.len() >= self.arrivals.capacity() {
             return None;
         }
@@ -180,5 +183,22 @@ impl<'w, N: Network, E: Write + Drop> Sockets<'w, N, E> {
             number,
             bot: address,
         })
+    }
+    /// Accepts the next bot, if there is one, and logs that its session begins. It is apart from `accept`, which each round
+    /// calls, since a call clears its locals.
+    #[inline(never)]
+    pub(super) fn accept_due(&mut self) -> bool
+        ensures transition { RunEvolves N.transition N.Connection.to_give N.Connection.taken N.Connection.calls
+            (λ (ports : PortsOf N.Connection). ports)
+            (run_state (self.old.poller.network, self.old.poller.table) (self.old.idle_time, self.old.stall_time) self.old.acceptor
+            (vec_capacity self.old.arrivals) self.old.arrivals.items self.old.closings) (Accepts result)
+            (run_state (self.new.poller.network, self.new.poller.table) (self.new.idle_time, self.new.stall_time) self.new.acceptor
+            (vec_capacity self.new.arrivals) self.new.arrivals.items self.new.closings) }
+    {
+        let Some(began) = self.accept_next() else {
+            return false;
+        };
+        self.tell_of_session(began);
+        true
     }
 }

@@ -121,6 +121,7 @@ impl<'w, N: Network, E: Write + Drop> Sockets<'w, N, E> {
         ensures closed { (self.old.bots_in_all ≤ self.old.acceptor.came → self.new.acceptor.is_closed ≡ true)
             × (result.stops_accepting ≡ true → self.old.control.stops_accepting ≡ false → self.new.acceptor.is_closed ≡ true) }
         ensures came { self.new.acceptor.came ≡ self.old.acceptor.came }
+        ensures clock { self.new.poller.table.reading ≡ self.old.poller.table.reading }
         ensures same { self.new ≡ record self.old {
           poller = self.new.poller;
           acceptor = self.new.acceptor;

@@ -4,6 +4,7 @@ use Rattle.daide_io.specs.declared.system.Notice.TheVariants.{CannotReach}
 use Rattle.daide_io.specs.System.{Connects, Notifies}
 use Rattle.daide_driver.specs.Hub.{AddsSession}
 use Rattle.daide_event_loop.specs.QuotaPorts.{QuotaPortsView}
+use Rattle.daide_event_loop.proofs.FindingLemmas.{open_more}
 use Rattle.daide_event_loop.proofs.serving.take_up_connect.Goals as goal
 
 pub returns-in-Pending-clause-finishes : goal.returns-in-Pending-clause-finishes
@@ -32,3 +33,7 @@ returns-in-Ok-clause-finishes g c =
       rw c.requires.under_way (Ready ports, [], refl, (refl, added, refl)),
       refl,
     )
+
+pub returns-in-Ok-clause-are_open : goal.returns-in-Ok-clause-are_open
+returns-in-Ok-clause-are_open g c =
+    open_more c.args.hub.now c.add.new.self _ c.requires.are_open c.in-Ok.ensures.added

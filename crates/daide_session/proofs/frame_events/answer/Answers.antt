@@ -1,9 +1,13 @@
-use Rattle.std.proofs.Common.{[], true, refl, sym, ap, ◌∙◌, drop}
+use Rattle.std.proofs.Common.{ℕ, List, [], true, refl, sym, ap, ◌∙◌, drop}
+use Rattle.daide_token.specs.Token.{tokens_of}
 use Rattle.daide_frame.specs.declared.side.Side.{Side}
 use Rattle.daide_protocol.specs.declared.note.Deed.{Deed}
 use Rattle.daide_protocol.specs.declared.note.Note.TheVariants as Note
 use Rattle.daide_frame.specs.PerSide.{at}
 use Rattle.daide_protocol.specs.Account.{frame_accounted}
+use Rattle.daide_protocol.specs.BotName.{name_after}
+use Rattle.daide_protocol.specs.declared.account.Account.{Account}
+use Rattle.daide_protocol.proofs.AccountLemmas.{named_account}
 use Rattle.daide_protocol.specs.Machine.{deed_of, is_sent}
 use Rattle.daide_protocol.specs.Weight.{tokens_held}
 use Rattle.daide_channels.specs.Channels.{pending}
@@ -34,7 +38,7 @@ returns-clause-reacts g c =
     let s = c.args.protocol.now in
     let body = drop 4 (pending t c.args.side) in
     answered_whole t c.reply-verdict.new.self s c.args.side c.args.head body c.reply-verdict.result
-    c.after-protocol-2.result c.count_frame.new.self _
+    c.after-protocol-2.result c.record_name.new.self _
     c.requires.live
     (ap (λ (to : Side). is_sent s.phase c.args.head.kind to) (sym c.other.ensures)
     ∙ (sym c.is_sent.ensures ∙ c.if-not-is_sent.false))
@@ -45,9 +49,22 @@ returns-clause-reacts g c =
     ∙ phase_held t c.reply-verdict.new.self c.args.side s.top_level c.args.head c.reply-verdict.result s.phase
     c.reply-verdict.ensures.keeps c.reply-verdict.ensures.answered c.requires.tied c.requires.head)
     (ap (λ (d : Deed). Note.Frame c.args.head d) c.deed_of-deed.ensures)
+    (named_account s.top_level c.args.side c.args.head.kind (deed_of true c.reply-verdict.result) (tokens_of body) s.account
+    c.count_frame.new.self c.record_name.new.self
     (c.count_frame.ensures _ c.found-2.ensures
-    ∙ (ap (λ (d : Deed). frame_accounted s.top_level c.args.side c.args.head.kind d
+    ∙ (ap (λ (d : Deed). record (frame_accounted s.top_level c.args.side c.args.head.kind d
     (tokens_held c.reply-verdict.new.self.cap (at c.reply-verdict.new.self.sides c.args.side).holding.held) s.account)
+    { name = s.account.name })
     c.deed_of-deed.ensures
-    ∙ account_held t c.reply-verdict.new.self c.args.side s.top_level c.args.head (deed_of true c.reply-verdict.result)
-    s.account c.reply-verdict.ensures.keeps c.reply-verdict.ensures.answered c.requires.tied c.requires.head))
+    ∙ ap (λ (a : Account). record a { name = s.account.name })
+    (account_held t c.reply-verdict.new.self c.args.side s.top_level c.args.head (deed_of true c.reply-verdict.result)
+    s.account c.reply-verdict.ensures.keeps c.reply-verdict.ensures.answered c.requires.tied c.requires.head)))
+    (c.record_name.ensures
+    ∙ (ap (λ (d : Deed). record c.count_frame.new.self {
+      name = name_after c.args.head.kind c.args.side d (tokens_of c.body.result.now) c.count_frame.new.self.name;
+    }) c.deed_of-deed.ensures
+    ∙ ap (λ (l : List ℕ). record c.count_frame.new.self {
+      name = name_after c.args.head.kind c.args.side (deed_of true c.reply-verdict.result) (tokens_of l)
+          c.count_frame.new.self.name;
+    }) (c.body.ensures.value
+    ∙ ap (λ (l : List ℕ). drop 4 l) (c.reply-verdict.ensures.answered.held ∙ c.requires.tied)))))

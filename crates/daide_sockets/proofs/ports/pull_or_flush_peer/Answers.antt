@@ -1,5 +1,16 @@
+use Rattle.std.proofs.Common.{sym, ◌∙◌}
 use Rattle.daide_buffered_io.proofs.BufferLemmas.{same_passes}
 use Rattle.daide_sockets.proofs.ports.pull_or_flush_peer.Goals as goal
+use Rattle.daide_sockets.proofs.ports.pull_or_flush_peer.Goals.{then-is_late, else-is_late}
 
-pub returns-then-ne-clause-other : goal.returns-then-ne-clause-other
-returns-then-ne-clause-other g c = same_passes g.S.Duplex.to_give g.S.Duplex.taken _
+pub returns-in-Got-clause-other : goal.returns-in-Got-clause-other
+returns-in-Got-clause-other g c = same_passes g.S.Duplex.to_give g.S.Duplex.taken _
+
+pub returns-in-Ended-clause-other : goal.returns-in-Ended-clause-other
+returns-in-Ended-clause-other g c = same_passes g.S.Duplex.to_give g.S.Duplex.taken _
+
+pub returns-in-Got-clause-asked : goal.returns-in-Got-clause-asked
+returns-in-Got-clause-asked g c = λ silent ends. elim c.if-is_late.branch [
+  | then-is_late w ↦ rw (sym c.is_over-is_late.ensures ∙ w.if-is_late.true) (rw w.own-is at c.pull-pull.ensures.asked)
+  | else-is_late w ↦ rw (sym c.is_over-is_late.ensures ∙ w.if-is_late.false) (rw w.own-is at c.pull-pull.ensures.asked)
+]

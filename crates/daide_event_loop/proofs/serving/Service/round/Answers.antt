@@ -24,16 +24,16 @@ returns-clause-round g c =
     let opens = opening {P = g.row.P.Denot} orders old.hub.places in
     let admits = c.admit-came.ensures.admits in
     let finishes = c.in_ok-connected.ensures.finishes in
-    let turns = c.turn_all.ensures.turns in
-    let removes = c.remove_closed-removed.ensures.removes in
-    let progressed = c.admit-came.result || c.in_ok-connected.connected || c.has_moved-made_progress.result || c.remove_closed-removed.result
+    let turns = c.turn_all-found.ensures.turns in
+    let removes = c.remove_if_closed-removed.ensures.removes in
+    let progressed = c.admit-came.result || c.in_ok-connected.connected || c.turn_all-found.result.has_moved || c.remove_if_closed-removed.result
     || c.is_done.result in
-    let after = c.remove_closed-removed.new.hub.places in
-    let asleep = waits_alike {P = g.row.P.Denot} after _ _ _ _ _ _ _ _ _ _ admits.3 finishes.3 c.has_moved-made_progress.ensures
+    let after = c.remove_if_closed-removed.new.hub.places in
+    let asleep = waits_alike {P = g.row.P.Denot} after _ _ _ _ _ _ _ _ _ _ admits.3 finishes.3 c.turn_all-found.ensures.moved
     removes.3 c.is_done.ensures in
     let step : Round g.P.Ports.transition (record { hub = old.hub; counters = old.counters })
     (opens ++ admits.0 ++ finishes.0 ++ turns.0 ++ removes.0 ++ wait_where progressed after)
-    (record { hub = c.remove_closed-removed.new.hub; counters = c.finish_connect.new.counters }) = record {
+    (record { hub = c.remove_if_closed-removed.new.hub; counters = c.finish_connect.new.counters }) = record {
       orders = orders;
       admission = admits.0;
       meeting = finishes.0;
@@ -41,18 +41,18 @@ returns-clause-round g c =
       removal = removes.0;
       came = c.admit-came.new.counters;
       connected = c.finish_connect.new.hub;
-      turned = c.turn_all.new.hub;
+      turned = c.turn_all-found.new.hub;
       admits = admitted (length old.hub.places) (heeding orders old.counters) admits.0 c.admit-came.new.counters _ _
           c.count.ensures c.heed.ensures admits.2;
       finishes = finishes.2;
       turns = turns.2;
       removes = removes.2;
       within = record {
-        same_max = c.remove_closed-removed.ensures.max ∙ c.turn_all.ensures.max ∙ c.finish_connect.ensures.within.same_max;
+        same_max = c.remove_if_closed-removed.ensures.max ∙ c.turn_all-found.ensures.max ∙ c.finish_connect.ensures.within.same_max;
         held =
             let held = c.finish_connect.ensures.within.held in
-            let count = c.turn_all.ensures.count in
-            let fewer = c.remove_closed-removed.ensures.fewer in
+            let count = c.turn_all-found.ensures.count in
+            let fewer = c.remove_if_closed-removed.ensures.fewer in
             omega (arith, held, count, fewer);
         accepted = c.finish_connect.ensures.within.accepted;
       };
@@ -68,7 +68,7 @@ returns-clause-round g c =
           removes.1) c.rest.ensures,
       subst (λ (a : ServiceView g.row.P.Denot). Round g.P.Ports.transition a
           (opens ++ admits.0 ++ finishes.0 ++ turns.0 ++ removes.0 ++ wait_where progressed after)
-          (record { hub = c.remove_closed-removed.new.hub; counters = c.finish_connect.new.counters })) c.self.view_is step,
+          (record { hub = c.remove_if_closed-removed.new.hub; counters = c.finish_connect.new.counters })) c.self.view_is step,
     )
 
 -- a statement that holds in any case holds at an error

@@ -1,12 +1,13 @@
 use Rattle.std.proofs.Common.{Option, ap, subst, sym, ◌∙◌}
 use Rattle.std.specs.declared.time.Duration.{Duration}
-use Rattle.daide_sockets.specs.Lingering.{ClosingStream, ClosingList, WritesOut, begins_closing}
+use Rattle.daide_sockets.specs.Lingering.{ClosingStream, ClosingList, IsClosingBound, WritesOut, begins_closing}
 use Rattle.daide_sockets.proofs.LingeringLemmas.{room_time, appended}
 use Rattle.daide_sockets.proofs.lingering_close.Closings.begin.Goals as goal
 
 pub returns-clause-closes : goal.returns-clause-closes
 returns-clause-closes g c =
     let last = c.end_writing.new.self in
+    let bound = c.new-closing.result.closes_at in
     let room = c.self.view_is ∙ c.make_room.ensures.last_ones in
     let time = ap (λ (l : ClosingList g.row.S.Denot). l.stall_time) room
     ∙ room_time g.S.Duplex.to_give g.S.Duplex.taken g.S.Duplex.calls c.now-now.result _ in
@@ -14,11 +15,13 @@ returns-clause-closes g c =
     (record {
       key = c.args.socket.key;
       known = c.args.socket.readiness;
+      bound = bound;
+      bounded = subst (λ (t : Option Duration). IsClosingBound c.now-now.result t bound) time c.new-closing.ensures.bound;
       last = last;
       writes = subst (λ (first : ClosingStream g.row.S.Denot).
           WritesOut g.S.Duplex.to_give g.S.Duplex.taken g.S.Duplex.calls c.now-now.result first last)
-          (c.new-closing.ensures ∙ ap (λ (t : Option Duration).
-          begins_closing t c.args.socket.key c.args.socket.readiness c.args.socket.stream) time)
+          (c.new-closing.ensures.begins ∙ ap (λ (t : Option Duration).
+          begins_closing t bound c.args.socket.key c.args.socket.readiness c.args.socket.stream) time)
           c.end_writing.ensures.writes;
       now = appended g.S.Duplex.to_give g.S.Duplex.taken g.S.Duplex.calls c.now-now.result _ _ last _ room c.push.ensures;
     })

@@ -9,7 +9,7 @@ returns-then-is_last g c =
     let piece = c.drop_piece-is_last.ensures in
     let late = is_time_over c.args.now c.self.inside.released_at in
     piece_dropped g.S.Duplex.to_give g.S.Duplex.taken g.S.Duplex.calls c.args.now _ _ _ piece.dropped.0 piece.pulled.0
-    _ late _ c.self.view_is piece.dropped.1 piece.dropped.2 piece.unwritten piece.failed refl refl piece.pulled.1
+    _ late _ c.self.view_is piece.dropped.1 piece.dropped.2 piece.unwritten piece.failed refl refl refl piece.pulled.1
     piece.pulled.2 piece.pulled.3 refl (ap (λ (b : Bool). b || late) (sym c.if-is_last.true))
 
 pub returns : goal.returns
@@ -17,5 +17,5 @@ returns g c =
     let piece = c.drop_piece-is_last.ensures in
     let late = c.is_time_over.result in
     piece_dropped g.S.Duplex.to_give g.S.Duplex.taken g.S.Duplex.calls c.args.now _ _ _ piece.dropped.0 piece.pulled.0
-    _ late _ c.self.view_is piece.dropped.1 piece.dropped.2 piece.unwritten piece.failed refl refl piece.pulled.1
+    _ late _ c.self.view_is piece.dropped.1 piece.dropped.2 piece.unwritten piece.failed refl refl refl piece.pulled.1
     piece.pulled.2 piece.pulled.3 c.is_time_over.ensures (ap (λ (b : Bool). b || late) (sym c.if-is_last.false))

@@ -16,6 +16,7 @@ returns-then-is_behind-clause-writes g c = record {
   stalls_at = refl;
   flushes = (c.write_on.ensures.passes, c.write_on.ensures.unread);
   quota = c.write_on.ensures.stays.0;
+  closes_at = c.write_on.ensures.bound;
   stage = inl (
     subst (λ (o : ClosingStream g.row.S.Denot). IsWriting o.stream) c.self.view_is
         (c.is_behind.ensures.may c.if-is_behind.true, c.is_behind.ensures.some c.if-is_behind.true),
@@ -48,6 +49,7 @@ returns-clause-writes g c =
             c.shut_down.new.self.stream) c.self.view_is last.unread),
       );
       quota = last.stays.0 ∙ ap (λ (o : ClosingStream g.row.S.Denot). o.quota) c.self.view_is ∙ c.write_on.ensures.stays.0;
+      closes_at = last.bound ∙ ap (λ (o : ClosingStream g.row.S.Denot). o.closes_at) c.self.view_is ∙ c.write_on.ensures.bound;
       stage = inr (
         λ h. last.unwritten.write_buffer ∙ c.is_behind.ensures.none c.if-is_behind.false (sym last.failed ∙ h),
         search rules,

@@ -32,3 +32,11 @@ returns-in-Err-join-clause-evolves g c =
 
 pub returns-then-is_given_up-clause-evolves : goal.returns-then-is_given_up-clause-evolves
 returns-then-is_given_up-clause-evolves g c = (c.remove-arrival.result, search rules, search rules, search rules)
+
+pub returns-then-is_given_up-clause-closes : goal.returns-then-is_given_up-clause-closes
+returns-then-is_given_up-clause-closes g c =
+    λ e. (c.give_up-left.result.bot.stream, rw (sym c.give_up-left.ensures.clock) c.let_go.ensures.closes)
+
+pub returns-in-Err-join-clause-closes : goal.returns-in-Err-join-clause-closes
+returns-in-Err-join-clause-closes g c =
+    λ e. (c.in-Err-join.left.bot.stream, rw (sym c.advances.ensures.clock) c.let_go-in-Err-join.ensures.closes)

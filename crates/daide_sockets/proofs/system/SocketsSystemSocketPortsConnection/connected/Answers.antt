@@ -27,6 +27,7 @@ returns-in-Ready g c =
         rw (sym c.loop-look.invariant.clock, sym c.loop-look.invariant.idle_time, sym c.loop-look.invariant.stall_time)
             (c.in-Ready.ensures.begins c.in-Ready.ports refl),
       ),
+      e.4 ∙ c.loop-look.invariant.closing,
     )
 
 pub returns-in-Failed : goal.returns-in-Failed
@@ -51,6 +52,7 @@ returns-in-Failed g c =
         ),
         tt,
       ),
+      rw (sym c.loop-look.invariant.clock, sym c.loop-look.invariant.closing) (c.in-Failed.ensures.closes refl),
     )
 
 pub loop-look-preserved : goal.loop-look-preserved
@@ -89,6 +91,7 @@ returns g c =
         ),
         tt,
       ),
+      c.loop-look.invariant.closing,
     )
 
 -- one is left to check

@@ -1,0 +1,142 @@
+-- What a bot calls itself, worked out from the protocol: each kind of message that may have a name, from each side, and
+-- the text of a name.
+use Rattle.std.proofs.Common.{◌≡◌, ℕ, ◌*◌, List, [], ◌∷◌, ◌++◌, length, map, refl, Some, codes}
+use Rattle.std.specs.List.{repeat}
+use Rattle.std.specs.Fmt.{digits}
+use Rattle.daide_token.specs.Class.{class_of}
+use Rattle.daide_token.specs.Names.{name_of, names, token_named}
+use Rattle.daide_token.specs.Text.{text_with}
+use Rattle.daide_token.specs.Token.{bra, bytes_of_tokens, ket}
+use Rattle.daide_frame.specs.declared.side.Side.{Side}
+use Rattle.daide_frame.specs.declared.side.Side.TheVariants.{Bot, Server}
+use Rattle.daide_frame.specs.declared.head.Kind.TheVariants.{Im, Rm, Dm, Fm, Em}
+use Rattle.daide_frame.specs.Head.{head_bytes, parse_head}
+use Rattle.daide_frame.specs.Frames.{is_alien, first_items, last_items}
+use Rattle.daide_grammar.specs.declared.level.Level.TheVariants.{L0, L60}
+use Rattle.daide_grammar.specs.Table.Symbols.{entries, may_end_of, table_answer}
+use Rattle.daide_protocol.specs.declared.account.Account.{Account}
+use Rattle.daide_protocol.specs.declared.bot_name.BotName.{BotName}
+use Rattle.daide_protocol.specs.declared.bot_name.BotName.TheVariants.{Unknown, Nme, Iam}
+use Rattle.daide_protocol.specs.declared.note.Deed.TheVariants.{Relayed, Dropped, Prn, Huh}
+use Rattle.daide_protocol.specs.declared.phase.Phase.TheVariants.{Open}
+use Rattle.daide_protocol.specs.Account.{accounted, nothing_accounted}
+use Rattle.daide_protocol.specs.AccountText.{account_text, name_part, rest_text, side_text}
+use Rattle.daide_protocol.specs.Answers.{answer_bytes}
+use Rattle.daide_protocol.specs.BotName.{token_of_character, characters, iam, kept, name_after, name_text, nme}
+use Rattle.daide_protocol.specs.Events.{bytes_come}
+use Rattle.daide_protocol.specs.Machine.{SessionState, initial_state}
+use Rattle.daide_protocol.proofs.SomeRun.{in_phase, outcome_of}
+
+-- NME and IAM by their names in the token table
+commands : (token_named (codes "NME") ≡ Some nme) × (token_named (codes "IAM") ≡ Some iam)
+unfolding token_named names
+commands = (refl, refl)
+
+-- ---- messages
+
+abbrev eng : ℕ
+eng = 0x4101
+
+abbrev text : List ℕ → List ℕ
+text letters = bra ∷ map token_of_character letters ++ ket ∷ []
+
+-- NME ( name ) ( version )
+abbrev nme_of : List ℕ → List ℕ → List ℕ
+nme_of name version = nme ∷ text name ++ text version
+
+-- IAM ( ENG ) ( 1234 )
+abbrev iam_eng : List ℕ
+iam_eng = iam ∷ bra ∷ eng ∷ ket ∷ bra ∷ 1234 ∷ ket ∷ []
+
+abbrev dm : List ℕ → List ℕ
+dm tokens = 0x02 ∷ 0x00 ∷ 0x00 ∷ 2 * length tokens ∷ bytes_of_tokens tokens
+
+abbrev open_session : SessionState
+open_session = in_phase Open L0 (initial_state (record { cap = 512; top_level = L60; max_depth = 4; words = [] }))
+
+-- the name of a bot in an open session, after these bytes from a side
+abbrev name_by : Side → List ℕ → BotName
+name_by side bytes =
+    (accounted L60 (outcome_of open_session (bytes_come side bytes)).effects nothing_accounted).name
+
+-- The bot's NME and IAM have a name. One that got HUH or PRN has none, and the server may send neither: both get HUH.
+sides :
+    (name_by Bot (dm (nme_of (codes "Al") (codes "v1"))) ≡ Nme (kept (codes "Al")))
+    × (name_by Bot (dm iam_eng) ≡ Iam eng)
+    × (name_by Bot (dm (nme ∷ text (codes "Al"))) ≡ Unknown)
+    × (name_by Bot (dm (nme ∷ bra ∷ [])) ≡ Unknown)
+    × (name_by Server (dm (nme_of (codes "Al") (codes "v1"))) ≡ Unknown)
+    × (name_by Server (dm iam_eng) ≡ Unknown)
+unfolding last_items first_items parse_head is_alien entries may_end_of table_answer class_of answer_bytes head_bytes
+sides = (refl, refl, refl, refl, refl, refl)
+
+-- of several the last one that was relayed counts
+last_counts :
+    (name_by Bot (dm (nme_of (codes "Al") []) ++ dm (nme_of (codes "Bo") [])) ≡ Nme (kept (codes "Bo")))
+    × (name_by Bot (dm (nme_of (codes "Al") []) ++ dm iam_eng) ≡ Iam eng)
+    × (name_by Bot (dm (nme_of (codes "Al") []) ++ dm (nme ∷ text (codes "Bo"))) ≡ Nme (kept (codes "Al")))
+    × (name_by Bot (dm (nme_of (codes "Al") []) ++ dm (0x480F ∷ [])) ≡ Nme (kept (codes "Al")))
+unfolding last_items first_items parse_head is_alien entries may_end_of table_answer class_of answer_bytes head_bytes
+last_counts = (refl, refl, refl, refl)
+
+-- only a relayed message of the bot changes the name
+other_frames : (name : BotName) (place : ℕ) →
+    let tokens = nme_of (codes "Al") [] in
+    (name_after Dm Bot Relayed tokens name ≡ Nme (kept (codes "Al")))
+    × (name_after Dm Server Relayed tokens name ≡ name) × (name_after Dm Bot Prn tokens name ≡ name)
+    × (name_after Dm Bot (Huh place) tokens name ≡ name) × (name_after Dm Bot Dropped tokens name ≡ name)
+    × (name_after Im Bot Relayed tokens name ≡ name) × (name_after Rm Bot Relayed tokens name ≡ name)
+    × (name_after Fm Bot Relayed tokens name ≡ name) × (name_after Em Bot Relayed tokens name ≡ name)
+    × (name_after Dm Bot Relayed [] name ≡ name)
+other_frames name place = (refl, refl, refl, refl, refl, refl, refl, refl, refl, refl)
+
+-- ---- what is kept
+
+-- a text ends before its bracket, and may be empty; a byte above 127 is kept as it is
+texts :
+    (characters (text (codes "Al")) ≡ []) × (characters (map token_of_character (codes "Al") ++ ket ∷ []) ≡ codes "Al")
+    × (characters (ket ∷ []) ≡ []) × (characters (0x4BFF ∷ 0x4B0A ∷ 0x4C41 ∷ []) ≡ 255 ∷ 10 ∷ [])
+texts = (refl, refl, refl, refl)
+
+-- of 32 characters all are kept, and of more the first 32; the length says that there were more
+bounds :
+    (kept (repeat 32 (codes "a")) ≡ record { bytes = repeat 32 (codes "a"); len = 32 })
+    × (kept (repeat 33 (codes "a")) ≡ record { bytes = repeat 32 (codes "a"); len = 33 })
+    × (kept (repeat 200 (codes "a")) ≡ kept (repeat 33 (codes "a")))
+    × (kept [] ≡ record { bytes = repeat 32 (0 ∷ []); len = 0 })
+bounds = (refl, refl, refl, refl)
+
+-- ---- the text
+
+abbrev named : List ℕ → List ℕ
+named letters = name_text (Nme (kept letters))
+
+-- A quote, a control character and a byte above 127 are written as tokens. An empty name has no quotes. A power that has
+-- no name is written as a token too.
+texts_of_names :
+    (named (codes "Albert") ≡ codes "NME 'Albert'") × (name_text (Iam eng) ≡ codes "IAM ENG")
+    × (named (codes "O'B") ≡ codes "NME 'O' #4b27 'B'") × (named (10 ∷ 27 ∷ []) ≡ codes "NME #4b0a #4b1b")
+    × (named (255 ∷ []) ≡ codes "NME #4bff") × (named (codes "a\"\\b") ≡ codes "NME 'a\"\\b'")
+    × (named [] ≡ codes "NME") × (name_text (Iam 0x4107) ≡ codes "IAM #4107") × (name_text Unknown ≡ [])
+    × (named (repeat 32 (codes "a")) ≡ codes "NME '" ++ repeat 32 (codes "a") ++ codes "'")
+    × (named (repeat 33 (codes "a")) ≡ codes "NME '" ++ repeat 32 (codes "a") ++ codes "'..")
+unfolding text_with name_of names
+texts_of_names = (refl, refl, refl, refl, refl, refl, refl, refl, refl, refl, refl)
+
+abbrev account_of : Account
+account_of = record {
+  bot = record { relayed = 5; prn = 1; huh = 0 };
+  server = record { relayed = 7; prn = 2; huh = 3 };
+  faults = 4;
+  level = L60;
+  name = Unknown;
+}
+
+texts_of_accounts :
+    (account_text account_of ≡ codes "bot 5 relayed 1 prn 0 huh; server 7 relayed 2 prn 3 huh; 4 faults; level 60")
+    × (account_text (record account_of { name = Nme (kept (codes "Albert")) })
+    ≡ codes "bot 5 relayed 1 prn 0 huh; server 7 relayed 2 prn 3 huh; 4 faults; level 60; NME 'Albert'")
+    × (account_text (record account_of { name = Iam eng })
+    ≡ codes "bot 5 relayed 1 prn 0 huh; server 7 relayed 2 prn 3 huh; 4 faults; level 60; IAM ENG")
+unfolding account_text side_text rest_text name_part text_with name_of names digits
+texts_of_accounts = (refl, refl, refl)

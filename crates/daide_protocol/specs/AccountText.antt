@@ -1,0 +1,28 @@
+-- The text of an account, as the line of an ended session has it. (own)
+use Rattle.std.specs.Prelude.{ℕ, ◌++◌, List, [], codes}
+use Rattle.std.specs.Fmt.{decimal}
+use Rattle.daide_grammar.specs.Level.{level_number}
+use Rattle.daide_protocol.specs.declared.account.Account.{Account}
+use Rattle.daide_protocol.specs.declared.account.SideCounts.{SideCounts}
+use Rattle.daide_protocol.specs.declared.bot_name.BotName.{BotName}
+use Rattle.daide_protocol.specs.declared.bot_name.BotName.TheVariants.{Unknown, Nme, Iam}
+use Rattle.daide_protocol.specs.BotName.{name_text}
+
+-- the counts of a side
+unfoldable pub side_text : SideCounts → List ℕ
+side_text c = decimal c.relayed ++ codes " relayed " ++ decimal c.prn ++ codes " prn " ++ decimal c.huh ++ codes " huh"
+
+-- a name after the level; nothing if the bot has said none
+unfoldable pub name_part : BotName → List ℕ
+name_part Unknown = []
+name_part (Nme text) = codes "; " ++ name_text (Nme text)
+name_part (Iam power) = codes "; " ++ name_text (Iam power)
+
+-- the faults, the level and the name
+unfoldable pub rest_text : Account → List ℕ
+rest_text a =
+    codes "; " ++ decimal a.faults ++ codes " faults; level " ++ decimal (level_number a.level) ++ name_part a.name
+
+-- the counts of both sides, and the rest
+unfoldable pub account_text : Account → List ℕ
+account_text a = codes "bot " ++ side_text a.bot ++ codes "; server " ++ side_text a.server ++ rest_text a
