@@ -381,14 +381,14 @@ module _ {T : Type 0} (table : Ghosts T)
 
   -- inside a token there is room, as there was at its start
   pub low_enough : (i opened end size : ℕ) (now : SliceState T) → MidToken i opened end now → opened < max_depth
-      → 8 * max_depth + 16 ≤ size → length now.stack + 8 ≤ size
+      → 5 * max_depth + 10 ≤ size → length now.stack + 7 ≤ size
   low_enough i opened end size now mid less at_depth_limit =
       let few = (laws (table.words mid.start.table)).few_entries mid.start.stack opened mid.at.lawful in
       let lower = mid.lower in
       omega (arith, few, lower, less, at_depth_limit)
 
   pub room_for : (i opened end size t : ℕ) (now : SliceState T) → MidToken i opened end now → opened < max_depth
-      → 8 * max_depth + 16 ≤ size
+      → 5 * max_depth + 10 ≤ size
       → drop i (tokens_of body) ≡ t ∷ drop (i + 1) (tokens_of body)
       → IfSome (after_at now t now.stack) (λ after. length after ≤ size)
   room_for i opened end size t now mid less at_depth_limit here =

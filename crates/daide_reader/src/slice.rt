@@ -5,7 +5,7 @@
 
 ghost use Rattle.std.specs.Prelude.{◌≡◌, ◌≤◌, ◌<◌, ◌+◌, ◌-◌, ◌/◌, ◌%◌, ◌^◌, ◌⊎◌, ℕ, None, Some, IsSome, IfSome, IfNone, take, drop, length, reverse, true, false};
 ghost use Rattle.daide_token.specs.Token.{tokens_of};
-ghost use Rattle.daide_grammar.specs.Bounds.{entries_bound};
+ghost use Rattle.daide_grammar.specs.Bounds.{cells_bound};
 ghost use Rattle.daide_grammar.specs.Table.Brackets.{is_bra, is_ket, count_one};
 ghost use Rattle.daide_grammar.specs.Table.Stacks.{stack_after};
 ghost use Rattle.daide_reader.specs.Bounds.{below_zero, longest_message, most_symbols, most_tokens};
@@ -114,7 +114,7 @@ fn run_below_depth_limit<T: Predict, const N: usize>(
 ) -> RunEnd
     requires size { N ≤ most_symbols }
     requires count { start.count ≤ N }
-    requires at_depth_limit { entries_bound max_depth ≤ N }
+    requires at_depth_limit { cells_bound max_depth ≤ N }
     requires room { length body.now ≤ longest_message }
     requires read { start.read < length body.now / 2 }
     requires deep { start.unclosed < max_depth }
@@ -174,7 +174,7 @@ pub fn read_tokens<T: Predict, const N: usize>(
 ) -> RunEnd
     requires size { N ≤ most_symbols }
     requires count { start.count ≤ N }
-    requires at_depth_limit { entries_bound max_depth ≤ N }
+    requires at_depth_limit { cells_bound max_depth ≤ N }
     requires room { length body.now ≤ longest_message }
     requires read { start.read ≤ length body.now / 2 }
     requires deep { start.unclosed ≤ max_depth }
