@@ -46,6 +46,14 @@ from_next read next from = omega arith
 pub next_within : (next end : ℕ) → next < end → next + 1 ≤ end
 next_within next end less = omega arith
 
+-- a run is no longer than the brackets that may be opened
+pub start_shallow : (unclosed max_depth size read end : ℕ) → end ≡ min (size / 2) (read + (max_depth - unclosed))
+    → unclosed < max_depth → unclosed + (end - read) ≤ max_depth
+start_shallow unclosed max_depth size read end is deep = omega arith
+
+pub not_last : (next end : ℕ) → next < end → next + 1 ≢ end → next + 1 < end
+not_last next end less other = omega arith
+
 pub all_of : (next end : ℕ) → next ≤ end → end ≤ next → next ≡ end
 all_of next end upto all = omega arith
 
