@@ -101,7 +101,7 @@ module _ {P : Type 0} where
   none_shown count false places silent = refl
   none_shown count true [] silent = refl
   none_shown count true (place ∷ places) silent =
-      let one = silent place.1.ports (status_of place.0) in
+      let one = silent place.1.ports (status_of place.0 place.1.bytes) in
       let rest = none_shown count true places silent in
       omega (arith, one, rest)
 
@@ -118,7 +118,7 @@ module _ {P : Type 0} where
   all_shown Q false places each = All-nil Q
   all_shown Q true [] each = All-nil Q
   all_shown Q true (place ∷ places) each =
-      All-cons Q (Shows place.1.ports (status_of place.0)) (shows places) (each place.1.ports (status_of place.0))
+      All-cons Q (Shows place.1.ports (status_of place.0 place.1.bytes)) (shows places) (each place.1.ports (status_of place.0 place.1.bytes))
       (all_shown Q true places each)
 
   one_begins : (left : Option ℕ) (before after : P) → OnlyTurns (beginning_where left before after)

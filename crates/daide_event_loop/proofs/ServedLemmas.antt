@@ -40,7 +40,7 @@ use Rattle.daide_event_loop.specs.Served.{IsServedSession, run_limits, IsSession
 use Rattle.daide_event_loop.specs.Served.{IsWholeRun}
 use Rattle.daide_event_loop.proofs.BeginningLemmas.{OnlyTurns, none_counted, opening_none, all_turns, all_shown, turns_only, watches_only}
 use Rattle.daide_event_loop.proofs.VisitLemmas.{Gets, gets_own, some_most, some_turns, all_visited}
-use Rattle.daide_event_loop.proofs.CauseLemmas.{IsCut, cut_begins, cut_begun, cut_turn, cut_cause}
+use Rattle.daide_event_loop.proofs.CauseLemmas.{IsCut, cut_begins, cut_begun, cut_turn, cut_cause, cut_field}
 use Rattle.daide_event_loop.proofs.CountLemmas.{counted_append, Counts, counts_then, admission_counts, meeting_counts}
 use Rattle.daide_event_loop.proofs.CountLemmas.{opening_counts, turns_count, removal_counts, wait_counts}
 use Rattle.daide_event_loop.proofs.OrderLemmas.{Limited, first_limit, limit_then}
@@ -421,6 +421,7 @@ module _ {P : Type 0} (port_transition : P → PortCall → P → Type 0) (setti
           h.1.run,
           ap (cause_by place.1.first_synthetic_end) own.1 ∙ cut_cause h.1.state place.0.state place.1.first_synthetic_end own.0 h.1.cut own.1,
           refl,
+          cut_field h.1.state place.0.state place.1.first_synthetic_end h.1.cut,
         )
 
     parted : (b : Bool) (place : SessionView × QuotaPortsView P) → is_closed place.0 ≡ b → Served place →

@@ -4,6 +4,8 @@ use Rattle.std.specs.Option.{option_or}
 use Rattle.daide_protocol.specs.declared.ending.Ending.{Ending}
 use Rattle.daide_protocol.specs.declared.ending.Ending.TheVariants as Endings
 use Rattle.daide_io.specs.declared.ports.ClockEvent.TheVariants.{NoEvent}
+use Rattle.daide_io.specs.declared.byte_counts.ByteCounts.{ByteCounts}
+use Rattle.daide_io.specs.ByteCounts.{counted_after}
 use Rattle.daide_io.specs.Ports.{PortCall, TurnBegins, Clock, Pulled, Offered, is_eventful}
 use Rattle.daide_io.specs.System.{SystemCall, BeginsTurn}
 use Rattle.daide_io.specs.declared.ports.Pull.{Pull}
@@ -11,13 +13,14 @@ use Rattle.daide_io.specs.declared.ports.Pull.TheVariants.{Got, Idle, Ended}
 use Rattle.daide_io.specs.declared.ports.Put.{Put}
 use Rattle.daide_io.specs.declared.ports.Put.TheVariants.{Took, Failed}
 
--- the ports inside, the turns left (none once the quota is exceeded), whether the last turn made progress, and the
--- first end or failure returned beyond the quota
+-- the ports inside, the turns left (none once the quota is exceeded), whether the last turn made progress, the first end or
+-- failure returned beyond the quota, and the bytes delivered and taken
 pub record QuotaPortsView (P : Type 0) : Type 0 where
   pub ports : P
   pub turns_left : Option ℕ
   pub made_progress : Bool
   pub first_synthetic_end : Option Ending
+  pub bytes : ByteCounts
 
 -- a turn that begins takes one of the turns left; if none is left, the quota is exceeded
 abbrev pub one_less : Option ℕ → Option ℕ
@@ -83,6 +86,7 @@ pub record Meters {P : Type 0} (transition : P → PortCall → P → Type 0) (o
   pub turns_left : new.turns_left ≡ left_after answer old.turns_left
   pub made_progress : new.made_progress ≡ progress_after answer old.made_progress
   pub first_synthetic_end : new.first_synthetic_end ≡ reported_after answer new.turns_left old.first_synthetic_end
+  pub bytes : new.bytes ≡ counted_after answer old.bytes
   pub ports : EvolvesWhile transition new.turns_left old.ports answer new.ports
 
 -- ---- the system at the beginning of a turn

@@ -24,9 +24,12 @@ use Rattle.daide_io.specs.declared.system.Cause.{Cause}
 use Rattle.daide_io.specs.declared.system.Cause.TheVariants as Causes
 use Rattle.daide_io.specs.declared.system.Orders.{Orders}
 use Rattle.daide_io.specs.declared.system.SessionEnd.{SessionEnd}
+use Rattle.daide_io.specs.declared.fault_field.FaultField.{FaultField}
+use Rattle.daide_io.specs.FaultField.{fault_field_of}
 use Rattle.daide_event_loop.specs.QuotaPorts.{QuotaPortsView, Meters, beginning}
 use Rattle.daide_io.specs.System.{SystemCall, Begins, Shows, ReportsNews, BeginsTurn, Watches, Accepts, Connects}
 use Rattle.daide_io.specs.System.{Retires, Notifies, Waits, status_of}
+use Rattle.daide_io.specs.ByteCounts.{no_bytes}
 use Rattle.daide_settings.specs.BotsInAll.{bots_in_all}
 use Rattle.daide_protocol.specs.Machine.{ending_in}
 
@@ -93,7 +96,7 @@ heeding orders counters = if orders.stops_accepting then closed counters else co
 -- the status of each session is shown, in order of place
 abbrev pub shows : {P : Type 0} → List (SessionView × QuotaPortsView P) → List (SystemCall P)
 shows [] = []
-shows (place ∷ places) = Shows place.1.ports (status_of place.0) ∷ shows places
+shows (place ∷ places) = Shows place.1.ports (status_of place.0 place.1.bytes) ∷ shows places
 
 abbrev pub shows_where : {P : Type 0} → Bool → List (SessionView × QuotaPortsView P) → List (SystemCall P)
 shows_where true places = shows places
@@ -115,9 +118,16 @@ Admits count old = AdmitsWhere (may_accept old count) old
 
 -- ---- connects complete or fail
 
--- ports with a full quota of turns; new ports count as progress, so that their session has a turn in the same round
+-- ports with a full quota of turns, which delivered and took nothing; new ports count as progress, so that their session
+-- has a turn in the same round
 abbrev pub fresh : {P : Type 0} → P → ℕ → QuotaPortsView P
-fresh ports turns = record { ports = ports; turns_left = Some turns; made_progress = true; first_synthetic_end = None }
+fresh ports turns = record {
+  ports = ports;
+  turns_left = Some turns;
+  made_progress = true;
+  first_synthetic_end = None;
+  bytes = no_bytes;
+}
 
 -- a completed connect turns into a session in its opening state, at the last place; a failed one is reported, and its
 -- bot dropped
@@ -237,12 +247,13 @@ abbrev pub cause_by : Option Ending → Option Ending → Cause
 cause_by told None = Causes.TurnsSpent
 cause_by told (Some ending) = if is_reported told ending then Causes.TurnsSpent else Causes.Session ending
 
-abbrev pub end_by : Option Ending → Option Ending → Account → SessionEnd
-end_by told ending account = record { cause = cause_by told ending; account = account }
+abbrev pub end_by : Option Ending → Option Ending → Account → Option FaultField → SessionEnd
+end_by told ending account field = record { cause = cause_by told ending; account = account; fault_field = field }
 
--- the end of a session, with its account
+-- the end of a session, with its account and the field that its fault is about
 abbrev pub end_of : {P : Type 0} → SessionView × QuotaPortsView P → SessionEnd
-end_of place = end_by place.1.first_synthetic_end (ending_in place.0.state.phase) place.0.account
+end_of place =
+    end_by place.1.first_synthetic_end (ending_in place.0.state.phase) place.0.account (fault_field_of place.0.state)
 
 -- spent turns are reported, if so, and then the ports are retired with the end of their session
 abbrev pub parting : {P : Type 0} → QuotaPortsView P → SessionEnd → List (SystemCall P)

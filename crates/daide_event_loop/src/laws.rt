@@ -1,6 +1,6 @@
 //! Laws of runs: functions with no parameters and an empty body, whose contracts are the laws.
 
-ghost use Rattle.daide_event_loop.specs.Served.{SessionsAreServed, OrdersAreHeeded, MovesAreAnswered, TurnsAreCounted};
+ghost use Rattle.daide_event_loop.specs.Served.{SessionsAreServed, OrdersAreHeeded, MovesAreAnswered, TurnsAreCounted, BytesAreCounted};
 ghost use Rattle.daide_event_loop.specs.Independence.{SessionsAreIndependent};
 ghost use Rattle.daide_event_loop.specs.Attendance.{RoundsAttendAll};
 ghost use Rattle.daide_event_loop.specs.Waiting.{RunsAreIdleAtWaits};
@@ -34,6 +34,14 @@ pub fn moves_are_answered<P: Ports>()
 /// ports are called and answer for themselves.
 pub fn turns_are_counted<P: Ports>()
     ensures { TurnsAreCounted P.transition }
+{}
+
+/// A session's ports count the bytes that they delivered from each side and took for each, modulo 2^64: those of all calls
+/// since a connect returned them (`bytes_of`). A status shows these counts (`shows`).
+///
+/// Not said: that a peer received the bytes that were taken.
+pub fn bytes_are_counted<P: Ports>()
+    ensures { BytesAreCounted P.transition }
 {}
 
 /// Sessions do not influence one another. Take a session of each of two runs, of any two systems with any two kinds of

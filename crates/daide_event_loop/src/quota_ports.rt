@@ -1,10 +1,12 @@
-//! Ports with a quota of turns, which record whether their last turn made progress.
+//! Ports with a quota of turns, which record whether their last turn made progress, and count their bytes.
 
 ghost use Rattle.std.specs.Prelude.{◌≡◌, false, true, Some, None, is_none};
+ghost use Rattle.daide_io.specs.ByteCounts.{no_bytes};
 ghost use Rattle.daide_io.specs.Ports.{TurnBegins};
 ghost use Rattle.daide_io.specs.System.{TransitsBy};
 
 use daide_frame::side::Side;
+use daide_io::byte_counts::ByteCounts;
 use daide_io::ports::{ClockEvent, Ports, Pull, Put};
 use daide_io::system::System;
 use daide_protocol::ending::Ending;
@@ -21,6 +23,8 @@ pub struct QuotaPorts<P: Ports> {
     made_progress: bool,
     /// The first end or failure returned beyond the quota. It ends a session that was open until then.
     first_synthetic_end: Option<Ending>,
+    /// The bytes delivered and taken so far.
+    bytes: ByteCounts,
 }
 
 impl<P: Ports> Model for QuotaPorts<P> {
@@ -28,7 +32,13 @@ impl<P: Ports> Model for QuotaPorts<P> {
 
     ghost Value = { QuotaPortsView P };
 
-    ghost view = { λ m. record { ports = m.ports; turns_left = m.turns_left; made_progress = m.made_progress; first_synthetic_end = m.first_synthetic_end } };
+    ghost view = { λ m. record {
+      ports = m.ports;
+      turns_left = m.turns_left;
+      made_progress = m.made_progress;
+      first_synthetic_end = m.first_synthetic_end;
+      bytes = m.bytes;
+    } };
 }
 
 impl<P: Ports> QuotaPorts<P> {
@@ -36,13 +46,20 @@ impl<P: Ports> QuotaPorts<P> {
 
     /// Wraps ports with a quota of `turns` turns.
     pub fn new(ports: P, turns: u64) -> QuotaPorts<P>
-        ensures { result ≡ record { ports = ports; turns_left = Some turns; made_progress = true; first_synthetic_end = None } }
+        ensures { result ≡ record {
+          ports = ports;
+          turns_left = Some turns;
+          made_progress = true;
+          first_synthetic_end = None;
+          bytes = no_bytes;
+        } }
     {
         QuotaPorts {
             ports,
             turns_left: Some(turns),
             made_progress: true,
             first_synthetic_end: None,
+            bytes: ByteCounts::new(),
         }
     }
 
@@ -81,6 +98,13 @@ impl<P: Ports> QuotaPorts<P> {
         self.first_synthetic_end
     }
 
+    /// Returns the bytes that were delivered and taken so far, each number modulo 2^64.
+    pub fn bytes(&self) -> ByteCounts
+        ensures { result ≡ self.now.bytes }
+    {
+        self.bytes
+    }
+
     /// Returns the ports inside by reference.
     pub fn ports(&self) -> &P
         ensures { result.now ≡ self.now.ports }
@@ -97,6 +121,7 @@ impl<P: Ports> QuotaPorts<P> {
             turns_left: _,
             made_progress: _,
             first_synthetic_end: _,
+            bytes: _,
         } = self;
         ports
     }
@@ -121,6 +146,7 @@ impl<P: Ports> Ports for QuotaPorts<P> {
                 Pull::Idle => false,
                 Pull::Ended => true,
             };
+        self.bytes = self.bytes.after_pull(side, pull);
         pull
     }
 
@@ -137,6 +163,7 @@ impl<P: Ports> Ports for QuotaPorts<P> {
                 Put::Took(count) => count > 0,
                 Put::Failed => true,
             };
+        self.bytes = self.bytes.after_put(side, put);
         put
     }
 

@@ -4,7 +4,7 @@
 //! It uses no socket. The system is a parameter, so that tests can drive whole runs in memory.
 
 ghost use Rattle.std.specs.Prelude.{◌≡◌, ◌+◌, ◌<◌, ◌≤◌, ◌==◌, ◌||◌, true, false, List, [], ◌∷◌, length, Some};
-ghost use Rattle.std.specs.Prelude.{OnOk, OnErr, IfOk, IfErr, IfSome, slice_get};
+ghost use Rattle.std.specs.Prelude.{OnOk, OnErr, IfOk, IfErr, IfSome, Option, slice_get};
 ghost use Rattle.daide_io.specs.System.{SystemCall, Connects, TransitsBy};
 ghost use Rattle.daide_event_loop.specs.Serving.{shows, shows_where};
 ghost use Rattle.daide_event_loop.specs.Serving.{IsWithinQuotas, Admits, FinishesConnect, IsDueBy, TakesTurn, TakesTurns, VisitsPlace, most_turns};
@@ -18,6 +18,7 @@ ghost use Rattle.daide_driver.specs.Hub.{Removes, IsReportedOf};
 ghost use Rattle.daide_protocol.specs.Wires.{is_closed};
 ghost use Rattle.daide_protocol.specs.declared.ending.Ending.{Ending};
 ghost use Rattle.daide_protocol.specs.declared.account.Account.{Account};
+ghost use Rattle.daide_io.specs.declared.fault_field.FaultField.{FaultField};
 ghost use Rattle.daide_event_loop.specs.Serving.{IsServeCause, BreaksOff, GivesUp, arrived};
 
 use crate::admission_counters::AdmissionCounters;
@@ -75,7 +76,7 @@ fn show_all<P: Ports, A: Allocator + Copy, S: System<P>>(
 {
     for i in 0..hub.count() {
         let ports = hub.ports(i);
-        let status = session_status(hub.session(i));
+        let status = session_status(hub.session(i), ports.bytes());
         system.show(ports.ports(), status);
     }
 }
@@ -345,12 +346,13 @@ fn cause_of(told: Option<Ending>, ending: Ending) -> Cause
 /// Retires ports with the end of their session. Before that, reports spent turns if the quota is exceeded.
 fn part_with<P: Ports, S: System<P>>(removed: Removed<QuotaPorts<P>>, system: &mut S)
     ensures { TransitsBy S.transition system.old (parting removed.ports
-        (end_by removed.ports.first_synthetic_end (Some removed.ending) removed.account)) system.new }
+        (end_by removed.ports.first_synthetic_end (Some removed.ending) removed.account removed.fault_field)) system.new }
 {
     let Removed {
         ports,
         account,
         ending,
+        fault_field,
     } = removed;
     if ports.is_spent() {
         system.tell(Notice::TurnsSpent);
@@ -358,6 +360,7 @@ fn part_with<P: Ports, S: System<P>>(removed: Removed<QuotaPorts<P>>, system: &m
     let end = SessionEnd {
         cause: cause_of(ports.first_synthetic_end(), ending),
         account,
+        fault_field,
     };
     system.retire(ports.into_ports(), end);
 }
@@ -372,10 +375,11 @@ fn retire_at<P: Ports, A: Allocator + Copy, S: System<P>>(
 )
     requires there { i < length hub.old.places }
     requires over { IfSome (slice_get hub.old.places i) (λ place. is_closed place.0 ≡ true) }
-    ensures { (ports : QuotaPortsView P) × (account : Account) × (ending : Ending) × Removes hub.old i ports hub.new
-        × IfSome (slice_get hub.old.places i) (λ place. IsReportedOf place.0 account ending)
+    ensures { (ports : QuotaPortsView P) × (account : Account) × (ending : Ending) × (field : Option FaultField)
+        × Removes hub.old i ports hub.new
+        × IfSome (slice_get hub.old.places i) (λ place. IsReportedOf place.0 account ending field)
         × TransitsBy S.transition system.old
-        (parting ports (end_by ports.first_synthetic_end (Some ending) account)) system.new }
+        (parting ports (end_by ports.first_synthetic_end (Some ending) account field)) system.new }
 {
     match hub.remove_over(i) {
         Some(session) => part_with(session, system),

@@ -336,6 +336,10 @@ impl<'w, N: Network, E: Write + Drop> Sockets<'w, N, E> {
             queued_to_server: status.queued_to_server,
             held_to_bot,
             held_to_server,
+            received_from_bot: status.bytes.from_bot,
+            received_from_server: status.bytes.from_server,
+            sent_to_bot: status.bytes.to_bot,
+            sent_to_server: status.bytes.to_server,
             bot_idle: seconds_between(bot_heard_at, now),
             server_idle: seconds_between(server_heard_at, now),
         })
