@@ -23,11 +23,12 @@ use Rattle.daide_driver.specs.Headline.{nothing_held}
 use Rattle.daide_io.specs.Ports.{TurnBegins, Clock, Pulled, Offered}
 use Rattle.daide_io.specs.declared.system.Notice.TheVariants.{TurnsSpent}
 use Rattle.daide_io.specs.declared.system.Cause.TheVariants as Causes
+use Rattle.daide_event_loop.specs.QuotaPorts.{is_calm, load_after}
 use Rattle.daide_event_loop.specs.QuotaPorts.{QuotaPortsView, left_after, progress_after, progress_by, reported_after, beginning}
 use Rattle.daide_event_loop.specs.Served.{turns_in, while_left}
 use Rattle.daide_settings.specs.declared.settings.Settings.{Settings}
 use Rattle.daide_event_loop.specs.declared.admission_counters.AdmissionCounters.{AdmissionCounters}
-use Rattle.daide_event_loop.specs.Serving.{may_accept, is_served}
+use Rattle.daide_event_loop.specs.Serving.{may_accept, is_served, turns_left_over}
 use Rattle.daide_settings.specs.BotsInAll.{bots_in_all}
 use Rattle.daide_event_loop.specs.Serving.{cause_by, retirements, remaining, heeding, opening}
 use Rattle.daide_io.specs.System.{Begins, Shows, BeginsTurn, Retires, Notifies, no_orders}
@@ -120,11 +121,29 @@ queued limits = session limits (Over (Final Bot)) 20 (record { to = Bot; answers
 
 -- ports identified by a number, with this many turns left
 abbrev ports : ℕ → Option ℕ → QuotaPortsView ℕ
-ports number left = record { ports = number; turns_left = left; made_progress = false; first_synthetic_end = None }
+ports number left = record { ports = number; turns_left = left; made_progress = false; load = 0; first_synthetic_end = None }
+
+-- The load grows by one with each turn after progress, and stays at 64. A turn after rest takes 16, or all that there is.
+-- No other call changes it.
+loads : (side : Side) → (load_after TurnBegins true 0 ≡ 1) × (load_after TurnBegins true 63 ≡ 64)
+    × (load_after TurnBegins true 64 ≡ 64) × (load_after TurnBegins false 64 ≡ 48) × (load_after TurnBegins false 17 ≡ 1)
+    × (load_after TurnBegins false 15 ≡ 0) × (load_after (Pulled side 512 (Got 512) []) true 7 ≡ 7)
+    × (load_after (Offered side [] (Took 0)) false 7 ≡ 7) × (load_after (Clock NoEvent) false 7 ≡ 7)
+loads side = (refl, refl, refl, refl, refl, refl, refl, refl, refl)
+
+-- at rest a session is calm below a load of 32, and not from it on; one that moves is never calm
+calm_or_busy : (is_calm (ports 1 (Some 9)) ≡ true) × (is_calm (record (ports 1 (Some 9)) { load = 31 }) ≡ true)
+    × (is_calm (record (ports 1 (Some 9)) { load = 32 }) ≡ false) × (is_calm (record (ports 1 (Some 9)) { load = 64 }) ≡ false)
+    × (is_calm (record (ports 1 (Some 9)) { made_progress = true }) ≡ false)
+calm_or_busy = (refl, refl, refl, refl, refl)
+
+-- the calm sessions are visited again at 32 turns of busy ones, and not before
+turns_counted_anew : (turns_left_over 0 ≡ 0) × (turns_left_over 31 ≡ 31) × (turns_left_over 32 ≡ 0)
+turns_counted_anew = (refl, refl, refl)
 
 -- ports beyond their quota, and their first synthetic end
 abbrev spent : ℕ → Ending → QuotaPortsView ℕ
-spent number told = record { ports = number; turns_left = None; made_progress = false; first_synthetic_end = Some told }
+spent number told = record { ports = number; turns_left = None; made_progress = false; load = 0; first_synthetic_end = Some told }
 
 -- The first is closed, the second has a frame queued, the third is open, and the fourth was open until its turns were
 -- spent. The fifth is closed, and so is the sixth, whose FM for the bot was queued until its turns were spent.
