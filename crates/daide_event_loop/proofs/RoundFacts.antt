@@ -30,7 +30,7 @@ use Rattle.daide_event_loop.specs.QuotaPorts.{QuotaPortsView, left_after, progre
 use Rattle.daide_event_loop.specs.Served.{turns_in, while_left}
 use Rattle.daide_settings.specs.declared.settings.Settings.{Settings}
 use Rattle.daide_event_loop.specs.declared.admission_counters.AdmissionCounters.{AdmissionCounters}
-use Rattle.daide_event_loop.specs.Serving.{may_accept, is_served}
+use Rattle.daide_event_loop.specs.Serving.{may_accept, is_served, turns_left_over}
 use Rattle.daide_settings.specs.BotsInAll.{bots_in_all}
 use Rattle.daide_event_loop.specs.Serving.{cause_by, retirements, remaining, heeding, opening}
 use Rattle.daide_io.specs.System.{Begins, Shows, BeginsTurn, Retires, Notifies, no_orders}
@@ -131,6 +131,7 @@ ports number left = record {
   ports = number;
   turns_left = left;
   made_progress = false;
+  load = 0;
   first_synthetic_end = None;
   bytes = bytes number;
 }
@@ -141,6 +142,7 @@ spent number told = record {
   ports = number;
   turns_left = None;
   made_progress = false;
+  load = 0;
   first_synthetic_end = Some told;
   bytes = no_bytes;
 }

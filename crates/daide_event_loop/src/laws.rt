@@ -69,8 +69,10 @@ pub fn runs_are_idle_at_waits<P: Ports>()
 {}
 
 /// In each round each session is attended, whatever the others do: it had a turn, or the system reported no news for its
-/// ports (`IsAttended`). So a session with news has at least one turn in each round. Before it each other session has at
-/// most eight turns, and one that has bytes without end has one (`most_turns`).
+/// ports (`IsAttended`). So a session with news has at least one turn in each round. One that has bytes without end has
+/// one (`most_turns`), unless it was calm when it was visited: then it has at most eight, and from 32 turns on it counts as
+/// busy (`load_at_turn`). A calm session with news waits for at most 32 turns of busy ones, since the calm ones are
+/// visited again after each 32 (`VisitsNext`).
 ///
 /// Not said: how long a turn takes.
 pub fn rounds_attend_all<P: Ports>()

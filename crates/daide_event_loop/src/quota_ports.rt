@@ -3,6 +3,7 @@
 ghost use Rattle.std.specs.Prelude.{◌≡◌, false, true, Some, None, is_none};
 ghost use Rattle.daide_io.specs.ByteCounts.{no_bytes};
 ghost use Rattle.daide_io.specs.Ports.{TurnBegins};
+ghost use Rattle.daide_event_loop.specs.QuotaPorts.{load_at_turn};
 ghost use Rattle.daide_io.specs.System.{TransitsBy};
 
 use daide_frame::side::Side;
@@ -21,6 +22,8 @@ pub struct QuotaPorts<P: Ports> {
     turns_left: Option<u64>,
     /// Whether the last turn made progress; true before the first turn, so that it is made at once.
     made_progress: bool,
+    /// The load of the session: one more for each turn after progress, and less for each turn after rest.
+    load: u8,
     /// The first end or failure returned beyond the quota. It ends a session that was open until then.
     first_synthetic_end: Option<Ending>,
     /// The bytes delivered and taken so far.
@@ -36,13 +39,33 @@ impl<P: Ports> Model for QuotaPorts<P> {
       ports = m.ports;
       turns_left = m.turns_left;
       made_progress = m.made_progress;
+      load = m.load;
       first_synthetic_end = m.first_synthetic_end;
       bytes = m.bytes;
     } };
 }
 
+/// The most load of a session.
+const MOST_LOAD: u8 = 64;
+
+/// The load that a turn after rest takes away.
+const REST_LOAD: u8 = 16;
+
+/// A session with this load or more is busy.
+const BUSY_LOAD: u8 = 32;
+
+/// Returns the load of a session when a turn begins, by whether the turn before it made progress.
+fn load_at_turn(made_progress: bool, load: u8) -> u8
+    ensures { result ≡ load_at_turn made_progress load }
+{
+    if !made_progress {
+        return load.saturating_sub(REST_LOAD);
+    }
+    if load < MOST_LOAD { load + 1 } else { load }
+}
+
 impl<P: Ports> QuotaPorts<P> {
-    ghost use Rattle.daide_event_loop.specs.QuotaPorts.{Meters, beginning};
+    ghost use Rattle.daide_event_loop.specs.QuotaPorts.{Meters, beginning, is_calm};
 
     /// Wraps ports with a quota of `turns` turns.
     pub fn new(ports: P, turns: u64) -> QuotaPorts<P>
@@ -50,6 +73,7 @@ impl<P: Ports> QuotaPorts<P> {
           ports = ports;
           turns_left = Some turns;
           made_progress = true;
+          load = 0;
           first_synthetic_end = None;
           bytes = no_bytes;
         } }
@@ -58,6 +82,7 @@ impl<P: Ports> QuotaPorts<P> {
             ports,
             turns_left: Some(turns),
             made_progress: true,
+            load: 0,
             first_synthetic_end: None,
             bytes: ByteCounts::new(),
         }
@@ -70,6 +95,7 @@ impl<P: Ports> QuotaPorts<P> {
         ensures asked { TransitsBy S.transition system.old (beginning self.old self.new) system.new }
     {
         self.turns_left = self.turns_left.and_then(|turns| turns.checked_sub(1));
+        self.load = load_at_turn(self.made_progress, self.load);
         self.made_progress = false;
         if self.turns_left.is_some() {
             system.begin_turn(&mut self.ports);
@@ -89,6 +115,13 @@ impl<P: Ports> QuotaPorts<P> {
         ensures { result ≡ self.now.made_progress }
     {
         self.made_progress
+    }
+
+    /// Returns true if the session is calm: its last turn made no progress, and few turns did before it.
+    pub fn is_calm(&self) -> bool
+        ensures { result ≡ is_calm self.now }
+    {
+        !self.made_progress && self.load < BUSY_LOAD
     }
 
     /// Returns the first end or failure that was returned beyond the quota.
@@ -120,6 +153,7 @@ impl<P: Ports> QuotaPorts<P> {
             ports,
             turns_left: _,
             made_progress: _,
+            load: _,
             first_synthetic_end: _,
             bytes: _,
         } = self;
