@@ -176,6 +176,7 @@ impl<P: Ports, A: Allocator + Copy> Hub<P, A> {
 
     /// Makes one turn of the session at a place with its ports, by the clauses of `turn`. Every other session and its
     /// ports are unchanged.
+    #[inline(always)]
     pub fn turn(&mut self, i: usize)
         requires { i < length self.old.places }
         ensures { Changes (IsTurned P.transition) self.old i self.new }

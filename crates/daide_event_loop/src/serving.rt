@@ -192,6 +192,7 @@ fn finish_connect<P: Ports, A: Memory + Copy, S: System<P>>(
 }
 
 /// Makes one turn of the session at a place: the system begins it with the ports of that session.
+#[inline(always)]
 fn take_turn<P: Ports, A: Allocator + Copy, S: System<P>>(
     hub: &mut Hub<QuotaPorts<P>, A>,
     i: usize,
@@ -238,6 +239,7 @@ fn busy_turn(is_calm: bool) -> usize
 }
 
 /// Makes a turn of the session at a place, and then one more after each that made progress, at most `most`.
+#[inline(always)]
 fn take_turns<P: Ports, A: Allocator + Copy, S: System<P>>(
     hub: &mut Hub<QuotaPorts<P>, A>,
     i: usize,
@@ -299,6 +301,7 @@ impl Findings {
 
 /// Makes turns of the session at a place if it is due one. Returns whether its last turn made progress, and whether it is
 /// closed after a turn. The turn of a busy session is counted.
+#[inline(always)]
 fn visit<P: Ports, A: Allocator + Copy, S: System<P>>(
     hub: &mut Hub<QuotaPorts<P>, A>,
     i: usize,
@@ -344,6 +347,7 @@ fn visit_if_calm<P: Ports, A: Allocator + Copy, S: System<P>>(
 }
 
 /// Visits each calm session, in order of place.
+#[inline(never)]
 fn visit_calm<P: Ports, A: Allocator + Copy, S: System<P>>(
     hub: &mut Hub<QuotaPorts<P>, A>,
     system: &mut S,
@@ -363,6 +367,7 @@ fn visit_calm<P: Ports, A: Allocator + Copy, S: System<P>>(
 }
 
 /// Visits each calm session once busy ones had `MOST_BUSY_TURNS` turns, which then are counted anew.
+#[inline(always)]
 fn catch_up<P: Ports, A: Allocator + Copy, S: System<P>>(
     busy_turns: usize,
     hub: &mut Hub<QuotaPorts<P>, A>,
@@ -384,6 +389,7 @@ fn catch_up<P: Ports, A: Allocator + Copy, S: System<P>>(
 }
 
 /// Visits the session at a place, and then each calm one if busy sessions had many turns. Returns what was found so far.
+#[inline(always)]
 fn visit_next<P: Ports, A: Allocator + Copy, S: System<P>>(
     found: Findings,
     hub: &mut Hub<QuotaPorts<P>, A>,
