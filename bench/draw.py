@@ -1,14 +1,15 @@
 #!/usr/bin/env python3
 """Draws the pictures of docs/img from the data in bench/figures:
 
-    bench/draw.py
+    bench/draw.py [--check]
 
 Each file there is drawn as the picture of its name. `layers`, `session-machine`, `session-life` and `message` are
-diagrams. `proofs` has one stacked bar per crate. Any other file is a table of figures and is drawn as bars, so a new one needs no code.
-Lines that begin with `#` contain the picture's title and the source of its figures. The same data give the same bytes.
+diagrams. `proofs` has one stacked bar per crate. Any other file is a table of figures and is drawn as bars, so a new one
+needs no code. With `--check` nothing is written, and the status is 1 if a picture is not the one of its figures. Lines that begin with `#` contain the picture's title and the source of its figures. The same data give the same bytes.
 The pictures follow the reader's light or dark colour scheme.
 """
 
+import argparse
 import csv
 import pathlib
 import sys
@@ -269,15 +270,24 @@ def message(notes, _columns, rows):
 
 
 def main():
-    """Draws every file of figures."""
+    """Draws every file of figures. With --check writes nothing, and fails if a picture is not the one of its figures."""
+    arguments = argparse.ArgumentParser(description=main.__doc__)
+    arguments.add_argument("--check", action="store_true", help="compare docs/img with the figures, and write nothing")
+    is_check = arguments.parse_args().check
     diagrams = {"layers": layers, "session-machine": session_machine, "session-life": session_life, "message": message,
                 "proofs": proofs}
+    stale = []
     for path in sorted((HERE / "figures").glob("*.csv")):
-        picture = diagrams.get(path.stem, bars)(*read(path))
+        text = diagrams.get(path.stem, bars)(*read(path)).whole()
         target = HERE.parent / "docs/img" / f"{path.stem}.svg"
-        target.parent.mkdir(exist_ok=True)
-        target.write_text(picture.whole(), encoding="utf-8")
-        print(f"docs/img/{path.stem}.svg")
+        if not is_check:
+            target.parent.mkdir(exist_ok=True)
+            target.write_text(text, encoding="utf-8")
+            print(f"docs/img/{path.stem}.svg")
+        elif not target.exists() or target.read_text(encoding="utf-8") != text:
+            stale.append(f"docs/img/{path.stem}.svg is not what bench/draw.py draws of bench/figures/{path.name}")
+    if stale:
+        sys.exit("\n".join(stale))
 
 
 if __name__ == "__main__":

@@ -32,7 +32,7 @@ HOSTILE = 300
 
 COLUMNS = """\
                       from the bot   from the server
-session  phase   relayed  PRN  HUH relayed  PRN  HUH  to bot to server  bot idle server idle   port bot and its name"""
+session  phase   relayed  PRN  HUH relayed  PRN  HUH  to bot to server    bot sent server sent    bot took server took  bot idle server idle   port bot and its name"""
 
 
 def hears_interrupts():
@@ -187,14 +187,14 @@ def status_is_a_table(program):
         first = re.sub(r"up \d+ s", "up", lines[0]).removesuffix("; bots may wait for a place")
         same(first, "2 open, 0 connecting, 0 served, 0 unreached, up", "the first line")
         wanted = [
-            f"      1  open 0        2    1    0       2    0    0       0         0         *           * {port(server):>6} {address(bot)}",
-            f"      2  wait RM       1    0    0       0    0    0       0         0         *           - {port(other):>6} {address(waiting)}",
+            f"      1  open 0        2    1    0       2    0    0       0         0          22          16          30          14         *           * {port(server):>6} {address(bot)}",
+            f"      2  wait RM       1    0    0       0    0    0       0         0           8           0           0           8         *           - {port(other):>6} {address(waiting)}",
         ]
         for line, text in zip(lines[3:], wanted, strict=True):
             pattern = re.escape(text).replace(r"\*", r"\d")
             if not re.fullmatch(pattern, line):
                 same(line, text, "the line of a session")
-            if len(line) > 121:
+            if len(line) > 169:
                 raise Wrong(f"a line has {len(line)} bytes")
         third = socket.create_connection((HOST, match.port), SECONDS)
         match.bots.append(third)
@@ -217,7 +217,8 @@ def status_is_a_document(program):
         same([first[name] for name in ("relayed", "prn", "huh", "faults")],
              [{"bot": 2, "server": 2}, {"bot": 1, "server": 0}, {"bot": 0, "server": 0}, 0], "counts of session 1")
         same(first["port_to_server"], port(server), "the port of session 1, as the server sees it")
-        same((first["queued"], first["held"]), ({"bot": 0, "server": 0},) * 2, "bytes of session 1")
+        same((first["queued"], first["held"]), ({"bot": 0, "server": 0},) * 2, "bytes that wait in session 1")
+        same((first["received"], first["sent"]), ({"bot": 22, "server": 16}, {"bot": 30, "server": 14}), "bytes of session 1")
         same((second["bot"], second["phase"]), (address(waiting), "wait IM"), "session 2")
         same(second["idle_seconds"], {"bot": None, "server": None}, "silence of session 2")
 
@@ -249,6 +250,9 @@ def status_has_metrics(program):
         for side, result, count in (("bot", "relayed", 2), ("server", "relayed", 2), ("bot", "prn", 1), ("server", "prn", 0)):
             name = f'daide_gate_session_frames_total{{{labels},side="{side}",result="{result}"}}'
             same(values[name], count, f"{result} of the {side}")
+        for side, direction, count in (("bot", "received", 22), ("server", "received", 16), ("bot", "sent", 30), ("server", "sent", 14)):
+            name = f'daide_gate_session_bytes_total{{{labels},side="{side}",direction="{direction}"}}'
+            same(values[name], count, f"bytes {direction}, {side}")
         same(values[f'daide_gate_session_level{{{labels},phase="open"}}'], 0, "level")
 
 

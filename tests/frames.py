@@ -6,10 +6,13 @@ RM = b"\x01\x00\x00\x00"
 FM = b"\x03\x00\x00\x00"
 IM_FM = IM + FM
 
-# The IM did not come in time; a length above the cap, or an unknown type; more than one RM.
+# The IM did not come in time; a length above the cap, or an unknown type; a wrong length; more than one RM; an invalid
+# token.
 EM_01 = b"\x04\x00\x00\x02\x00\x01"
 EM_08 = b"\x04\x00\x00\x02\x00\x08"
+EM_09 = b"\x04\x00\x00\x02\x00\x09"
 EM_0C = b"\x04\x00\x00\x02\x00\x0c"
+EM_0E = b"\x04\x00\x00\x02\x00\x0e"
 
 # `OBS`; the same followed by the final message; and `YES ( OBS )`.
 OBS = b"\x02\x00\x00\x02\x48\x0f"

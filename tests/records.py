@@ -12,7 +12,7 @@ from acts import (
     Vanishes,
 )
 from frames import (
-    EM_01, EM_08, EM_0C, FM, IM, ITS_ERR, ITS_PRN, OBS, OBS_FM, OBS_GOF, RM, UNCLOSED, UNKNOWN, YES,
+    EM_01, EM_08, EM_09, EM_0C, EM_0E, FM, IM, ITS_ERR, ITS_PRN, OBS, OBS_FM, OBS_GOF, RM, UNCLOSED, UNKNOWN, YES,
 )
 from gateway import (
     GETS_PRN, HEARS_THE_END, IS_NOT_RESET, NOBODY_SERVES, ONE_FLOODS, STAYS_SILENT, UNREACHED, joins, opens,
@@ -249,9 +249,15 @@ ENDINGS = [
     (Server, EM_08, EM_08, b"",
      "EM of server; bot 1 relayed 0 prn 0 huh; server 2 relayed 0 prn 0 huh; 0 faults; level 0"),
     (Bot, UNKNOWN[:4], EM_08, FM,
-     "fault 08 of bot: unknown message; bot 1 relayed 0 prn 0 huh; server 1 relayed 0 prn 0 huh; 1 faults; level 0"),
+     "fault 08 of bot: unknown message, type 05 at byte 0; bot 1 relayed 0 prn 0 huh; server 1 relayed 0 prn 0 huh; 1 faults; level 0"),
     (Server, RM, FM, EM_0C,
-     "fault 0C of server: second RM; bot 1 relayed 0 prn 0 huh; server 1 relayed 0 prn 0 huh; 1 faults; level 0"),
+     "fault 0C of server: second RM, type 01 at byte 0; bot 1 relayed 0 prn 0 huh; server 1 relayed 0 prn 0 huh; 1 faults; level 0"),
+    (Bot, b"\x02\x00\x00\x03", EM_09, FM,
+     "fault 09 of bot: wrong length 0003 at byte 2; bot 1 relayed 0 prn 0 huh; server 1 relayed 0 prn 0 huh; 1 faults; level 0"),
+    (Bot, b"\x02\x00\x00\x06\x48\x03\x60\x00", EM_0E, FM,
+     "fault 0E of bot: invalid token 6000 at byte 6; bot 1 relayed 0 prn 0 huh; server 1 relayed 0 prn 0 huh; 1 faults; level 0"),
+    (Server, b"\x02\x00\x00\x02\x58\x01", FM, EM_0E,
+     "fault 0E of server: invalid token 5801 at byte 4; bot 1 relayed 0 prn 0 huh; server 1 relayed 0 prn 0 huh; 1 faults; level 0"),
 ]
 
 # The session after them, whose bot sends no IM.

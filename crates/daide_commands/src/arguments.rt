@@ -255,12 +255,13 @@ fn show_command<'a>(alloc: Global) -> Result<Command<'a>, AllocError>
     let words = "The file of settings whose words count as words of press";
     let explain = "Say why the frame would not be relayed";
     let typed = "The frame, as one word or more; without any, standard input is read";
-    let mut words_taken = Vec::new(alloc);
-    words_taken.push(option(alloc, "side", "SIDE", side))?;
-    words_taken.push(option(alloc, "level", "N", level))?;
-    words_taken.push(option(alloc, "words", "SETTINGS", words))?;
-    words_taken.push(flag(alloc, "explain", explain))?;
-    words_taken.push(all_words(alloc, "HEX", typed))?;
+    let words_taken = vec![in alloc;
+        option(alloc, "side", "SIDE", side),
+        option(alloc, "level", "N", level),
+        option(alloc, "words", "SETTINGS", words),
+        flag(alloc, "explain", explain),
+        all_words(alloc, "HEX", typed),
+    ]?;
     Command::new(alloc, "show")
         .about("Shows one frame, given as hexadecimal digits")
         .after_help(SHOW_NOTES)
@@ -276,9 +277,7 @@ fn check_command<'a>(alloc: Global) -> Result<Command<'a>, AllocError>
     let file = Arg::new(alloc, "FILE")
         .action(ArgAction::Set)
         .help("The log; without it, and for '-', standard input is read");
-    let mut words_taken = Vec::new(alloc);
-    words_taken.push(flag(alloc, "explain", explain))?;
-    words_taken.push(file)?;
+    let words_taken = vec![in alloc; flag(alloc, "explain", explain), file]?;
     Command::new(alloc, "check")
         .about("Reports what a gateway makes of each line of a log")
         .after_help(CHECK_NOTES)
@@ -292,9 +291,10 @@ fn frame_command<'a>(alloc: Global, takes_negative: bool) -> Result<Command<'a>,
 {
     let words = "The file of settings whose words may be named";
     let typed = "One message, as one word or more; without any, standard input has one a line";
-    let mut words_taken = Vec::new(alloc);
-    words_taken.push(option(alloc, "words", "SETTINGS", words))?;
-    words_taken.push(all_words(alloc, "TEXT", typed).allow_negative_numbers(takes_negative))?;
+    let words_taken = vec![in alloc;
+        option(alloc, "words", "SETTINGS", words),
+        all_words(alloc, "TEXT", typed).allow_negative_numbers(takes_negative),
+    ]?;
     Command::new(alloc, "frame")
         .about("Writes the frames of messages, as hexadecimal digits")
         .after_help(FRAME_NOTES)
@@ -310,8 +310,7 @@ fn settings_command<'a>(alloc: Global) -> Result<Command<'a>, AllocError>
         .required(true)
         .action(ArgAction::Set)
         .help("The file of settings; for '-', standard input is read");
-    let mut words_taken = Vec::new(alloc);
-    words_taken.push(file)?;
+    let words_taken = vec![in alloc; file]?;
     Command::new(alloc, "settings")
         .about("Judges a file of settings, without a run")
         .after_help(SETTINGS_NOTES)
@@ -329,10 +328,11 @@ fn run_command<'a>(alloc: Global) -> Result<Command<'a>, AllocError>
         .required(true)
         .action(ArgAction::Set)
         .help("The file of settings; docs/FORMATS.md and examples/settings.toml have its keys");
-    let mut words_taken = Vec::new(alloc);
-    words_taken.push(flag(alloc, "verbose", verbose))?;
-    words_taken.push(option(alloc, "record", "FOLDER", record))?;
-    words_taken.push(settings)?;
+    let words_taken = vec![in alloc;
+        flag(alloc, "verbose", verbose),
+        option(alloc, "record", "FOLDER", record),
+        settings,
+    ]?;
     let about =
         "Serves bots, each with a connection of its own to the server, until all were served";
     Command::new(alloc, "run")
@@ -358,9 +358,10 @@ fn status_command<'a>(alloc: Global) -> Result<Command<'a>, AllocError>
     ensures local { IfOk result (λ command. (out-Command command).has_globals ≡ false) }
 {
     let format = "The form: table, json or prometheus [default: table]";
-    let mut words_taken = Vec::new(alloc);
-    words_taken.push(option(alloc, "format", "FORM", format))?;
-    words_taken.push(settings_of_run(alloc))?;
+    let words_taken = vec![in alloc;
+        option(alloc, "format", "FORM", format),
+        settings_of_run(alloc),
+    ]?;
     Command::new(alloc, "status")
         .about("Prints the status of a run and of its open sessions")
         .after_help(STATUS_NOTES)
@@ -374,10 +375,11 @@ fn stop_command<'a>(alloc: Global) -> Result<Command<'a>, AllocError>
 {
     let now = "End the open sessions by the protocol";
     let timeout = "Give up after this time, 1 to 86400 [default: never]";
-    let mut words_taken = Vec::new(alloc);
-    words_taken.push(flag(alloc, "now", now))?;
-    words_taken.push(option(alloc, "timeout", "SECONDS", timeout))?;
-    words_taken.push(settings_of_run(alloc))?;
+    let words_taken = vec![in alloc;
+        flag(alloc, "now", now),
+        option(alloc, "timeout", "SECONDS", timeout),
+        settings_of_run(alloc),
+    ]?;
     Command::new(alloc, "stop")
         .about("Stops a run, and returns when it is over")
         .after_help(STOP_NOTES)

@@ -16,6 +16,8 @@ use Rattle.daide_driver.specs.declared.hub.HubError.TheVariants as Errors
 use Rattle.daide_protocol.specs.Bounds.{most_sessions, IsSessionCount}
 use Rattle.daide_protocol.specs.Config.{config_fault}
 use Rattle.daide_protocol.specs.Config.{limits_with}
+use Rattle.daide_io.specs.declared.fault_field.FaultField.{FaultField}
+use Rattle.daide_io.specs.FaultField.{fault_field_of}
 use Rattle.daide_io.specs.Ports.{PortCall, TurnBegins}
 use Rattle.daide_driver.specs.Record.{EvolveTogether}
 use Rattle.daide_driver.specs.Turn.{AsksAtMost, turn_steps}
@@ -75,9 +77,10 @@ Removes old i ports new =
     (session : SessionView) × (slice_get old.places i ≡ Some (session, ports)) × (is_closed session ≡ true)
     × (new ≡ with_places old (remove old.places i))
 
--- the report of a removed session: its counted moves, and the event that ended it
-abbrev pub IsReportedOf : SessionView → Account → Ending → Type 0
-IsReportedOf session account ending = (account ≡ session.account) × (ending_in session.state.phase ≡ Some ending)
+-- the report of a removed session: its counted moves, the event that ended it, and the field that its fault is about
+abbrev pub IsReportedOf : SessionView → Account → Ending → Option FaultField → Type 0
+IsReportedOf session account ending field =
+    (account ≡ session.account) × (ending_in session.state.phase ≡ Some ending) × (field ≡ fault_field_of session.state)
 
 -- The session and the ports at this place went from one pair to another, by a call of this kind; every other place is
 -- unchanged.

@@ -14,8 +14,10 @@ ghost use Rattle.daide_driver.specs.Hub.{HubView, IsHubCause, IsAddCause, AddsSe
 ghost use Rattle.std.specs.Borrow.{Lends, sem};
 ghost use Rattle.daide_driver.specs.Hub.{IsReportedOf, with_ports, weight_at, session_bound};
 
+use crate::status::fault_field;
 use crate::turn_io::{BUFFER, turn_through};
 use daide_frame::memory::Memory;
+use daide_io::fault_field::FaultField;
 use daide_io::ports::Ports;
 use daide_protocol::account::Account;
 use daide_protocol::bounds::MAX_SESSIONS;
@@ -46,7 +48,7 @@ pub enum AddFault {
     Memory,
 }
 
-/// A removed session: its ports, its account and its ending.
+/// A removed session: its ports, its account, its ending and its fault.
 #[derive(Drop)]
 pub struct Removed<P: Ports> {
     pub ports: P,
@@ -54,6 +56,8 @@ pub struct Removed<P: Ports> {
     pub account: Account,
     /// The event that ended the session.
     pub ending: Ending,
+    /// The field that its fault is about, if a fault ended it.
+    pub fault_field: Option<FaultField>,
 }
 
 /// A session and its ports.
@@ -172,6 +176,7 @@ impl<P: Ports, A: Allocator + Copy> Hub<P, A> {
 
     /// Makes one turn of the session at a place with its ports, by the clauses of `turn`. Every other session and its
     /// ports are unchanged.
+    #[inline(always)]
     pub fn turn(&mut self, i: usize)
         requires { i < length self.old.places }
         ensures { Changes (IsTurned P.transition) self.old i self.new }
@@ -237,12 +242,13 @@ impl<P: Ports, A: Allocator + Copy> Hub<P, A> {
     /// Takes out the session at a place if it is over and nothing waits; the later ones move down one place. Else
     /// nothing changes.
     ///
-    /// `reported`: it returns the session's ports, its counts by side, its last level, and what ended it.
+    /// `reported`: it returns the session's ports, its counts by side, its last level, what ended it, and the field that its
+    /// fault is about.
     pub fn remove_over(&mut self, i: usize) -> Option<Removed<P>>
         requires { i < length self.old.places }
         ensures moved_down { IfSome result (λ removed. Removes self.old i removed.ports self.new) }
         ensures reported { IfSome result (λ removed. IfSome (slice_get self.old.places i)
-            (λ place. IsReportedOf place.0 removed.account removed.ending)) }
+            (λ place. IsReportedOf place.0 removed.account removed.ending removed.fault_field)) }
         ensures unchanged { IfNone result (self.new ≡ self.old) }
         ensures open { IfNone result (IfSome (slice_get self.old.places i) (λ place. is_closed place.0 ≡ false)) }
     {
@@ -254,6 +260,7 @@ impl<P: Ports, A: Allocator + Copy> Hub<P, A> {
             ports,
             account: session.account(),
             ending: session.ending().unwrap(),
+            fault_field: fault_field(&session),
         })
     }
 }

@@ -41,6 +41,7 @@ fn ask_clock<A: Allocator, P: Ports>(session: &mut Session<A>, ports: &mut P)
 }
 
 /// Puts the whole front of a send queue to its wire.
+#[inline(always)]
 fn put_front<A: Allocator, P: Ports>(session: &mut Session<A>, ports: &mut P, side: Side)
     ensures puts { EvolveTogether P.transition (Working (Puts side)) (session.old, ports.old) (session.new, ports.new) }
     ensures asks_nothing { AsksNothing session.old session.new }
@@ -57,6 +58,7 @@ fn put_front<A: Allocator, P: Ports>(session: &mut Session<A>, ports: &mut P, si
 }
 
 /// Pulls bytes from a side into a buffer, and feeds them to the session.
+#[inline(always)]
 fn pull_into<A: Allocator, P: Ports>(
     session: &mut Session<A>,
     ports: &mut P,
@@ -82,6 +84,7 @@ fn pull_into<A: Allocator, P: Ports>(
 }
 
 /// Pulls as many bytes from a side as the session has room for and the buffer holds.
+#[inline(always)]
 fn pull<A: Allocator, P: Ports>(
     session: &mut Session<A>,
     ports: &mut P,
@@ -149,6 +152,7 @@ pub fn turn<A: Allocator, P: Ports>(session: &mut Session<A>, ports: &mut P)
 }
 
 /// Makes one turn that reads through the given buffer, whose old contents have no effect.
+#[inline(always)]
 pub(crate) fn turn_through<A: Allocator, P: Ports>(
     session: &mut Session<A>,
     ports: &mut P,

@@ -3,7 +3,7 @@
 use Rattle.std.proofs.Common.{◌≡◌, ℕ, zero, suc, ◌+◌, ◌<◌, Bool, true, false, List, [], ◌∷◌, ◌++◌, length}
 use Rattle.std.proofs.Common.{Option, Some, None}
 use Rattle.std.proofs.Common.{◌≤◌, refl, sym, ap, ◌∙◌, subst, arith, add-one, append-nil}
-use Rattle.std.specs.Prelude.{IfSome, All, slice_get, slice_set}
+use Rattle.std.specs.Prelude.{IfSome, All, slice_get, slice_set, nat_le, not, ◌&&◌, if◌then◌else◌}
 use Rattle.std.proofs.lemmas.List.{length-set, append_assoc}
 use Rattle.std.proofs.lemmas.List.Elements.{All-nil, All-cons}
 use Rattle.daide_protocol.specs.Wires.{SessionView}
@@ -13,9 +13,10 @@ use Rattle.daide_io.specs.System.{Retires, Notifies, Waits, TransitsBy, status_o
 use Rattle.daide_io.specs.declared.system.Orders.{Orders}
 use Rattle.daide_io.specs.declared.system.SessionStatus.{SessionStatus}
 use Rattle.daide_driver.specs.Hub.{HubView, with_ports, with_ports_at, Changes, IsTurned}
-use Rattle.daide_event_loop.specs.QuotaPorts.{QuotaPortsView, Meters, beginning, beginning_where}
+use Rattle.daide_event_loop.specs.QuotaPorts.{QuotaPortsView, Meters, beginning, beginning_where, is_calm}
 use Rattle.daide_event_loop.specs.Serving.{IsDueBy, OpensTurn, TakesTurn, TakesTurns, has_moved_in, VisitsPlace}
-use Rattle.daide_event_loop.specs.Serving.{TurnsBelow, watches}
+use Rattle.daide_event_loop.specs.Serving.{VisitsIfCalm, VisitsCalm, VisitsCalmIf, VisitsNext, TurnsBelow, watches}
+use Rattle.daide_event_loop.specs.Serving.{busy_turns_in, is_calm_in}
 use Rattle.daide_event_loop.specs.Serving.{most_turns, shows, shows_where, opening}
 use Rattle.daide_event_loop.specs.Served.{sum_over_calls}
 use Rattle.daide_event_loop.proofs.TransitLemmas.{transits_then}
@@ -101,7 +102,7 @@ module _ {P : Type 0} where
   none_shown count false places silent = refl
   none_shown count true [] silent = refl
   none_shown count true (place ∷ places) silent =
-      let one = silent place.1.ports (status_of place.0) in
+      let one = silent place.1.ports (status_of place.0 place.1.bytes) in
       let rest = none_shown count true places silent in
       omega (arith, one, rest)
 
@@ -118,7 +119,7 @@ module _ {P : Type 0} where
   all_shown Q false places each = All-nil Q
   all_shown Q true [] each = All-nil Q
   all_shown Q true (place ∷ places) each =
-      All-cons Q (Shows place.1.ports (status_of place.0)) (shows places) (each place.1.ports (status_of place.0))
+      All-cons Q (Shows place.1.ports (status_of place.0 place.1.bytes)) (shows places) (each place.1.ports (status_of place.0 place.1.bytes))
       (all_shown Q true places each)
 
   one_begins : (left : Option ℕ) (before after : P) → OnlyTurns (beginning_where left before after)
@@ -158,15 +159,45 @@ module _ {P : Type 0} where
   visit_only port_transition old i answers new h =
       subst OnlyTurns (sym h.asked)
       (only_append h.report h.turn (one_reports h.place.1.made_progress h.place.1.ports h.report h.due h.looks)
-      (some_turns_only port_transition h.due (most_turns h.place.1.made_progress) old i h.turn new h.turns))
+      (some_turns_only port_transition h.due (most_turns (is_calm h.place.1)) old i h.turn new h.turns))
 
-  pub turns_only : (port_transition : P → PortCall → P → Type 0) (n : ℕ) (old : HubView (QuotaPortsView P))
-      (answers : List (SystemCall P)) (new : HubView (QuotaPortsView P)) → TurnsBelow port_transition n old answers new →
+  calm_visit_only : (port_transition : P → PortCall → P → Type 0) (calm : Bool) (old : HubView (QuotaPortsView P)) (i : ℕ)
+      (answers : List (SystemCall P)) (new : HubView (QuotaPortsView P)) →
+      VisitsIfCalm port_transition calm old i answers new → OnlyTurns answers
+  calm_visit_only port_transition true old i answers new h = visit_only port_transition old i answers new h
+  calm_visit_only port_transition false old i answers new h = subst OnlyTurns (sym h.0) tt
+
+  calm_only : (port_transition : P → PortCall → P → Type 0) (n : ℕ) (old : HubView (QuotaPortsView P))
+      (answers : List (SystemCall P)) (new : HubView (QuotaPortsView P)) → VisitsCalm port_transition n old answers new →
       OnlyTurns answers
-  turns_only port_transition zero old answers new h = subst OnlyTurns (sym h.0) tt
-  turns_only port_transition (suc n) old answers new h =
+  calm_only port_transition zero old answers new h = subst OnlyTurns (sym h.0) tt
+  calm_only port_transition (suc n) old answers new h =
       subst OnlyTurns (sym h.3)
-      (only_append h.1 h.2 (turns_only port_transition n old h.1 h.0 h.4) (visit_only port_transition h.0 n h.2 new h.5))
+      (only_append h.1 h.2 (calm_only port_transition n old h.1 h.0 h.4)
+      (calm_visit_only port_transition (is_calm_in (slice_get h.0.places n)) h.0 n h.2 new h.5))
+
+  calm_if_only : (port_transition : P → PortCall → P → Type 0) (many : Bool) (old : HubView (QuotaPortsView P))
+      (answers : List (SystemCall P)) (new : HubView (QuotaPortsView P)) →
+      VisitsCalmIf port_transition many old answers new → OnlyTurns answers
+  calm_if_only port_transition true old answers new h = calm_only port_transition (length old.places) old answers new h
+  calm_if_only port_transition false old answers new h = subst OnlyTurns (sym h.0) tt
+
+  next_only : (port_transition : P → PortCall → P → Type 0) (turns : ℕ) (old : HubView (QuotaPortsView P)) (i : ℕ)
+      (answers : List (SystemCall P)) (new : HubView (QuotaPortsView P)) (left : ℕ) →
+      VisitsNext port_transition turns old i answers new left → OnlyTurns answers
+  next_only port_transition turns old i answers new left h =
+      subst OnlyTurns (sym h.asked)
+      (only_append h.first h.second (visit_only port_transition old i h.first h.mid h.visit)
+      (calm_if_only port_transition (nat_le 32 (turns + busy_turns_in h.visit)) h.mid h.second new h.calm))
+
+  pub turns_only : (port_transition : P → PortCall → P → Type 0) (n turns : ℕ) (old : HubView (QuotaPortsView P))
+      (answers : List (SystemCall P)) (new : HubView (QuotaPortsView P)) → TurnsBelow port_transition n turns old answers new →
+      OnlyTurns answers
+  turns_only port_transition zero turns old answers new h = subst OnlyTurns (sym h.0) tt
+  turns_only port_transition (suc n) turns old answers new h =
+      subst OnlyTurns (sym h.4)
+      (only_append h.1 h.2 (turns_only port_transition n h.3 old h.1 h.0 h.5)
+      (next_only port_transition h.3 h.0 n h.2 new turns h.6))
 
 -- ---- the ports of one place are lent
 
@@ -235,7 +266,7 @@ module _ {P : Type 0} (port_transition : P → PortCall → P → Type 0) where
   pub visited_count : (old : HubView (QuotaPortsView P)) (i : ℕ) (answers : List (SystemCall P))
       (new : HubView (QuotaPortsView P)) → VisitsPlace port_transition old i answers new →
       (new.max ≡ old.max) × (length new.places ≡ length old.places)
-  visited_count old i answers new h = turned_count h.due (most_turns h.place.1.made_progress) old i h.turn new h.turns
+  visited_count old i answers new h = turned_count h.due (most_turns (is_calm h.place.1)) old i h.turn new h.turns
 
   abbrev SameCount : HubView (QuotaPortsView P) → HubView (QuotaPortsView P) → Type 0
   SameCount old new = (new.max ≡ old.max) × (length new.places ≡ length old.places)
@@ -243,11 +274,34 @@ module _ {P : Type 0} (port_transition : P → PortCall → P → Type 0) where
   then_same : (old mid new : HubView (QuotaPortsView P)) → SameCount old mid → SameCount mid new → SameCount old new
   then_same old mid new h k = (k.0 ∙ h.0, k.1 ∙ h.1)
 
-  pub below_count : (n : ℕ) (old : HubView (QuotaPortsView P)) (answers : List (SystemCall P))
-      (new : HubView (QuotaPortsView P)) → TurnsBelow port_transition n old answers new → SameCount old new
-  below_count zero old answers new h = none_count old new h.1
-  below_count (suc n) old answers new h =
-      then_same old h.0 new (below_count n old h.1 h.0 h.4) (visited_count h.0 n h.2 new h.5)
+  calm_visit_count : (calm : Bool) (old : HubView (QuotaPortsView P)) (i : ℕ) (answers : List (SystemCall P))
+      (new : HubView (QuotaPortsView P)) → VisitsIfCalm port_transition calm old i answers new → SameCount old new
+  calm_visit_count true old i answers new h = visited_count old i answers new h
+  calm_visit_count false old i answers new h = none_count old new h.1
+
+  pub calm_count : (n : ℕ) (old : HubView (QuotaPortsView P)) (answers : List (SystemCall P))
+      (new : HubView (QuotaPortsView P)) → VisitsCalm port_transition n old answers new → SameCount old new
+  calm_count zero old answers new h = none_count old new h.1
+  calm_count (suc n) old answers new h =
+      then_same old h.0 new (calm_count n old h.1 h.0 h.4)
+      (calm_visit_count (is_calm_in (slice_get h.0.places n)) h.0 n h.2 new h.5)
+
+  pub calm_if_count : (many : Bool) (old : HubView (QuotaPortsView P)) (answers : List (SystemCall P))
+      (new : HubView (QuotaPortsView P)) → VisitsCalmIf port_transition many old answers new → SameCount old new
+  calm_if_count true old answers new h = calm_count (length old.places) old answers new h
+  calm_if_count false old answers new h = none_count old new h.1
+
+  pub next_count : (turns : ℕ) (old : HubView (QuotaPortsView P)) (i : ℕ) (answers : List (SystemCall P))
+      (new : HubView (QuotaPortsView P)) (left : ℕ) → VisitsNext port_transition turns old i answers new left → SameCount old new
+  next_count turns old i answers new left h =
+      then_same old h.mid new (visited_count old i h.first h.mid h.visit)
+      (calm_if_count (nat_le 32 (turns + busy_turns_in h.visit)) h.mid h.second new h.calm)
+
+  pub below_count : (n turns : ℕ) (old : HubView (QuotaPortsView P)) (answers : List (SystemCall P))
+      (new : HubView (QuotaPortsView P)) → TurnsBelow port_transition n turns old answers new → SameCount old new
+  below_count zero turns old answers new h = none_count old new h.1
+  below_count (suc n) turns old answers new h =
+      then_same old h.0 new (below_count n h.3 old h.1 h.0 h.5) (next_count h.3 h.0 n h.2 new turns h.6)
 
   -- the number of places stays
   pub lent_inside : (hub : HubView (QuotaPortsView P)) (i : ℕ) (old new : QuotaPortsView P) → i < length hub.places →
@@ -259,28 +313,53 @@ module _ {P : Type 0} (port_transition : P → PortCall → P → Type 0) where
       omega (arith, inside, same)
 
   module _ {S : Type 0} (transition : S → SystemCall P → S → Type 0) where
-    -- the turns of the first places so far
-    pub record Turning (first : S) (old : HubView (QuotaPortsView P)) (n : ℕ) (hub : HubView (QuotaPortsView P)) (system : S) :
+    -- the turns of the first places so far, after this many turns of busy sessions
+    pub record Turning (first : S) (old : HubView (QuotaPortsView P)) (n busy : ℕ) (hub : HubView (QuotaPortsView P)) (system : S) :
         Type 0 where
       pub answers : List (SystemCall P)
       pub transits : TransitsBy transition first answers system
-      pub turns : TurnsBelow port_transition n old answers hub
+      pub turns : TurnsBelow port_transition n busy old answers hub
       pub max : hub.max ≡ old.max
       pub count : length hub.places ≡ length old.places
 
-    pub none_turned : (s : S) (old : HubView (QuotaPortsView P)) → Turning s old 0 old s
-    none_turned s old = record { answers = []; transits = refl; turns = (refl, refl); max = refl; count = refl }
+    pub none_turned : (s : S) (old : HubView (QuotaPortsView P)) → Turning s old 0 0 old s
+    none_turned s old = record { answers = []; transits = refl; turns = (refl, refl, refl); max = refl; count = refl }
 
     -- one place more was visited
-    pub another_visit : (s t u : S) (old mid new : HubView (QuotaPortsView P)) (n : ℕ) → Turning s old n mid t →
-        (answers : List (SystemCall P)) → TransitsBy transition t answers u → VisitsPlace port_transition mid n answers new →
-        Turning s old (n + 1) new u
-    another_visit s t u old mid new n h answers goes visits =
-        let same = visited_count mid n answers new visits in
+    pub another_visit : (s t u : S) (old mid new : HubView (QuotaPortsView P)) (n busy left : ℕ) → Turning s old n busy mid t →
+        (answers : List (SystemCall P)) → TransitsBy transition t answers u → VisitsNext port_transition busy mid n answers new left →
+        Turning s old (n + 1) left new u
+    another_visit s t u old mid new n busy left h answers goes visits =
+        let same = next_count busy mid n answers new left visits in
         record {
           answers = h.answers ++ answers;
           transits = transits_then transition h.answers answers s t u h.transits goes;
-          turns = rw add-one (mid, h.answers, answers, refl, h.turns, visits);
+          turns = rw add-one (mid, h.answers, answers, busy, refl, h.turns, visits);
+          max = same.0 ∙ h.max;
+          count = same.1 ∙ h.count;
+        }
+
+    -- the calm sessions at the first places, so far
+    pub record Calming (first : S) (old : HubView (QuotaPortsView P)) (n : ℕ) (hub : HubView (QuotaPortsView P)) (system : S) :
+        Type 0 where
+      pub answers : List (SystemCall P)
+      pub transits : TransitsBy transition first answers system
+      pub visits : VisitsCalm port_transition n old answers hub
+      pub max : hub.max ≡ old.max
+      pub count : length hub.places ≡ length old.places
+
+    pub none_calmed : (s : S) (old : HubView (QuotaPortsView P)) → Calming s old 0 old s
+    none_calmed s old = record { answers = []; transits = refl; visits = (refl, refl); max = refl; count = refl }
+
+    pub another_calmed : (s t u : S) (old mid new : HubView (QuotaPortsView P)) (n : ℕ) → Calming s old n mid t →
+        (answers : List (SystemCall P)) → TransitsBy transition t answers u →
+        VisitsIfCalm port_transition (is_calm_in (slice_get mid.places n)) mid n answers new → Calming s old (n + 1) new u
+    another_calmed s t u old mid new n h answers goes visits =
+        let same = calm_visit_count (is_calm_in (slice_get mid.places n)) mid n answers new visits in
+        record {
+          answers = h.answers ++ answers;
+          transits = transits_then transition h.answers answers s t u h.transits goes;
+          visits = rw add-one (mid, h.answers, answers, refl, h.visits, visits);
           max = same.0 ∙ h.max;
           count = same.1 ∙ h.count;
         }
@@ -394,6 +473,16 @@ module _ {P S : Type 0} (port_transition : P → PortCall → P → Type 0) (tra
       subst (λ (o : Option (SessionView × QuotaPortsView P)). IfSome o (λ p. ports ≡ p.1)) found.1 value in
       ap has_moved_in found.1 ∙ ap (λ (m : QuotaPortsView P). m.made_progress) (sym same) ∙ sym is
 
+  -- and so is whether it is calm
+  pub calm_there : (hub : HubView (QuotaPortsView P)) (i : ℕ) (ports : QuotaPortsView P) (calm : Bool) → i < length hub.places →
+      IfSome (slice_get hub.places i) (λ place. ports ≡ place.1) → calm ≡ is_calm ports →
+      is_calm_in (slice_get hub.places i) ≡ calm
+  calm_there hub i ports calm inside value is =
+      let found = slice_some hub.places i inside in
+      let same : ports ≡ found.0.1 =
+      subst (λ (o : Option (SessionView × QuotaPortsView P)). IfSome o (λ p. ports ≡ p.1)) found.1 value in
+      ap is_calm_in found.1 ∙ ap (λ (m : QuotaPortsView P). is_calm m) (sym same) ∙ sym is
+
 -- the visit of a place: what the system reports, and then the turns, if the session is due one
 module _ {P S : Type 0} (port_transition : P → PortCall → P → Type 0) (transition : S → SystemCall P → S → Type 0) where
   abbrev pub Looks : S → S → Bool → SessionView × QuotaPortsView P → Type 0
@@ -416,12 +505,14 @@ module _ {P S : Type 0} (port_transition : P → PortCall → P → Type 0) (tra
         subst (λ (own : QuotaPortsView P). IsDueBy own.made_progress own.ports report due) same looks,
       )
 
-  pub visited : (hub new : HubView (QuotaPortsView P)) (i : ℕ) (s t u : S) (due : Bool) (most : ℕ) → i < length hub.places →
-      IfSome (slice_get hub.places i) (Looks s t due) → most ≡ most_turns (has_moved_in (slice_get hub.places i)) →
+  pub visited : (hub new : HubView (QuotaPortsView P)) (i : ℕ) (s t u : S) (due calm : Bool) (most count : ℕ) → i < length hub.places →
+      IfSome (slice_get hub.places i) (Looks s t due) → is_calm_in (slice_get hub.places i) ≡ calm → most ≡ most_turns calm →
       ((turns : List (SystemCall P)) × TransitsBy transition t turns u × TakesTurns port_transition due most hub i turns new) →
-      (answers : List (SystemCall P)) × TransitsBy transition s answers u × VisitsPlace port_transition hub i answers new
-  visited hub new i s t u due most inside looks few turns =
+      count ≡ (if due && not calm then 1 else 0) → (answers : List (SystemCall P)) × TransitsBy transition s answers u
+      × (visit : VisitsPlace port_transition hub i answers new) × (count ≡ busy_turns_in visit)
+  visited hub new i s t u due calm most count inside looks is few turns counted =
       let found = slice_some hub.places i inside in
+      let own : is_calm found.0.1 ≡ calm = ap is_calm_in (sym found.1) ∙ is in
       let look : Looks s t due found.0 =
       subst (λ (o : Option (SessionView × QuotaPortsView P)). IfSome o (Looks s t due)) found.1 looks in (
         look.0 ++ turns.0,
@@ -433,8 +524,8 @@ module _ {P S : Type 0} (port_transition : P → PortCall → P → Type 0) (tra
           report = look.0;
           turn = turns.0;
           looks = look.2;
-          turns = subst (λ (n : ℕ). TakesTurns port_transition due n hub i turns.0 new)
-              (few ∙ ap (λ (o : Option (SessionView × QuotaPortsView P)). most_turns (has_moved_in o)) found.1) turns.2;
+          turns = subst (λ (n : ℕ). TakesTurns port_transition due n hub i turns.0 new) (few ∙ ap most_turns (sym own)) turns.2;
           asked = refl;
         },
+        counted ∙ ap (λ (c : Bool). if due && not c then 1 else 0) (sym own),
       )

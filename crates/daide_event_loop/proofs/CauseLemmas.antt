@@ -14,6 +14,7 @@ use Rattle.daide_io.specs.declared.ports.Pull.TheVariants.{Got, Idle, Ended}
 use Rattle.daide_io.specs.declared.ports.Put.TheVariants.{Took, Failed}
 use Rattle.daide_protocol.specs.Events.{Event, Ends, Loses}
 use Rattle.daide_protocol.specs.Machine.{SessionState, Effect, Limits, Successor, Runs, Transition, is_over, ending_in}
+use Rattle.daide_io.specs.FaultField.{field_in, fault_field_of}
 use Rattle.daide_io.specs.Ports.{PortCall, TurnBegins, Clock, Pulled, Offered, EvolvesBy, events_of}
 use Rattle.daide_frame.specs.Side.{same_side}
 use Rattle.daide_protocol.specs.Wires.{SessionView, front_of, room_of}
@@ -214,6 +215,7 @@ module _ {P : Type 0} (port_transition : P → PortCall → P → Type 0) where
 -- the session was in this state when its turns were spent, and the first synthetic end led to its present state
 pub record Cut (state now : SessionState) (told : Option Ending) : Type 0 where
   pub still : told ≡ None → now ≡ state
+  pub over : (e : Ending) → (ending_in state.phase) ≡ Some e → now ≡ state
   pub before : (e : Ending) → (ending_in state.phase) ≡ Some e → ((ending_in now.phase) ≡ Some e) × (is_reported told e ≡ false)
   pub since : (e : Ending) → (ending_in state.phase) ≡ None → told ≡ Some e → (ending_in now.phase) ≡ Some e
   pub itself : (e : Ending) → told ≡ Some e → is_reported (Some e) e ≡ true
@@ -221,6 +223,7 @@ pub record Cut (state now : SessionState) (told : Option Ending) : Type 0 where
 pub cut_open : (state : SessionState) (told : Option Ending) → told ≡ None → Cut state state told
 cut_open state told none = record {
   still = λ e. refl;
+  over = λ e same. refl;
   before = λ e same. (same, ap (λ (o : Option Ending). is_reported o e) none);
   since = λ e same is. let f = sym none ∙ is in absurd (cc);
   itself = λ e is. let f = sym none ∙ is in absurd (cc);
@@ -248,6 +251,30 @@ cut_cause state now told ending c ended = by (ending_in state.phase) refl
         let b = c.before e same in
         let own = sym ended ∙ b.0 in
         ap (cause_by told) own ∙ (rw b.1 refl)
+    by None same = spent told refl same
+
+-- an end or a failure that was returned beyond the quota is about no field
+no_field : (e : Ending) (s : SessionState) → is_reported (Some e) e ≡ true → field_in (Some e) s ≡ None
+no_field (Endings.Ended side) s h = refl
+no_field (Endings.Lost side) s h = refl
+no_field (Endings.Final side) s h = absurd (cc)
+no_field (Endings.Error side) s h = absurd (cc)
+no_field (Endings.Fault side code) s h = absurd (cc)
+no_field Endings.Stopped s h = absurd (cc)
+
+-- the field of a session's fault is that of the state at its last turn within the quota
+pub cut_field : (state now : SessionState) (told : Option Ending) → Cut state now told →
+    fault_field_of now ≡ fault_field_of state
+cut_field state now told c = by (ending_in state.phase) refl
+  where
+    spent : (o : Option Ending) → told ≡ o → (ending_in state.phase) ≡ None → fault_field_of now ≡ fault_field_of state
+    spent None none same = ap fault_field_of (c.still none)
+    spent (Some e) is same =
+        ap (λ (o : Option Ending). field_in o now) (c.since e same is) ∙ no_field e now (c.itself e is)
+        ∙ sym (ap (λ (o : Option Ending). field_in o state) same)
+
+    by : (o : Option Ending) → (ending_in state.phase) ≡ o → fault_field_of now ≡ fault_field_of state
+    by (Some e) same = ap fault_field_of (c.over e same)
     by None same = spent told refl same
 
 side_itself : (side : Side) → same_side side side ≡ true
@@ -448,6 +475,7 @@ module _ (limits : Limits) (history call : List PortCall) (a b : SessionView) (e
       ∙ turn_other limits history a e.0 stands over e.1 call b turn spent in
       record {
         still = λ f. kept;
+        over = λ x same. kept;
         before = λ x same. (
           ap (λ (s : SessionState). ending_in s.phase) kept ∙ same,
           subst (λ (o : Option Ending). is_later o ≡ false) (sym e.1 ∙ (start ∙ same)) other,
@@ -466,6 +494,7 @@ module _ (limits : Limits) (history call : List PortCall) (a b : SessionView) (e
       let start : (ending_in a.state.phase) ≡ (ending_in state.phase) = ap (λ (s : SessionState). ending_in s.phase) (c.still none) in
       record {
         still = λ f. subst (λ (o : Option Ending). RefinesBy o a.state b.state) f goes ∙ c.still none;
+        over = λ x same. let over = ended_over x (start ∙ same) in absurd (cc);
         before = λ x same. let over = ended_over x (start ∙ same) in absurd (cc);
         since = λ x same f. subst (λ (o : Option Ending). RefinesBy o a.state b.state) f goes;
         itself = λ x f. first_itself call x (sym first ∙ f);

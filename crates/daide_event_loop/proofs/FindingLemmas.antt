@@ -1,22 +1,20 @@
 -- What the visits of a round found, place by place.
-use Rattle.std.proofs.Common.{◌≡◌, ℕ, zero, suc, ◌<◌, ◌≤◌, ◌+◌, Bool, true, false, List, [], ◌∷◌, ◌++◌, length, take}
-use Rattle.std.proofs.Common.{refl, sym, ap, ◌∙◌, subst, arith, add-one, append-nil, Option, Some, None}
-use Rattle.std.specs.Prelude.{◌||◌, ◌&&◌, ◌==◌, IfSome, slice_get}
+use Rattle.std.proofs.Common.{◌≡◌, ℕ, zero, suc, ◌<◌, ◌≤◌, ◌+◌, Bool, true, false, List, [], ◌∷◌, ◌++◌, length}
+use Rattle.std.proofs.Common.{refl, sym, ap, ◌∙◌, subst, arith, append-nil, Option, Some, None}
+use Rattle.std.specs.Prelude.{◌||◌, ◌&&◌, ◌==◌, ◌≢◌, IfSome, slice_get}
 use Rattle.std.proofs.lemmas.Bool.{eqb-true, eqb-false}
-use Rattle.std.specs.List.{list_any}
-use Rattle.std.proofs.lemmas.List.{take_all}
 use Rattle.std.proofs.lemmas.List.Folds.{list_any-append}
 use Rattle.daide_protocol.specs.Machine.{SessionState, is_over}
 use Rattle.daide_protocol.specs.Wires.{SessionView, is_closed, no_frame}
 use Rattle.daide_io.specs.Ports.{PortCall}
 use Rattle.daide_io.specs.System.{SystemCall, TransitsBy}
-use Rattle.daide_io.proofs.TraceLemmas.{or_assoc}
 use Rattle.daide_driver.specs.Hub.{HubView, AddsSession}
 use Rattle.daide_event_loop.specs.QuotaPorts.{QuotaPortsView}
-use Rattle.daide_event_loop.specs.Serving.{IsDueBy, VisitsPlace}
-use Rattle.daide_event_loop.specs.Serving.{has_moved_in, RemovesClosed, any_moved, any_closed, AreOpen}
+use Rattle.daide_event_loop.specs.Serving.{IsDueBy, VisitsPlace, VisitsNext, VisitsIfCalm, is_calm_in, TurnsBelow, TurnsAll}
+use Rattle.daide_event_loop.specs.Serving.{has_moved_in, RemovesClosed, any_moved, any_closed, AreOpen, AreStill}
 use Rattle.daide_event_loop.specs.Serving.{retirements, retirement_where, remaining}
 use Rattle.daide_event_loop.proofs.BeginningLemmas.{Turning, none_turned, another_visit, slice_some, Looks}
+use Rattle.daide_event_loop.proofs.BeginningLemmas.{Calming, none_calmed, another_calmed}
 use Rattle.daide_event_loop.proofs.RemovalLemmas.{kept_place, gone_place}
 use Rattle.daide_event_loop.proofs.VisitLemmas.{gets_at, others_stay}
 use Rattle.daide_event_loop.proofs.WaitingLemmas.{first_false, later_false}
@@ -32,27 +30,12 @@ module _ {X : Type 0} where
   value_or x None = x
   value_or x (Some y) = y
 
-  -- one element more was looked at
-  any_more : (Has : X → Bool) (xs : List X) (i : ℕ) (x : X) → slice_get xs i ≡ Some x →
-      list_any Has (take (suc i) xs) ≡ (list_any Has (take i xs) || Has x)
-  any_more Has [] zero x e = absurd (cc)
-  any_more Has [] (suc i) x e = absurd (cc)
-  any_more Has (y ∷ xs) zero x e =
-      let same : y ≡ x = ap (value_or x) e in
-      ap (λ (z : X). Has z || false) same ∙ or_false (Has x)
-  any_more Has (y ∷ xs) (suc i) x e =
-      ap (λ (b : Bool). Has y || b) (any_more Has xs i x e) ∙ or_assoc (Has y) (list_any Has (take i xs)) (Has x)
-
-  -- lists that agree below a place begin alike
-  take_alike : (i : ℕ) (xs ys : List X) → ((k : ℕ) → k < i → slice_get xs k ≡ slice_get ys k) → take i xs ≡ take i ys
-  take_alike zero xs ys h = refl
-  take_alike (suc i) [] [] h = refl
-  take_alike (suc i) [] (y ∷ ys) h = let first = h zero (omega arith) in absurd (cc)
-  take_alike (suc i) (x ∷ xs) [] h = let first = h zero (omega arith) in absurd (cc)
-  take_alike (suc i) (x ∷ xs) (y ∷ ys) h =
-      let first : x ≡ y = ap (value_or y) (h zero (omega arith)) in
-      ap (λ (z : X). z ∷ take i xs) first
-      ∙ ap (λ (l : List X). y ∷ l) (take_alike i xs ys (λ k few. h (suc k) (omega (arith, few))))
+below_it : (k i : ℕ) → k < i + 1 → (k ≡ i → ⊥) → k < i
+below_it k i few far = by (k == i) refl
+  where
+    by : (here : Bool) → (k == i) ≡ here → k < i
+    by true e = absurd (far (eqb-true k i e))
+    by false e = let differ : k ≢ i = eqb-false k i e in omega (arith, few, differ)
 
 -- ---- open sessions
 
@@ -71,62 +54,154 @@ module _ {P : Type 0} where
   all_open (place ∷ places) each =
       ap (λ (b : Bool). b || any_closed places) (each zero) ∙ all_open places (λ k. each (suc k))
 
+-- ---- sessions whose last turn made no progress
+
+module _ {P : Type 0} where
+  pub none_moved : (places : List (SessionView × QuotaPortsView P)) → AreStill (length places) places → any_moved places ≡ false
+  none_moved [] are = refl
+  none_moved (place ∷ places) are =
+      ap (λ (b : Bool). b || any_moved places) (are zero (omega arith))
+      ∙ none_moved places (λ k few. are (suc k) (omega (arith, few)))
+
+  pub some_moved : (places : List (SessionView × QuotaPortsView P)) (i : ℕ) → has_moved_in (slice_get places i) ≡ true →
+      true ≡ any_moved places
+  some_moved [] zero e = absurd (cc)
+  some_moved [] (suc i) e = absurd (cc)
+  some_moved (place ∷ places) zero e = sym (ap (λ (b : Bool). b || any_moved places) e)
+  some_moved (place ∷ places) (suc i) e = later_true place.1.made_progress (some_moved places i e)
+    where
+      later_true : (b : Bool) → true ≡ any_moved places → true ≡ (b || any_moved places)
+      later_true true e = refl
+      later_true false e = e
+
+  -- one place more is still
+  pub still_more : (places : List (SessionView × QuotaPortsView P)) (i : ℕ) → AreStill i places →
+      has_moved_in (slice_get places i) ≡ false → AreStill (i + 1) places
+  still_more places i are own = λ k few. by k few (k == i) refl
+    where
+      by : (k : ℕ) → k < i + 1 → (here : Bool) → (k == i) ≡ here → has_moved_in (slice_get places k) ≡ false
+      by k few true e = subst (λ (m : ℕ). has_moved_in (slice_get places m) ≡ false) (sym (eqb-true k i e)) own
+      by k few false e = let differ = eqb-false k i e in are k (below_it k i few (λ same. differ same))
+
+  -- whether the session at a place moved is what its ports say
+  pub moved_here : (places : List (SessionView × QuotaPortsView P)) (i : ℕ) (ports : QuotaPortsView P) (moved : Bool) →
+      i < length places → IfSome (slice_get places i) (λ place. ports ≡ place.1) → moved ≡ ports.made_progress →
+      has_moved_in (slice_get places i) ≡ moved
+  moved_here places i ports moved inside value is =
+      let found = slice_some places i inside in
+      let same : ports ≡ found.0.1 =
+      subst (λ (o : Option (SessionView × QuotaPortsView P)). IfSome o (λ p. ports ≡ p.1)) found.1 value in
+      ap has_moved_in found.1 ∙ ap (λ (m : QuotaPortsView P). m.made_progress) (sym same) ∙ sym is
+
+  pub none_still : (places : List (SessionView × QuotaPortsView P)) → AreStill 0 places
+  none_still places = λ k few. absurd (omega (arith, few))
+
 -- ---- visits
 
 module _ {P S : Type 0} (port_transition : P → PortCall → P → Type 0) (transition : S → SystemCall P → S → Type 0) where
   -- the turns of the first places so far, and what was found there
-  pub record Finding (first : S) (old : HubView (QuotaPortsView P)) (n : ℕ) (hub : HubView (QuotaPortsView P)) (system : S)
+  pub record Finding (first : S) (old : HubView (QuotaPortsView P)) (n busy : ℕ) (hub : HubView (QuotaPortsView P)) (system : S)
       (moved closed : Bool) : Type 0 where
-    pub turning : Turning port_transition transition first old n hub system
-    pub has_moved : moved ≡ any_moved (take n hub.places)
+    pub turning : Turning port_transition transition first old n busy hub system
+    pub few : busy < 32
+    pub has_moved : moved ≡ false → AreStill n hub.places
     pub has_closed : closed ≡ false → AreOpen hub.places
 
-  pub none_found : (s : S) (old : HubView (QuotaPortsView P)) → AreOpen old.places → Finding s old 0 old s false false
+  pub none_found : (s : S) (old : HubView (QuotaPortsView P)) → AreOpen old.places → Finding s old 0 0 old s false false
   none_found s old are = record {
     turning = none_turned port_transition transition s old;
-    has_moved = refl;
+    few = omega arith;
+    has_moved = λ none. none_still old.places;
     has_closed = λ none. are;
   }
 
   -- one place more was visited
-  pub another_found : (s t u : S) (old mid new : HubView (QuotaPortsView P)) (n : ℕ) (moved closed own_moved own_closed : Bool)
-      (all_moved all_closed : Bool) → Finding s old n mid t moved closed → n < length mid.places → (answers : List (SystemCall P)) →
-      TransitsBy transition t answers u → VisitsPlace port_transition mid n answers new →
-      has_moved_in (slice_get new.places n) ≡ own_moved → (own_closed ≡ false → AreOpen mid.places → AreOpen new.places) →
-      all_moved ≡ (moved || own_moved) → all_closed ≡ (closed || own_closed) →
-      Finding s old (n + 1) new u all_moved all_closed
-  another_found s t u old mid new n moved closed own_moved own_closed all_moved all_closed h inside answers goes v m c am ac =
-      let turning = another_visit port_transition transition s t u old mid new n h.turning answers goes v in
-      let few : n < length new.places = let before = h.turning.count in let after = turning.count in omega (arith, inside, before, after) in
-      record {
-        turning = turning;
-        has_moved = rw add-one (am ∙ by own_moved m few);
-        has_closed = λ none.
-            let both = sym ac ∙ none in
-            c (later_false closed own_closed both) (h.has_closed (first_false closed own_closed both));
-      }
-    where
-      -- only this place was visited
-      by : (own : Bool) → has_moved_in (slice_get new.places n) ≡ own → n < length new.places →
-          (moved || own) ≡ any_moved (take (suc n) new.places)
-      by own is few =
-          let here = slice_some new.places n few in
-          let its : here.0.1.made_progress ≡ own = ap has_moved_in (sym here.1) ∙ is in
-          let at = gets_at port_transition mid n answers new v in
-          let before : take n new.places ≡ take n mid.places =
-          take_alike n new.places mid.places (λ k less. others_stay n mid new at.0 at.1 k (λ e. absurd (omega (arith, less, e)))) in
-          sym (any_more (λ (place : SessionView × QuotaPortsView P). place.1.made_progress) new.places n here.0 here.1
-          ∙ (ap (λ (b : Bool). any_moved (take n new.places) || b) its
-          ∙ ap (λ (b : Bool). b || own) (ap any_moved before ∙ sym h.has_moved)))
+  pub another_found : (s t u : S) (old mid new : HubView (QuotaPortsView P)) (n busy left : ℕ)
+      (moved closed all_moved all_closed : Bool) → Finding s old n busy mid t moved closed → (answers : List (SystemCall P)) →
+      TransitsBy transition t answers u → VisitsNext port_transition busy mid n answers new left → left < 32 →
+      (all_moved ≡ false → (moved ≡ false) × (AreStill n mid.places → AreStill (n + 1) new.places)) →
+      (all_closed ≡ false → (closed ≡ false) × (AreOpen mid.places → AreOpen new.places)) →
+      Finding s old (n + 1) left new u all_moved all_closed
+  another_found s t u old mid new n busy left moved closed all_moved all_closed h answers goes v few m c = record {
+    turning = another_visit port_transition transition s t u old mid new n busy left h.turning answers goes v;
+    few = few;
+    has_moved = λ none. let both = m none in both.1 (h.has_moved both.0);
+    has_closed = λ none. let both = c none in both.1 (h.has_closed both.0);
+  }
 
   -- all places were visited
-  pub all_moved : (s t : S) (old new : HubView (QuotaPortsView P)) (n : ℕ) (moved closed : Bool) →
-      Finding s old n new t moved closed → length old.places ≤ n →
-      moved ≡ any_moved new.places
-  all_moved s t old new n moved closed h far =
+  pub all_found : (s t : S) (old new : HubView (QuotaPortsView P)) (n busy : ℕ) (moved closed : Bool) →
+      Finding s old n busy new t moved closed → n ≡ length old.places →
+      (answers : List (SystemCall P)) × TransitsBy transition s answers t × TurnsAll port_transition old answers new
+  all_found s t old new n busy moved closed h all = (
+    h.turning.answers,
+    h.turning.transits,
+    (busy, subst (λ (m : ℕ). TurnsBelow port_transition m busy old h.turning.answers new) all h.turning.turns),
+  )
+
+  pub none_moved_at_all : (s t : S) (old new : HubView (QuotaPortsView P)) (n busy : ℕ) (moved closed : Bool) →
+      Finding s old n busy new t moved closed → length old.places ≤ n → moved ≡ false → moved ≡ any_moved new.places
+  none_moved_at_all s t old new n busy moved closed h far none =
       let count = h.turning.count in
-      let whole : take n new.places ≡ new.places = take_all n new.places (omega (arith, far, count)) in
-      h.has_moved ∙ ap any_moved whole
+      none ∙ sym (none_moved new.places (λ k few. h.has_moved none k (omega (arith, far, count, few))))
+
+  -- the calm sessions of the first places were visited, and what was found there
+  pub record CalmFinding (first : S) (old : HubView (QuotaPortsView P)) (n : ℕ) (hub : HubView (QuotaPortsView P)) (system : S)
+      (moved closed : Bool) : Type 0 where
+    pub calming : Calming port_transition transition first old n hub system
+    pub has_moved : moved ≡ false → (k : ℕ) → AreStill k old.places → AreStill k hub.places
+    pub has_closed : closed ≡ false → AreOpen old.places → AreOpen hub.places
+
+  pub none_calm : (s : S) (old : HubView (QuotaPortsView P)) → CalmFinding s old 0 old s false false
+  none_calm s old = record {
+    calming = none_calmed port_transition transition s old;
+    has_moved = λ none k are. are;
+    has_closed = λ none are. are;
+  }
+
+  pub another_calm : (s t u : S) (old mid new : HubView (QuotaPortsView P)) (n : ℕ)
+      (moved closed own_moved own_closed all_moved all_closed : Bool) → CalmFinding s old n mid t moved closed →
+      (answers : List (SystemCall P)) → TransitsBy transition t answers u →
+      VisitsIfCalm port_transition (is_calm_in (slice_get mid.places n)) mid n answers new →
+      (own_moved ≡ false → (k : ℕ) → AreStill k mid.places → AreStill k new.places) →
+      (own_closed ≡ false → AreOpen mid.places → AreOpen new.places) →
+      all_moved ≡ (moved || own_moved) → all_closed ≡ (closed || own_closed) →
+      CalmFinding s old (n + 1) new u all_moved all_closed
+  another_calm s t u old mid new n moved closed own_moved own_closed all_moved all_closed h answers goes v m c am ac = record {
+    calming = another_calmed port_transition transition s t u old mid new n h.calming answers goes v;
+    has_moved = λ none k are.
+        let both = sym am ∙ none in
+        m (later_false moved own_moved both) k (h.has_moved (first_false moved own_moved both) k are);
+    has_closed = λ none are.
+        let both = sym ac ∙ none in
+        c (later_false closed own_closed both) (h.has_closed (first_false closed own_closed both) are);
+  }
+
+  -- a visit after which its session's last turn made no progress leaves the others as they were
+  pub still_after : (hub new : HubView (QuotaPortsView P)) (n i : ℕ) (answers : List (SystemCall P)) →
+      VisitsPlace port_transition hub i answers new → has_moved_in (slice_get new.places i) ≡ false →
+      ((k : ℕ) → k < n → (k ≡ i → ⊥) → has_moved_in (slice_get hub.places k) ≡ false) → AreStill n new.places
+  still_after hub new n i answers visits own others = λ k few. by k few (k == i) refl
+    where
+      by : (k : ℕ) → k < n → (here : Bool) → (k == i) ≡ here → has_moved_in (slice_get new.places k) ≡ false
+      by k few true e = subst (λ (m : ℕ). has_moved_in (slice_get new.places m) ≡ false) (sym (eqb-true k i e)) own
+      by k few false e =
+          let at = gets_at port_transition hub i answers new visits in
+          let differ = eqb-false k i e in
+          ap has_moved_in (others_stay i hub new at.0 at.1 k (λ same. differ same)) ∙ others k few (λ same. differ same)
+
+  -- so all that were still are, at the places before it and at its own
+  pub still_next : (hub new : HubView (QuotaPortsView P)) (i : ℕ) (answers : List (SystemCall P)) →
+      VisitsPlace port_transition hub i answers new → has_moved_in (slice_get new.places i) ≡ false →
+      AreStill i hub.places → AreStill (i + 1) new.places
+  still_next hub new i answers visits own are =
+      still_after hub new (i + 1) i answers visits own (λ k few far. are k (below_it k i few far))
+
+  pub still_yet : (hub new : HubView (QuotaPortsView P)) (n i : ℕ) (answers : List (SystemCall P)) →
+      VisitsPlace port_transition hub i answers new → has_moved_in (slice_get new.places i) ≡ false →
+      AreStill n hub.places → AreStill n new.places
+  still_yet hub new n i answers visits own are =
+      still_after hub new n i answers visits own (λ k few far. are k few)
 
   -- a visit that leaves its session open leaves all others as they were
   pub open_after : (hub new : HubView (QuotaPortsView P)) (i : ℕ) (answers : List (SystemCall P)) →

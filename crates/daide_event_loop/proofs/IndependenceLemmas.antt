@@ -14,6 +14,7 @@ use Rattle.daide_io.specs.declared.ports.ClockEvent.TheVariants.{NoEvent, ImTime
 use Rattle.daide_io.specs.declared.ports.Pull.TheVariants.{Got, Idle, Ended}
 use Rattle.daide_io.specs.declared.ports.Put.TheVariants.{Took, Failed}
 use Rattle.daide_io.specs.declared.system.SessionEnd.{SessionEnd}
+use Rattle.daide_io.specs.FaultField.{fault_field_of}
 use Rattle.daide_io.specs.Ports.{PortCall, TurnBegins, Clock, Pulled, Offered, event_of, events_of, taken, put_fails}
 use Rattle.daide_io.specs.Ports.{has_failed}
 use Rattle.daide_driver.specs.Headline.{untouched}
@@ -171,4 +172,5 @@ module _ (limits : Limits) (calls others : List PortCall) (same : results_of cal
       let cause : end.cause ≡ last.cause =
       h.3 ∙ ap (λ (s : SessionState). cause_of (ending_in s.phase)) only.1 ∙ sym k.3 in
       let account : end.account ≡ last.account = h.4 ∙ counts ∙ sym k.4 in
-      λ i. record { cause = cause i; account = account i }
+      let field : end.fault_field ≡ last.fault_field = h.5 ∙ ap fault_field_of only.1 ∙ sym k.5 in
+      λ i. record { cause = cause i; account = account i; fault_field = field i }

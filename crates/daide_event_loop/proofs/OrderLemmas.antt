@@ -145,7 +145,7 @@ module _ {P : Type 0} where
         let five = counted_append count opens r.admission in
         let a = meeting_none (r.came.connecting == 0) old.hub r.came r.meeting r.connected new.counters r.finishes in
         let b = none_counted count r.beginnings early.news early.turns early.watched
-        (turns_only port_transition (length r.connected.places) r.connected r.beginnings r.turned r.turns) in
+        (turns_only port_transition (length r.connected.places) r.turns.0 r.connected r.beginnings r.turned r.turns.1) in
         let c = ap (sum_over_calls count) r.removes.0 ∙ removal_none r.turned.places in
         let d = wait_none made_progress new.hub.places in
         omega (arith, all, one, two, three, four, five, a, b, c, d)

@@ -9,6 +9,8 @@ use Rattle.daide_protocol.specs.declared.account.Account.{Account}
 use Rattle.daide_driver.specs.Hub.{HubView, with_places, Removes, IsReportedOf}
 use Rattle.daide_event_loop.specs.QuotaPorts.{QuotaPortsView}
 use Rattle.daide_io.specs.declared.system.SessionEnd.{SessionEnd}
+use Rattle.daide_io.specs.declared.fault_field.FaultField.{FaultField}
+use Rattle.daide_io.specs.FaultField.{fault_field_of}
 use Rattle.daide_io.specs.System.{SystemCall, Retires, TransitsBy}
 use Rattle.daide_event_loop.specs.Serving.{end_by}
 use Rattle.daide_event_loop.specs.Serving.{last_words, parting, retirement, retirement_where, retirements, remaining}
@@ -176,25 +178,31 @@ module _ {P S : Type 0} (transition : S → SystemCall P → S → Type 0) where
       }
 
   pub place_gone : (s t u : S) (old hub new : HubView (QuotaPortsView P)) (b : Bool) (n : ℕ)
-      (ports : QuotaPortsView P) (ending : Ending) (account : Account) → Removing s old (suc n) hub t b →
+      (ports : QuotaPortsView P) (ending : Ending) (account : Account) (field : Option FaultField) →
+      Removing s old (suc n) hub t b →
       Removes hub n ports new →
-      IfSome (slice_get hub.places n) (λ place. IsReportedOf place.0 account ending) →
-      TransitsBy transition t (parting ports (end_by ports.first_synthetic_end (Some ending) account)) u → Removing s old n new u true
-  place_gone s t u old hub new b n ports ending account h r its k =
+      IfSome (slice_get hub.places n) (λ place. IsReportedOf place.0 account ending field) →
+      TransitsBy transition t (parting ports (end_by ports.first_synthetic_end (Some ending) account field)) u →
+      Removing s old n new u true
+  place_gone s t u old hub new b n ports ending account field h r its k =
       let at = at_last s t old hub b n h in
       let ys = at.0 in
       let x = at.1 in
       let same : x ≡ (r.0, ports) =
       ap (λ (o : Option (SessionView × QuotaPortsView P)). unwrap_or o x) (sym at.5 ∙ r.1) in
       let over : is_closed x.0 ≡ true = ap (λ (p : SessionView × QuotaPortsView P). is_closed p.0) same ∙ r.2 in
-      let own : IsReportedOf x.0 account ending =
-      subst (λ (o : Option (SessionView × QuotaPortsView P)). IfSome o (λ place. IsReportedOf place.0 account ending)) at.5 its in
-      let end : SessionEnd = end_by ports.first_synthetic_end (Some ending) account in
+      let own : IsReportedOf x.0 account ending field =
+      subst (λ (o : Option (SessionView × QuotaPortsView P)). IfSome o (λ place. IsReportedOf place.0 account ending field)) at.5
+      its in
+      let end : SessionEnd = end_by ports.first_synthetic_end (Some ending) account field in
       let said : retirement x ≡ parting ports end =
       ap (λ (c : Bool). retirement_where c x) over
-      ∙ (ap (λ (p : SessionView × QuotaPortsView P). parting p.1 (end_by p.1.first_synthetic_end (ending_in x.0.state.phase) x.0.account)) same
-      ∙ (ap (λ (o : Option Ending). parting ports (end_by ports.first_synthetic_end o x.0.account)) own.1
-      ∙ ap (λ (c : Account). parting ports (end_by ports.first_synthetic_end (Some ending) c)) (sym own.0))) in
+      ∙ (ap (λ (p : SessionView × QuotaPortsView P). parting p.1 (end_by p.1.first_synthetic_end (ending_in x.0.state.phase)
+      x.0.account (fault_field_of x.0.state))) same
+      ∙ (ap (λ (o : Option Ending). parting ports (end_by ports.first_synthetic_end o x.0.account (fault_field_of x.0.state))) own.1
+      ∙ (ap (λ (c : Account). parting ports (end_by ports.first_synthetic_end (Some ending) c (fault_field_of x.0.state)))
+      (sym own.0)
+      ∙ ap (λ (f : Option FaultField). parting ports (end_by ports.first_synthetic_end (Some ending) account f)) (sym own.2)))) in
       record {
         before = ys;
         after = x ∷ h.after;

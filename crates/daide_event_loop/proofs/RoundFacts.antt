@@ -14,7 +14,7 @@ use Rattle.daide_protocol.specs.declared.bot_name.BotName.TheVariants.{Unknown}
 use Rattle.daide_protocol.specs.declared.phase.Phase.TheVariants as Phases
 use Rattle.daide_protocol.specs.declared.phase.SessionPhase.{SessionPhase}
 use Rattle.daide_protocol.specs.declared.phase.SessionPhase.TheVariants.{WaitIm, Open, Over}
-use Rattle.daide_protocol.specs.Machine.{Limits, Sent, fm_bytes, initial_state, level_in}
+use Rattle.daide_protocol.specs.Machine.{Limits, Sent, fm_bytes, initial_state, level_in, with_pending}
 use Rattle.daide_protocol.specs.Wires.{SessionView, sent_bytes}
 use Rattle.daide_io.specs.declared.ports.ClockEvent.TheVariants.{NoEvent, ImTimeIsOver, StopIsRequested}
 use Rattle.daide_io.specs.declared.ports.Pull.TheVariants.{Got, Idle, Ended}
@@ -23,11 +23,14 @@ use Rattle.daide_driver.specs.Headline.{nothing_held}
 use Rattle.daide_io.specs.Ports.{TurnBegins, Clock, Pulled, Offered}
 use Rattle.daide_io.specs.declared.system.Notice.TheVariants.{TurnsSpent}
 use Rattle.daide_io.specs.declared.system.Cause.TheVariants as Causes
+use Rattle.daide_io.specs.declared.fault_field.FaultField.TheVariants as Fields
+use Rattle.daide_io.specs.declared.byte_counts.ByteCounts.{ByteCounts}
+use Rattle.daide_io.specs.ByteCounts.{no_bytes}
 use Rattle.daide_event_loop.specs.QuotaPorts.{QuotaPortsView, left_after, progress_after, progress_by, reported_after, beginning}
 use Rattle.daide_event_loop.specs.Served.{turns_in, while_left}
 use Rattle.daide_settings.specs.declared.settings.Settings.{Settings}
 use Rattle.daide_event_loop.specs.declared.admission_counters.AdmissionCounters.{AdmissionCounters}
-use Rattle.daide_event_loop.specs.Serving.{may_accept, is_served}
+use Rattle.daide_event_loop.specs.Serving.{may_accept, is_served, turns_left_over}
 use Rattle.daide_settings.specs.BotsInAll.{bots_in_all}
 use Rattle.daide_event_loop.specs.Serving.{cause_by, retirements, remaining, heeding, opening}
 use Rattle.daide_io.specs.System.{Begins, Shows, BeginsTurn, Retires, Notifies, no_orders}
@@ -104,10 +107,10 @@ counts limits n = record {
   name = Unknown;
 }
 
--- a session with a phase, counts, and frames queued for its bot
+-- a session with a phase, counts, the header of an RM from the server, and frames queued for its bot
 abbrev session : Limits → SessionPhase → ℕ → List Sent → SessionView
 session limits phase n to_bot = record {
-  state = record (initial_state limits) { phase = phase };
+  state = with_pending (record (initial_state limits) { phase = phase }) Server (0x01 ∷ 0x00 ∷ 0x00 ∷ 0x00 ∷ []);
   wires = both to_bot [];
   parts = both (sent_bytes to_bot ∷ []) [];
   sides = both nothing_held nothing_held;
@@ -118,13 +121,31 @@ session limits phase n to_bot = record {
 abbrev queued : Limits → SessionView
 queued limits = session limits (Over (Final Bot)) 20 (record { to = Bot; answers = None; bytes = fm_bytes } ∷ [])
 
+-- counts of bytes that all differ
+abbrev bytes : ℕ → ByteCounts
+bytes n = record { from_bot = n; from_server = n + 10; to_bot = n + 20; to_server = n + 30 }
+
 -- ports identified by a number, with this many turns left
 abbrev ports : ℕ → Option ℕ → QuotaPortsView ℕ
-ports number left = record { ports = number; turns_left = left; made_progress = false; first_synthetic_end = None }
+ports number left = record {
+  ports = number;
+  turns_left = left;
+  made_progress = false;
+  load = 0;
+  first_synthetic_end = None;
+  bytes = bytes number;
+}
 
 -- ports beyond their quota, and their first synthetic end
 abbrev spent : ℕ → Ending → QuotaPortsView ℕ
-spent number told = record { ports = number; turns_left = None; made_progress = false; first_synthetic_end = Some told }
+spent number told = record {
+  ports = number;
+  turns_left = None;
+  made_progress = false;
+  load = 0;
+  first_synthetic_end = Some told;
+  bytes = no_bytes;
+}
 
 -- The first is closed, the second has a frame queued, the third is open, and the fourth was open until its turns were
 -- spent. The fifth is closed, and so is the sixth, whose FM for the bot was queued until its turns were spent.
@@ -138,10 +159,14 @@ six limits =
 -- from the last place to the first, each closed session, with its own end and its own counts
 parted_from_the_last : (limits : Limits) →
     retirements (six limits)
-    ≡ Notifies TurnsSpent ∷ Retires 6 (record { cause = Causes.Session (Ended Server); account = counts limits 60 })
-    ∷ Retires 5 (record { cause = Causes.Session (Ended Server); account = counts limits 50 })
-    ∷ Notifies TurnsSpent ∷ Retires 4 (record { cause = Causes.TurnsSpent; account = counts limits 40 })
-    ∷ Retires 1 (record { cause = Causes.Session (Fault Server SecondRm); account = counts limits 10 }) ∷ []
+    ≡ Notifies TurnsSpent ∷ Retires 6 (record { cause = Causes.Session (Ended Server); account = counts limits 60; fault_field = None })
+    ∷ Retires 5 (record { cause = Causes.Session (Ended Server); account = counts limits 50; fault_field = None })
+    ∷ Notifies TurnsSpent ∷ Retires 4 (record { cause = Causes.TurnsSpent; account = counts limits 40; fault_field = None })
+    ∷ Retires 1 (record {
+      cause = Causes.Session (Fault Server SecondRm);
+      account = counts limits 10;
+      fault_field = Some (Fields.Kind 1);
+    }) ∷ []
 parted_from_the_last limits = refl
 
 others_stay : (limits : Limits) →
@@ -191,19 +216,20 @@ served_or_not settings = (refl, refl, refl, refl, refl, refl, refl)
 
 -- ---- a round begins
 
--- the first three of these sessions, each with its own status: before the first message and after the end the level is
+-- the first three of these sessions, each with its own status and its own bytes: before the first message and after the end the level is
 -- the lowest, and an FM of four bytes is queued for the second bot
 shown_in_order : (limits : Limits) →
     opening (record { stops_accepting = false; shows_sessions = true }) (take 3 (six limits))
     ≡ Begins (record { stops_accepting = false; shows_sessions = true })
-    ∷ Shows 1 (record { phase = Phases.Over; level = level_in WaitIm; account = counts limits 10; queued_to_bot = 0; queued_to_server = 0 })
-    ∷ Shows 2 (record { phase = Phases.Over; level = level_in WaitIm; account = counts limits 20; queued_to_bot = 4; queued_to_server = 0 })
+    ∷ Shows 1 (record { phase = Phases.Over; level = level_in WaitIm; account = counts limits 10; queued_to_bot = 0; queued_to_server = 0; bytes = bytes 1 })
+    ∷ Shows 2 (record { phase = Phases.Over; level = level_in WaitIm; account = counts limits 20; queued_to_bot = 4; queued_to_server = 0; bytes = bytes 2 })
     ∷ Shows 3 (record {
       phase = Phases.Open;
       level = limits.top_level;
       account = counts limits 30;
       queued_to_bot = 0;
       queued_to_server = 0;
+      bytes = bytes 3;
     }) ∷ []
 shown_in_order limits = refl
 

@@ -27,7 +27,7 @@ use Rattle.daide_io.specs.declared.system.Connect.TheVariants.{Ready, Failed, Pe
 use Rattle.daide_io.specs.declared.system.Notice.TheVariants.{CannotReach, TurnsSpent}
 use Rattle.daide_io.specs.declared.system.Orders.{Orders}
 use Rattle.daide_event_loop.specs.declared.admission_counters.AdmissionCounters.{AdmissionCounters}
-use Rattle.daide_event_loop.specs.QuotaPorts.{QuotaPortsView, Meters, progress_by}
+use Rattle.daide_event_loop.specs.QuotaPorts.{QuotaPortsView, Meters, progress_by, is_calm}
 use Rattle.daide_io.specs.System.{SystemCall, Begins, Shows, ReportsNews, BeginsTurn, Watches, Accepts, Connects}
 use Rattle.daide_io.specs.System.{Retires, Notifies, Waits}
 use Rattle.daide_event_loop.specs.Serving.{ServiceView, fresh, initial_service, may_accept, come, AdmitsWhere, MeetsWhere}
@@ -40,7 +40,7 @@ use Rattle.daide_event_loop.specs.Served.{IsServedSession, run_limits, IsSession
 use Rattle.daide_event_loop.specs.Served.{IsWholeRun}
 use Rattle.daide_event_loop.proofs.BeginningLemmas.{OnlyTurns, none_counted, opening_none, all_turns, all_shown, turns_only, watches_only}
 use Rattle.daide_event_loop.proofs.VisitLemmas.{Gets, gets_own, some_most, some_turns, all_visited}
-use Rattle.daide_event_loop.proofs.CauseLemmas.{IsCut, cut_begins, cut_begun, cut_turn, cut_cause}
+use Rattle.daide_event_loop.proofs.CauseLemmas.{IsCut, cut_begins, cut_begun, cut_turn, cut_cause, cut_field}
 use Rattle.daide_event_loop.proofs.CountLemmas.{counted_append, Counts, counts_then, admission_counts, meeting_counts}
 use Rattle.daide_event_loop.proofs.CountLemmas.{opening_counts, turns_count, removal_counts, wait_counts}
 use Rattle.daide_event_loop.proofs.OrderLemmas.{Limited, first_limit, limit_then}
@@ -292,12 +292,12 @@ module _ {P : Type 0} (port_transition : P → PortCall → P → Type 0) (setti
             (each i v.place (slice_get_within mid.places i v.place v.there))
 
         by : (moved due : Bool) → v.place.1.made_progress ≡ moved → IsDueBy moved v.place.1.ports v.report due →
-            TakesTurns port_transition due (most_turns v.place.1.made_progress) mid i v.turn new →
+            TakesTurns port_transition due (most_turns (is_calm v.place.1)) mid i v.turn new →
             (now : SessionView × QuotaPortsView P) × Served now × Gets mid i now new
         by moved true e looks takes =
             let last = some_turns port_transition Held (λ old mid new b t h. still new (turned mid new t (begun old mid b h)))
-            (most_turns v.place.1.made_progress) mid i v.turn new v.place
-            (some_most port_transition v.place.1.made_progress) v.there own.0 takes in (
+            (most_turns (is_calm v.place.1)) mid i v.turn new v.place
+            (some_most port_transition (is_calm v.place.1)) v.there own.0 takes in (
               last.place,
               turned last.turned.begun last.place last.turned.turned
                   (begun last.before last.turned.begun last.turned.begins last.keeps),
@@ -421,6 +421,7 @@ module _ {P : Type 0} (port_transition : P → PortCall → P → Type 0) (setti
           h.1.run,
           ap (cause_by place.1.first_synthetic_end) own.1 ∙ cut_cause h.1.state place.0.state place.1.first_synthetic_end own.0 h.1.cut own.1,
           refl,
+          cut_field h.1.state place.0.state place.1.first_synthetic_end h.1.cut,
         )
 
     parted : (b : Bool) (place : SessionView × QuotaPortsView P) → is_closed place.0 ≡ b → Served place →
@@ -480,7 +481,7 @@ module _ {P : Type 0} (port_transition : P → PortCall → P → Type 0) (setti
       (counts_then opens r.admission old.counters heeded r.came (opening_counts r.orders old.hub.places old.counters)
       (admission_counts (may_accept heeded (length old.hub.places)) heeded r.admission r.came r.admits))
       (meeting_counts (r.came.connecting == 0) old.hub r.came r.meeting r.connected new.counters refl r.finishes))
-      (turns_count r.beginnings new.counters (turns_only port_transition (length r.connected.places) r.connected r.beginnings r.turned r.turns)))
+      (turns_count r.beginnings new.counters (turns_only port_transition (length r.connected.places) r.turns.0 r.connected r.beginnings r.turned r.turns.1)))
       removes)
       (wait_counts made_progress new.hub.places new.counters))
 
@@ -511,7 +512,7 @@ module _ {P : Type 0} (port_transition : P → PortCall → P → Type 0) (setti
       let connected = connected all (r.came.connecting == 0) old.hub r.came r.meeting r.connected new.counters within h.limits
       (come.1 ∙ kept ∙ h.turns) still_held r.finishes in
       let turned = all_turned all r.connected r.beginnings r.turned r.turns connected.held in
-      let only = turns_only port_transition (length r.connected.places) r.connected r.beginnings r.turned r.turns in
+      let only = turns_only port_transition (length r.connected.places) r.turns.0 r.connected r.beginnings r.turned r.turns.1 in
       let hub = r.removes.1 in
       record {
         counts = counts_then xs ys (initial_service {P = P} settings).counters old.counters new.counters h.counts

@@ -25,11 +25,11 @@ waits_alike places a b c d e p q r s t h i j k l = rw (h, i, j, k, l) refl
 pub show_more : {P : Type 0} (xs : List (SessionView × QuotaPortsView P)) (i : ℕ) (m : QuotaPortsView P)
     (session : SessionView) → i < length xs → IfSome (slice_get xs i) (λ place. m ≡ place.1) →
     IfSome (slice_get xs i) (λ place. session ≡ place.0) →
-    shows (take (suc i) xs) ≡ shows (take i xs) ++ Shows m.ports (status_of session) ∷ []
+    shows (take (suc i) xs) ≡ shows (take i xs) ++ Shows m.ports (status_of session m.bytes) ∷ []
 show_more {P = P} [] i m session lt h k = absurd (omega (arith, lt))
 show_more {P = P} (x ∷ xs) zero m session lt h k = rw (h, k) refl
 show_more {P = P} (x ∷ xs) (suc i) m session lt h k =
-    ap (λ (calls : List (SystemCall P)). Shows x.1.ports (status_of x.0) ∷ calls)
+    ap (λ (calls : List (SystemCall P)). Shows x.1.ports (status_of x.0 x.1.bytes) ∷ calls)
     (show_more xs i m session (omega (arith, lt)) h k)
 
 -- one more session is watched

@@ -1,7 +1,7 @@
 -- The visits of a round: the turns of a visit, and what holds of all sessions after the visits.
 use Rattle.std.proofs.Common.{◌≡◌, ℕ, zero, suc, ◌<◌, ◌≤◌, Bool, true, false, List, [], ◌∷◌, ◌++◌, length, take, set}
 use Rattle.std.proofs.Common.{Option, Some, None, refl, sym, ap, ◌∙◌, subst, arith, inl, inr}
-use Rattle.std.specs.Prelude.{Contains, All, slice_get}
+use Rattle.std.specs.Prelude.{Contains, All, slice_get, nat_le, ◌+◌}
 use Rattle.std.proofs.lemmas.List.{length-set, set-set, take_all}
 use Rattle.std.proofs.lemmas.List.Elements.{All-nil, All-cons, All-same, All-set, All-push}
 use Rattle.std.proofs.lemmas.List.Elements.{Contains-append_left, Contains-append_right}
@@ -11,9 +11,10 @@ use Rattle.daide_protocol.specs.Wires.{SessionView}
 use Rattle.daide_io.specs.Ports.{PortCall}
 use Rattle.daide_io.specs.System.{SystemCall, ReportsNews}
 use Rattle.daide_driver.specs.Hub.{HubView, with_places, IsBegun, IsTurned}
-use Rattle.daide_event_loop.specs.QuotaPorts.{QuotaPortsView, Meters}
+use Rattle.daide_event_loop.specs.QuotaPorts.{QuotaPortsView, Meters, is_calm}
 use Rattle.daide_event_loop.specs.Serving.{TakesTurn, TakesTurns, has_moved_in, most_turns, IsDueBy, VisitsPlace}
-use Rattle.daide_event_loop.specs.Serving.{TurnsBelow, TurnsAll}
+use Rattle.daide_event_loop.specs.Serving.{VisitsIfCalm, VisitsCalm, VisitsCalmIf, VisitsNext, TurnsBelow, TurnsAll}
+use Rattle.daide_event_loop.specs.Serving.{busy_turns_in, is_calm_in}
 use Rattle.daide_event_loop.specs.Attendance.{HadTurn, IsAttended, RoundsAttendAll}
 use Rattle.daide_event_loop.proofs.BeginningLemmas.{get_set}
 
@@ -66,6 +67,16 @@ module _ {P : Type 0} where
       Gets old n now new → (k : ℕ) → (k ≡ n → ⊥) → slice_get new.places k ≡ slice_get old.places k
   others_stay n old new now e k far =
       ap (λ (h : HubView (QuotaPortsView P)). slice_get h.places k) e ∙ set_other n k old.places now far
+
+  -- what is set beyond the first places changes none of them
+  pub take_set : (n k : ℕ) (xs : List (SessionView × QuotaPortsView P)) (x : SessionView × QuotaPortsView P) →
+      take n (set xs k x) ≡ set (take n xs) k x
+  take_set zero zero xs x = refl
+  take_set zero (suc k) xs x = refl
+  take_set (suc n) zero [] x = refl
+  take_set (suc n) (suc k) [] x = refl
+  take_set (suc n) zero (y ∷ xs) x = refl
+  take_set (suc n) (suc k) (y ∷ xs) x = ap (λ (l : List (SessionView × QuotaPortsView P)). y ∷ l) (take_set n k xs x)
 
   pub gets_own : (n : ℕ) (old new : HubView (QuotaPortsView P)) (own : SessionView × QuotaPortsView P) →
       slice_get old.places n ≡ Some own → new ≡ old → Gets old n own new
@@ -173,7 +184,7 @@ module _ {P : Type 0} (port_transition : P → PortCall → P → Type 0) where
             some_after mid takes.0 i answers takes.1 takes.2 new takes.3 first (later (omega arith) more)
 
   -- a visit has at least one turn
-  pub some_most : (moved : Bool) → 0 < most_turns moved
+  pub some_most : (calm : Bool) → 0 < most_turns calm
   some_most true = omega arith
   some_most false = omega arith
 
@@ -182,12 +193,12 @@ module _ {P : Type 0} (port_transition : P → PortCall → P → Type 0) where
       VisitsPlace port_transition mid i answers new → (now : SessionView × QuotaPortsView P) × Gets mid i now new
   gets_at mid i answers new v = by v.due v.turns
     where
-      by : (due : Bool) → TakesTurns port_transition due (most_turns v.place.1.made_progress) mid i v.turn new →
+      by : (due : Bool) → TakesTurns port_transition due (most_turns (is_calm v.place.1)) mid i v.turn new →
           (now : SessionView × QuotaPortsView P) × Gets mid i now new
       by false stays = (v.place, gets_own i mid new v.place v.there stays.1)
       by true takes =
-          let last = some_turns (λ own. Unit {0}) (λ old begun next b t k. tt) (most_turns v.place.1.made_progress) mid i v.turn
-          new v.place (some_most v.place.1.made_progress) v.there tt takes in
+          let last = some_turns (λ own. Unit {0}) (λ old begun next b t k. tt) (most_turns (is_calm v.place.1)) mid i v.turn
+          new v.place (some_most (is_calm v.place.1)) v.there tt takes in
           (last.place, last.gets)
 
 -- ---- all visits of a round
@@ -236,19 +247,61 @@ module _ {P : Type 0} (port_transition : P → PortCall → P → Type 0) (round
         limits = ap (λ (hub : HubView (QuotaPortsView P)). hub.limits) now.2 ∙ h.limits;
       }
 
-  below : (n : ℕ) (old new : HubView (QuotaPortsView P)) (calls : List (SystemCall P)) → Within calls → All Before old.places →
-      TurnsBelow port_transition n old calls new → Visited n old new
-  below zero old new calls within h run =
+  -- any place is visited again
+  again : (n i : ℕ) (old mid new : HubView (QuotaPortsView P)) (calls : List (SystemCall P)) → Within calls →
+      Visited n old mid → VisitsPlace port_transition mid i calls new → Visited n old new
+  again n i old mid new calls within h v =
+      let now = visited mid i calls new within h.before v in
+      let places : new.places ≡ set mid.places i now.0 = ap (λ (hub : HubView (QuotaPortsView P)). hub.places) now.2 in
+      record {
+        before = All-same Before new.places (set mid.places i now.0) places
+            (All-set Before mid.places i now.0 (forget now.0 now.1) h.before);
+        after = All-same After (take n new.places) (set (take n mid.places) i now.0)
+            (ap (take n) places ∙ take_set n i mid.places now.0)
+            (All-set After (take n mid.places) i now.0 now.1 h.after);
+        count = ap length places ∙ length-set mid.places i now.0 ∙ h.count;
+        limits = ap (λ (hub : HubView (QuotaPortsView P)). hub.limits) now.2 ∙ h.limits;
+      }
+
+  again_if : (n i : ℕ) (calm : Bool) (old mid new : HubView (QuotaPortsView P)) (calls : List (SystemCall P)) → Within calls →
+      Visited n old mid → VisitsIfCalm port_transition calm mid i calls new → Visited n old new
+  again_if n i true old mid new calls within h v = again n i old mid new calls within h v
+  again_if n i false old mid new calls within h v = same_visited n old mid new h v.1
+
+  -- the calm sessions are visited again
+  calmed : (n m : ℕ) (old mid new : HubView (QuotaPortsView P)) (calls : List (SystemCall P)) → Within calls →
+      Visited n old mid → VisitsCalm port_transition m mid calls new → Visited n old new
+  calmed n zero old mid new calls within h run = same_visited n old mid new h run.1
+  calmed n (suc m) old mid new calls within h run =
+      again_if n m (is_calm_in (slice_get run.0.places m)) old run.0 new run.2 (in_second calls run.1 run.2 run.3 within)
+      (calmed n m old mid run.0 run.1 (in_first calls run.1 run.2 run.3 within) h run.4) run.5
+
+  calmed_if : (n : ℕ) (many : Bool) (old mid new : HubView (QuotaPortsView P)) (calls : List (SystemCall P)) → Within calls →
+      Visited n old mid → VisitsCalmIf port_transition many mid calls new → Visited n old new
+  calmed_if n true old mid new calls within h run = calmed n (length mid.places) old mid new calls within h run
+  calmed_if n false old mid new calls within h run = same_visited n old mid new h run.1
+
+  -- the next place is visited, and perhaps the calm sessions again
+  next : (n turns left : ℕ) (old mid new : HubView (QuotaPortsView P)) (calls : List (SystemCall P)) → Within calls →
+      Visited n old mid → VisitsNext port_transition turns mid n calls new left → Visited (suc n) old new
+  next n turns left old mid new calls within h v =
+      calmed_if (suc n) (nat_le 32 (turns + busy_turns_in v.visit)) old v.mid new v.second
+      (in_second calls v.first v.second v.asked within)
+      (another n old mid v.mid v.first (in_first calls v.first v.second v.asked within) h v.visit) v.calm
+
+  below : (n turns : ℕ) (old new : HubView (QuotaPortsView P)) (calls : List (SystemCall P)) → Within calls → All Before old.places →
+      TurnsBelow port_transition n turns old calls new → Visited n old new
+  below zero turns old new calls within h run =
       same_visited 0 old old new (record { before = h; after = All-nil After; count = refl; limits = refl }) run.1
-  below (suc n) old new calls within h run =
-      another n old run.0 new run.2 (in_second calls run.1 run.2 run.3 within)
-      (below n old run.0 run.1 (in_first calls run.1 run.2 run.3 within) h run.4) run.5
+  below (suc n) turns old new calls within h run =
+      next n run.3 turns old run.0 new run.2 (in_second calls run.1 run.2 run.4 within)
+      (below n run.3 old run.0 run.1 (in_first calls run.1 run.2 run.4 within) h run.5) run.6
 
   -- after all visits of the round
   pub all_visited : (old new : HubView (QuotaPortsView P)) → All Before old.places → TurnsAll port_transition old round new →
       All After new.places × (new.limits ≡ old.limits) × (length new.places ≡ length old.places)
   all_visited old new h run =
-      let b = below (length old.places) old new round (λ x c. c) h run in
+      let b = below (length old.places) run.0 old new round (λ x c. c) h run.1 in
       let short : length new.places ≤ length old.places = let same = b.count in omega (arith, same) in (
         All-same After new.places (take (length old.places) new.places)
             (sym (take_all (length old.places) new.places short)) b.after,
@@ -266,11 +319,11 @@ module _ {P : Type 0} (port_transition : P → PortCall → P → Type 0) where
   attended round mid i calls new within v = by v.due v.place.1.made_progress v.looks v.turns
     where
       by : (due moved : Bool) → IsDueBy moved v.place.1.ports v.report due →
-          TakesTurns port_transition due (most_turns v.place.1.made_progress) mid i v.turn new →
+          TakesTurns port_transition due (most_turns (is_calm v.place.1)) mid i v.turn new →
           (now : SessionView × QuotaPortsView P) × IsAttended port_transition round now × Gets mid i now new
       by true moved looks takes =
-          let last = some_turns port_transition (λ now. Unit {0}) (λ old begun now b t k. tt) (most_turns v.place.1.made_progress)
-          mid i v.turn new v.place (some_most port_transition v.place.1.made_progress) v.there tt takes in (
+          let last = some_turns port_transition (λ now. Unit {0}) (λ old begun now b t k. tt) (most_turns (is_calm v.place.1))
+          mid i v.turn new v.place (some_most port_transition (is_calm v.place.1)) v.there tt takes in (
             last.place,
             inl (
               last.before,

@@ -18,7 +18,7 @@ use Rattle.daide_io.specs.System.{Retires, Notifies, Waits}
 use Rattle.daide_driver.specs.Hub.{HubView}
 use Rattle.daide_settings.specs.declared.settings.Settings.{Settings}
 use Rattle.daide_event_loop.specs.declared.admission_counters.AdmissionCounters.{AdmissionCounters}
-use Rattle.daide_event_loop.specs.QuotaPorts.{QuotaPortsView, beginning_where}
+use Rattle.daide_event_loop.specs.QuotaPorts.{QuotaPortsView, beginning_where, is_calm}
 use Rattle.daide_event_loop.specs.Serving.{ServiceView, fresh, initial_service, may_accept, AdmitsWhere, MeetsWhere, MeetsBy}
 use Rattle.daide_event_loop.specs.Serving.{IsDueBy, TakesTurns, most_turns, VisitsPlace, TurnsAll, any_moved}
 use Rattle.daide_event_loop.specs.Serving.{last_words, retirement_where, retirements, remaining, end_of, heeding, opening}
@@ -126,11 +126,11 @@ module _ {P : Type 0} (port_transition : P → PortCall → P → Type 0) where
           (each i v.place (slice_get_within mid.places i v.place v.there))
 
       by : (due moved : Bool) → IsDueBy moved v.place.1.ports v.report due →
-          TakesTurns port_transition due (most_turns v.place.1.made_progress) mid i v.turn new →
+          TakesTurns port_transition due (most_turns (is_calm v.place.1)) mid i v.turn new →
           (now : SessionView × QuotaPortsView P) × RestsOrCloses limits round now × Gets mid i now new
       by true moved looks takes =
-          let last = some_turns port_transition (λ now. Unit {0}) (λ old begun now b t k. tt) (most_turns v.place.1.made_progress)
-          mid i v.turn new v.place (some_most port_transition v.place.1.made_progress) v.there tt takes in
+          let last = some_turns port_transition (λ now. Unit {0}) (λ old begun now b t k. tt) (most_turns (is_calm v.place.1))
+          mid i v.turn new v.place (some_most port_transition (is_calm v.place.1)) v.there tt takes in
           let turned = wider port_transition v.turn round last.before last.place
           (in_round v.turn (λ x c. Contains-append_right v.report v.turn x c)) last.turned in
           (last.place, by_quota limits round last.before last.place turned turned.begun.1.turns_left refl, last.gets)
@@ -415,7 +415,7 @@ module _ {P : Type 0} where
         let a = admission_waits (may_accept heeded (length old.hub.places)) heeded r.admission r.came r.admits in
         let b = meeting_waits (r.came.connecting == 0) old.hub r.came r.meeting r.connected new.counters r.finishes in
         let c = none_counted waits r.beginnings (λ ports news. refl) (λ before after. refl) (λ ports. refl)
-        (turns_only port_transition (length r.connected.places) r.connected r.beginnings r.turned r.turns) in
+        (turns_only port_transition (length r.connected.places) r.turns.0 r.connected r.beginnings r.turned r.turns.1) in
         let d = ap (sum_over_calls waits) r.removes.0 ∙ removal_waits r.turned.places in
         let one = counted_append waits (opens ++ r.admission ++ r.meeting ++ r.beginnings ++ r.removal) last in
         let two = counted_append waits (opens ++ r.admission ++ r.meeting ++ r.beginnings) r.removal in
@@ -509,7 +509,7 @@ module _ {P : Type 0} where
         ap (λ (k : HubView (QuotaPortsView P)). k.places) r.removes.1 ∙ kept in
         let count : length run.hub.places ≡ length mid.hub.places =
         ap length places
-        ∙ (below_count port_transition (length r.connected.places) r.connected r.beginnings r.turned r.turns).1
+        ∙ (below_count port_transition (length r.connected.places) r.turns.0 r.connected r.beginnings r.turned r.turns.1).1
         ∙ ap (λ (k : HubView (QuotaPortsView P)). length k.places) met.0 in
         let counters : run.counters ≡ heeded = met.1 ∙ came.0 in
         let same : may_accept heeded (length mid.hub.places) ≡ may_accept run.counters (length run.hub.places) =

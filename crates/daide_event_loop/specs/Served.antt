@@ -6,6 +6,8 @@ use Rattle.daide_protocol.specs.Machine.{Limits, SessionState, Effect, Runs, end
 use Rattle.daide_protocol.specs.Wires.{SessionView, is_closed}
 use Rattle.daide_words.specs.Words.{words_of}
 use Rattle.daide_protocol.specs.Config.{limits_with}
+use Rattle.daide_io.specs.ByteCounts.{bytes_of}
+use Rattle.daide_io.specs.FaultField.{fault_field_of}
 use Rattle.daide_io.specs.Ports.{PortCall, TurnBegins, Clock, Pulled, Offered, EvolvesBy, events_of}
 use Rattle.daide_driver.specs.Headline.{untouched, IsBoundedAndExact}
 use Rattle.daide_driver.specs.Totals.{HasTotals}
@@ -61,12 +63,12 @@ cause_of (Some ending) = Causes.Session ending
 cause_of None = Causes.TurnsSpent
 
 -- The end of a session, by all its port calls: its cause is the event that ended it within its quota, and its moves are
--- counted by side.
+-- counted by side. The field that its fault is about is that of the bytes received until then.
 abbrev pub IsEndOf : Limits → ℕ → List PortCall → SessionView → SessionEnd → Type 0
 IsEndOf limits turns history session end =
     (effects : List Effect) × (state : SessionState)
     × Runs (untouched limits).state (events_of (while_left turns history)) effects state × (end.cause ≡ cause_of (ending_in state.phase))
-    × (end.account ≡ session.account)
+    × (end.account ≡ session.account) × (end.fault_field ≡ fault_field_of state)
 
 -- retired ports are those of a closed session that was served, and the reported end is that of this session
 abbrev pub RetiresClosed : {P : Type 0} → (P → PortCall → P → Type 0) → Settings → List (SystemCall P) →
@@ -254,3 +256,9 @@ turns_in (Offered side bytes put ∷ answers) = turns_in answers
 abbrev pub TurnsAreCounted : {P : Type 0} → (P → PortCall → P → Type 0) → Type 0
 TurnsAreCounted {P} transition = (ports : P) (turns : ℕ) (history : List PortCall) (now : QuotaPortsView P) →
     EvolvesBy (Meters transition) (fresh ports turns) history now → is_none now.turns_left ≡ nat_lt turns (turns_in history)
+
+-- Ports with a quota of turns count the bytes of all their calls, from the first on: those that pulls delivered from each
+-- side, and those that puts took for each, modulo 2^64.
+abbrev pub BytesAreCounted : {P : Type 0} → (P → PortCall → P → Type 0) → Type 0
+BytesAreCounted {P} transition = (ports : P) (turns : ℕ) (history : List PortCall) (now : QuotaPortsView P) →
+    EvolvesBy (Meters transition) (fresh ports turns) history now → now.bytes ≡ bytes_of history

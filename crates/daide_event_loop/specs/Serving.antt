@@ -1,6 +1,6 @@
 -- The loop of a run: the system calls and the effect of each step of a round, a round, and a whole run, completed or
 -- broken off. Each step is stated with its trace of system calls, recorded or not.
-use Rattle.std.specs.Prelude.{◌≡◌, ℕ, zero, suc, ◌+◌, ◌-◌, ◌≤◌, nat_lt, Bool, true, false, not, ◌&&◌, ◌||◌, ◌==◌, ◌⊎◌}
+use Rattle.std.specs.Prelude.{◌≡◌, ℕ, zero, suc, ◌+◌, ◌-◌, ◌<◌, ◌≤◌, nat_lt, nat_le, Bool, true, false, not, ◌&&◌, ◌||◌, ◌==◌, ◌⊎◌}
 use Rattle.std.specs.Prelude.{List, [], ◌∷◌, ◌++◌, length, filter, Option, Some, None, is_none, slice_get}
 use Rattle.std.specs.Prelude.{if◌then◌else◌}
 use Rattle.std.specs.List.{list_any}
@@ -24,9 +24,12 @@ use Rattle.daide_io.specs.declared.system.Cause.{Cause}
 use Rattle.daide_io.specs.declared.system.Cause.TheVariants as Causes
 use Rattle.daide_io.specs.declared.system.Orders.{Orders}
 use Rattle.daide_io.specs.declared.system.SessionEnd.{SessionEnd}
-use Rattle.daide_event_loop.specs.QuotaPorts.{QuotaPortsView, Meters, beginning}
+use Rattle.daide_io.specs.declared.fault_field.FaultField.{FaultField}
+use Rattle.daide_io.specs.FaultField.{fault_field_of}
+use Rattle.daide_event_loop.specs.QuotaPorts.{QuotaPortsView, Meters, beginning, is_calm}
 use Rattle.daide_io.specs.System.{SystemCall, Begins, Shows, ReportsNews, BeginsTurn, Watches, Accepts, Connects}
 use Rattle.daide_io.specs.System.{Retires, Notifies, Waits, status_of}
+use Rattle.daide_io.specs.ByteCounts.{no_bytes}
 use Rattle.daide_settings.specs.BotsInAll.{bots_in_all}
 use Rattle.daide_protocol.specs.Machine.{ending_in}
 
@@ -93,7 +96,7 @@ heeding orders counters = if orders.stops_accepting then closed counters else co
 -- the status of each session is shown, in order of place
 abbrev pub shows : {P : Type 0} → List (SessionView × QuotaPortsView P) → List (SystemCall P)
 shows [] = []
-shows (place ∷ places) = Shows place.1.ports (status_of place.0) ∷ shows places
+shows (place ∷ places) = Shows place.1.ports (status_of place.0 place.1.bytes) ∷ shows places
 
 abbrev pub shows_where : {P : Type 0} → Bool → List (SessionView × QuotaPortsView P) → List (SystemCall P)
 shows_where true places = shows places
@@ -115,9 +118,17 @@ Admits count old = AdmitsWhere (may_accept old count) old
 
 -- ---- connects complete or fail
 
--- ports with a full quota of turns; new ports count as progress, so that their session has a turn in the same round
+-- ports with a full quota of turns, which delivered and took nothing; new ports count as progress, so that their session
+-- has a turn in the same round
 abbrev pub fresh : {P : Type 0} → P → ℕ → QuotaPortsView P
-fresh ports turns = record { ports = ports; turns_left = Some turns; made_progress = true; first_synthetic_end = None }
+fresh ports turns = record {
+  ports = ports;
+  turns_left = Some turns;
+  made_progress = true;
+  load = 0;
+  first_synthetic_end = None;
+  bytes = no_bytes;
+}
 
 -- a completed connect turns into a session in its opening state, at the last place; a failed one is reported, and its
 -- bot dropped
@@ -161,11 +172,16 @@ abbrev pub IsDueBy : {P : Type 0} → Bool → P → List (SystemCall P) → Boo
 IsDueBy true ports answers due = (answers ≡ []) × (due ≡ true)
 IsDueBy false ports answers due = answers ≡ ReportsNews ports due ∷ []
 
--- The most turns of a session in one visit, by whether its last turn made progress: one if so, since sessions with bytes
--- without end take turns; eight if it was at rest, so that a short frame passes in one visit. (own)
+-- The most turns of a session in one visit, by whether it is calm: eight if so, so that a short frame passes in one visit;
+-- one if it is busy, since sessions with bytes without end take turns. (own)
 abbrev pub most_turns : Bool → ℕ
-most_turns true = 1
-most_turns false = 8
+most_turns true = 8
+most_turns false = 1
+
+-- whether the session at a place is calm; not if there is none at this place
+abbrev pub is_calm_in : {P : Type 0} → Option (SessionView × QuotaPortsView P) → Bool
+is_calm_in None = false
+is_calm_in (Some place) = is_calm place.1
 
 -- whether the last turn of the session at a place made progress; not if there is none at this place
 abbrev pub has_moved_in : {P : Type 0} → Option (SessionView × QuotaPortsView P) → Bool
@@ -192,20 +208,67 @@ pub record VisitsPlace {P : Type 0} (transition : P → PortCall → P → Type 
   pub report : List (SystemCall P)
   pub turn : List (SystemCall P)
   pub looks : IsDueBy place.1.made_progress place.1.ports report due
-  pub turns : TakesTurns transition due (most_turns place.1.made_progress) old i turn new
+  pub turns : TakesTurns transition due (most_turns (is_calm place.1)) old i turn new
   pub asked : answers ≡ report ++ turn
 
--- the sessions at the first n places are visited, in their order
-abbrev pub TurnsBelow : {P : Type 0} → (P → PortCall → P → Type 0) → ℕ → HubView (QuotaPortsView P) →
+-- the turns of busy sessions in a visit: one if the session is due a turn and busy
+abbrev pub busy_turns_in : {P : Type 0} → {transition : P → PortCall → P → Type 0} → {old : HubView (QuotaPortsView P)} → {i : ℕ} →
+    {answers : List (SystemCall P)} → {new : HubView (QuotaPortsView P)} → VisitsPlace transition old i answers new → ℕ
+busy_turns_in visit = if visit.due && not (is_calm visit.place.1) then 1 else 0
+
+-- the session at this place is visited if it is calm
+abbrev pub VisitsIfCalm : {P : Type 0} → (P → PortCall → P → Type 0) → Bool → HubView (QuotaPortsView P) → ℕ →
     List (SystemCall P) → HubView (QuotaPortsView P) → Type 0
-TurnsBelow transition zero old answers new = (answers ≡ []) × (new ≡ old)
-TurnsBelow {P} transition (suc n) old answers new =
+VisitsIfCalm transition true old i answers new = VisitsPlace transition old i answers new
+VisitsIfCalm transition false old i answers new = (answers ≡ []) × (new ≡ old)
+
+-- each calm session at the first n places is visited, in their order
+abbrev pub VisitsCalm : {P : Type 0} → (P → PortCall → P → Type 0) → ℕ → HubView (QuotaPortsView P) →
+    List (SystemCall P) → HubView (QuotaPortsView P) → Type 0
+VisitsCalm transition zero old answers new = (answers ≡ []) × (new ≡ old)
+VisitsCalm {P} transition (suc n) old answers new =
     (mid : HubView (QuotaPortsView P)) × (first : List (SystemCall P)) × (second : List (SystemCall P))
-    × (answers ≡ first ++ second) × TurnsBelow transition n old first mid × VisitsPlace transition mid n second new
+    × (answers ≡ first ++ second) × VisitsCalm transition n old first mid
+    × VisitsIfCalm transition (is_calm_in (slice_get mid.places n)) mid n second new
+
+abbrev pub VisitsCalmIf : {P : Type 0} → (P → PortCall → P → Type 0) → Bool → HubView (QuotaPortsView P) →
+    List (SystemCall P) → HubView (QuotaPortsView P) → Type 0
+VisitsCalmIf transition true old answers new = VisitsCalm transition (length old.places) old answers new
+VisitsCalmIf transition false old answers new = (answers ≡ []) × (new ≡ old)
+
+-- the turns of busy sessions are counted anew once the calm ones are visited
+abbrev pub turns_left_over : ℕ → ℕ
+turns_left_over turns = if nat_le 32 turns then 0 else turns
+
+-- The session at a place is visited, after this many turns of busy sessions. Once they had 32 turns, each calm session is
+-- visited before any other. So a calm session with news waits for at most 32 turns of busy ones, and not for one of
+-- each. (own)
+pub record VisitsNext {P : Type 0} (transition : P → PortCall → P → Type 0) (turns : ℕ) (old : HubView (QuotaPortsView P))
+    (i : ℕ) (answers : List (SystemCall P)) (new : HubView (QuotaPortsView P)) (left : ℕ) : Type 0 where
+  pub mid : HubView (QuotaPortsView P)
+  pub first : List (SystemCall P)
+  pub second : List (SystemCall P)
+  pub visit : VisitsPlace transition old i first mid
+  pub calm : VisitsCalmIf transition (nat_le 32 (turns + busy_turns_in visit)) mid second new
+  pub counted : left ≡ turns_left_over (turns + busy_turns_in visit)
+  pub asked : answers ≡ first ++ second
+
+-- the sessions at the first n places are visited, in their order, and the calm ones again after each 32 turns of busy ones
+abbrev pub TurnsBelow : {P : Type 0} → (P → PortCall → P → Type 0) → ℕ → ℕ → HubView (QuotaPortsView P) →
+    List (SystemCall P) → HubView (QuotaPortsView P) → Type 0
+TurnsBelow transition zero turns old answers new = (answers ≡ []) × (new ≡ old) × (turns ≡ 0)
+TurnsBelow {P} transition (suc n) turns old answers new =
+    (mid : HubView (QuotaPortsView P)) × (first : List (SystemCall P)) × (second : List (SystemCall P)) × (before : ℕ)
+    × (answers ≡ first ++ second) × TurnsBelow transition n before old first mid
+    × VisitsNext transition before mid n second new turns
 
 abbrev pub TurnsAll : {P : Type 0} → (P → PortCall → P → Type 0) → HubView (QuotaPortsView P) → List (SystemCall P) →
     HubView (QuotaPortsView P) → Type 0
-TurnsAll transition old answers new = TurnsBelow transition (length old.places) old answers new
+TurnsAll transition old answers new = (turns : ℕ) × TurnsBelow transition (length old.places) turns old answers new
+
+-- the last turns of the sessions at the first n places made no progress
+abbrev pub AreStill : {P : Type 0} → ℕ → List (SessionView × QuotaPortsView P) → Type 0
+AreStill n places = (k : ℕ) → k < n → has_moved_in (slice_get places k) ≡ false
 
 abbrev pub any_moved : {P : Type 0} → List (SessionView × QuotaPortsView P) → Bool
 any_moved places = list_any (λ place. place.1.made_progress) places
@@ -237,12 +300,13 @@ abbrev pub cause_by : Option Ending → Option Ending → Cause
 cause_by told None = Causes.TurnsSpent
 cause_by told (Some ending) = if is_reported told ending then Causes.TurnsSpent else Causes.Session ending
 
-abbrev pub end_by : Option Ending → Option Ending → Account → SessionEnd
-end_by told ending account = record { cause = cause_by told ending; account = account }
+abbrev pub end_by : Option Ending → Option Ending → Account → Option FaultField → SessionEnd
+end_by told ending account field = record { cause = cause_by told ending; account = account; fault_field = field }
 
--- the end of a session, with its account
+-- the end of a session, with its account and the field that its fault is about
 abbrev pub end_of : {P : Type 0} → SessionView × QuotaPortsView P → SessionEnd
-end_of place = end_by place.1.first_synthetic_end (ending_in place.0.state.phase) place.0.account
+end_of place =
+    end_by place.1.first_synthetic_end (ending_in place.0.state.phase) place.0.account (fault_field_of place.0.state)
 
 -- spent turns are reported, if so, and then the ports are retired with the end of their session
 abbrev pub parting : {P : Type 0} → QuotaPortsView P → SessionEnd → List (SystemCall P)

@@ -1,6 +1,6 @@
 //! Laws of runs: functions with no parameters and an empty body, whose contracts are the laws.
 
-ghost use Rattle.daide_event_loop.specs.Served.{SessionsAreServed, OrdersAreHeeded, MovesAreAnswered, TurnsAreCounted};
+ghost use Rattle.daide_event_loop.specs.Served.{SessionsAreServed, OrdersAreHeeded, MovesAreAnswered, TurnsAreCounted, BytesAreCounted};
 ghost use Rattle.daide_event_loop.specs.Independence.{SessionsAreIndependent};
 ghost use Rattle.daide_event_loop.specs.Attendance.{RoundsAttendAll};
 ghost use Rattle.daide_event_loop.specs.Waiting.{RunsAreIdleAtWaits};
@@ -36,6 +36,14 @@ pub fn turns_are_counted<P: Ports>()
     ensures { TurnsAreCounted P.transition }
 {}
 
+/// A session's ports count the bytes that they delivered from each side and took for each, modulo 2^64: those of all calls
+/// since a connect returned them (`bytes_of`). A status shows these counts (`shows`).
+///
+/// Not said: that a peer received the bytes that were taken.
+pub fn bytes_are_counted<P: Ports>()
+    ensures { BytesAreCounted P.transition }
+{}
+
 /// Sessions do not influence one another. Take a session of each of two runs, of any two systems with any two kinds of
 /// ports, whose settings have the same limits, words and turns. If the calls of the two sessions' own ports returned the
 /// same (`results_of`), the sessions have the same state and the same counts. If as many bytes were taken of each, the
@@ -61,8 +69,10 @@ pub fn runs_are_idle_at_waits<P: Ports>()
 {}
 
 /// In each round each session is attended, whatever the others do: it had a turn, or the system reported no news for its
-/// ports (`IsAttended`). So a session with news has at least one turn in each round. Before it each other session has at
-/// most eight turns, and one that has bytes without end has one (`most_turns`).
+/// ports (`IsAttended`). So a session with news has at least one turn in each round. One that has bytes without end has
+/// one (`most_turns`), unless it was calm when it was visited: then it has at most eight, and from 32 turns on it counts as
+/// busy (`load_at_turn`). A calm session with news waits for at most 32 turns of busy ones, since the calm ones are
+/// visited again after each 32 (`VisitsNext`).
 ///
 /// Not said: how long a turn takes.
 pub fn rounds_attend_all<P: Ports>()

@@ -1,10 +1,13 @@
-//! Ports with a quota of turns, which record whether their last turn made progress.
+//! Ports with a quota of turns, which record whether their last turn made progress, and count their bytes.
 
 ghost use Rattle.std.specs.Prelude.{◌≡◌, false, true, Some, None, is_none};
+ghost use Rattle.daide_io.specs.ByteCounts.{no_bytes};
 ghost use Rattle.daide_io.specs.Ports.{TurnBegins};
+ghost use Rattle.daide_event_loop.specs.QuotaPorts.{load_at_turn};
 ghost use Rattle.daide_io.specs.System.{TransitsBy};
 
 use daide_frame::side::Side;
+use daide_io::byte_counts::ByteCounts;
 use daide_io::ports::{ClockEvent, Ports, Pull, Put};
 use daide_io::system::System;
 use daide_protocol::ending::Ending;
@@ -19,8 +22,12 @@ pub struct QuotaPorts<P: Ports> {
     turns_left: Option<u64>,
     /// Whether the last turn made progress; true before the first turn, so that it is made at once.
     made_progress: bool,
+    /// The load of the session: one more for each turn after progress, and less for each turn after rest.
+    load: u8,
     /// The first end or failure returned beyond the quota. It ends a session that was open until then.
     first_synthetic_end: Option<Ending>,
+    /// The bytes delivered and taken so far.
+    bytes: ByteCounts,
 }
 
 impl<P: Ports> Model for QuotaPorts<P> {
@@ -28,21 +35,56 @@ impl<P: Ports> Model for QuotaPorts<P> {
 
     ghost Value = { QuotaPortsView P };
 
-    ghost view = { λ m. record { ports = m.ports; turns_left = m.turns_left; made_progress = m.made_progress; first_synthetic_end = m.first_synthetic_end } };
+    ghost view = { λ m. record {
+      ports = m.ports;
+      turns_left = m.turns_left;
+      made_progress = m.made_progress;
+      load = m.load;
+      first_synthetic_end = m.first_synthetic_end;
+      bytes = m.bytes;
+    } };
+}
+
+/// The most load of a session.
+const MOST_LOAD: u8 = 64;
+
+/// The load that a turn after rest takes away.
+const REST_LOAD: u8 = 16;
+
+/// A session with this load or more is busy.
+const BUSY_LOAD: u8 = 32;
+
+/// Returns the load of a session when a turn begins, by whether the turn before it made progress.
+fn load_at_turn(made_progress: bool, load: u8) -> u8
+    ensures { result ≡ load_at_turn made_progress load }
+{
+    if !made_progress {
+        return load.saturating_sub(REST_LOAD);
+    }
+    if load < MOST_LOAD { load + 1 } else { load }
 }
 
 impl<P: Ports> QuotaPorts<P> {
-    ghost use Rattle.daide_event_loop.specs.QuotaPorts.{Meters, beginning};
+    ghost use Rattle.daide_event_loop.specs.QuotaPorts.{Meters, beginning, is_calm};
 
     /// Wraps ports with a quota of `turns` turns.
     pub fn new(ports: P, turns: u64) -> QuotaPorts<P>
-        ensures { result ≡ record { ports = ports; turns_left = Some turns; made_progress = true; first_synthetic_end = None } }
+        ensures { result ≡ record {
+          ports = ports;
+          turns_left = Some turns;
+          made_progress = true;
+          load = 0;
+          first_synthetic_end = None;
+          bytes = no_bytes;
+        } }
     {
         QuotaPorts {
             ports,
             turns_left: Some(turns),
             made_progress: true,
+            load: 0,
             first_synthetic_end: None,
+            bytes: ByteCounts::new(),
         }
     }
 
@@ -53,6 +95,7 @@ impl<P: Ports> QuotaPorts<P> {
         ensures asked { TransitsBy S.transition system.old (beginning self.old self.new) system.new }
     {
         self.turns_left = self.turns_left.and_then(|turns| turns.checked_sub(1));
+        self.load = load_at_turn(self.made_progress, self.load);
         self.made_progress = false;
         if self.turns_left.is_some() {
             system.begin_turn(&mut self.ports);
@@ -74,11 +117,25 @@ impl<P: Ports> QuotaPorts<P> {
         self.made_progress
     }
 
+    /// Returns true if the session is calm: its last turn made no progress, and few turns did before it.
+    pub fn is_calm(&self) -> bool
+        ensures { result ≡ is_calm self.now }
+    {
+        !self.made_progress && self.load < BUSY_LOAD
+    }
+
     /// Returns the first end or failure that was returned beyond the quota.
     pub fn first_synthetic_end(&self) -> Option<Ending>
         ensures { result ≡ self.now.first_synthetic_end }
     {
         self.first_synthetic_end
+    }
+
+    /// Returns the bytes that were delivered and taken so far, each number modulo 2^64.
+    pub fn bytes(&self) -> ByteCounts
+        ensures { result ≡ self.now.bytes }
+    {
+        self.bytes
     }
 
     /// Returns the ports inside by reference.
@@ -96,7 +153,9 @@ impl<P: Ports> QuotaPorts<P> {
             ports,
             turns_left: _,
             made_progress: _,
+            load: _,
             first_synthetic_end: _,
+            bytes: _,
         } = self;
         ports
     }
@@ -121,6 +180,7 @@ impl<P: Ports> Ports for QuotaPorts<P> {
                 Pull::Idle => false,
                 Pull::Ended => true,
             };
+        self.bytes = self.bytes.after_pull(side, pull);
         pull
     }
 
@@ -137,6 +197,7 @@ impl<P: Ports> Ports for QuotaPorts<P> {
                 Put::Took(count) => count > 0,
                 Put::Failed => true,
             };
+        self.bytes = self.bytes.after_put(side, put);
         put
     }
 

@@ -3,12 +3,13 @@
 //!
 //! It uses no socket. The system is a parameter, so that tests can drive whole runs in memory.
 
-ghost use Rattle.std.specs.Prelude.{◌≡◌, ◌+◌, ◌<◌, ◌≤◌, ◌==◌, ◌||◌, true, false, List, [], ◌∷◌, length, Some};
-ghost use Rattle.std.specs.Prelude.{OnOk, OnErr, IfOk, IfErr, IfSome, slice_get};
+ghost use Rattle.std.specs.Prelude.{◌≡◌, ℕ, ◌+◌, ◌<◌, ◌≤◌, ◌==◌, ◌||◌, nat_le, not, if◌then◌else◌, true, false, List, [], ◌∷◌, length, Some};
+ghost use Rattle.std.specs.Prelude.{OnOk, OnErr, IfOk, IfErr, IfSome, Option, slice_get};
 ghost use Rattle.daide_io.specs.System.{SystemCall, Connects, TransitsBy};
 ghost use Rattle.daide_event_loop.specs.Serving.{shows, shows_where};
 ghost use Rattle.daide_event_loop.specs.Serving.{IsWithinQuotas, Admits, FinishesConnect, IsDueBy, TakesTurn, TakesTurns, VisitsPlace, most_turns};
-ghost use Rattle.daide_event_loop.specs.Serving.{TurnsAll, any_moved, has_moved_in, AreOpen};
+ghost use Rattle.daide_event_loop.specs.Serving.{TurnsAll, VisitsNext, VisitsCalm, VisitsCalmIf, VisitsIfCalm, is_calm_in, busy_turns_in, turns_left_over};
+ghost use Rattle.daide_event_loop.specs.Serving.{any_moved, has_moved_in, AreOpen, AreStill};
 ghost use Rattle.daide_event_loop.specs.Serving.{RemovesClosed, parting};
 ghost use Rattle.daide_event_loop.specs.Serving.{is_reported, cause_by, end_by};
 ghost use Rattle.daide_event_loop.specs.Serving.{watches, wait_where, any_progress, Round, is_done, initial_service};
@@ -18,6 +19,7 @@ ghost use Rattle.daide_driver.specs.Hub.{Removes, IsReportedOf};
 ghost use Rattle.daide_protocol.specs.Wires.{is_closed};
 ghost use Rattle.daide_protocol.specs.declared.ending.Ending.{Ending};
 ghost use Rattle.daide_protocol.specs.declared.account.Account.{Account};
+ghost use Rattle.daide_io.specs.declared.fault_field.FaultField.{FaultField};
 ghost use Rattle.daide_event_loop.specs.Serving.{IsServeCause, BreaksOff, GivesUp, arrived};
 
 use crate::admission_counters::AdmissionCounters;
@@ -33,9 +35,12 @@ use std::alloc::{AllocError, Allocator, Global};
 use std::marker::Model;
 use thiserror::Error;
 
-/// The most turns of a session that was at rest, in one visit. A short frame takes four: its header and its body are read,
-/// and both are written. The fifth finds nothing more to do. A session whose last turn made progress has one turn.
+/// The most turns of a calm session in one visit. A short frame takes four: its header and its body are read, and both are
+/// written. The fifth finds nothing more to do. A busy session has one turn.
 const MOST_TURNS: usize = 8;
+
+/// After this many turns of busy sessions the calm ones are visited again.
+const MOST_BUSY_TURNS: usize = 32;
 
 /// Why a run ended before all its bots were served.
 #[derive(Clone, Copy, Debug, PartialEq, Eq, Error)]
@@ -75,7 +80,7 @@ fn show_all<P: Ports, A: Allocator + Copy, S: System<P>>(
 {
     for i in 0..hub.count() {
         let ports = hub.ports(i);
-        let status = session_status(hub.session(i));
+        let status = session_status(hub.session(i), ports.bytes());
         system.show(ports.ports(), status);
     }
 }
@@ -187,6 +192,7 @@ fn finish_connect<P: Ports, A: Memory + Copy, S: System<P>>(
 }
 
 /// Makes one turn of the session at a place: the system begins it with the ports of that session.
+#[inline(always)]
 fn take_turn<P: Ports, A: Allocator + Copy, S: System<P>>(
     hub: &mut Hub<QuotaPorts<P>, A>,
     i: usize,
@@ -216,15 +222,24 @@ fn is_due<P: Ports, A: Allocator + Copy, S: System<P>>(
     ports.has_moved() || system.has_news(ports.ports())
 }
 
-/// Returns the most turns of a session in one visit, by whether its last turn made progress. So a session with bytes
-/// without end has one turn in a round, and a session at rest goes on until there is nothing to do.
-fn most_turns(has_moved: bool) -> usize
-    ensures { result ≡ most_turns has_moved }
+/// Returns the most turns of a session in one visit, by whether it is calm. So a session with bytes without end has one
+/// turn in a round, and a calm session goes on until there is nothing to do.
+fn most_turns(is_calm: bool) -> usize
+    ensures { result ≡ most_turns is_calm }
 {
-    if has_moved { 1 } else { MOST_TURNS }
+    if is_calm { MOST_TURNS } else { 1 }
+}
+
+/// Returns how many turns of busy sessions a visit with turns counts, by whether its session is calm.
+fn busy_turn(is_calm: bool) -> usize
+    ensures count { result ≡ (if not is_calm then 1 else 0) }
+    ensures one { result ≤ 1 }
+{
+    if is_calm { 0 } else { 1 }
 }
 
 /// Makes a turn of the session at a place, and then one more after each that made progress, at most `most`.
+#[inline(always)]
 fn take_turns<P: Ports, A: Allocator + Copy, S: System<P>>(
     hub: &mut Hub<QuotaPorts<P>, A>,
     i: usize,
@@ -251,6 +266,8 @@ struct Findings {
     has_moved: bool,
     /// Whether a session is closed after a turn.
     has_closed: bool,
+    /// The turns of busy sessions since the calm ones were visited.
+    busy_turns: usize,
 }
 
 impl Findings {
@@ -258,22 +275,33 @@ impl Findings {
     const NONE: Findings = Findings {
         has_moved: false,
         has_closed: false,
+        busy_turns: 0,
     };
 
-    /// Returns what these visits found, or others.
-    fn or(self, others: Findings) -> Findings
-        ensures moved { result.has_moved ≡ (self.has_moved || others.has_moved) }
-        ensures closed { result.has_closed ≡ (self.has_closed || others.has_closed) }
+    /// Returns what these visits found, or later ones, with the turns that the later ones count.
+    fn or(self, later: Findings) -> Findings
+        ensures moved { result.has_moved ≡ (self.has_moved || later.has_moved) }
+        ensures closed { result.has_closed ≡ (self.has_closed || later.has_closed) }
+        ensures turns { result.busy_turns ≡ later.busy_turns }
     {
         Findings {
-            has_moved: self.has_moved || others.has_moved,
-            has_closed: self.has_closed || others.has_closed,
+            has_moved: self.has_moved || later.has_moved,
+            has_closed: self.has_closed || later.has_closed,
+            busy_turns: later.busy_turns,
         }
+    }
+
+    /// Returns the same with this count of turns.
+    fn with_turns(self, busy_turns: usize) -> Findings
+        ensures { result ≡ record self { busy_turns = busy_turns } }
+    {
+        Findings { busy_turns, ..self }
     }
 }
 
 /// Makes turns of the session at a place if it is due one. Returns whether its last turn made progress, and whether it is
-/// closed after a turn.
+/// closed after a turn. The turn of a busy session is counted.
+#[inline(always)]
 fn visit<P: Ports, A: Allocator + Copy, S: System<P>>(
     hub: &mut Hub<QuotaPorts<P>, A>,
     i: usize,
@@ -281,24 +309,124 @@ fn visit<P: Ports, A: Allocator + Copy, S: System<P>>(
 ) -> Findings
     requires { i < length hub.old.places }
     ensures visits { (answers : List (SystemCall P)) × TransitsBy S.transition system.old answers system.new
-        × VisitsPlace P.transition hub.old i answers hub.new }
+        × (visit : VisitsPlace P.transition hub.old i answers hub.new) × (result.busy_turns ≡ busy_turns_in visit) }
+    ensures one { result.busy_turns ≤ 1 }
     ensures moved { has_moved_in (slice_get hub.new.places i) ≡ result.has_moved }
     ensures count { length hub.new.places ≡ length hub.old.places }
     ensures closed { result.has_closed ≡ false → AreOpen hub.old.places → AreOpen hub.new.places }
 {
-    let most = most_turns(hub.ports(i).has_moved());
     if !is_due(hub, i, system) {
         return Findings::NONE;
     }
-    take_turns(hub, i, most, system);
+    let is_calm = hub.ports(i).is_calm();
+    take_turns(hub, i, most_turns(is_calm), system);
     Findings {
         has_moved: hub.ports(i).has_moved(),
         has_closed: hub.session(i).is_closed(),
+        busy_turns: busy_turn(is_calm),
     }
 }
 
-/// Visits each session, in order of place. Returns whether the last turn of any session made progress, and whether any
-/// may be closed.
+/// Visits the session at a place if it is calm.
+fn visit_if_calm<P: Ports, A: Allocator + Copy, S: System<P>>(
+    hub: &mut Hub<QuotaPorts<P>, A>,
+    i: usize,
+    system: &mut S,
+) -> Findings
+    requires { i < length hub.old.places }
+    ensures visits { (answers : List (SystemCall P)) × TransitsBy S.transition system.old answers system.new
+        × VisitsIfCalm P.transition (is_calm_in (slice_get hub.old.places i)) hub.old i answers hub.new }
+    ensures moved { result.has_moved ≡ false → (n : ℕ) → AreStill n hub.old.places → AreStill n hub.new.places }
+    ensures count { length hub.new.places ≡ length hub.old.places }
+    ensures closed { result.has_closed ≡ false → AreOpen hub.old.places → AreOpen hub.new.places }
+{
+    if !hub.ports(i).is_calm() {
+        return Findings::NONE;
+    }
+    visit(hub, i, system)
+}
+
+/// Visits each calm session, in order of place.
+#[inline(never)]
+fn visit_calm<P: Ports, A: Allocator + Copy, S: System<P>>(
+    hub: &mut Hub<QuotaPorts<P>, A>,
+    system: &mut S,
+) -> Findings
+    ensures visits { (answers : List (SystemCall P)) × TransitsBy S.transition system.old answers system.new
+        × VisitsCalm P.transition (length hub.old.places) hub.old answers hub.new }
+    ensures moved { result.has_moved ≡ false → (n : ℕ) → AreStill n hub.old.places → AreStill n hub.new.places }
+    ensures max { hub.new.max ≡ hub.old.max }
+    ensures count { length hub.new.places ≡ length hub.old.places }
+    ensures closed { result.has_closed ≡ false → AreOpen hub.old.places → AreOpen hub.new.places }
+{
+    let mut found = Findings::NONE;
+    for i in 0..hub.count() {
+        found = found.or(visit_if_calm(hub, i, system));
+    }
+    found
+}
+
+/// Visits each calm session once busy ones had `MOST_BUSY_TURNS` turns, which then are counted anew.
+#[inline(always)]
+fn catch_up<P: Ports, A: Allocator + Copy, S: System<P>>(
+    busy_turns: usize,
+    hub: &mut Hub<QuotaPorts<P>, A>,
+    system: &mut S,
+) -> Findings
+    ensures visits { (answers : List (SystemCall P)) × TransitsBy S.transition system.old answers system.new
+        × VisitsCalmIf P.transition (nat_le 32 busy_turns) hub.old answers hub.new }
+    ensures turns { result.busy_turns ≡ turns_left_over busy_turns }
+    ensures few { result.busy_turns < 32 }
+    ensures moved { result.has_moved ≡ false → (n : ℕ) → AreStill n hub.old.places → AreStill n hub.new.places }
+    ensures max { hub.new.max ≡ hub.old.max }
+    ensures count { length hub.new.places ≡ length hub.old.places }
+    ensures closed { result.has_closed ≡ false → AreOpen hub.old.places → AreOpen hub.new.places }
+{
+    if busy_turns < MOST_BUSY_TURNS {
+        return Findings::NONE.with_turns(busy_turns);
+    }
+    visit_calm(hub, system).with_turns(0)
+}
+
+/// Visits the session at a place, and then each calm one if busy sessions had many turns. Returns what was found so far.
+#[inline(always)]
+fn visit_next<P: Ports, A: Allocator + Copy, S: System<P>>(
+    found: Findings,
+    hub: &mut Hub<QuotaPorts<P>, A>,
+    i: usize,
+    system: &mut S,
+) -> Findings
+    requires there { i < length hub.old.places }
+    requires few { found.busy_turns < 32 }
+    ensures visits { (answers : List (SystemCall P)) × TransitsBy S.transition system.old answers system.new
+        × VisitsNext P.transition found.busy_turns hub.old i answers hub.new result.busy_turns }
+    ensures few { result.busy_turns < 32 }
+    ensures moved { result.has_moved ≡ false →
+        (found.has_moved ≡ false) × (AreStill i hub.old.places → AreStill (i + 1) hub.new.places) }
+    ensures max { hub.new.max ≡ hub.old.max }
+    ensures count { length hub.new.places ≡ length hub.old.places }
+    ensures closed { result.has_closed ≡ false →
+        (found.has_closed ≡ false) × (AreOpen hub.old.places → AreOpen hub.new.places) }
+{
+    let one = visit(hub, i, system);
+    let again = catch_up(found.busy_turns + one.busy_turns, hub, system);
+    found.or(one).or(again)
+}
+
+/// Returns whether the last turn of a session made progress.
+fn has_any_moved<P: Ports, A: Allocator + Copy>(hub: &Hub<QuotaPorts<P>, A>) -> bool
+    ensures { result ≡ any_moved hub.now.places }
+{
+    for i in 0..hub.count() {
+        if hub.ports(i).has_moved() {
+            return true;
+        }
+    }
+    false
+}
+
+/// Visits each session, in order of place, and the calm ones again after each `MOST_BUSY_TURNS` turns of busy ones. Returns
+/// whether the last turn of any session made progress, and whether any may be closed.
 ///
 /// `closed`: no session was closed before, so only one that had a turn may be.
 fn turn_all<P: Ports, A: Allocator + Copy, S: System<P>>(
@@ -315,9 +443,12 @@ fn turn_all<P: Ports, A: Allocator + Copy, S: System<P>>(
 {
     let mut found = Findings::NONE;
     for i in 0..hub.count() {
-        found = found.or(visit(hub, i, system));
+        found = visit_next(found, hub, i, system);
     }
-    found
+    Findings {
+        has_moved: found.has_moved && has_any_moved(hub),
+        ..found
+    }
 }
 
 /// Returns true if an event is the first one reported beyond the quota.
@@ -345,12 +476,13 @@ fn cause_of(told: Option<Ending>, ending: Ending) -> Cause
 /// Retires ports with the end of their session. Before that, reports spent turns if the quota is exceeded.
 fn part_with<P: Ports, S: System<P>>(removed: Removed<QuotaPorts<P>>, system: &mut S)
     ensures { TransitsBy S.transition system.old (parting removed.ports
-        (end_by removed.ports.first_synthetic_end (Some removed.ending) removed.account)) system.new }
+        (end_by removed.ports.first_synthetic_end (Some removed.ending) removed.account removed.fault_field)) system.new }
 {
     let Removed {
         ports,
         account,
         ending,
+        fault_field,
     } = removed;
     if ports.is_spent() {
         system.tell(Notice::TurnsSpent);
@@ -358,6 +490,7 @@ fn part_with<P: Ports, S: System<P>>(removed: Removed<QuotaPorts<P>>, system: &m
     let end = SessionEnd {
         cause: cause_of(ports.first_synthetic_end(), ending),
         account,
+        fault_field,
     };
     system.retire(ports.into_ports(), end);
 }
@@ -372,10 +505,11 @@ fn retire_at<P: Ports, A: Allocator + Copy, S: System<P>>(
 )
     requires there { i < length hub.old.places }
     requires over { IfSome (slice_get hub.old.places i) (λ place. is_closed place.0 ≡ true) }
-    ensures { (ports : QuotaPortsView P) × (account : Account) × (ending : Ending) × Removes hub.old i ports hub.new
-        × IfSome (slice_get hub.old.places i) (λ place. IsReportedOf place.0 account ending)
+    ensures { (ports : QuotaPortsView P) × (account : Account) × (ending : Ending) × (field : Option FaultField)
+        × Removes hub.old i ports hub.new
+        × IfSome (slice_get hub.old.places i) (λ place. IsReportedOf place.0 account ending field)
         × TransitsBy S.transition system.old
-        (parting ports (end_by ports.first_synthetic_end (Some ending) account)) system.new }
+        (parting ports (end_by ports.first_synthetic_end (Some ending) account field)) system.new }
 {
     match hub.remove_over(i) {
         Some(session) => part_with(session, system),
@@ -476,10 +610,10 @@ impl<P: Ports, A: Memory + Copy> Service<P, A> {
     }
 
     /// Makes one round. It calls the system to begin the round, heeds its orders, accepts at most one bot, and takes up
-    /// at most one connect. Then it visits each session, in order of place: one that was at rest and for which there is
-    /// news has a turn, and one more after each that made progress, at most eight; one whose last turn made progress has
-    /// one. Closed sessions are taken out, from the last place to the first. If nothing moved in all this and the run is
-    /// not done, it waits once.
+    /// at most one connect. Then it visits each session, in order of place: a calm one for which there is news has a turn,
+    /// and one more after each that made progress, at most eight; a busy one that is due a turn has one. After each 32
+    /// turns of busy sessions it visits each calm one again before it goes on. Closed sessions are taken out, from the
+    /// last place to the first. If nothing moved in all this and the run is not done, it waits once.
     ///
     /// `round`: if the orders require it, the status of each session is shown once before any other call, in order of
     /// place (`shows`). If they stop accepting, the bots accepted so far are all bots of the run, in this round and from
@@ -488,8 +622,9 @@ impl<P: Ports, A: Memory + Copy> Service<P, A> {
     /// A session is due a turn if its last turn made progress, if it is new, or else if the system has news for its
     /// ports (`VisitsPlace`, `TakesTurns`). The system begins each turn with the session's ports (`begin_turn`), and the
     /// turn is made by the clauses of `turn` (`TakesTurn`). So a short frame passes in one visit, and a session with bytes
-    /// without end has one turn in a round, as all others like it. Exactly the sessions that are over and for which nothing
-    /// waits are taken out.
+    /// without end has one turn in a round, as all others like it. A session is calm if its last turn made no progress and
+    /// few turns did before it (`is_calm`). If there is news for it, it waits for at most 32 turns of busy sessions
+    /// (`VisitsNext`). Exactly the sessions that are over and for which nothing waits are taken out.
     /// It waits if and only if nothing moved and the run is not done. Then it watches the ports of each session (`watch`).
     ///
     /// `refused`: its only fault is no memory for a session.

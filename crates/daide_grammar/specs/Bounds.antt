@@ -5,6 +5,16 @@ use Rattle.std.specs.Prelude.{ℕ, ◌+◌, ◌*◌, Bool, if◌then◌else◌}
 abbrev pub entries_bound : ℕ → ℕ
 entries_bound brackets = 8 * brackets + 16
 
+-- the maximum height of a reachable stack for a number of open brackets, by the entries of the table: five for each of
+-- them, plus eight
+abbrev pub height_bound : ℕ → ℕ
+height_bound brackets = 5 * brackets + 8
+
+-- The number of cells that a stack needs for a depth limit. Eight cells are written at once, from the top of a stack
+-- with one open bracket fewer.
+abbrev pub cells_bound : ℕ → ℕ
+cells_bound max_depth = 5 * max_depth + 10
+
 -- the maximum number of table steps for one token, and for the end of a message
 abbrev pub most_steps : ℕ
 most_steps = 4

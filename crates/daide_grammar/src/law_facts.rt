@@ -79,14 +79,14 @@ fn moves_at_values()
 }
 
 /// TME of a bot leaves a stack that can arise. So do its bracket, its number and the other bracket, or none of these.
-/// With 254 open brackets a stack has at most 2,048 entries, and each token needs few look-ups.
+/// With 254 open brackets a stack has at most 1,278 entries, and each token needs few look-ups.
 fn stacks_at_values()
     ensures begins { IsLawful table_answer (Client L60 ∷ []) 0 }
     ensures take { IsLawful table_answer (Client L60 ∷ []) 0 → IsLawful table_answer (MaybeNumberGroup ∷ []) 0 }
     ensures bra { IsLawful table_answer (MaybeNumberGroup ∷ []) 0 → IsLawful table_answer (OneNumber ∷ Closing ∷ []) 1 }
     ensures ket { IsLawful table_answer (Closing ∷ []) 1 → IsLawful table_answer [] 0 }
     ensures skip { IsLawful table_answer (MaybeNumberGroup ∷ []) 0 → IsLawful table_answer [] 0 }
-    ensures entries { (stack : List Sym) → IsLawful table_answer stack 254 → length stack ≤ 2048 }
+    ensures entries { (stack : List Sym) → IsLawful table_answer stack 254 → length stack ≤ 1278 }
     ensures rests { (class : Class) (rest : List Sym) → table_answer (Press L60) class ≡ Take rest → length rest ≤ 12 }
     ensures skips { (stack : List Sym) → IsLawful table_answer stack 1 → skips_before table_answer Bra stack ≤ 2 }
     ensures ends { (stack : List Sym) → IsLawful table_answer stack 0 → ends_asked may_end_of stack ≤ 4 }

@@ -15,7 +15,7 @@ ghost use Rattle.daide_grammar.specs.Matches.{Matches};
 ghost use Rattle.daide_grammar.specs.Balanced.{IsBalanced};
 ghost use Rattle.daide_grammar.specs.Paired.{IsPaired, begins_with_prn};
 ghost use Rattle.daide_grammar.specs.Depth.{depth_of};
-ghost use Rattle.daide_grammar.specs.Bounds.{entries_bound, most_steps};
+ghost use Rattle.daide_grammar.specs.Bounds.{height_bound, most_steps};
 ghost use Rattle.daide_grammar.specs.Table.Answers.{Take, Skip, Stop};
 ghost use Rattle.daide_grammar.specs.Table.Symbols.{entries, may_end_of, start_symbol_of, table_answer};
 ghost use Rattle.daide_grammar.specs.Table.Symbols.{is_of_kind};
@@ -123,10 +123,10 @@ pub fn stacks_stay_lawful()
         (fewer : ℕ) × (open_brackets ≡ fewer + 1) × IsLawful table_answer (rest ++ below) fewer }
 {}
 
-/// A lawful stack has at most eight entries for each open bracket, plus sixteen. A rest has at most twelve symbols.
+/// A lawful stack has at most five entries for each open bracket, plus eight. A rest has at most twelve symbols.
 pub fn stack_is_bounded()
     ensures entries { (stack : List Sym) (open_brackets : ℕ) → IsLawful table_answer stack open_brackets →
-        length stack ≤ entries_bound open_brackets }
+        length stack ≤ height_bound open_brackets }
     ensures rests { (sym : Sym) (class : Class) (rest : List Sym) →
         table_answer sym class ≡ Take rest → length rest ≤ 12 }
 {}

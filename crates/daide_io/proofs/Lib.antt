@@ -1,1 +1,2 @@
+mod FaultFieldFacts
 pub mod TraceLemmas

@@ -3,6 +3,7 @@ use Rattle.std.specs.Prelude.{◌≡◌, Bool, false, List, [], ◌∷◌, lengt
 use Rattle.daide_frame.specs.declared.side.Side.TheVariants.{Bot, Server}
 use Rattle.daide_protocol.specs.Machine.{level_in, plain_phase}
 use Rattle.daide_protocol.specs.Wires.{SessionView, queued, sent_bytes}
+use Rattle.daide_io.specs.declared.byte_counts.ByteCounts.{ByteCounts}
 use Rattle.daide_io.specs.declared.system.Connect.{Connect}
 use Rattle.daide_io.specs.declared.system.Notice.{Notice}
 use Rattle.daide_io.specs.declared.system.Orders.{Orders}
@@ -13,14 +14,16 @@ use Rattle.daide_io.specs.declared.system.SessionStatus.{SessionStatus}
 abbrev pub no_orders : Orders
 no_orders = record { stops_accepting = false; shows_sessions = false }
 
--- the status of a session: its phase, its level, its counts by side, and how many bytes are queued for each side
-abbrev pub status_of : SessionView → SessionStatus
-status_of session = record {
+-- the status of a session: its phase, its level, its counts by side, and how many bytes are queued for each side; and the
+-- bytes that its ports delivered and took
+abbrev pub status_of : SessionView → ByteCounts → SessionStatus
+status_of session bytes = record {
   phase = plain_phase session.state.phase;
   level = level_in session.state.phase;
   account = session.account;
   queued_to_bot = length (sent_bytes (queued session Bot));
   queued_to_server = length (sent_bytes (queued session Server));
+  bytes = bytes;
 }
 
 -- One call with its result: the beginning of a round, with the operator's orders; the ports of a session whose status is

@@ -8,13 +8,17 @@
 //! system, `specs/Network` those of a network, and `specs/Streams` those of a stream.
 #![tactic(auto)]
 
+pub mod byte_counts;
 pub mod duplex;
+pub mod fault_field;
 pub mod network;
 pub mod outcome;
 pub mod ports;
 pub mod system;
 
+pub use byte_counts::ByteCounts;
 pub use duplex::Duplex;
+pub use fault_field::FaultField;
 pub use network::{ConnectStatus, Network, SocketEvent};
 pub use outcome::IoResult;
 pub use ports::{Ports, Pull, Put};

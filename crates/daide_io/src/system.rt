@@ -12,6 +12,8 @@ ghost use Rattle.daide_io.specs.Ports.{TurnBegins};
 ghost use Rattle.daide_io.specs.System.{SystemCall, Begins, Shows, ReportsNews, BeginsTurn, Watches, Accepts, Connects};
 ghost use Rattle.daide_io.specs.System.{Retires, Notifies, Waits};
 
+use crate::byte_counts::ByteCounts;
+use crate::fault_field::FaultField;
 use crate::ports::Ports;
 use daide_grammar::level::Level;
 use daide_protocol::account::Account;
@@ -57,6 +59,8 @@ pub struct SessionEnd {
     pub cause: Cause,
     /// Its counts by side, modulo 2^64, and the level of press that was last in force.
     pub account: Account,
+    /// The field that its fault is about, if a fault ended it.
+    pub fault_field: Option<FaultField>,
 }
 
 /// The operator's orders to a run when a round begins.
@@ -88,6 +92,8 @@ pub struct SessionStatus {
     pub queued_to_bot: usize,
     /// The bytes that are queued for the server.
     pub queued_to_server: usize,
+    /// The bytes that its ports delivered and took so far, each number modulo 2^64.
+    pub bytes: ByteCounts,
 }
 
 /// The environment of a run. Only `wait` blocks.

@@ -1,11 +1,11 @@
 -- The lines of a log, as they are read.
 use Rattle.std.proofs.Common.{◌≡◌, ℕ, zero, suc, ◌+◌, ◌-◌, ◌<◌, ◌≤◌, Bool, true, false, List, [], ◌∷◌, ◌++◌, length, take, drop}
 use Rattle.std.proofs.Common.{Option, Some, None, Result, Ok, Err, refl, sym, ap, ◌∙◌, subst, arith, ◌⊎◌, inl, inr, append-nil, append_assoc}
-use Rattle.std.proofs.Common.{◌==◌, length-append, length-drop, length-take}
+use Rattle.std.proofs.Common.{◌==◌, ◌≢◌, slice_index, add-one, length-append, length-drop, take_all}
 use Rattle.std.proofs.lemmas.List.{drop-take, drop-drop, take-append-drop, take-take, length-take-le}
-use Rattle.std.proofs.lemmas.Bool.{eqb-true}
+use Rattle.std.proofs.lemmas.Bool.{eqb-true, eq-eqb}
+use Rattle.memchr.specs.Find.{IsFirstByte, is_byte}
 use Rattle.std.specs.Prelude.{IfSome, IfOk}
-use Rattle.std.proofs.Math.Seq.{take-append-add}
 use Rattle.std.specs.Io.KnownBytes.{Consumes, Keeps}
 use Rattle.daide_log_lines.specs.Reader.{Reader, LogRead, AddsReads, all_came, AtEach, Gives}
 use Rattle.daide_log_lines.specs.LogLine.{IsUnbroken, MayBeginLine, longest_line, most_lines, without_cr}
@@ -21,13 +21,33 @@ pub unbroken_append : (a b : List ℕ) → IsUnbroken a → IsUnbroken b → IsU
 unbroken_append [] b h k = k
 unbroken_append (x ∷ a) b h k = (h.0, unbroken_append a b h.1 k)
 
--- the first n + k items are the first n, followed by the first k of the rest
-pub take-further : (xs : List ℕ) (n k : ℕ) → n ≤ length xs → take (n + k) xs ≡ take n xs ++ take k (drop n xs)
-take-further xs n k fits =
-    let size : length (take n xs) ≡ n = omega (arith, length-take n xs) in
-    ap (λ (l : List ℕ). take (n + k) l) (sym (take-append-drop n xs))
-    ∙ ap (λ (m : ℕ). take (m + k) (take n xs ++ drop n xs)) (sym size)
-    ∙ take-append-add (take n xs) (drop n xs) k
+-- no byte before index n is a line feed
+pub unbroken_before : (bytes : List ℕ) (n : ℕ) → n ≤ length bytes →
+    ((k : ℕ) → k < n → slice_index bytes k ≢ 10) → IsUnbroken (take n bytes)
+unbroken_before bytes zero fits none = tt
+unbroken_before [] (suc n) fits none = tt
+unbroken_before (b ∷ bytes) (suc n) fits none =
+    (none 0 (omega arith), unbroken_before bytes n (omega arith) (λ k less. none (suc k) (omega arith)))
+
+-- a list around the byte at index n
+around : (bytes : List ℕ) (n : ℕ) → n < length bytes → bytes ≡ take n bytes ++ slice_index bytes n ∷ drop (suc n) bytes
+around [] n fits = elim fits [ ]
+around (b ∷ bytes) zero fits = refl
+around (b ∷ bytes) (suc n) fits = ap (λ l. b ∷ l) (around bytes n (omega arith))
+
+-- the first line feed that a search finds ends the line
+pub first_line_feed : (bytes : List ℕ) (found : Option ℕ) → IsFirstByte (is_byte 10) bytes found → IsLineEnd bytes found
+first_line_feed bytes None none =
+    subst IsUnbroken (take_all (length bytes) bytes (omega arith))
+    (unbroken_before bytes (length bytes) (omega arith)
+    (λ k less is. none k (omega arith) less (eq-eqb _ _ is)))
+first_line_feed bytes (Some n) first = (
+  first.0.high,
+  unbroken_before bytes n (omega (arith, first.0.high))
+      (λ k less is. first.0.before k (omega arith) less (eq-eqb _ _ is)),
+  around bytes n first.0.high ∙ ap (λ b. take n bytes ++ b ∷ drop (suc n) bytes) (eqb-true _ _ first.1)
+      ∙ ap (λ k. take n bytes ++ 10 ∷ drop k bytes) (sym (add-one n)),
+)
 
 pub consumes_more : (old now new : Option (List ℕ)) (a b : List ℕ) → Consumes old now a → Consumes now new b →
     Consumes old new (a ++ b)

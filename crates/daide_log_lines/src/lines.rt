@@ -1,8 +1,8 @@
 //! The lines of a log, one at a time.
 
-ghost use Rattle.std.specs.Prelude.{◌≡◌, ◌≢◌, ◌+◌, ◌≤◌, [], drop, length, take, true, OnOk, IfErr, IfOk, IfSome};
+ghost use Rattle.std.specs.Prelude.{◌≡◌, ◌≢◌, ◌≤◌, [], OnOk, IfErr, IfOk, IfSome};
 ghost use Rattle.std.specs.Io.KnownBytes.{Keeps};
-ghost use Rattle.daide_log_lines.specs.LogLine.{IsUnbroken, most_lines, without_cr as left_of_cr};
+ghost use Rattle.daide_log_lines.specs.LogLine.{most_lines, without_cr as left_of_cr};
 ghost use Rattle.daide_log_lines.specs.Lines.{IsFound, IsHeldLine, IsLineEnd, Scans, HasMore, ReadsOn};
 ghost use Rattle.daide_log_lines.specs.Input.{IsCopied, IsSameReader, LiesIn, line_in, rest_after, rest_in};
 ghost use Rattle.daide_log_lines.specs.Output.{IsSameWriter, all_of};
@@ -13,13 +13,11 @@ use crate::input::Input;
 use crate::output::Output;
 use crate::reader::LogReader;
 use crate::text::{TOO_LONG, Text};
+use memchr::memchr;
 use std::io::Write;
 
 /// The most lines of a log.
 pub const MOST_LINES: u32 = 1_000_000;
-
-/// The number of bytes that are tested together.
-const TOGETHER: usize = 64;
 
 /// The next line of a log, or its end.
 #[derive(Clone, Copy)]
@@ -34,115 +32,11 @@ pub enum LineEnd {
     End,
 }
 
-/// Returns whether none of the `count` bytes from index `first` on is a line feed. Tests all of them, without a branch.
-#[inline(always)]
-fn are_unbroken(bytes: &[u8], first: usize, count: usize) -> bool
-    requires { first + count ≤ length bytes.now }
-    ensures { result ≡ true → IsUnbroken (take count (drop first bytes.now)) }
-{
-    let mut unbroken = true;
-    for k in 0..count {
-        unbroken &= bytes[first + k] != b'\n';
-    }
-    unbroken
-}
-
-/// Returns `first + count` if none of the `count` bytes from index `first` on is a line feed, else `first`.
-#[inline(always)]
-fn past_unbroken(bytes: &[u8], first: usize, count: usize) -> usize
-    requires within { first + count ≤ length bytes.now }
-    requires so_far { IsUnbroken (take first bytes.now) }
-    ensures within { result ≤ first + count }
-    ensures unbroken { IsUnbroken (take result bytes.now) }
-{
-    if are_unbroken(bytes, first, count) {
-        return first + count;
-    }
-    first
-}
-
-/// Returns `first + count` if there are `count` bytes from index `first` on and none is a line feed, else `first`.
-#[inline(always)]
-fn past_unbroken_if_held(bytes: &[u8], first: usize, count: usize) -> usize
-    requires within { first ≤ length bytes.now }
-    requires so_far { IsUnbroken (take first bytes.now) }
-    ensures within { result ≤ length bytes.now }
-    ensures unbroken { IsUnbroken (take result bytes.now) }
-{
-    if bytes.len() - first < count {
-        return first;
-    }
-    past_unbroken(bytes, first, count)
-}
-
-/// Returns a lower bound of the number of bytes before the first line feed: the total length of the leading blocks of
-/// 64 bytes without one.
-#[inline(always)]
-fn unbroken_blocks(bytes: &[u8]) -> usize
-    ensures within { result ≤ length bytes.now }
-    ensures unbroken { IsUnbroken (take result bytes.now) }
-{
-    let mut i = 0;
-    while bytes.len() - i >= TOGETHER {
-        if !are_unbroken(bytes, i, TOGETHER) {
-            return i;
-        }
-        i += TOGETHER;
-    }
-    i
-}
-
-/// Returns the number of bytes before the first line feed, or up to three less, if it is among the 64 bytes from index
-/// `first` on. Tests 32 bytes together, then 16, 8 and 4.
-#[inline(always)]
-fn unbroken_in_block(bytes: &[u8], first: usize) -> usize
-    requires within { first + 64 ≤ length bytes.now }
-    requires so_far { IsUnbroken (take first bytes.now) }
-    ensures within { result ≤ length bytes.now }
-    ensures unbroken { IsUnbroken (take result bytes.now) }
-{
-    let thirty_two = past_unbroken(bytes, first, 32);
-    let sixteen = past_unbroken(bytes, thirty_two, 16);
-    let eight = past_unbroken(bytes, sixteen, 8);
-    past_unbroken(bytes, eight, 4)
-}
-
-/// Returns the number of bytes before the first line feed, or up to three less, if fewer than 64 bytes follow index
-/// `first`.
-fn unbroken_in_rest(bytes: &[u8], first: usize) -> usize
-    requires within { first ≤ length bytes.now }
-    requires so_far { IsUnbroken (take first bytes.now) }
-    ensures within { result ≤ length bytes.now }
-    ensures unbroken { IsUnbroken (take result bytes.now) }
-{
-    let thirty_two = past_unbroken_if_held(bytes, first, 32);
-    let sixteen = past_unbroken_if_held(bytes, thirty_two, 16);
-    let eight = past_unbroken_if_held(bytes, sixteen, 8);
-    past_unbroken_if_held(bytes, eight, 4)
-}
-
-/// Returns the number of bytes before the first line feed, or up to three less.
-fn unbroken_front(bytes: &[u8]) -> usize
-    ensures within { result ≤ length bytes.now }
-    ensures unbroken { IsUnbroken (take result bytes.now) }
-{
-    let blocks = unbroken_blocks(bytes);
-    if bytes.len() - blocks >= TOGETHER {
-        return unbroken_in_block(bytes, blocks);
-    }
-    unbroken_in_rest(bytes, blocks)
-}
-
 /// Returns the index of the first line feed.
 fn line_end(bytes: &[u8]) -> Option<usize>
     ensures { IsLineEnd bytes.now result }
 {
-    for i in unbroken_front(bytes)..bytes.len() {
-        if bytes[i] == b'\n' {
-            return Some(i);
-        }
-    }
-    None
+    memchr(b'\n', bytes)
 }
 
 /// Returns the length of the next line, after `count` lines, if the whole line and its line feed are in the block. Such

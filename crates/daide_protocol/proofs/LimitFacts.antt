@@ -1,8 +1,9 @@
 -- The limits that an operator may set, at their ends and over the whole range around them. Worked out from the
 -- documents, so that another number in a definition does not check.
-use Rattle.std.proofs.Common.{◌≡◌, ℕ, zero, suc, ◌+◌, ◌*◌, List, [], ◌++◌, map, replicate, refl}
+use Rattle.std.proofs.Common.{◌≡◌, ℕ, zero, suc, ◌+◌, List, [], ◌++◌, map, replicate, refl}
 use Rattle.std.specs.Prelude.{Result, Ok, Err}
 use Rattle.std.specs.List.{range_with_len}
+use Rattle.daide_grammar.specs.Bounds.{cells_bound}
 use Rattle.daide_protocol.specs.Bounds.{greatest_depth, longest_body}
 use Rattle.daide_protocol.specs.declared.config.Config.{Config}
 use Rattle.daide_protocol.specs.declared.config.ConfigError.{ConfigError}
@@ -25,9 +26,9 @@ shallowest_is_right = refl
 no_shallower : config_fault (wide 3) ≡ Err Depth
 no_shallower = refl
 
--- eight entries for each open bracket, plus sixteen
-entries_of_the_greatest_depth : 8 * greatest_depth + 16 ≡ 2048
-entries_of_the_greatest_depth = refl
+-- five cells for each open bracket, plus ten
+cells_of_the_greatest_depth : cells_bound greatest_depth ≡ 1280
+cells_of_the_greatest_depth = refl
 
 -- ---- over their ranges
 

@@ -15,8 +15,8 @@ pub const MAX_DEPTH: u16 = 254;
 /// The minimum of `Config::max_depth`.
 pub const MIN_DEPTH: u16 = 4;
 
-/// The capacity of a reader's stack: eight entries for each open bracket, plus sixteen.
-pub const STACK_ENTRIES: usize = 8 * MAX_DEPTH as usize + 16;
+/// The capacity of a reader's stack: five cells for each open bracket, plus ten.
+pub const STACK_ENTRIES: usize = 5 * MAX_DEPTH as usize + 10;
 
 /// The maximum number of sessions at a time.
 pub const MAX_SESSIONS: usize = 256;

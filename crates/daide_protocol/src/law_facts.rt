@@ -34,7 +34,7 @@ fn constants_at_values()
     ensures least_body { MIN_BODY ≡ 512 }
     ensures depth { MAX_DEPTH ≡ 254 }
     ensures least_depth { MIN_DEPTH ≡ 4 }
-    ensures entries { STACK_ENTRIES ≡ 2048 }
+    ensures entries { STACK_ENTRIES ≡ 1280 }
     ensures sessions { MAX_SESSIONS ≡ 256 }
 {
     laws::words_are_those_of_the_definitions();

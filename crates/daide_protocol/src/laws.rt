@@ -3,7 +3,7 @@
 ghost use Rattle.std.specs.Prelude.{◌≡◌, ◌↔◌, true, ℕ, List, []};
 ghost use Rattle.daide_grammar.specs.declared.level.Level.{Level};
 ghost use Rattle.daide_grammar.specs.declared.side.Side2.{Side2};
-ghost use Rattle.daide_grammar.specs.Bounds.{entries_bound};
+ghost use Rattle.daide_grammar.specs.Bounds.{cells_bound};
 ghost use Rattle.daide_grammar.specs.SideMessages.{IsMessage, IsMessageOver};
 ghost use Rattle.daide_reader.specs.declared.verdict.Verdict.{Verdict};
 ghost use Rattle.daide_reader.specs.ViablePrefix.{IsMessageOf};
@@ -47,7 +47,7 @@ pub fn bounds_are_those_of_the_definitions()
     ensures least_body { MIN_BODY ≡ least_body }
     ensures depth { MAX_DEPTH ≡ greatest_depth }
     ensures least_depth { MIN_DEPTH ≡ least_depth }
-    ensures entries { STACK_ENTRIES ≡ entries_bound greatest_depth }
+    ensures entries { STACK_ENTRIES ≡ cells_bound greatest_depth }
     ensures sessions { MAX_SESSIONS ≡ most_sessions }
 {}
 

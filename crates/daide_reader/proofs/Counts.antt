@@ -46,11 +46,19 @@ from_next read next from = omega arith
 pub next_within : (next end : ℕ) → next < end → next + 1 ≤ end
 next_within next end less = omega arith
 
+-- a run is no longer than the brackets that may be opened
+pub start_shallow : (unclosed max_depth size read end : ℕ) → end ≡ min (size / 2) (read + (max_depth - unclosed))
+    → unclosed < max_depth → unclosed + (end - read) ≤ max_depth
+start_shallow unclosed max_depth size read end is deep = omega arith
+
+pub not_last : (next end : ℕ) → next < end → next + 1 ≢ end → next + 1 < end
+not_last next end less other = omega arith
+
 pub all_of : (next end : ℕ) → next ≤ end → end ≤ next → next ≡ end
 all_of next end upto all = omega arith
 
 -- the number of brackets that may be open is small
-pub count_low : (opened max_depth size : ℕ) → opened ≤ max_depth → size ≤ most_symbols → 8 * max_depth + 16 ≤ size
+pub count_low : (opened max_depth size : ℕ) → opened ≤ max_depth → size ≤ most_symbols → 5 * max_depth + 10 ≤ size
     → opened + 1 < below_zero
 count_low opened max_depth size deep small at_depth_limit = omega arith
 
@@ -99,7 +107,7 @@ module _ (left size : ℕ) (some : left ≢ 0) (inside : left ≤ size) where
   rest_inside = omega arith
 
   -- the stack as a list has the same length
-  pub room_on_top : (cells : List Sym) → left ≤ length cells → length (reverse (take left cells)) + 8 ≤ size
+  pub room_on_top : (cells : List Sym) → left ≤ length cells → length (reverse (take left cells)) + 7 ≤ size
       → left - 1 + 8 ≤ size
   room_on_top cells long room =
       let same : length (reverse (take left cells)) ≡ left =

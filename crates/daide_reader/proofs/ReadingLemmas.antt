@@ -55,7 +55,7 @@ module _ {T : Type 0} (table : Ghosts T)
     (words : Words) where
   -- the stack after a token fits
   pub room_more : (size t n max_depth : ℕ) (stack : List Sym) → table.lawful words stack n → n ≤ max_depth
-      → 8 * max_depth + 16 ≤ size → (is_bra t ≡ true → n ≢ max_depth)
+      → 5 * max_depth + 10 ≤ size → (is_bra t ≡ true → n ≢ max_depth)
       → IfSome (stack_after (table.moves words) (table.class_of words t) stack) (λ after. length after ≤ size)
   room_more size t n max_depth stack ok deep few fits =
       go (stack_after (table.moves words) (table.class_of words t) stack) refl
@@ -98,7 +98,7 @@ lone_symbol first start_symbol empty items none put is =
 
 -- a reader at the start of a message satisfies the invariant
 pub steady_start : (lawful : List Sym → ℕ → Type 0) (size max_depth : ℕ) (first : Sym) (stack : List Sym) (o : Outline)
-    → size ≤ 4096 → 8 * max_depth + 16 ≤ size → stack ≡ first ∷ [] → o.tokens ≡ 0 → o.is_prn ≡ false →
+    → size ≤ 4096 → 5 * max_depth + 10 ≤ size → stack ≡ first ∷ [] → o.tokens ≡ 0 → o.is_prn ≡ false →
     lawful (first ∷ []) 0
     → IsSteady lawful size max_depth stack o (Some 0) None
 steady_start lawful size max_depth first stack o small at_depth_limit alone none plain ok = record {
@@ -307,7 +307,7 @@ four_ends may_end lawful few size max_depth stack o u place steady not_prn none 
 
 -- the depth limit bounds the stack
 pub entries_at_most : (lawful : List Sym → ℕ → Type 0)
-    → ((stack : List Sym) (k : ℕ) → lawful stack k → length stack ≤ 8 * k + 16)
+    → ((stack : List Sym) (k : ℕ) → lawful stack k → length stack ≤ 5 * k + 8)
     → (size max_depth : ℕ) (stack : List Sym) (o : Outline) (u place : Option ℕ)
     → IsSteady lawful size max_depth stack o u place → length stack ≤ 8 * max_depth + 16
 entries_at_most lawful few size max_depth stack o u place steady = go o.is_prn place refl refl
@@ -323,7 +323,7 @@ entries_at_most lawful few size max_depth stack o u place steady = go o.is_prn p
 
 -- the open brackets bound the stack
 pub entries_few : (lawful : List Sym → ℕ → Type 0)
-    → ((stack : List Sym) (k : ℕ) → lawful stack k → length stack ≤ 8 * k + 16)
+    → ((stack : List Sym) (k : ℕ) → lawful stack k → length stack ≤ 5 * k + 8)
     → (size max_depth : ℕ) (stack : List Sym) (o : Outline) (u place : Option ℕ)
     → IsSteady lawful size max_depth stack o u place → length stack ≤ 8 * unwrap_or u 0 + 16
 entries_few lawful few size max_depth stack o u place steady = go o.is_prn place refl refl
@@ -333,7 +333,8 @@ entries_few lawful few size max_depth stack o u place steady = go o.is_prn place
     go false (Some i) is at = rw (steady.none_left (rw at refl)) (omega arith)
     go false None is at =
         let here = steady.lawful_stack is at in
-        rw (here.1) (few stack here.0 here.3)
+        let held = few stack here.0 here.3 in
+        rw (here.1) (omega (arith, held))
 
 module _ {T : Type 0} (table : Ghosts T) (words : Words) (first : Sym) (max_depth : ℕ) where
   -- a reader that was finished: only the table's count changed

@@ -1,6 +1,6 @@
 -- A reader in locals, inside a token of a body.
 use Rattle.std.proofs.Common.{◌≡◌, ◌≢◌, ℕ, zero, suc, ◌+◌, ◌-◌, ◌*◌, ◌%◌, ◌^◌, ◌≤◌, ◌<◌, Bool, true, false, ◌⊎◌, inr}
-use Rattle.std.proofs.Common.{List, [], ◌∷◌, ◌++◌, length, take, drop, Option, Some, None, IfSome, nat_eq}
+use Rattle.std.proofs.Common.{List, [], ◌∷◌, ◌++◌, length, take, drop, reverse, Option, Some, None, IfSome, nat_eq}
 use Rattle.std.proofs.Common.{if◌then◌else◌, refl, sym, ap, ◌∙◌, subst, arith, append_assoc}
 use Rattle.std.proofs.lemmas.Bool.Decides.{nat_tests}
 use Rattle.std.specs.Option.{unwrap_or}
@@ -23,6 +23,7 @@ use Rattle.daide_reader.specs.Slice.{ReadsTo, SliceState, place_behind}
 use Rattle.daide_reader.specs.Bounds.{below_zero}
 use Rattle.daide_reader.specs.Stack.{open_count, steps_at}
 use Rattle.daide_grammar.proofs.BracketSteps.{step_by_class}
+use Rattle.daide_reader.proofs.Counts.{none_more}
 use Rattle.daide_reader.proofs.CellLemmas.{after_skipped, after_taken, steps_skipped, steps_taken}
 use Rattle.daide_reader.proofs.ReadingLemmas.{counts_more, few_steps, raised_by, raised_more, raised_none, room_more}
 use Rattle.daide_reader.proofs.SliceLemmas.{count_is, counts_up, front_not_prn_behind, length_behind, open_told}
@@ -381,14 +382,14 @@ module _ {T : Type 0} (table : Ghosts T)
 
   -- inside a token there is room, as there was at its start
   pub low_enough : (i opened end size : ℕ) (now : SliceState T) → MidToken i opened end now → opened < max_depth
-      → 8 * max_depth + 16 ≤ size → length now.stack + 8 ≤ size
+      → 5 * max_depth + 10 ≤ size → length now.stack + 7 ≤ size
   low_enough i opened end size now mid less at_depth_limit =
       let few = (laws (table.words mid.start.table)).few_entries mid.start.stack opened mid.at.lawful in
       let lower = mid.lower in
       omega (arith, few, lower, less, at_depth_limit)
 
   pub room_for : (i opened end size t : ℕ) (now : SliceState T) → MidToken i opened end now → opened < max_depth
-      → 8 * max_depth + 16 ≤ size
+      → 5 * max_depth + 10 ≤ size
       → drop i (tokens_of body) ≡ t ∷ drop (i + 1) (tokens_of body)
       → IfSome (after_at now t now.stack) (λ after. length after ≤ size)
   room_for i opened end size t now mid less at_depth_limit here =
@@ -485,3 +486,36 @@ module _ {T : Type 0} (table : Ghosts T)
       ≡ due_at now t now.stack
   due_same t now asked stack same is =
       ap (λ (w : Words). steps_at (table.moves w) (table.class_of w t) stack) same ∙ ap (due_at now t) is
+
+  -- all tokens of a run were taken
+  pub run_whole : (i opened end tokens : ℕ) (after place : Option ℕ) (now new : SliceState T)
+      → MidToken i opened end now → i ≡ end → tokens ≡ end → after ≡ Some opened → place ≡ None → new ≡ now
+      → ReadsTo table max_depth body read unclosed old tokens after place new
+  run_whole i opened end tokens after place now new mid last all opens none same =
+      rw (all ∙ sym last, opens, none, same)
+      (reads_all i opened now (ended i opened end now last mid))
+
+  -- the stack is empty, so nothing takes the token
+  pub rejects_next : (i opened end t left step tokens count : ℕ) (known : Class) (after place : Option ℕ) (asked : T)
+      (cells : List Sym)
+      → MidToken i opened end (record { table = asked; stack = reverse (take left cells) }) → left ≡ 0
+      → i ≤ length (tokens_of body) → take (i + 1) (tokens_of body) ≡ take i (tokens_of body) ++ t ∷ []
+      → drop i (tokens_of body) ≡ t ∷ drop (i + 1) (tokens_of body)
+      → known ≡ class_of t → opened + 1 < below_zero → step ≡ bracket_step known
+      → tokens ≡ i + 1 → after ≡ open_count ((opened + step) % 65536) → place ≡ Some i → count ≡ 0
+      → ReadsTo table max_depth body read unclosed old tokens after place
+      (record { table = asked; stack = reverse (take count cells) })
+  rejects_next i opened end t left step tokens count known after place asked cells mid empty inside front here class low
+      is size shut place_is none =
+      let now : SliceState T = record { table = asked; stack = reverse (take left cells) } in
+      let new : SliceState T = record { table = asked; stack = reverse (take count cells) } in
+      let moves = table.moves (table.words asked) in
+      let of_token = table.class_of (table.words asked) t in
+      let due : steps_at moves of_token now.stack ≡ 0 =
+      ap (λ (k : ℕ). steps_at moves of_token (reverse (take k cells))) empty in
+      let counted : count_one (is_bra t) (is_ket t) (Some opened) ≡ open_count ((opened + step) % 65536) =
+      counted_by_step opened t known class low ∙ ap (λ (k : ℕ). open_count ((opened + k) % 65536)) (sym is) in
+      stops_here i opened end t tokens after place now new mid inside front here
+      (ap (λ (k : ℕ). stack_after moves of_token (reverse (take k cells))) empty)
+      refl (0, omega arith, none_more _ _ due) (shut ∙ sym counted)
+      (ap (λ (k : ℕ). reverse (take k cells)) none) size place_is

@@ -8,7 +8,7 @@ use Rattle.daide_grammar.specs.Words.{Words}
 use Rattle.daide_grammar.specs.Table.Stacks.{StackMatches}
 use Rattle.daide_grammar.specs.Paired.{begins_with_prn}
 use Rattle.daide_grammar.specs.Depth.{depth_of}
-use Rattle.daide_grammar.specs.Bounds.{entries_bound, message_steps}
+use Rattle.daide_grammar.specs.Bounds.{cells_bound, message_steps}
 use Rattle.daide_reader.specs.Bounds.{most_symbols, most_tokens}
 use Rattle.daide_reader.specs.declared.outline.Outline.{Outline}
 use Rattle.daide_reader.specs.ViablePrefix.{IsMessageOf}
@@ -84,7 +84,7 @@ pub record HasReadPrefix {T : Type 0} (table : Ghosts T) (words : Words) (first 
 pub record IsSteady (lawful : List Sym → ℕ → Type 0) (size max_depth : ℕ) (stack : List Sym)
     (outline : Outline) (unclosed place : Option ℕ) : Type 0 where
   pub small : size ≤ most_symbols
-  pub at_depth_limit : entries_bound max_depth ≤ size
+  pub at_depth_limit : cells_bound max_depth ≤ size
   pub counts : IfSome unclosed (λ n. n ≤ outline.tokens)
   pub tokens : outline.tokens ≤ most_tokens
   pub fresh : outline.tokens ≡ 0 → outline.is_prn ≡ false

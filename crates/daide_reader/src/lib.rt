@@ -10,6 +10,7 @@ mod brackets;
 mod cells;
 mod law_facts;
 pub mod laws;
+mod loaded;
 mod outline;
 mod parse_stack;
 pub mod reader;

@@ -4,7 +4,7 @@
 //! docs/DECISIONS.md says what that saves.
 
 ghost use Rattle.std.specs.Prelude.{◌≡◌, ◌≤◌, ◌<◌, ◌+◌, ◌/◌, ◌++◌, ◌∷◌, [], None, take, length, reverse};
-ghost use Rattle.daide_grammar.specs.Bounds.{entries_bound};
+ghost use Rattle.daide_grammar.specs.Bounds.{cells_bound};
 ghost use Rattle.daide_reader.specs.Bounds.{longest_message, most_symbols};
 ghost use Rattle.daide_reader.specs.Slice.{ReadsTo};
 
@@ -90,7 +90,7 @@ impl<const N: usize> ParseStack<Symbol, N> {
         max_depth: u16,
     ) -> RunEnd
         requires size { N ≤ most_symbols }
-        requires at_depth_limit { entries_bound max_depth ≤ N }
+        requires at_depth_limit { cells_bound max_depth ≤ N }
         requires room { length body.now ≤ longest_message }
         requires deep { unclosed ≤ max_depth }
         requires lawful { T.lawful (T.words table.old) (reverse self.old) unclosed }

@@ -7,7 +7,7 @@ ghost use Rattle.std.specs.Prelude.{◌≡◌, ◌≤◌, ◌<◌, ◌+◌, ◌-
 ghost use Rattle.daide_token.specs.Token.{tokens_of};
 ghost use Rattle.daide_grammar.specs.declared.symbol.Sym.{Sym};
 ghost use Rattle.daide_grammar.specs.Depth.{open_brackets};
-ghost use Rattle.daide_grammar.specs.Bounds.{entries_bound, most_steps, message_steps};
+ghost use Rattle.daide_grammar.specs.Bounds.{cells_bound, entries_bound, most_steps, message_steps};
 ghost use Rattle.daide_grammar.specs.Paired.{begins_with_prn};
 ghost use Rattle.daide_grammar.specs.Words.{Words};
 ghost use Rattle.daide_reader.specs.Bounds.{longest_message, most_symbols, most_tokens};
@@ -73,7 +73,7 @@ impl<T: Predict, const N: usize> Reader<T, N> {
     /// Creates a reader that has read nothing, as after `start(Side2::Client, Level::L0)`. It refuses messages deeper
     /// than `max_depth` brackets.
     pub fn new(table: T, max_depth: u16) -> Reader<T, N>
-        requires high { entries_bound max_depth ≤ N }
+        requires high { cells_bound max_depth ≤ N }
         requires size { N ≤ most_symbols }
         ensures stands_after { HasReadPrefix T.Predict (T.words table) (T.start_symbol Side2.Client Level.L0)
             max_depth result [] }

@@ -5,7 +5,7 @@
 
 ghost use Rattle.std.specs.Prelude.{◌≡◌, ◌≤◌, ◌<◌, ◌+◌, ◌-◌, ◌/◌, ◌%◌, ◌^◌, ◌⊎◌, ℕ, None, Some, IsSome, IfSome, IfNone, take, drop, length, reverse, true, false};
 ghost use Rattle.daide_token.specs.Token.{tokens_of};
-ghost use Rattle.daide_grammar.specs.Bounds.{entries_bound};
+ghost use Rattle.daide_grammar.specs.Bounds.{cells_bound};
 ghost use Rattle.daide_grammar.specs.Table.Brackets.{is_bra, is_ket, count_one};
 ghost use Rattle.daide_grammar.specs.Table.Stacks.{stack_after};
 ghost use Rattle.daide_reader.specs.Bounds.{below_zero, longest_message, most_symbols, most_tokens};
@@ -15,6 +15,7 @@ ghost use Rattle.daide_reader.specs.Stack.{open_count, steps_at};
 
 use crate::brackets::{BELOW_ZERO, recount};
 use crate::cells::{follow, follow_word, put};
+use crate::loaded::LoadedToken;
 use daide_grammar::column::Column;
 use daide_grammar::predict::Predict;
 use daide_grammar::symbol::Symbol;
@@ -102,8 +103,25 @@ fn reject_at(opened: u16, place: usize) -> RunEnd
     }
 }
 
+/// Returns the end of a run of tokens that are all taken.
+#[inline(always)]
+fn run_end(tokens: usize, opened: u16, count: usize) -> RunEnd
+    ensures tokens { result.tokens ≡ tokens }
+    ensures unclosed { result.unclosed ≡ Some opened }
+    ensures place { result.place ≡ None }
+    ensures count { result.count ≡ count }
+{
+    RunEnd {
+        tokens,
+        unclosed: Some(opened),
+        place: None,
+        count,
+    }
+}
+
 /// Reads tokens of a body, at most as many as brackets may still be opened. So no token can open a bracket too many, and
-/// the loop checks neither the depth nor the room on the stack.
+/// the loop checks neither the depth nor the room on the stack. A symbol that is skipped leaves the token and its class
+/// as they are, and whether the stack is empty is tested where its height changes.
 #[inline(always)]
 fn run_below_depth_limit<T: Predict, const N: usize>(
     table: &mut T,
@@ -114,7 +132,7 @@ fn run_below_depth_limit<T: Predict, const N: usize>(
 ) -> RunEnd
     requires size { N ≤ most_symbols }
     requires count { start.count ≤ N }
-    requires at_depth_limit { entries_bound max_depth ≤ N }
+    requires at_depth_limit { cells_bound max_depth ≤ N }
     requires room { length body.now ≤ longest_message }
     requires read { start.read < length body.now / 2 }
     requires deep { start.unclosed < max_depth }
@@ -132,35 +150,47 @@ fn run_below_depth_limit<T: Predict, const N: usize>(
     let mut opened = start.unclosed;
     let mut left = start.count;
     let mut next = start.read;
-    while next < end {
-        let token = token_at(body, next);
-        let known = Column::known(token);
-        if left == 0 {
-            return reject_at(opened.wrapping_add(known.bracket_step()), next);
-        }
-        let top = left - 1;
-        let answer = table.predict_token(cells[top], token, known);
-        if answer.is_take() {
-            left = put(cells, top, &answer);
-            opened = opened.wrapping_add(known.bracket_step());
-            next += 1;
-        } else if answer.is_stop() {
-            opened = opened.wrapping_add(known.bracket_step());
-            let Some(now) = follow_word(table, cells, top, token, known) else {
-                return reject_at(opened, next);
-            };
-            left = now;
-            next += 1;
-        } else {
-            left = top;
+    let mut held = LoadedToken::at(body, next);
+    let mut known = Column::known(held.token());
+    if left != 0 {
+        loop {
+            let top = left - 1;
+            let answer = table.predict_token(cells[top], held.token(), known);
+            if answer.is_take() {
+                opened = opened.wrapping_add(known.bracket_step());
+                next += 1;
+                if next == end {
+                    return run_end(end, opened, put(cells, top, &answer));
+                }
+                held = LoadedToken::at(body, next);
+                known = Column::known(held.token());
+                left = put(cells, top, &answer);
+                if left != 0 {
+                    continue;
+                }
+                break;
+            }
+            if answer.is_stop() {
+                opened = opened.wrapping_add(known.bracket_step());
+                let Some(now) = follow_word(table, cells, top, held.token(), known) else {
+                    return reject_at(opened, next);
+                };
+                next += 1;
+                if next == end {
+                    return run_end(end, opened, now);
+                }
+                held = LoadedToken::at(body, next);
+                known = Column::known(held.token());
+                left = now;
+            } else {
+                left = top;
+            }
+            if left == 0 {
+                break;
+            }
         }
     }
-    RunEnd {
-        tokens: end,
-        unclosed: Some(opened),
-        place: None,
-        count: left,
-    }
+    reject_at(opened.wrapping_add(known.bracket_step()), next)
 }
 
 /// Reads the tokens of a body, given the state before them. The index of an error is relative to the body.
@@ -174,7 +204,7 @@ pub fn read_tokens<T: Predict, const N: usize>(
 ) -> RunEnd
     requires size { N ≤ most_symbols }
     requires count { start.count ≤ N }
-    requires at_depth_limit { entries_bound max_depth ≤ N }
+    requires at_depth_limit { cells_bound max_depth ≤ N }
     requires room { length body.now ≤ longest_message }
     requires read { start.read ≤ length body.now / 2 }
     requires deep { start.unclosed ≤ max_depth }

@@ -77,11 +77,11 @@ module _ {P : Type 0} where
 
 module _ {P : Type 0} (port_transition : P → PortCall → P → Type 0) where
   -- the visits of a round only ask for news and begin turns
-  turns_after : (n : ℕ) (old : HubView (QuotaPortsView P)) (calls : List (SystemCall P)) (new : HubView (QuotaPortsView P)) →
-      TurnsBelow port_transition n old calls new → AreAfter calls
-  turns_after n old calls new h =
+  turns_after : (n busy : ℕ) (old : HubView (QuotaPortsView P)) (calls : List (SystemCall P)) (new : HubView (QuotaPortsView P)) →
+      TurnsBelow port_transition n busy old calls new → AreAfter calls
+  turns_after n busy old calls new h =
       all_turns IsAfterAccept calls (λ ports news. tt) (λ before after. tt) (λ ports. tt)
-      (turns_only port_transition n old calls new h)
+      (turns_only port_transition n busy old calls new h)
 
   -- ---- the accept
 
@@ -122,7 +122,7 @@ module _ {P : Type 0} (port_transition : P → PortCall → P → Type 0) where
         let at_meeting = later r.meeting met.0 begun.0
         (meeting_after (r.came.connecting == 0) mid.hub r.came r.meeting r.connected run.counters r.finishes) met.2 at_accept in
         let at_turns = later r.beginnings begun.0 removed.0
-        (turns_after (length r.connected.places) r.connected r.beginnings r.turned r.turns) begun.2 at_meeting in
+        (turns_after (length r.connected.places) r.turns.0 r.connected r.beginnings r.turned r.turns.1) begun.2 at_meeting in
         let at_removal = later r.removal removed.0 parts.0
         (All-same IsAfterAccept r.removal (retirements r.turned.places) r.removes.0 (retirements_after r.turned.places))
         removed.2 at_turns in

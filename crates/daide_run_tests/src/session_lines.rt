@@ -3,7 +3,7 @@
 use daide_commands::RecordNotice;
 use daide_frame::code::Code;
 use daide_frame::side::Side;
-use daide_gate::{Account, Cause, Level, SessionEnd, SideCounts};
+use daide_gate::{Account, Cause, FaultField, Level, SessionEnd, SideCounts};
 use daide_protocol::BotName;
 use daide_protocol::ending::Ending;
 use daide_sockets::capacity::{Capacity, CapacityNotice, full_notice, pause_notice};
@@ -17,19 +17,28 @@ use std::test::Fail;
 /// Why a session is over | the text.
 #[rattlefmt::skip]
 const CAUSES: &[(Why, &str)] = &[
-    (Why::Ended(Cause::Session(Ending::Ended(Side::Bot))), "bot ended"),
-    (Why::Ended(Cause::Session(Ending::Ended(Side::Server))), "server ended"),
-    (Why::Ended(Cause::Session(Ending::Lost(Side::Bot))), "bot lost"),
-    (Why::Ended(Cause::Session(Ending::Lost(Side::Server))), "server lost"),
-    (Why::Ended(Cause::Session(Ending::Final(Side::Bot))), "FM of bot"),
-    (Why::Ended(Cause::Session(Ending::Final(Side::Server))), "FM of server"),
-    (Why::Ended(Cause::Session(Ending::Error(Side::Bot))), "EM of bot"),
-    (Why::Ended(Cause::Session(Ending::Error(Side::Server))), "EM of server"),
-    (Why::Ended(Cause::Session(Ending::Fault(Side::Bot, Code::ImTimeout))), "no IM in time"),
-    (Why::Ended(Cause::Session(Ending::Fault(Side::Bot, Code::SecondIm))), "fault 06 of bot: second IM"),
-    (Why::Ended(Cause::Session(Ending::Fault(Side::Server, Code::InvalidToken))), "fault 0E of server: invalid token"),
-    (Why::Ended(Cause::Session(Ending::Stopped)), "stopped by the operator"),
-    (Why::Ended(Cause::TurnsSpent), "turns spent"),
+    (Why::Ended(Cause::Session(Ending::Ended(Side::Bot)), None), "bot ended"),
+    (Why::Ended(Cause::Session(Ending::Ended(Side::Server)), None), "server ended"),
+    (Why::Ended(Cause::Session(Ending::Lost(Side::Bot)), None), "bot lost"),
+    (Why::Ended(Cause::Session(Ending::Lost(Side::Server)), None), "server lost"),
+    (Why::Ended(Cause::Session(Ending::Final(Side::Bot)), None), "FM of bot"),
+    (Why::Ended(Cause::Session(Ending::Final(Side::Server)), None), "FM of server"),
+    (Why::Ended(Cause::Session(Ending::Error(Side::Bot)), None), "EM of bot"),
+    (Why::Ended(Cause::Session(Ending::Error(Side::Server)), None), "EM of server"),
+    (Why::Ended(Cause::Session(Ending::Fault(Side::Bot, Code::ImTimeout)), None), "no IM in time"),
+    (Why::Ended(Cause::Session(Ending::Fault(Side::Bot, Code::SecondIm)), None), "fault 06 of bot: second IM"),
+    (Why::Ended(Cause::Session(Ending::Fault(Side::Server, Code::InvalidToken)), None), "fault 0E of server: invalid token"),
+    (Why::Ended(Cause::Session(Ending::Fault(Side::Bot, Code::ImNotFirst)), Some(FaultField::Kind(2))), "fault 02 of bot: first frame is no IM, type 02 at byte 0"),
+    (Why::Ended(Cause::Session(Ending::Fault(Side::Bot, Code::WrongEndian)), Some(FaultField::Length(0x0400))), "fault 03 of bot: wrong byte order, length 0400 at byte 2"),
+    (Why::Ended(Cause::Session(Ending::Fault(Side::Bot, Code::WrongEndian)), Some(FaultField::MagicNumber(0x10DA))), "fault 03 of bot: wrong byte order, magic number 10DA at byte 6"),
+    (Why::Ended(Cause::Session(Ending::Fault(Side::Bot, Code::WrongMagic)), Some(FaultField::MagicNumber(0x1234))), "fault 04 of bot: wrong magic number 1234 at byte 6"),
+    (Why::Ended(Cause::Session(Ending::Fault(Side::Bot, Code::WrongVersion)), Some(FaultField::Version(2))), "fault 05 of bot: wrong version 0002 at byte 4"),
+    (Why::Ended(Cause::Session(Ending::Fault(Side::Bot, Code::UnknownMessage)), Some(FaultField::Kind(7))), "fault 08 of bot: unknown message, type 07 at byte 0"),
+    (Why::Ended(Cause::Session(Ending::Fault(Side::Server, Code::UnknownMessage)), Some(FaultField::Length(0xFFFE))), "fault 08 of server: unknown message, length FFFE at byte 2"),
+    (Why::Ended(Cause::Session(Ending::Fault(Side::Bot, Code::WrongLength)), Some(FaultField::Length(3))), "fault 09 of bot: wrong length 0003 at byte 2"),
+    (Why::Ended(Cause::Session(Ending::Fault(Side::Bot, Code::InvalidToken)), Some(FaultField::Token(0x6000, 6))), "fault 0E of bot: invalid token 6000 at byte 6"),
+    (Why::Ended(Cause::Session(Ending::Stopped), None), "stopped by the operator"),
+    (Why::Ended(Cause::TurnsSpent, None), "turns spent"),
     (Why::Silent(Side::Bot), "bot silent"),
     (Why::Silent(Side::Server), "server silent"),
     (Why::Stalled(Side::Bot, 60), "bot took nothing for 60 s"),
@@ -73,22 +82,22 @@ const STALLED_END: Timed = Timed {
 #[rattlefmt::skip]
 const TIMES: &[(Ending, Timed, Timed, Why)] = &[
     (Ending::Ended(Side::Bot), SILENT, Timed::NONE, Why::Silent(Side::Bot)),
-    (Ending::Ended(Side::Bot), Timed::NONE, SILENT, Why::Ended(Cause::Session(Ending::Ended(Side::Bot)))),
-    (Ending::Ended(Side::Bot), Timed::NONE, Timed::NONE, Why::Ended(Cause::Session(Ending::Ended(Side::Bot)))),
-    (Ending::Lost(Side::Bot), SILENT, Timed::NONE, Why::Ended(Cause::Session(Ending::Lost(Side::Bot)))),
-    (Ending::Final(Side::Server), SILENT, SILENT, Why::Ended(Cause::Session(Ending::Final(Side::Server)))),
+    (Ending::Ended(Side::Bot), Timed::NONE, SILENT, Why::Ended(Cause::Session(Ending::Ended(Side::Bot)), None)),
+    (Ending::Ended(Side::Bot), Timed::NONE, Timed::NONE, Why::Ended(Cause::Session(Ending::Ended(Side::Bot)), None)),
+    (Ending::Lost(Side::Bot), SILENT, Timed::NONE, Why::Ended(Cause::Session(Ending::Lost(Side::Bot)), None)),
+    (Ending::Final(Side::Server), SILENT, SILENT, Why::Ended(Cause::Session(Ending::Final(Side::Server)), None)),
     (Ending::Lost(Side::Server), Timed::NONE, STALLED, Why::Stalled(Side::Server, 60)),
-    (Ending::Lost(Side::Server), STALLED, Timed::NONE, Why::Ended(Cause::Session(Ending::Lost(Side::Server)))),
-    (Ending::Ended(Side::Bot), STALLED, Timed::NONE, Why::Ended(Cause::Session(Ending::Ended(Side::Bot)))),
+    (Ending::Lost(Side::Server), STALLED, Timed::NONE, Why::Ended(Cause::Session(Ending::Lost(Side::Server)), None)),
+    (Ending::Ended(Side::Bot), STALLED, Timed::NONE, Why::Ended(Cause::Session(Ending::Ended(Side::Bot)), None)),
     (Ending::Ended(Side::Bot), STALLED_END, Timed::NONE, Why::Stalled(Side::Bot, 60)),
-    (Ending::Stopped, SILENT, STALLED, Why::Ended(Cause::Session(Ending::Stopped))),
+    (Ending::Stopped, SILENT, STALLED, Why::Ended(Cause::Session(Ending::Stopped), None)),
 ];
 
 /// The log line names a side's silence instead of its end, and its stall instead of its loss.
 #[test]
 fn times_are_named_in_place_of_the_event(_rt: HostRuntime) -> Result<(), Fail> {
     for (ending, bot, server, want) in TIMES {
-        let why = why_of(Cause::Session(*ending), (*bot, *server), 60);
+        let why = why_of(Cause::Session(*ending), None, (*bot, *server), 60);
         same(&why, want, ending)?;
     }
     Ok(())
@@ -122,6 +131,7 @@ fn lines_of_a_session(rt: HostRuntime) -> Result<(), Fail> {
             level: Level::L20,
             name: BotName::Unknown,
         },
+        fault_field: None,
     };
     let bot = "127.0.0.1:50000".parse()?;
     let own = "[::1]:40000".parse()?;

@@ -7,7 +7,7 @@ use crate::relays::{NEVER, QUIET};
 use daide_gate::serving::serve;
 use daide_gate::settings::{Settings, read_settings};
 use daide_gate::system::{Cause, Connect, Notice, Orders, SessionEnd, SessionStatus, System};
-use daide_gate::{Level, Phase, SideCounts, Summary};
+use daide_gate::{ByteCounts, FaultField, Level, Phase, SideCounts, Summary};
 use daide_test_support::memory_ports::{Call, MemoryPorts, Script, ScriptedRead};
 use daide_test_support::rows::holds;
 use std::alloc::Global;
@@ -62,6 +62,7 @@ pub(crate) struct Shown {
     pub(crate) faults: u64,
     pub(crate) queued_to_bot: usize,
     pub(crate) queued_to_server: usize,
+    pub(crate) bytes: ByteCounts,
 }
 
 /// A system that plays a scene. Its server is quiet.
@@ -78,8 +79,8 @@ pub(crate) struct Harness {
     pub(crate) most: usize,
     pub(crate) events: Vec<Event>,
     pub(crate) retired: Vec<MemoryPorts<'static>>,
-    /// The ends of the sessions, in the order of their retirement: cause and counts.
-    pub(crate) ends: Vec<(Cause, Summary)>,
+    /// The ends of the sessions, in the order of their retirement: cause, counts and the field of a fault.
+    pub(crate) ends: Vec<(Cause, Summary, Option<FaultField>)>,
     /// Each status that was shown.
     pub(crate) shown: Vec<Shown>,
 }
@@ -130,6 +131,7 @@ fn shown_of(turns: usize, status: SessionStatus) -> Shown {
         account,
         queued_to_bot,
         queued_to_server,
+        bytes,
     } = status;
     Shown {
         turns,
@@ -140,6 +142,7 @@ fn shown_of(turns: usize, status: SessionStatus) -> Shown {
         faults: account.faults,
         queued_to_bot,
         queued_to_server,
+        bytes,
     }
 }
 
@@ -216,7 +219,9 @@ impl System<MemoryPorts<'static>> for Harness {
         self.held = self.held.saturating_sub(1);
         self.note(Event::Retired);
         let _ = self.retired.push(ports);
-        let _ = self.ends.push((end.cause, end.account.summary()));
+        let _ = self
+            .ends
+            .push((end.cause, end.account.summary(), end.fault_field));
     }
 
     fn tell(&mut self, notice: Notice) {

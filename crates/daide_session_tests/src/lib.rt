@@ -18,6 +18,8 @@ mod cut_frames;
 #[cfg(test)]
 mod endings;
 #[cfg(test)]
+mod fault_fields;
+#[cfg(test)]
 mod growths;
 #[cfg(test)]
 mod harness;

@@ -6,7 +6,7 @@ use crate::harness::{
 };
 use daide_gate::serving::Service;
 use daide_gate::system::{Notice, Orders};
-use daide_gate::{Level, Phase, SideCounts};
+use daide_gate::{ByteCounts, Level, Phase, SideCounts};
 use daide_test_support::memory_ports::{MemoryPorts, Script, ScriptedRead};
 use daide_test_support::rows::{holds, same};
 use std::alloc::Global;
@@ -154,20 +154,20 @@ const SHOWN: Scene = Scene {
     ..ENDING
 };
 
-/// Turns begun | the phase | relayed frames from the bot | bytes queued for the server. An IM is relayed once its second part is
-/// read, and the server takes a part a turn.
-const STATUSES: &[(usize, Phase, u64, usize)] = &[
-    (3, Phase::WaitRm, 1, 4),
-    (2, Phase::WaitRm, 1, 8),
-    (1, Phase::WaitIm, 0, 0),
-    (4, Phase::WaitRm, 1, 0),
-    (3, Phase::WaitRm, 1, 4),
-    (2, Phase::WaitRm, 1, 8),
+/// Turns begun | the phase | relayed frames from the bot | bytes queued for the server | bytes received from the bot | bytes
+/// sent to the server. An IM is relayed once its second part is read, and the server takes a part a turn.
+const STATUSES: &[(usize, Phase, u64, usize, u64, u64)] = &[
+    (3, Phase::WaitRm, 1, 4, 8, 4),
+    (2, Phase::WaitRm, 1, 8, 8, 0),
+    (1, Phase::WaitIm, 0, 0, 4, 0),
+    (4, Phase::WaitRm, 1, 0, 8, 8),
+    (3, Phase::WaitRm, 1, 4, 8, 4),
+    (2, Phase::WaitRm, 1, 8, 8, 0),
 ];
 
 /// Checks a status that was shown, of a session without a level, a refusal and bytes for its bot.
-fn assert_status(shown: &Shown, want: &(usize, Phase, u64, usize)) -> Result<(), Fail> {
-    let (turns, phase, relayed, queued_to_server) = *want;
+fn assert_status(shown: &Shown, want: &(usize, Phase, u64, usize, u64, u64)) -> Result<(), Fail> {
+    let (turns, phase, relayed, queued_to_server, from_bot, to_server) = *want;
     let status = Shown {
         turns,
         phase,
@@ -181,6 +181,12 @@ fn assert_status(shown: &Shown, want: &(usize, Phase, u64, usize)) -> Result<(),
         faults: 0,
         queued_to_bot: 0,
         queued_to_server,
+        bytes: ByteCounts {
+            from_bot,
+            from_server: 0,
+            to_bot: 0,
+            to_server,
+        },
     };
     holds(*shown == status, "the status")
 }

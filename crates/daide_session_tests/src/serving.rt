@@ -9,6 +9,7 @@ use crate::relays::{QUIET, assert_sent};
 use crate::script::counts_of;
 use daide_frame::code::Code;
 use daide_frame::side::Side::{Bot, Server};
+use daide_gate::FaultField;
 use daide_gate::serving::{ServeFault, Service, serve};
 use daide_gate::settings::{Settings, read_settings};
 use daide_gate::system::{Cause, Notice};
@@ -315,16 +316,17 @@ const WRONG_AND_FULL: Script<'static> = Script {
     puts: &[Acceptance::Takes(0); 9],
 };
 
-/// A run of one bot | its limits | why its session ended | its counts. In the last one an EM stays queued until the
+/// A run of one bot | its limits | why its session ended | its counts | the field of its fault. In the last one an EM stays queued until the
 /// turns are spent.
-const ENDS_OF_RUNS: &[(Scene, Limits, Cause, [u64; 4])] = &[
+const ENDS_OF_RUNS: &[(Scene, Limits, Cause, [u64; 4], Option<FaultField>)] = &[
     (
         ENDING,
         (1, 1, 9),
         Cause::Session(Ending::Ended(Bot)),
         [0; 4],
+        None,
     ),
-    (OPENING, (1, 1, 5), Cause::TurnsSpent, [1, 0, 0, 0]),
+    (OPENING, (1, 1, 5), Cause::TurnsSpent, [1, 0, 0, 0], None),
     (
         Scene {
             bot: QUIET,
@@ -333,6 +335,7 @@ const ENDS_OF_RUNS: &[(Scene, Limits, Cause, [u64; 4])] = &[
         (1, 1, 3),
         Cause::TurnsSpent,
         [0; 4],
+        None,
     ),
     (
         Scene {
@@ -342,15 +345,22 @@ const ENDS_OF_RUNS: &[(Scene, Limits, Cause, [u64; 4])] = &[
         (1, 1, 4),
         Cause::Session(Ending::Fault(Bot, Code::ImNotFirst)),
         [0, 0, 0, 1],
+        Some(FaultField::Kind(2)),
     ),
 ];
 
 /// Checks the end of the only session.
-fn assert_end(alloc: Global, row: &(Scene, Limits, Cause, [u64; 4])) -> Result<(), Fail> {
-    let (scene, limits, cause, counts) = row;
+fn assert_end(
+    alloc: Global,
+    row: &(Scene, Limits, Cause, [u64; 4], Option<FaultField>),
+) -> Result<(), Fail> {
+    let (scene, limits, cause, counts, field) = row;
     let stage = stage_after(alloc, *scene, *limits)?;
     match stage.ends.as_slice() {
-        [(told, summary)] => holds(*told == *cause && counts_of(*summary) == *counts, "the end"),
+        [(told, summary, about)] => holds(
+            *told == *cause && counts_of(*summary) == *counts && *about == *field,
+            "the end",
+        ),
         _ => Err(Fail::new("there is one end")),
     }
 }

@@ -2,6 +2,8 @@ pub mod Members
 pub mod Named
 pub mod RangeItems
 pub mod JudgedLemmas
+pub mod ReportLemmas
+mod ReportFacts
 pub mod WordEntries
 pub mod SettingsFacts
 mod PairFacts

@@ -4,3 +4,4 @@ pub mod Settings
 pub mod Given
 pub mod BotsInAll
 pub mod Judged
+pub mod Report

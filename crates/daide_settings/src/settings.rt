@@ -14,9 +14,10 @@ mod reading;
 mod suggestion;
 mod words;
 
-ghost use Rattle.std.specs.Prelude.{◌≡◌, Ok};
+ghost use Rattle.std.specs.Prelude.{◌≡◌, Ok, Some};
 ghost use Rattle.daide_protocol.specs.Bounds.{IsSessionCount};
 ghost use Rattle.daide_protocol.specs.Config.{config_fault};
+ghost use Rattle.daide_settings.specs.Report.{fault_words};
 
 pub use address::Address;
 use arrayvec::ArrayVec;
@@ -27,31 +28,42 @@ pub use judged::{JudgeFault, judge_settings};
 pub use key::Key;
 pub use ranges::{AddressRange, Host, MAX_RANGES, may_come};
 pub use reading::read_settings;
-use thiserror::Error;
+use std::fmt;
 
 /// Why a text gives no settings, in the order of the checks: the whole text, the whole document, and then each key in
 /// the order of `Key`. `Memory` is returned at the growth that was refused.
-#[derive(Clone, Copy, Debug, PartialEq, Eq, Error)]
+#[derive(Clone, Copy, Debug, PartialEq, Eq)]
 pub enum SettingsError {
     /// The text is not a TOML document.
-    #[error("settings are not TOML")]
     NotToml,
     /// The document has an unknown key.
-    #[error("unknown key")]
     Unknown,
     /// A required key is missing.
-    #[error("missing {0}")]
     Missing(Key),
     /// The value of a key does not have its type.
-    #[error("wrong type for {0}")]
     WrongType(Key),
     /// The value of a key is not in its range.
-    #[error("{0} out of range")]
     Range(Key),
     /// The allocator refused a growth.
-    #[error("out of memory")]
     Memory,
 }
+
+impl fmt::Display for SettingsError {
+    ghost output = { λ fault. Some (fault_words fault) };
+
+    fn fmt<W: fmt::Write>(&self, f: &mut fmt::Formatter<W>) -> fmt::Result {
+        match *self {
+            SettingsError::NotToml => write!(f, "settings are not TOML"),
+            SettingsError::Unknown => write!(f, "unknown key"),
+            SettingsError::Missing(key) => write!(f, "missing {key}"),
+            SettingsError::WrongType(key) => write!(f, "wrong type for {key}"),
+            SettingsError::Range(key) => write!(f, "{key} out of range"),
+            SettingsError::Memory => write!(f, "out of memory"),
+        }
+    }
+}
+
+impl std::error::Error for SettingsError {}
 
 /// The settings of a gateway. The limits and the number of sessions at once are right in every value of this type, so
 /// nothing below it has an error for a wrong one.

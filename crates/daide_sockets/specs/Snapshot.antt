@@ -46,5 +46,9 @@ pub record IsSessionRow {S : Type 0} (reading : Option Instant) (session : ℕ) 
   pub queued_to_server : row.queued_to_server ≡ shown.queued_to_server
   pub held_to_bot : row.held_to_bot ≡ length sockets.0.stream.write_buffer
   pub held_to_server : row.held_to_server ≡ length sockets.1.stream.write_buffer
+  pub received_from_bot : row.received_from_bot ≡ shown.bytes.from_bot
+  pub received_from_server : row.received_from_server ≡ shown.bytes.from_server
+  pub sent_to_bot : row.sent_to_bot ≡ shown.bytes.to_bot
+  pub sent_to_server : row.sent_to_server ≡ shown.bytes.to_server
   pub bot_idle : row.bot_idle ≡ seconds_between sockets.0.heard_at reading
   pub server_idle : row.server_idle ≡ seconds_between sockets.1.heard_at reading

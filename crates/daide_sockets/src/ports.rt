@@ -4,7 +4,7 @@
 //! connection of the operating system records nothing, so for it the contracts state only the results of its reads and
 //! writes.
 
-ghost use Rattle.std.specs.Prelude.{◌≡◌, ◌≢◌, ◌<◌, ◌||◌, ◌&&◌, IsNone, None, [], min, length, take, not, true, false};
+ghost use Rattle.std.specs.Prelude.{◌≡◌, ◌≢◌, ◌+◌, ◌<◌, ◌||◌, ◌&&◌, IsNone, None, [], min, length, take, not, true, false};
 ghost use Rattle.daide_io.specs.Ports.{TurnBegins, Clock as Popped, Pulled, Offered, IsPullWithin, IsPutWithin, pulled_len};
 ghost use Rattle.daide_buffered_io.specs.Buffers.{Passes, ReadsNothing, IsBufferedPull, IsFlushed};
 ghost use Rattle.daide_buffered_io.specs.Calls.{OnlyPuts};
@@ -559,6 +559,7 @@ impl<S: Duplex + Drop> SocketPorts<'_, S> {
         ensures goes_on { self.new.is_stopped ≡ self.old.is_stopped }
         ensures no_stop { self.new.stops ≡ false }
         ensures clock { table.new.reading ≡ table.old.reading }
+        ensures counted { table.old.turns < u64.MAX → table.new.turns ≡ table.old.turns + 1 }
         ensures timers { SetsTimers TurnBegins (timers_of self.old) (timers_of self.new) }
         ensures settles { Settles S.calls TurnBegins (self.old.bot, self.old.server) (self.new.bot, self.new.server) }
     {

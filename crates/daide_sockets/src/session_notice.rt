@@ -7,6 +7,7 @@ ghost use Rattle.daide_sockets.specs.Lines.{why_by, why_ended, milliseconds_betw
 use crate::timed::{Timed, timed_at};
 use daide_frame::code::Code;
 use daide_frame::side::Side;
+use daide_io::fault_field::FaultField;
 use daide_io::system::{Cause, SessionEnd};
 use daide_protocol::account::Account;
 use daide_protocol::ending::Ending;
@@ -84,13 +85,14 @@ impl SessionNotice {
         timed: (Timed, Timed),
         stall_seconds: u32,
     ) -> SessionNotice
-        ensures { result ≡ SessionNotice.Ended session.0 session.1 (why_by end.cause timed stall_seconds) end.account }
+        ensures { result ≡ SessionNotice.Ended session.0 session.1 (why_by end.cause end.fault_field timed stall_seconds)
+            end.account }
     {
         let (number, lasted) = session;
         SessionNotice::Ended {
             number,
             lasted,
-            why: why_of(end.cause, timed, stall_seconds),
+            why: why_of(end.cause, end.fault_field, timed, stall_seconds),
             account: end.account,
         }
     }
@@ -111,8 +113,8 @@ impl SessionNotice {
 /// Why a session is over.
 #[derive(Clone, Copy, Debug, PartialEq, Eq)]
 pub enum Why {
-    /// This event ended it, or its turns are spent.
-    Ended(Cause),
+    /// This event ended it, or its turns are spent. A fault is about this field.
+    Ended(Cause, Option<FaultField>),
     /// This side sent nothing for the idle timeout.
     Silent(Side),
     /// This side accepted no byte for this many seconds, while some were queued for it.
@@ -131,13 +133,18 @@ fn why_ended(side: Side, timed: Timed, stall_seconds: u32) -> Why
     if timed.ends_stalled {
         return Why::Stalled(side, stall_seconds);
     }
-    Why::Ended(Cause::Session(Ending::Ended(side)))
+    Why::Ended(Cause::Session(Ending::Ended(side)), None)
 }
 
-/// Returns why a session is over, from its cause, the expired timeouts of its two sockets, and the stall timeout in
-/// seconds.
-pub fn why_of(cause: Cause, timed: (Timed, Timed), stall_seconds: u32) -> Why
-    ensures { result ≡ why_by cause timed stall_seconds }
+/// Returns why a session is over, from its cause, the field that its fault is about, the expired timeouts of its two
+/// sockets, and the stall timeout in seconds.
+pub fn why_of(
+    cause: Cause,
+    field: Option<FaultField>,
+    timed: (Timed, Timed),
+    stall_seconds: u32,
+) -> Why
+    ensures { result ≡ why_by cause field timed stall_seconds }
 {
     match cause {
         Cause::Session(Ending::Ended(side)) => {
@@ -146,7 +153,8 @@ pub fn why_of(cause: Cause, timed: (Timed, Timed), stall_seconds: u32) -> Why
         Cause::Session(Ending::Lost(side)) if timed_at(timed, side).is_stalled => {
             Why::Stalled(side, stall_seconds)
         }
-        _ => Why::Ended(cause),
+        Cause::Session(Ending::Fault(_, _)) => Why::Ended(cause, field),
+        _ => Why::Ended(cause, None),
     }
 }
 
@@ -158,18 +166,47 @@ fn name_of(side: Side) -> &'static str {
     }
 }
 
+/// Returns what comes between the name of a fault and the value of the field that it is about: the field, unless the name
+/// ends with it.
+fn field_name(code: Code, field: FaultField) -> &'static str {
+    match (code, field) {
+        (Code::InvalidToken | Code::WrongLength | Code::WrongMagic | Code::WrongVersion, _) => " ",
+        (_, FaultField::Kind(_)) => ", type ",
+        (_, FaultField::Length(_)) => ", length ",
+        (_, FaultField::Version(_)) => ", version ",
+        (_, FaultField::MagicNumber(_)) => ", magic number ",
+        (_, FaultField::Token(_, _)) => ", token ",
+    }
+}
+
+/// Writes a side's fault, with the field that it is about.
+fn write_fault<W: fmt::Write>(
+    f: &mut fmt::Formatter<W>,
+    side: Side,
+    code: Code,
+    field: Option<FaultField>,
+) -> fmt::Result {
+    let (number, name) = (code.number(), code.name());
+    write!(f, "fault {number:02X} of {}: {name}", name_of(side))?;
+    match field {
+        Some(field) => write!(f, "{}{field}", field_name(code, field)),
+        None => Ok(()),
+    }
+}
+
 /// Writes the event that ended a session.
-fn write_ending<W: fmt::Write>(f: &mut fmt::Formatter<W>, ending: Ending) -> fmt::Result {
+fn write_ending<W: fmt::Write>(
+    f: &mut fmt::Formatter<W>,
+    ending: Ending,
+    field: Option<FaultField>,
+) -> fmt::Result {
     match ending {
         Ending::Ended(side) => write!(f, "{} ended", name_of(side)),
         Ending::Lost(side) => write!(f, "{} lost", name_of(side)),
         Ending::Final(side) => write!(f, "FM of {}", name_of(side)),
         Ending::Error(side) => write!(f, "EM of {}", name_of(side)),
         Ending::Fault(_, Code::ImTimeout) => f.write_str("no IM in time"),
-        Ending::Fault(side, code) => {
-            let (number, name) = (code.number(), code.name());
-            write!(f, "fault {number:02X} of {}: {name}", name_of(side))
-        }
+        Ending::Fault(side, code) => write_fault(f, side, code, field),
         Ending::Stopped => f.write_str("stopped by the operator"),
     }
 }
@@ -177,8 +214,8 @@ fn write_ending<W: fmt::Write>(f: &mut fmt::Formatter<W>, ending: Ending) -> fmt
 impl fmt::Display for Why {
     fn fmt<W: fmt::Write>(&self, f: &mut fmt::Formatter<W>) -> fmt::Result {
         match *self {
-            Why::Ended(Cause::Session(ending)) => write_ending(f, ending),
-            Why::Ended(Cause::TurnsSpent) => f.write_str("turns spent"),
+            Why::Ended(Cause::Session(ending), field) => write_ending(f, ending, field),
+            Why::Ended(Cause::TurnsSpent, _) => f.write_str("turns spent"),
             Why::Silent(side) => write!(f, "{} silent", name_of(side)),
             Why::Stalled(side, seconds) => {
                 write!(f, "{} took nothing for {seconds} s", name_of(side))

@@ -1,7 +1,7 @@
 //! The environment of the event loop, `System`, over sockets.
 
 ghost use Rattle.std.specs.Option.{is_some};
-ghost use Rattle.std.specs.Prelude.{◌≡◌, ◌⊎◌, ℕ, ◌+◌, ◌*◌, ◌^◌, ◌<◌, ◌≤◌, ◌||◌, ◌&&◌, IfSome, IsSome, IsNone, None, Some, true, false, [], length, not, slice_get, vec_capacity};
+ghost use Rattle.std.specs.Prelude.{◌≡◌, ◌⊎◌, ℕ, ◌+◌, ◌*◌, ◌^◌, ◌<◌, ◌≤◌, ◌||◌, ◌&&◌, IfSome, IsSome, IsNone, None, Some, true, false, [], length, not, nat_le, Option, slice_get, vec_capacity};
 ghost use Rattle.daide_io.specs.Ports.{TurnBegins};
 ghost use Rattle.daide_status.specs.declared.snapshot.SessionRow.{SessionRow};
 ghost use Rattle.daide_io.specs.System.{Begins, Shows, ReportsNews, BeginsTurn, Watches, Retires, Waits};
@@ -19,7 +19,8 @@ ghost use Rattle.daide_sockets.specs.Pairing.{ClosesBothAt};
 ghost use Rattle.daide_sockets.specs.Present.{position_of, time_in, without_at};
 ghost use Rattle.daide_sockets.specs.Scheduling.{RunEvolves, run_state};
 ghost use Rattle.daide_sockets.specs.Sockets.{due_after};
-ghost use Rattle.daide_sockets.specs.Table.{Table, watching};
+ghost use Rattle.daide_sockets.specs.Table.{Table, watching, IsNoTime, PollsOnce};
+ghost use Rattle.std.specs.declared.time.Duration.{Duration};
 ghost use Rattle.daide_sockets.specs.Timers.{SetsTimers, timers_of};
 ghost use Rattle.daide_sockets.specs.Times.{IsSeconds, IsIdleTime, is_past};
 ghost use Rattle.daide_sockets.specs.Wakeups.{Settles, RestsOnce, may_session_go_on, session_due, has_session_news};
@@ -80,7 +81,9 @@ fn idle_time_of(seconds: u32) -> Option<Duration>
 /// is written to that session's own sockets, and neither is read. There is news for a session exactly if something may be
 /// done at once for it, or its nearest deadline is past (`has_news`: `news`). A wait watches the sessions that it was to
 /// watch (`Wakes`), the listener, each connect and each closing socket (`wait`: `polls`). It polls once, for the time
-/// until the nearest deadline, unless something is pending or may be done at once. With room for one more, a bot is
+/// until the nearest deadline, unless something is pending or may be done at once. Beside that, the network is polled for
+/// no time once 32 turns began since the last poll: before a session is asked for news (`has_news`: `looks`, `begin_turn`:
+/// `counted`), and when a round begins. With room for one more, a bot is
 /// accepted if the listener is ready (`accept_next`: `made`). From then on the wait of the round is for bots too
 /// (`awaited`), so it does not block while an accept is due. A bot is accepted only if it may come by the settings, beside
 /// the hosts of those that are there (`allowed`). A bot that comes is added to those, and the end of its session removes it
@@ -336,6 +339,10 @@ impl<'w, N: Network, E: Write + Drop> Sockets<'w, N, E> {
             queued_to_server: status.queued_to_server,
             held_to_bot,
             held_to_server,
+            received_from_bot: status.bytes.from_bot,
+            received_from_server: status.bytes.from_server,
+            sent_to_bot: status.bytes.to_bot,
+            sent_to_server: status.bytes.to_server,
             bot_idle: seconds_between(bot_heard_at, now),
             server_idle: seconds_between(server_heard_at, now),
         })
@@ -424,14 +431,19 @@ impl<'w, N: Network, E: Write + Drop> System<SocketPorts<'w, N::Connection>> for
             (run_state (self.new.poller.network, self.new.poller.table) (self.new.idle_time, self.new.stall_time) self.new.acceptor
             (vec_capacity self.new.arrivals) self.new.arrivals.items self.new.closings) }
         ensures news { result ≡ (is_newly_stopped self.old.control.stops_now ports.now.is_stopped
-            || has_session_news self.old.poller.table (record {
+            || has_session_news self.new.poller.table (record {
               bot = ports.now.bot;
               server = ports.now.server;
               reading = ports.now.idle.reading;
               im_due = ports.now.im_due;
             })) }
-        ensures same { self.new ≡ self.old }
+        ensures looks { nat_le 32 self.old.poller.table.turns ≡ true → (time : Option Duration) × IsNoTime time
+            × PollsOnce N.transition time self.old.poller.network self.old.poller.table self.new.poller.network
+            self.new.poller.table }
+        ensures rests { nat_le 32 self.old.poller.table.turns ≡ false → self.new ≡ self.old }
+        ensures same { self.new ≡ record self.old { poller = self.new.poller } }
     {
+        self.poller.look_by_turns();
         self.stops_newly(ports) || ports.has_news(&self.poller.table)
     }
 
@@ -454,6 +466,8 @@ impl<'w, N: Network, E: Write + Drop> System<SocketPorts<'w, N::Connection>> for
         ensures clock { self.new.poller.table.reading ≡ self.old.poller.table.reading }
         ensures expires { ports.new.im_timer_expired ≡ is_past self.old.poller.table.reading ports.old.im_due }
         ensures im_once { ports.new.im_due ≡ due_after self.old.poller.table.reading ports.old.im_due }
+        ensures counted { self.old.poller.table.turns < u64.MAX →
+            self.new.poller.table.turns ≡ self.old.poller.table.turns + 1 }
         ensures stops { ports.new.is_stopped ≡ (ports.old.is_stopped || self.old.control.stops_now) }
         ensures once { ports.new.stops ≡ (self.old.control.stops_now && not ports.old.is_stopped) }
     {

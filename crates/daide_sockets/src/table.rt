@@ -5,7 +5,7 @@
 //! each wait. So an idle session makes no system call.
 
 ghost use Rattle.std.specs.Duration.{as_nanos};
-ghost use Rattle.std.specs.Prelude.{◌≡◌, ◌<◌, ◌≤◌, ◌||◌, nat_le, length, IsNone, IfSome, IfNone, IfOk, None, [], false};
+ghost use Rattle.std.specs.Prelude.{◌≡◌, ◌+◌, ◌<◌, ◌≤◌, ◌||◌, nat_le, length, IsNone, IfSome, IfNone, IfOk, None, [], false};
 ghost use Rattle.daide_sockets.specs.Table.{first_free, TakesRow};
 ghost use Rattle.daide_sockets.specs.Table.{row_at, merged, report_at, has_report, is_reported_at, has_pending};
 ghost use Rattle.daide_sockets.specs.Table.{changed, without_report, watching, unwatched, freed, with_event, with_news, latest};
@@ -410,7 +410,8 @@ impl SocketTable {
 
     /// Counts the beginning of a turn.
     pub(crate) fn note_turn(&mut self)
-        ensures { self.new ≡ record self.old { turns = self.new.turns } }
+        ensures same { self.new ≡ record self.old { turns = self.new.turns } }
+        ensures counted { self.old.turns < u64.MAX → self.new.turns ≡ self.old.turns + 1 }
     {
         self.turns = self.turns.saturating_add(1);
     }

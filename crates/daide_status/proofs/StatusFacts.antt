@@ -47,6 +47,10 @@ first = record {
   queued_to_server = 12;
   held_to_bot = 30;
   held_to_server = 4;
+  received_from_bot = 1234;
+  received_from_server = 567890;
+  sent_to_bot = 98765;
+  sent_to_server = 4321;
   bot_idle = Some 0;
   server_idle = Some 61;
 }
@@ -69,6 +73,10 @@ second = record {
   queued_to_server = 0;
   held_to_bot = 0;
   held_to_server = 8;
+  received_from_bot = 8;
+  received_from_server = 0;
+  sent_to_bot = 0;
+  sent_to_server = 7;
   bot_idle = Some 5;
   server_idle = None;
 }
@@ -78,7 +86,7 @@ second = record {
 abbrev columns : List ℕ
 columns =
     codes "                      from the bot   from the server\n"
-    ++ codes "session  phase   relayed  PRN  HUH relayed  PRN  HUH  to bot to server  bot idle server idle   port bot and its name\n"
+    ++ codes "session  phase   relayed  PRN  HUH relayed  PRN  HUH  to bot to server    bot sent server sent    bot took server took  bot idle server idle   port bot and its name\n"
 
 table_of_none : status_text Table idle_run [] ≡ codes "0 open, 0 connecting, 0 served, 0 unreached, up 7 s\n" ++ columns
 unfolding digits text_with name_of names
@@ -88,10 +96,10 @@ abbrev busy_line : List ℕ
 busy_line = codes "2 open, 1 connecting, 30 served, 4 unreached, up 125 s; bots may wait for a place; stopping\n"
 
 abbrev first_line : List ℕ
-first_line = codes "      1  open 20      87    2    3      95    7    8      40        16         0          61  40000 127.0.0.1:50000 NME 'Al\"b\\rt'\n"
+first_line = codes "      1  open 20      87    2    3      95    7    8      40        16        1234      567890       98765        4321         0          61  40000 127.0.0.1:50000 NME 'Al\"b\\rt'\n"
 
 abbrev second_line : List ℕ
-second_line = codes "     12  wait RM       1    0    0       0    0    0       0         8         5           -      - 10.0.0.7:6\n"
+second_line = codes "     12  wait RM       1    0    0       0    0    0       0         8           8           0           0           7         5           -      - 10.0.0.7:6\n"
 
 table_of_one : status_text Table busy_run (first ∷ []) ≡ busy_line ++ columns ++ first_line
 unfolding digits text_with name_of names
@@ -116,13 +124,13 @@ abbrev first_object : List ℕ
 first_object =
     codes "{\"session\":1,\"bot\":\"127.0.0.1:50000\",\"phase\":\"open\",\"level\":20,\"port_to_server\":40000,\"name\":\"NME 'Al\\\"b\\\\rt'\",\"relayed\":{\"bot\":87,\"server\":95},\"prn\":{\"bot\":2,\"server\":7}"
     ++ codes ",\"huh\":{\"bot\":3,\"server\":8},\"faults\":6"
-    ++ codes ",\"queued\":{\"bot\":10,\"server\":12},\"held\":{\"bot\":30,\"server\":4},\"idle_seconds\":{\"bot\":0,\"server\":61}}"
+    ++ codes ",\"queued\":{\"bot\":10,\"server\":12},\"held\":{\"bot\":30,\"server\":4},\"received\":{\"bot\":1234,\"server\":567890},\"sent\":{\"bot\":98765,\"server\":4321},\"idle_seconds\":{\"bot\":0,\"server\":61}}"
 
 abbrev second_object : List ℕ
 second_object =
     codes "{\"session\":12,\"bot\":\"10.0.0.7:6\",\"phase\":\"wait RM\",\"level\":0,\"port_to_server\":null,\"name\":null,\"relayed\":{\"bot\":1,\"server\":0},\"prn\":{\"bot\":0,\"server\":0}"
     ++ codes ",\"huh\":{\"bot\":0,\"server\":0},\"faults\":0"
-    ++ codes ",\"queued\":{\"bot\":0,\"server\":0},\"held\":{\"bot\":0,\"server\":8},\"idle_seconds\":{\"bot\":5,\"server\":null}}"
+    ++ codes ",\"queued\":{\"bot\":0,\"server\":0},\"held\":{\"bot\":0,\"server\":8},\"received\":{\"bot\":8,\"server\":0},\"sent\":{\"bot\":0,\"server\":7},\"idle_seconds\":{\"bot\":5,\"server\":null}}"
 
 document_of_one : status_text Json busy_run (first ∷ []) ≡ busy_members ++ first_object ++ codes "\n]}\n"
 unfolding digits text_with name_of names
@@ -138,6 +146,10 @@ document_of_two = refl
 abbrev frames_head : List ℕ
 frames_head =
     codes "# HELP daide_gate_session_frames_total Frames of a session, by side and by what was done with them.\n# TYPE daide_gate_session_frames_total counter\n"
+
+abbrev bytes_head : List ℕ
+bytes_head =
+    codes "# HELP daide_gate_session_bytes_total Bytes of a session, by side and by direction.\n# TYPE daide_gate_session_bytes_total counter\n"
 
 abbrev waiting_head : List ℕ
 waiting_head =
@@ -158,7 +170,7 @@ metrics_of_none : status_text Prometheus idle_run []
     ++ codes "# HELP daide_gate_bots_may_wait Whether bots may wait for a place.\n# TYPE daide_gate_bots_may_wait gauge\ndaide_gate_bots_may_wait 0\n"
     ++ codes "# HELP daide_gate_stopping Whether the run accepts no further bot.\n# TYPE daide_gate_stopping gauge\ndaide_gate_stopping 0\n"
     ++ codes "# HELP daide_gate_up_seconds Seconds since the run began.\n# TYPE daide_gate_up_seconds gauge\ndaide_gate_up_seconds 7\n"
-    ++ frames_head ++ waiting_head ++ idle_head ++ level_head
+    ++ frames_head ++ bytes_head ++ waiting_head ++ idle_head ++ level_head
 unfolding digits text_with name_of names
 metrics_of_none = refl
 
@@ -182,6 +194,13 @@ first_frames =
     ++ codes "daide_gate_session_frames_total{session=\"1\",bot=\"127.0.0.1:50000\",side=\"server\",result=\"huh\"} 8\n"
     ++ codes "daide_gate_session_frames_total{session=\"1\",bot=\"127.0.0.1:50000\",result=\"fault\"} 6\n"
 
+abbrev first_bytes : List ℕ
+first_bytes =
+    codes "daide_gate_session_bytes_total{session=\"1\",bot=\"127.0.0.1:50000\",side=\"bot\",direction=\"received\"} 1234\n"
+    ++ codes "daide_gate_session_bytes_total{session=\"1\",bot=\"127.0.0.1:50000\",side=\"server\",direction=\"received\"} 567890\n"
+    ++ codes "daide_gate_session_bytes_total{session=\"1\",bot=\"127.0.0.1:50000\",side=\"bot\",direction=\"sent\"} 98765\n"
+    ++ codes "daide_gate_session_bytes_total{session=\"1\",bot=\"127.0.0.1:50000\",side=\"server\",direction=\"sent\"} 4321\n"
+
 abbrev first_waiting : List ℕ
 first_waiting =
     codes "daide_gate_session_waiting_bytes{session=\"1\",bot=\"127.0.0.1:50000\",side=\"bot\"} 40\n"
@@ -196,7 +215,7 @@ abbrev first_level : List ℕ
 first_level = codes "daide_gate_session_level{session=\"1\",bot=\"127.0.0.1:50000\",phase=\"open\",name=\"NME 'Al\\\"b\\\\rt'\"} 20\n"
 
 metrics_of_one : status_text Prometheus busy_run (first ∷ [])
-    ≡ busy_metrics ++ frames_head ++ first_frames ++ waiting_head ++ first_waiting ++ idle_head ++ first_idle ++ level_head
+    ≡ busy_metrics ++ frames_head ++ first_frames ++ bytes_head ++ first_bytes ++ waiting_head ++ first_waiting ++ idle_head ++ first_idle ++ level_head
     ++ first_level
 unfolding digits text_with name_of names
 metrics_of_one = refl
@@ -211,6 +230,11 @@ metrics_of_two : status_text Prometheus busy_run (first ∷ second ∷ [])
     ++ codes "daide_gate_session_frames_total{session=\"12\",bot=\"10.0.0.7:6\",side=\"server\",result=\"prn\"} 0\n"
     ++ codes "daide_gate_session_frames_total{session=\"12\",bot=\"10.0.0.7:6\",side=\"server\",result=\"huh\"} 0\n"
     ++ codes "daide_gate_session_frames_total{session=\"12\",bot=\"10.0.0.7:6\",result=\"fault\"} 0\n"
+    ++ bytes_head ++ first_bytes
+    ++ codes "daide_gate_session_bytes_total{session=\"12\",bot=\"10.0.0.7:6\",side=\"bot\",direction=\"received\"} 8\n"
+    ++ codes "daide_gate_session_bytes_total{session=\"12\",bot=\"10.0.0.7:6\",side=\"server\",direction=\"received\"} 0\n"
+    ++ codes "daide_gate_session_bytes_total{session=\"12\",bot=\"10.0.0.7:6\",side=\"bot\",direction=\"sent\"} 0\n"
+    ++ codes "daide_gate_session_bytes_total{session=\"12\",bot=\"10.0.0.7:6\",side=\"server\",direction=\"sent\"} 7\n"
     ++ waiting_head ++ first_waiting
     ++ codes "daide_gate_session_waiting_bytes{session=\"12\",bot=\"10.0.0.7:6\",side=\"bot\"} 0\n"
     ++ codes "daide_gate_session_waiting_bytes{session=\"12\",bot=\"10.0.0.7:6\",side=\"server\"} 8\n"

@@ -48,7 +48,7 @@ abbrev pub table_head : RunStatus → List ℕ
 table_head run =
     run_line run
     ++ codes "                      from the bot   from the server\n"
-    ++ codes "session  phase   relayed  PRN  HUH relayed  PRN  HUH  to bot to server  bot idle server idle   port bot and its name\n"
+    ++ codes "session  phase   relayed  PRN  HUH relayed  PRN  HUH  to bot to server    bot sent server sent    bot took server took  bot idle server idle   port bot and its name\n"
 
 -- the counts of a side
 abbrev pub side_cells : SideCounts → List ℕ
@@ -65,6 +65,12 @@ name_cell (Iam power) = codes " " ++ name_text (Iam power)
 abbrev pub bot_cells : SessionRow → List ℕ
 bot_cells row = codes " " ++ socket_text row.bot ++ name_cell row.account.name ++ codes "\n"
 
+-- the bytes received from each side, and those sent to each
+abbrev pub byte_cells : SessionRow → List ℕ
+byte_cells row =
+    right_aligned 12 (decimal row.received_from_bot) ++ right_aligned 12 (decimal row.received_from_server)
+    ++ right_aligned 12 (decimal row.sent_to_bot) ++ right_aligned 12 (decimal row.sent_to_server)
+
 -- the columns of a session before its bot; the bytes for a side are those of the session's queue and those that the
 -- side's socket holds
 abbrev pub number_cells : SessionRow → List ℕ
@@ -73,7 +79,8 @@ number_cells row =
     ++ side_cells row.account.bot ++ side_cells row.account.server
     ++ right_aligned 8 (decimal (row.queued_to_bot + row.held_to_bot))
     ++ right_aligned 10 (decimal (row.queued_to_server + row.held_to_server))
-    ++ number_or_dash 10 row.bot_idle ++ number_or_dash 12 row.server_idle ++ number_or_dash 7 row.port_to_server
+    ++ byte_cells row ++ number_or_dash 10 row.bot_idle ++ number_or_dash 12 row.server_idle
+    ++ number_or_dash 7 row.port_to_server
 
 -- the line of a session
 abbrev pub table_row : SessionRow → List ℕ

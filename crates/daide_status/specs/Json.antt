@@ -70,6 +70,18 @@ json_counts a =
     json_sides (codes "relayed") a.bot.relayed a.server.relayed ++ json_sides (codes "prn") a.bot.prn a.server.prn
     ++ json_sides (codes "huh") a.bot.huh a.server.huh ++ json_faults a.faults
 
+-- the bytes that wait for each side, in the session and in the side's socket
+abbrev pub json_waiting : SessionRow → List ℕ
+json_waiting row =
+    json_sides (codes "queued") row.queued_to_bot row.queued_to_server
+    ++ json_sides (codes "held") row.held_to_bot row.held_to_server
+
+-- the bytes received from each side, and those sent to each
+abbrev pub json_bytes : SessionRow → List ℕ
+json_bytes row =
+    json_sides (codes "received") row.received_from_bot row.received_from_server
+    ++ json_sides (codes "sent") row.sent_to_bot row.sent_to_server
+
 -- the seconds since each side's last byte, and the end of the object
 abbrev pub json_idle : SessionRow → List ℕ
 json_idle row =
@@ -79,9 +91,7 @@ json_idle row =
 -- the object of a session
 abbrev pub json_row : SessionRow → List ℕ
 json_row row =
-    json_identity row ++ json_counts row.account
-    ++ json_sides (codes "queued") row.queued_to_bot row.queued_to_server
-    ++ json_sides (codes "held") row.held_to_bot row.held_to_server ++ json_idle row
+    json_identity row ++ json_counts row.account ++ json_waiting row ++ json_bytes row ++ json_idle row
 
 -- the objects of all sessions, each on a line, with commas between them
 abbrev pub json_rows : List SessionRow → List ℕ

@@ -74,6 +74,15 @@ frame_samples row =
     bot_samples row ++ server_samples row
     ++ session_sample (codes "session_frames_total") row (codes "result=\"fault\"") row.account.faults
 
+-- the bytes received from each side, and those sent to each
+abbrev pub byte_samples : SessionRow → List ℕ
+byte_samples row =
+    session_sample (codes "session_bytes_total") row (codes "side=\"bot\",direction=\"received\"") row.received_from_bot
+    ++ session_sample (codes "session_bytes_total") row (codes "side=\"server\",direction=\"received\"")
+    row.received_from_server
+    ++ session_sample (codes "session_bytes_total") row (codes "side=\"bot\",direction=\"sent\"") row.sent_to_bot
+    ++ session_sample (codes "session_bytes_total") row (codes "side=\"server\",direction=\"sent\"") row.sent_to_server
+
 -- the bytes that wait for each side, in the session and in the side's socket
 abbrev pub waiting_samples : SessionRow → List ℕ
 waiting_samples row =
@@ -119,11 +128,18 @@ level_sample row =
 abbrev pub session_metric : List ℕ → List ℕ → List ℕ → List ℕ → List ℕ
 session_metric name kind help samples = metric_head name kind help ++ samples
 
--- the metrics of the sessions, each with these samples
-abbrev pub session_metrics : List ℕ → List ℕ → List ℕ → List ℕ → List ℕ
-session_metrics frames waiting idle levels =
+-- the counters of the sessions, each with these samples
+abbrev pub session_counters : List ℕ → List ℕ → List ℕ
+session_counters frames bytes =
     session_metric (codes "session_frames_total") (codes "counter")
     (codes "Frames of a session, by side and by what was done with them.") frames
+    ++ session_metric (codes "session_bytes_total") (codes "counter") (codes "Bytes of a session, by side and by direction.")
+    bytes
+
+-- the metrics of the sessions, each with these samples
+abbrev pub session_metrics : List ℕ → List ℕ → List ℕ → List ℕ → List ℕ → List ℕ
+session_metrics frames bytes waiting idle levels =
+    session_counters frames bytes
     ++ session_metric (codes "session_waiting_bytes") (codes "gauge") (codes "Bytes that wait for a side.") waiting
     ++ session_metric (codes "session_idle_seconds") (codes "gauge") (codes "Seconds since the last byte from a side.") idle
     ++ session_metric (codes "session_level") (codes "gauge") (codes "The level of press of a session.") levels

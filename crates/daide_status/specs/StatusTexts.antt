@@ -8,7 +8,7 @@ use Rattle.daide_status.specs.declared.snapshot.SessionRow.{SessionRow}
 use Rattle.daide_status.specs.declared.text.StatusText.{StatusText}
 use Rattle.daide_status.specs.Columns.{table_head, table_row}
 use Rattle.daide_status.specs.Json.{json_head, json_row, json_rows, json_end}
-use Rattle.daide_status.specs.Metrics.{metrics_head, session_metrics, frame_samples, waiting_samples, idle_samples, level_sample}
+use Rattle.daide_status.specs.Metrics.{metrics_head, session_metrics, frame_samples, byte_samples, waiting_samples, idle_samples, level_sample}
 
 -- the text of a status
 abbrev pub status_text : Format → RunStatus → List SessionRow → List ℕ
@@ -16,8 +16,8 @@ status_text Table run rows = table_head run ++ flat_map table_row rows
 status_text Json run rows = json_head run ++ json_rows rows ++ json_end
 status_text Prometheus run rows =
     metrics_head run
-    ++ session_metrics (flat_map frame_samples rows) (flat_map waiting_samples rows) (flat_map idle_samples rows)
-    (flat_map level_sample rows)
+    ++ session_metrics (flat_map frame_samples rows) (flat_map byte_samples rows) (flat_map waiting_samples rows)
+    (flat_map idle_samples rows) (flat_map level_sample rows)
 
 -- a text that is made row by row
 pub record StatusView : Type 0 where
@@ -25,6 +25,7 @@ pub record StatusView : Type 0 where
   pub has_rows : Bool
   pub text : List ℕ
   pub frames : List ℕ
+  pub bytes : List ℕ
   pub waiting : List ℕ
   pub idle : List ℕ
   pub levels : List ℕ
@@ -35,6 +36,7 @@ status_view t = record {
   has_rows = t.has_rows;
   text = t.text.items;
   frames = t.samples.frames.items;
+  bytes = t.samples.bytes.items;
   waiting = t.samples.waiting.items;
   idle = t.samples.idle.items;
   levels = t.samples.levels.items;
@@ -53,6 +55,7 @@ begun format run = record {
   has_rows = false;
   text = status_head format run;
   frames = [];
+  bytes = [];
   waiting = [];
   idle = [];
   levels = [];
@@ -73,6 +76,7 @@ with_object row view = record view {
 abbrev pub with_samples : SessionRow → StatusView → StatusView
 with_samples row view = record view {
   frames = view.frames ++ frame_samples row;
+  bytes = view.bytes ++ byte_samples row;
   waiting = view.waiting ++ waiting_samples row;
   idle = view.idle ++ idle_samples row;
   levels = view.levels ++ level_sample row;
@@ -94,7 +98,7 @@ with_rows (row ∷ rows) view = with_rows rows (with_row row view)
 
 -- the metrics of the sessions of a text
 abbrev pub all_samples : StatusView → List ℕ
-all_samples view = session_metrics view.frames view.waiting view.idle view.levels
+all_samples view = session_metrics view.frames view.bytes view.waiting view.idle view.levels
 
 -- what a text ends with, by the format
 abbrev pub status_end : Format → StatusView → List ℕ

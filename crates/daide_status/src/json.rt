@@ -1,7 +1,7 @@
 //! The status as one JSON document: the members of the run, and an array with an object for each session.
 
 ghost use Rattle.std.specs.Prelude.{◌≡◌, ◌++◌, OnOk};
-ghost use Rattle.daide_status.specs.Json.{json_counts, json_faults, json_head, json_identity, json_idle, json_name, json_port, json_row, json_run_counts, json_run_state, json_sides, json_session, name_or_null};
+ghost use Rattle.daide_status.specs.Json.{json_counts, json_faults, json_head, json_identity, json_bytes, json_idle, json_waiting, json_name, json_port, json_row, json_run_counts, json_run_state, json_sides, json_session, name_or_null};
 
 use crate::pieces::{phase_name, port_number, put_or_null, put_quoted_name};
 use crate::snapshot::{RunStatus, SessionRow};
@@ -139,12 +139,10 @@ fn put_idle_sides(row: &SessionRow, out: &mut Vec<u8>) -> io::Result<()>
     out.write_all(b"}}")
 }
 
-/// Appends the object of a session.
-pub(crate) fn put_json_row(row: &SessionRow, out: &mut Vec<u8>) -> io::Result<()>
-    ensures { OnOk result (out.new.items ≡ out.old.items ++ json_row row.now) }
+/// Appends the bytes that wait for each side, in the session and in the side's socket, as members.
+fn put_waiting_sides(row: &SessionRow, out: &mut Vec<u8>) -> io::Result<()>
+    ensures { OnOk result (out.new.items ≡ out.old.items ++ json_waiting row.now) }
 {
-    put_identity(row, out)?;
-    put_counts(&row.account, out)?;
     put_sides(
         "queued",
         row.queued_to_bot as u128,
@@ -156,6 +154,34 @@ pub(crate) fn put_json_row(row: &SessionRow, out: &mut Vec<u8>) -> io::Result<()
         row.held_to_bot as u128,
         row.held_to_server as u128,
         out,
+    )
+}
+
+/// Appends the bytes received from each side, and those sent to each, as members.
+fn put_byte_sides(row: &SessionRow, out: &mut Vec<u8>) -> io::Result<()>
+    ensures { OnOk result (out.new.items ≡ out.old.items ++ json_bytes row.now) }
+{
+    put_sides(
+        "received",
+        row.received_from_bot as u128,
+        row.received_from_server as u128,
+        out,
     )?;
+    put_sides(
+        "sent",
+        row.sent_to_bot as u128,
+        row.sent_to_server as u128,
+        out,
+    )
+}
+
+/// Appends the object of a session.
+pub(crate) fn put_json_row(row: &SessionRow, out: &mut Vec<u8>) -> io::Result<()>
+    ensures { OnOk result (out.new.items ≡ out.old.items ++ json_row row.now) }
+{
+    put_identity(row, out)?;
+    put_counts(&row.account, out)?;
+    put_waiting_sides(row, out)?;
+    put_byte_sides(row, out)?;
     put_idle_sides(row, out)
 }

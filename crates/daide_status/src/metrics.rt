@@ -4,7 +4,7 @@ ghost use Rattle.std.specs.Prelude.{◌≡◌, ◌+◌, ◌++◌, [], OnOk, code
 ghost use Rattle.daide_status.specs.Metrics.{bot_samples, server_samples, flag_number, frame_samples, idle_samples, idle_sample, level_sample};
 ghost use Rattle.daide_status.specs.Metrics.{metric_head, metrics_head, phase_label, run_metric, session_sample, waiting_samples};
 ghost use Rattle.daide_status.specs.Pieces.{quoted_name};
-ghost use Rattle.daide_status.specs.Metrics.{level_front, name_label, run_sample, sample_end, session_metric, session_metrics, waiting_metrics};
+ghost use Rattle.daide_status.specs.Metrics.{byte_samples, session_counters, level_front, name_label, run_sample, sample_end, session_metric, session_metrics, waiting_metrics};
 
 use crate::pieces::{put_quoted_name, sum};
 use crate::snapshot::{RunStatus, SessionRow};
@@ -18,6 +18,8 @@ use std::io::Write;
 pub(crate) struct Samples {
     /// The frames of each session, by what was done with them.
     pub frames: Vec<u8>,
+    /// The bytes of each session, by side and by direction.
+    pub bytes: Vec<u8>,
     /// The bytes that wait for each side.
     pub waiting: Vec<u8>,
     /// The seconds since each side's last byte.
@@ -30,12 +32,14 @@ impl Samples {
     /// Returns no samples.
     pub(crate) fn new(alloc: Global) -> Samples
         ensures frames { result.frames.items ≡ [] }
+        ensures bytes { result.bytes.items ≡ [] }
         ensures waiting { result.waiting.items ≡ [] }
         ensures idle { result.idle.items ≡ [] }
         ensures levels { result.levels.items ≡ [] }
     {
         Samples {
             frames: Vec::new(alloc),
+            bytes: Vec::new(alloc),
             waiting: Vec::new(alloc),
             idle: Vec::new(alloc),
             levels: Vec::new(alloc),
@@ -186,6 +190,31 @@ pub(crate) fn put_frames(row: &SessionRow, out: &mut Vec<u8>) -> io::Result<()>
     put_count(row, "result=\"fault\"", row.account.faults, out)
 }
 
+/// Appends the number of bytes with this side and this direction.
+fn put_byte_count(row: &SessionRow, label: &str, count: u64, out: &mut Vec<u8>) -> io::Result<()>
+    ensures { OnOk result (out.new.items
+        ≡ out.old.items ++ session_sample (codes "session_bytes_total") row.now label.now count) }
+{
+    put_sample("session_bytes_total", row, label, count as u128, out)
+}
+
+/// Appends the bytes received from each side, and those sent to each.
+pub(crate) fn put_bytes(row: &SessionRow, out: &mut Vec<u8>) -> io::Result<()>
+    ensures { OnOk result (out.new.items ≡ out.old.items ++ byte_samples row.now) }
+{
+    let (from_bot, from_server) = (row.received_from_bot, row.received_from_server);
+    put_byte_count(row, "side=\"bot\",direction=\"received\"", from_bot, out)?;
+    put_byte_count(
+        row,
+        "side=\"server\",direction=\"received\"",
+        from_server,
+        out,
+    )?;
+    let (to_bot, to_server) = (row.sent_to_bot, row.sent_to_server);
+    put_byte_count(row, "side=\"bot\",direction=\"sent\"", to_bot, out)?;
+    put_byte_count(row, "side=\"server\",direction=\"sent\"", to_server, out)
+}
+
 /// Appends the bytes that wait for each side, in the session and in the side's socket.
 pub(crate) fn put_waiting(row: &SessionRow, out: &mut Vec<u8>) -> io::Result<()>
     ensures { OnOk result (out.new.items ≡ out.old.items ++ waiting_samples row.now) }
@@ -299,11 +328,10 @@ fn put_session_metric(
     out.write_all(samples.as_slice())
 }
 
-/// Appends the metrics of the sessions, each with all its samples.
-pub(crate) fn put_session_metrics(samples: &Samples, out: &mut Vec<u8>) -> io::Result<()>
-    ensures { OnOk result (out.new.items ≡ out.old.items
-        ++ session_metrics samples.now.frames.items samples.now.waiting.items samples.now.idle.items
-        samples.now.levels.items) }
+/// Appends the counters of the sessions, each with all its samples.
+fn put_counters(samples: &Samples, out: &mut Vec<u8>) -> io::Result<()>
+    ensures { OnOk result (out.new.items
+        ≡ out.old.items ++ session_counters samples.now.frames.items samples.now.bytes.items) }
 {
     let done = "Frames of a session, by side and by what was done with them.";
     put_session_metric(
@@ -313,6 +341,17 @@ pub(crate) fn put_session_metrics(samples: &Samples, out: &mut Vec<u8>) -> io::R
         &samples.frames,
         out,
     )?;
+    let bytes = "Bytes of a session, by side and by direction.";
+    put_session_metric("session_bytes_total", "counter", bytes, &samples.bytes, out)
+}
+
+/// Appends the metrics of the sessions, each with all its samples.
+pub(crate) fn put_session_metrics(samples: &Samples, out: &mut Vec<u8>) -> io::Result<()>
+    ensures { OnOk result (out.new.items ≡ out.old.items
+        ++ session_metrics samples.now.frames.items samples.now.bytes.items samples.now.waiting.items
+        samples.now.idle.items samples.now.levels.items) }
+{
+    put_counters(samples, out)?;
     let waiting = "Bytes that wait for a side.";
     put_session_metric(
         "session_waiting_bytes",

@@ -46,6 +46,12 @@ pub struct SessionRow {
     pub held_to_bot: usize,
     /// The bytes that the server's socket holds and has still to write.
     pub held_to_server: usize,
+    /// The bytes received from the bot, and from the server, each modulo 2^64.
+    pub received_from_bot: u64,
+    pub received_from_server: u64,
+    /// The bytes sent to the bot, and to the server, each modulo 2^64.
+    pub sent_to_bot: u64,
+    pub sent_to_server: u64,
     /// The seconds since the bot's last byte; `None` if it has sent none.
     pub bot_idle: Option<u64>,
     /// The seconds since the server's last byte; `None` if it has sent none.

@@ -1,8 +1,8 @@
-//! The status in aligned columns. Its lines have at most 121 bytes before a bot's name, except those with an address of
+//! The status in aligned columns. Its lines have at most 169 bytes before a bot's name, except those with an address of
 //! IPv6 or with a number that is longer than its column.
 
 ghost use Rattle.std.specs.Prelude.{◌≡◌, ◌++◌, OnOk};
-ghost use Rattle.daide_status.specs.Columns.{bot_cells, name_cell, number_cells, open_cell, phase_cell, run_line, side_cells, table_head, table_row, totals};
+ghost use Rattle.daide_status.specs.Columns.{bot_cells, byte_cells, name_cell, number_cells, open_cell, phase_cell, run_line, side_cells, table_head, table_row, totals};
 
 use crate::pieces::{port_number, put_if, put_or_dash, put_right, sum};
 use crate::snapshot::{RunStatus, SessionRow};
@@ -72,7 +72,7 @@ pub(crate) fn put_table_head(run: &RunStatus, out: &mut Vec<u8>) -> io::Result<(
 {
     put_run_line(run, out)?;
     out.write_all(
-        b"                      from the bot   from the server\nsession  phase   relayed  PRN  HUH relayed  PRN  HUH  to bot to server  bot idle server idle   port bot and its name\n",
+        b"                      from the bot   from the server\nsession  phase   relayed  PRN  HUH relayed  PRN  HUH  to bot to server    bot sent server sent    bot took server took  bot idle server idle   port bot and its name\n",
     )
 }
 
@@ -106,6 +106,16 @@ fn put_bot(row: &SessionRow, out: &mut Vec<u8>) -> io::Result<()>
     writeln!(out)
 }
 
+/// Appends the bytes received from each side, and those sent to each.
+fn put_byte_cells(row: &SessionRow, out: &mut Vec<u8>) -> io::Result<()>
+    ensures { OnOk result (out.new.items ≡ out.old.items ++ byte_cells row.now) }
+{
+    put_right(12, row.received_from_bot as u128, out)?;
+    put_right(12, row.received_from_server as u128, out)?;
+    put_right(12, row.sent_to_bot as u128, out)?;
+    put_right(12, row.sent_to_server as u128, out)
+}
+
 /// Appends the columns of a session before its bot.
 fn put_number_cells(row: &SessionRow, out: &mut Vec<u8>) -> io::Result<()>
     ensures { OnOk result (out.new.items ≡ out.old.items ++ number_cells row.now) }
@@ -117,6 +127,7 @@ fn put_number_cells(row: &SessionRow, out: &mut Vec<u8>) -> io::Result<()>
     put_side(&row.account.server, out)?;
     put_right(8, sum(row.queued_to_bot, row.held_to_bot), out)?;
     put_right(10, sum(row.queued_to_server, row.held_to_server), out)?;
+    put_byte_cells(row, out)?;
     put_or_dash(10, row.bot_idle, out)?;
     put_or_dash(12, row.server_idle, out)?;
     put_or_dash(7, port_number(row.port_to_server), out)

@@ -67,6 +67,7 @@ impl StatusText {
         ensures { OnOk result (status_view self.new ≡ with_samples row.now (status_view self.old)) }
     {
         metrics::put_frames(row, &mut self.samples.frames)?;
+        metrics::put_bytes(row, &mut self.samples.bytes)?;
         metrics::put_waiting(row, &mut self.samples.waiting)?;
         metrics::put_silence(row, &mut self.samples.idle)?;
         metrics::put_level(row, &mut self.samples.levels)

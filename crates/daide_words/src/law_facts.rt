@@ -30,13 +30,13 @@ use crate::laws;
 use crate::words::Words;
 
 /// For any single accepted word: a bracket begins `( power )` exactly if a power and the other bracket follow. A stack
-/// with 62 open brackets has at most 512 entries, and each token needs few look-ups.
+/// with 62 open brackets has at most 318 entries, and each token needs few look-ups.
 fn prediction_at_values()
     ensures takes { (word : Word) (rest : List ℕ) → are_accepted (word ∷ []) ≡ true →
         let over = SymbolMatchesIn (dialect_of (grammar_words (word ∷ []))) in
         over PowerGroup (bra ∷ rest) ↔ StackMatches over (OnePower ∷ Closing ∷ []) rest }
     ensures entries { (word : Word) (stack : List Sym) → are_accepted (word ∷ []) ≡ true →
-        IsLawful (answer_over (grammar_words (word ∷ []))) stack 62 → length stack ≤ 512 }
+        IsLawful (answer_over (grammar_words (word ∷ []))) stack 62 → length stack ≤ 318 }
     ensures skips { (word : Word) (stack : List Sym) → are_accepted (word ∷ []) ≡ true →
         IsLawful (answer_over (grammar_words (word ∷ []))) stack 1 →
         skips_before (answer_over (grammar_words (word ∷ []))) (classes.Word 0) stack ≤ 2 }
@@ -119,7 +119,7 @@ fn held_at_values(words: &Words)
     ensures err { IsMessageOver (grammar_words (words_of words.now)) BotSide L0
         (huh ∷ bra ∷ err ∷ 0x4A40 ∷ ket ∷ []) }
     ensures entries { (stack : List Sym) → IsLawful (answer_over (grammar_words (words_of words.now))) stack 62 →
-        length stack ≤ 512 }
+        length stack ≤ 318 }
     ensures codes { (one other : Word) → word_at 0 (words_of words.now) ≡ Some one →
         word_at 15 (words_of words.now) ≡ Some other → ¬ (one.code ≡ other.code) }
     ensures client { (word : Word) → word_at 15 (words_of words.now) ≡ Some word →

@@ -4,7 +4,7 @@ use Rattle.daide_token.specs.declared.class.Class.{Class}
 use Rattle.daide_token.specs.declared.class.Class.TheVariants.{Bra, Ket}
 use Rattle.daide_token.specs.Token.{bra, ket}
 use Rattle.daide_grammar.specs.declared.symbol.Sym.{Sym}
-use Rattle.daide_grammar.specs.Bounds.{entries_bound, most_steps}
+use Rattle.daide_grammar.specs.Bounds.{height_bound, most_steps}
 use Rattle.daide_grammar.specs.Table.Answers.{TableEntry, Take, Skip, Stop}
 use Rattle.daide_grammar.specs.Table.Stacks.{StackMatches, stack_after, skips_before, ends_asked}
 
@@ -42,6 +42,6 @@ pub record IsCorrectPrediction (class_of : ℕ → Class) (language : Sym → Li
       lawful (s ∷ stack) k → moves s Ket ≡ Take rest → (less : ℕ) × (k ≡ less + 1) × lawful (rest ++ stack) less
   -- The open brackets bound the stack, and a token needs few look-ups. At most two symbols are skipped, and one symbol
   -- may need a second look-up for a word: at most four look-ups a token.
-  pub few_entries : (stack : List Sym) (k : ℕ) → lawful stack k → length stack ≤ entries_bound k
+  pub few_entries : (stack : List Sym) (k : ℕ) → lawful stack k → length stack ≤ height_bound k
   pub few_skips : (stack : List Sym) (k : ℕ) (c : Class) → lawful stack k → skips_before moves c stack ≤ 2
   pub few_ends : (stack : List Sym) → lawful stack 0 → ends_asked may_end stack ≤ most_steps

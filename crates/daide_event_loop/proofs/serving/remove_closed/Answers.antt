@@ -9,7 +9,7 @@ pub loop-i-preserved-then-is_closed : goal.loop-i-preserved-then-is_closed
 loop-i-preserved-then-is_closed g c =
     let left = one_left _ _ _ _ _ _ c.loop-i.i c.loop-i-test.true c.loop-i.invariant in
     let gone = c.retire_at.ensures in
-    place_gone _ _ _ _ _ _ _ _ (c.loop-i.i - 1) gone.0 gone.2 gone.1 left gone.3 gone.4 gone.5
+    place_gone _ _ _ _ _ _ _ _ (c.loop-i.i - 1) gone.0 gone.2 gone.1 gone.3 left gone.4 gone.5 gone.6
 
 pub loop-i-preserved : goal.loop-i-preserved
 loop-i-preserved g c =

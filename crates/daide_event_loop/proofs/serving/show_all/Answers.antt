@@ -1,4 +1,4 @@
-use Rattle.std.proofs.Common.{◌≤◌, ◌<◌, ◌∷◌, [], refl, subst, add-one, take}
+use Rattle.std.proofs.Common.{◌≤◌, ◌<◌, ◌∷◌, [], refl, ap, subst, ◌∙◌, add-one, take}
 use Rattle.std.proofs.lemmas.List.{take_all}
 use Rattle.daide_io.specs.System.{Shows, TransitsBy, status_of}
 use Rattle.daide_io.specs.declared.system.SessionStatus.{SessionStatus}
@@ -18,12 +18,12 @@ loop-i-preserved g c =
     let session = c.session.result.now in
     let more = show_more places c.loop-i.i own session inside c.ports-ports.ensures c.session.ensures in
     rw (add-one, more)
-    (transits_then g.S.System.transition (shows (take c.loop-i.i places)) (Shows own.ports (status_of session) ∷ []) _ _ _ c.loop-i.invariant (
+    (transits_then g.S.System.transition (shows (take c.loop-i.i places)) (Shows own.ports (status_of session own.bytes) ∷ []) _ _ _ c.loop-i.invariant (
       c.show.new.self,
-      subst (λ (ports : g.row.P.Denot). g.S.System.transition c.loop-i.system (Shows ports (status_of session)) c.show.new.self)
+      subst (λ (ports : g.row.P.Denot). g.S.System.transition c.loop-i.system (Shows ports (status_of session own.bytes)) c.show.new.self)
           c.ports.ensures
           (subst (λ (status : SessionStatus). g.S.System.transition c.loop-i.system (Shows c.ports.result.now status) c.show.new.self)
-          c.session_status-status.ensures c.show.ensures),
+          (c.session_status-status.ensures ∙ ap (status_of session) c.bytes.ensures) c.show.ensures),
       refl,
     ))
 

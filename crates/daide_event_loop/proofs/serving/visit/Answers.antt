@@ -1,7 +1,7 @@
-use Rattle.std.proofs.Common.{Bool, true, false, [], refl, sym, ap, ◌∙◌, subst, arith}
+use Rattle.std.proofs.Common.{Bool, true, false, [], refl, sym, ◌∙◌, subst, arith}
 use Rattle.std.specs.Prelude.{IfSome, slice_get}
-use Rattle.daide_event_loop.specs.Serving.{most_turns}
-use Rattle.daide_event_loop.proofs.BeginningLemmas.{Looks, visited, moved_there}
+use Rattle.daide_event_loop.specs.Serving.{is_calm_in}
+use Rattle.daide_event_loop.proofs.BeginningLemmas.{Looks, visited, moved_there, calm_there}
 use Rattle.daide_event_loop.proofs.FindingLemmas.{calm_place, open_after}
 use Rattle.daide_event_loop.proofs.RemovalLemmas.{place_open}
 use Rattle.daide_event_loop.proofs.serving.visit.Goals as goal
@@ -10,10 +10,11 @@ pub returns-then-not-is_due-clause-visits : goal.returns-then-not-is_due-clause-
 returns-then-not-is_due-clause-visits g c =
     let hub = c.args.hub.now in
     let go = g.S.System.transition in
-    visited g.P.Ports.transition go hub hub c.args.i c.args.system.now c.is_due.new.system c.is_due.new.system false _
-    c.requires
+    visited g.P.Ports.transition go hub hub c.args.i c.args.system.now c.is_due.new.system c.is_due.new.system false
+    (is_calm_in (slice_get hub.places c.args.i)) _ 0 c.requires
     (subst (λ (due : Bool). IfSome (slice_get hub.places c.args.i) (Looks g.P.Ports.transition go c.args.system.now c.is_due.new.system due))
-    c.if-not-is_due.true c.is_due.ensures) refl ([], refl, (refl, refl))
+    c.if-not-is_due.true c.is_due.ensures)
+    refl refl ([], refl, (refl, refl)) refl
 
 pub returns-then-not-is_due-clause-moved : goal.returns-then-not-is_due-clause-moved
 returns-then-not-is_due-clause-moved g c =
@@ -28,20 +29,18 @@ returns-clause-visits g c =
     let hub = c.args.hub.now in
     let go = g.S.System.transition in
     visited g.P.Ports.transition go hub c.take_turns.new.hub c.args.i c.args.system.now c.is_due.new.system
-    c.take_turns.new.system true c.most_turns-most.result c.requires
+    c.take_turns.new.system true c.is_calm-is_calm.result c.most_turns.result c.busy_turn.result c.requires
     (subst (λ (due : Bool). IfSome (slice_get hub.places c.args.i) (Looks g.P.Ports.transition go c.args.system.now c.is_due.new.system due))
     c.if-not-is_due.false c.is_due.ensures)
-    (c.most_turns-most.ensures
-    ∙ ap most_turns (sym (moved_there g.P.Ports.transition go hub c.args.i c.ports.result.now c.has_moved.result c.requires
-    c.ports.ensures c.has_moved.ensures)))
-    c.take_turns.ensures.turns
+    (calm_there g.P.Ports.transition go hub c.args.i c.ports.result.now c.is_calm-is_calm.result c.requires c.ports.ensures c.is_calm-is_calm.ensures)
+    c.most_turns.ensures c.take_turns.ensures.turns c.busy_turn.ensures.count
 
 pub returns-clause-moved : goal.returns-clause-moved
 returns-clause-moved g c =
     let same = c.take_turns.ensures.count in
     let inside = c.requires in
-    moved_there g.P.Ports.transition g.S.System.transition c.take_turns.new.hub c.args.i c.ports-2.result.now c.has_moved-2.result
-    (omega (arith, same, inside)) c.ports-2.ensures c.has_moved-2.ensures
+    moved_there g.P.Ports.transition g.S.System.transition c.take_turns.new.hub c.args.i c.ports-2.result.now c.has_moved.result
+    (omega (arith, same, inside)) c.ports-2.ensures c.has_moved.ensures
 
 pub returns-clause-closed : goal.returns-clause-closed
 returns-clause-closed g c = λ none are.

@@ -3,7 +3,7 @@ use Rattle.std.proofs.Common.{◌≡◌, ℕ, zero, suc, ◌+◌, ◌≤◌, Boo
 use Rattle.std.proofs.Common.{refl, sym, ◌∙◌, ap, subst, arith}
 use Rattle.std.proofs.lemmas.Bool.{leb-true}
 use Rattle.daide_grammar.specs.declared.symbol.Sym.{Sym}
-use Rattle.daide_grammar.specs.Bounds.{entries_bound}
+use Rattle.daide_grammar.specs.Bounds.{height_bound}
 use Rattle.daide_grammar.specs.Table.Shapes.{shape, join, shapes}
 use Rattle.daide_grammar.specs.Table.Proved.Alternatives.{both-pass}
 
@@ -116,8 +116,8 @@ shapes-append (s ∷ rest) below =
 
 -- the sizes that n open brackets allow
 abbrev pub caps : ℕ → List ℕ
-caps zero = 16 ∷ []
-caps (suc n) = 8 ∷ caps n
+caps zero = 8 ∷ []
+caps (suc n) = 5 ∷ caps n
 
 -- the sum of sizes
 abbrev pub total : List ℕ → ℕ
@@ -132,7 +132,7 @@ total-mono [] (b ∷ bs) h = absurd h
 total-mono (a ∷ as') [] h = absurd h
 
 -- the total that n open brackets allow
-pub total-caps : (n : ℕ) → total (caps n) ≡ entries_bound n
+pub total-caps : (n : ℕ) → total (caps n) ≡ height_bound n
 total-caps zero = refl
 total-caps (suc n) = omega (arith, total-caps n)
 
@@ -195,11 +195,11 @@ not-cons [] c h = c
 not-cons (x ∷ xs) c h = h
 
 -- if no bracket is open, a closing one finds no size to remove
-pub no-room : (xs ys zs : List ℕ) → IsCons xs → IsCons zs → fits_tail xs ys ≡ true → Fits (join ys zs) (16 ∷ []) → ⊥
+pub no-room : (xs ys zs : List ℕ) → IsCons xs → IsCons zs → fits_tail xs ys ≡ true → Fits (join ys zs) (8 ∷ []) → ⊥
 no-room xs [] zs x z e h = cc
 no-room xs (a ∷ as') zs x z e h =
     let f = Fits-test xs as' e in
-    let k = subst (λ (w : List ℕ). Fits w (16 ∷ [])) (join-behind a as' zs (Fits-cons-right xs as' x f)) h in
+    let k = subst (λ (w : List ℕ). Fits w (8 ∷ [])) (join-behind a as' zs (Fits-cons-right xs as' x f)) h in
     not-cons (join as' zs) (join-cons as' zs z) k.1
 
 -- a positive first size

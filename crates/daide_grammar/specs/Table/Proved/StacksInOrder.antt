@@ -41,7 +41,7 @@ tidy b (s ∷ r ∷ ss) = (not (is_bottom_symbol s) || is_closing r) && tidy b (
 
 -- the change of the sizes by a token, by whether it opens and whether it closes a bracket
 abbrev pub sized_by : Bool → Bool → List ℕ → List ℕ → Bool
-sized_by true b rest whole = fits_below 8 rest whole
+sized_by true b rest whole = fits_below 5 rest whole
 sized_by false true rest whole = fits_tail rest whole
 sized_by false false rest whole = fits rest whole
 
@@ -168,7 +168,7 @@ tidy-replaced s (q ∷ below) rest e h =
     let p = both-pass (not (is_bottom_symbol s) || is_closing q) (tidy true (q ∷ below)) h in tidy-above s q below rest e p.0 p.1
 
 -- which of the three cases a class selects
-pub sized-Bra : (k : TokenTest) (xs ys : List ℕ) → is_of_kind k Bra ≡ true → sized k xs ys ≡ true → fits_below 8 xs ys ≡ true
+pub sized-Bra : (k : TokenTest) (xs ys : List ℕ) → is_of_kind k Bra ≡ true → sized k xs ys ≡ true → fits_below 5 xs ys ≡ true
 unfolding sized
 sized-Bra (is c) xs ys h e = subst (λ (b : Bool). sized_by b (same_class c Ket) xs ys ≡ true) h e
 sized-Bra any_but_brackets xs ys h e = cc
@@ -277,7 +277,7 @@ replaced-rest n m s c rest below t o go =
       tidied = tidy-replaced s below rest t.tidied o.tidied;
     }
 
--- a start symbol alone has at most sixteen entries
+-- a start symbol alone has at most eight entries
 start_symbol-sizes : (side : Side2) (level : Level) → Fits (shapes (start_symbol_of side level ∷ [])) (caps 0)
 unfolding shape
 start_symbol-sizes ClientSide l = (omega arith, tt)
@@ -300,10 +300,10 @@ Lawful-ordered g (word {n = n} {s = s} {rest = rest} {below = below} c b k m l) 
     (shape s) b k a z)) (Fits_refl (shapes below))) f)
 Lawful-ordered g (bra {n = n} {s = s} {rest = rest} {below = below} m l) =
     replaced-rest n (suc n) s Bra rest below (g.take s _ rest m) (Lawful-ordered g l) (λ kind xs x a z f.
-    sizes-opened 8 xs (shape s) (shapes below) (caps n) (shape-cons s) (sized-Bra kind xs (shape s) a z) f)
+    sizes-opened 5 xs (shape s) (shapes below) (caps n) (shape-cons s) (sized-Bra kind xs (shape s) a z) f)
 Lawful-ordered g (ket {n = n} {s = s} {rest = rest} {below = below} m l) =
     replaced-rest (suc n) n s Ket rest below (g.take s _ rest m) (Lawful-ordered g l) (λ kind xs x a z f.
-    sizes-closed 8 xs (shape s) (shapes below) (caps n) x (sized-Ket kind xs (shape s) a z) f)
+    sizes-closed 5 xs (shape s) (shapes below) (caps n) x (sized-Ket kind xs (shape s) a z) f)
 Lawful-ordered g (skip {n = n} {s = s} {below = below} c m l) =
     let o = Lawful-ordered g l in
     let e = empty-parts s (g.skips s c m) in

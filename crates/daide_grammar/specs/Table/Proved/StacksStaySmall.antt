@@ -8,7 +8,7 @@ use Rattle.daide_token.specs.declared.class.Class.{Class}
 use Rattle.daide_token.specs.declared.class.Class.TheVariants.{Bra, Ket}
 use Rattle.daide_grammar.specs.declared.symbol.Sym.{Sym}
 use Rattle.daide_grammar.specs.declared.symbol.Sym.TheVariants.{Closing}
-use Rattle.daide_grammar.specs.Bounds.{entries_bound}
+use Rattle.daide_grammar.specs.Bounds.{height_bound}
 use Rattle.daide_grammar.specs.Table.Symbols.{entries, may_end_of}
 use Rattle.daide_grammar.specs.Table.Answers.{TableEntry, Take, Skip, Stop}
 use Rattle.daide_grammar.specs.Table.Stacks.{stack_after, skips_before, ends_asked}
@@ -33,9 +33,9 @@ length-total [] = omega arith
 length-total (s ∷ ss) =
     omega (arith, total-join (shape s) (shapes ss) (shapes-cons ss), shape-positive s, length-total ss)
 
--- at most eight entries for each open bracket, plus sixteen
+-- at most five entries for each open bracket, plus eight
 pub Lawful-short : {moves : Sym → Class → TableEntry} (g : GoodMoves moves) (ss : List Sym) (n : ℕ) → IsLawful moves ss n →
-    length ss ≤ entries_bound n
+    length ss ≤ height_bound n
 Lawful-short g ss n l =
     omega (arith, length-total ss, total-mono (shapes ss) (caps n) (Lawful-ordered g l).sizes, total-caps n)
 

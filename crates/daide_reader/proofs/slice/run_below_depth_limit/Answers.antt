@@ -1,119 +1,131 @@
-use Rattle.std.proofs.Common.{◌≡◌, ◌≤◌, ◌<◌, ◌+◌, ◌-◌, ◌*◌, ◌%◌, ◌∷◌, List, ℕ, Option, None, Some}
-use Rattle.std.proofs.Common.{IfSome, take, length, get_or, reverse, refl, sym, ap, ◌∙◌, subst, rules, arith}
+use Rattle.std.proofs.Common.{◌≡◌, ◌≤◌, ◌<◌, ◌+◌, ◌-◌, ◌%◌, [], ◌∷◌, ◌++◌, List, ℕ, Option, Some}
+use Rattle.std.proofs.Common.{IfSome, take, drop, length, get_or, reverse, sym, ap, ◌∙◌, subst, rules, arith}
+use Rattle.daide_token.specs.Class.{class_of as known_class}
+use Rattle.daide_token.specs.Token.{tokens_of}
 use Rattle.daide_grammar.specs.declared.symbol.Sym.{Sym}
 use Rattle.daide_grammar.specs.Table.Brackets.{is_bra, is_ket, count_one}
-use Rattle.daide_grammar.specs.Table.Stacks.{stack_after}
-use Rattle.daide_reader.specs.Slice.{ReadsTo, SliceState}
-use Rattle.daide_reader.specs.Stack.{open_count, steps_at}
-use Rattle.daide_reader.proofs.Counts.{all_inside, all_of, before_end, count_low, end_inside, end_moves, from_next}
-use Rattle.daide_reader.proofs.Counts.{less_deep, less_within, next_within, none_more, once_more, one_behind}
-use Rattle.daide_reader.proofs.Counts.{place_fits}
-use Rattle.daide_reader.proofs.Counts.{read_inside, rest_inside, room_on_top, shallow_next, some_left, stack_less}
-use Rattle.daide_reader.proofs.Counts.{token_inside, token_less, top_inside, top_some, top_whole, whole_token}
+use Rattle.daide_reader.specs.Slice.{SliceState}
+use Rattle.daide_reader.specs.Stack.{open_count}
+use Rattle.daide_reader.proofs.Counts.{before_end, count_low, end_moves, from_next, less_deep, less_within}
+use Rattle.daide_reader.proofs.Counts.{not_last, once_more, rest_inside, shallow_next, some_left}
+use Rattle.daide_reader.proofs.Counts.{start_shallow, token_inside, top_inside, top_some, top_whole}
 use Rattle.daide_reader.proofs.BodyLemmas.{tokens_of-length}
 use Rattle.daide_reader.proofs.CellLemmas.{on_top}
-use Rattle.daide_reader.proofs.StretchLemmas.{at_start, begun, counted_by_step, due_same, ended, goes_on, low_enough}
-use Rattle.daide_reader.proofs.StretchLemmas.{reads_all, room_for, said_same, skipped, stops_here, took}
+use Rattle.daide_reader.proofs.StretchLemmas.{at_start, begun, counted_by_step, due_same, goes_on, room_for, run_whole}
+use Rattle.daide_reader.proofs.StretchLemmas.{rejects_next, said_same, skipped, stops_here, took}
+use Rattle.daide_reader.proofs.slice.run_below_depth_limit.Goals.{then-is_stop+in-Some+else-next-end-2, else-is_stop}
+use Rattle.daide_reader.proofs.slice.run_below_depth_limit.Goals.{then-left-ne0+then-is_take+else-next-end+else-left-ne0-2}
+use Rattle.daide_reader.proofs.slice.run_below_depth_limit.Goals.{then-left-ne0+else-is_take+then-left-eq0, else-left-ne0}
 use Rattle.daide_reader.proofs.slice.run_below_depth_limit.Goals as goal
 
-pub loop-next-init : goal.loop-next-init
-loop-next-init g c =
+pub loop-held-init : goal.loop-held-init
+loop-held-init g c =
     let old : SliceState g.row.T.Denot =
     record { table = c.args.table.now; stack = reverse (take c.args.start.count c.args.cells.now) } in
     record {
       inside = c.requires.count;
+      some = c.if-left-ne0.true;
       from = omega arith;
-      upto = omega arith;
+      more = end_moves (length c.args.body.now) c.args.start.read (c.args.max_depth - c.args.start.unclosed)
+          c.min-end.result c.min-end.ensures c.requires.read (some_left _ _ c.requires.deep);
       shallow = omega arith;
+      front = c.at-held.ensures.front;
+      rest = c.at-held.ensures.rest;
+      class = c.known-known.ensures ∙ ap known_class c.token.ensures;
       mid = begun g.T.Predict g.met.T.Predict.laws c.args.max_depth c.args.body.now c.args.start.read c.args.start.unclosed old
           c.args.start.read c.args.start.unclosed c.min-end.result old
           (at_start g.T.Predict g.met.T.Predict.laws c.args.max_depth c.args.body.now c.args.start.read c.args.start.unclosed old
           (less_within _ _ c.requires.deep) c.requires.lawful);
     }
 
--- the stack is empty, so nothing takes the token
-pub returns-then-left-eq0 : goal.returns-then-left-eq0
-returns-then-left-eq0 g c = record {
-  inside = subst (λ (k : ℕ). k ≤ g.row.N) (sym c.reject_at.ensures.count) (omega arith);
-  moves = one_behind c.args.start.read c.loop-next.next c.reject_at.result.tokens c.loop-next.invariant.from
-      c.reject_at.ensures.tokens;
-  tokens = read_inside (length c.args.body.now) c.loop-next.next
-      (before_end _ c.args.start.read (c.args.max_depth - c.args.start.unclosed) c.min-end.result c.min-end.ensures
-      c.loop-next.next c.loop-next-test.true)
-      c.reject_at.result.tokens c.reject_at.ensures.tokens;
-  reads =
-      let old : SliceState g.row.T.Denot =
-      record { table = c.args.table.now; stack = reverse (take c.args.start.count c.args.cells.now) } in
-      let now : SliceState g.row.T.Denot =
-      record { table = c.loop-next.table; stack = reverse (take c.loop-next.left c.loop-next.cells) } in
-      let inv = c.loop-next.invariant in
-      let i = c.loop-next.next in
-      let opened = c.loop-next.opened in
-      let end = c.min-end.result in
-      let t = c.token_at-token.result in
-      let less = less_deep opened end i c.args.max_depth inv.shallow c.loop-next-test.true in
-      let counted : count_one (is_bra t) (is_ket t) (Some opened)
-      ≡ open_count ((opened + c.bracket_step.result) % 65536)
-      =
-      counted_by_step opened t c.known-known.result c.known-known.ensures
-      (count_low opened c.args.max_depth g.row.N (less_within _ _ less) c.requires.size c.requires.at_depth_limit)
-      ∙ ap (λ (k : ℕ). open_count ((opened + k) % 65536)) (sym c.bracket_step.ensures) in
-      let moves = g.T.Predict.moves (g.T.Predict.words c.loop-next.table) in
-      let class = g.T.Predict.class_of (g.T.Predict.words c.loop-next.table) t in
-      let new : SliceState g.row.T.Denot =
-      record { table = c.loop-next.table; stack = reverse (take c.reject_at.result.count c.loop-next.cells) } in
-      let due : steps_at moves class now.stack ≡ 0 =
-      ap (λ (k : ℕ). steps_at moves class (reverse (take k c.loop-next.cells))) c.if-left-eq0.true in
-      stops_here g.T.Predict g.met.T.Predict.laws c.args.max_depth c.args.body.now c.args.start.read c.args.start.unclosed old
-      i opened end t c.reject_at.result.tokens c.reject_at.result.unclosed c.reject_at.result.place now new inv.mid
-      (token_inside (length c.args.body.now) i
-      (before_end _ c.args.start.read (c.args.max_depth - c.args.start.unclosed) end c.min-end.ensures i c.loop-next-test.true) _
-      (tokens_of-length c.args.body.now))
-      c.token_at-token.ensures.front c.token_at-token.ensures.rest
-      (ap (λ (k : ℕ). stack_after moves class (reverse (take k c.loop-next.cells))) c.if-left-eq0.true)
-      refl (0, omega arith, none_more _ _ due) (c.reject_at.ensures.unclosed ∙ sym counted)
-      (ap (λ (k : ℕ). reverse (take k c.loop-next.cells)) c.reject_at.ensures.count)
-      c.reject_at.ensures.tokens c.reject_at.ensures.place;
-  none_left = λ _. c.reject_at.ensures.count;
-}
-
--- the symbol on top takes the token
-pub loop-next-preserved-then-is_take : goal.loop-next-preserved-then-is_take
-loop-next-preserved-then-is_take g c =
+-- the symbol on top takes the last token of the run
+pub returns-then-next-end-clause-reads : goal.returns-then-next-end-clause-reads
+returns-then-next-end-clause-reads g c =
     let old : SliceState g.row.T.Denot =
     record { table = c.args.table.now; stack = reverse (take c.args.start.count c.args.cells.now) } in
     let now : SliceState g.row.T.Denot =
-    record { table = c.loop-next.table; stack = reverse (take c.loop-next.left c.loop-next.cells) } in
-    let inv = c.loop-next.invariant in
-    let i = c.loop-next.next in
-    let opened = c.loop-next.opened in
+    record { table = c.loop-held.table; stack = reverse (take c.loop-held.left c.loop-held.cells) } in
+    let inv = c.loop-held.invariant in
+    let i = c.loop-held.next in
+    let opened = c.loop-held.opened in
     let end = c.min-end.result in
-    let t = c.token_at-token.result in
-    let less = less_deep opened end i c.args.max_depth inv.shallow c.loop-next-test.true in
-    let counted : count_one (is_bra t) (is_ket t) (Some opened) ≡ open_count ((opened + c.bracket_step-opened.result) %
-    65536) =
-    counted_by_step opened t c.known-known.result c.known-known.ensures
-    (count_low opened c.args.max_depth g.row.N (less_within _ _ less) c.requires.size c.requires.at_depth_limit)
+    let toks = tokens_of c.args.body.now in
+    let less = less_deep opened end i c.args.max_depth inv.shallow inv.more in
+    let low = count_low opened c.args.max_depth g.row.N (less_within _ _ less) c.requires.size c.requires.at_depth_limit in
+    let t = c.token-in-loop-held.result in
+    let same = c.token-in-loop-held.ensures in
+    let front : take (i + 1) toks ≡ take i toks ++ t ∷ [] = inv.front ∙ ap (λ (k : ℕ). take i toks ++ k ∷ []) (sym same) in
+    let rest : drop i toks ≡ t ∷ drop (i + 1) toks = inv.rest ∙ ap (λ (k : ℕ). k ∷ drop (i + 1) toks) (sym same) in
+    let class = inv.class ∙ ap known_class (sym same) in
+    let counted : count_one (is_bra t) (is_ket t) (Some opened) ≡ open_count ((opened + c.bracket_step-opened.result) % 65536) =
+    counted_by_step opened t c.loop-held.known class low
     ∙ ap (λ (k : ℕ). open_count ((opened + k) % 65536)) (sym c.bracket_step-opened.ensures) in
-    let cells = c.loop-next.cells in
-    let s = get_or cells (c.loop-next.left - 1) c.index-cells-top.result in
-    let below = reverse (take (c.loop-next.left - 1) cells) in
+    let cells = c.loop-held.cells in
+    let s = get_or cells (c.loop-held.left - 1) c.index-cells-top.result in
+    let below = reverse (take (c.loop-held.left - 1) cells) in
     let a = c.predict_token-answer.result in
     let top : now.stack ≡ s ∷ below =
-    on_top cells c.loop-next.left c.index-cells-top.result
-    (top_some c.loop-next.left g.row.N c.if-left-eq0.false inv.inside) (omega arith) in
+    on_top cells c.loop-held.left c.index-cells-top.result
+    (top_some c.loop-held.left g.row.N inv.some inv.inside) (omega arith) in
+    let new : SliceState g.row.T.Denot =
+    record { table = c.predict_token-answer.new.self; stack = reverse (take c.put.result c.put.new.cells) } in
+    let next = took g.T.Predict g.met.T.Predict.laws c.args.max_depth c.args.body.now c.args.start.read c.args.start.unclosed old
+    i opened end t ((opened + c.bracket_step-opened.result) % 65536) now new s below a inv.mid
+    front rest top c.predict_token-answer.ensures.answer
+    (sym c.is_take.ensures ∙ c.if-is_take.true) c.put.ensures.stack c.predict_token-answer.ensures.words_stay
+    c.predict_token-answer.ensures.counts_each_answer less counted in
+    run_whole g.T.Predict g.met.T.Predict.laws c.args.max_depth c.args.body.now c.args.start.read c.args.start.unclosed old
+    (i + 1) ((opened + c.bracket_step-opened.result) % 65536) end c.run_end.result.tokens c.run_end.result.unclosed
+    c.run_end.result.place new _ next.0 c.if-next-end.true c.run_end.ensures.tokens c.run_end.ensures.unclosed
+    c.run_end.ensures.place
+    (ap (λ (k : ℕ). record { table = c.predict_token-answer.new.self; stack = reverse (take k c.put.new.cells) })
+    c.run_end.ensures.count)
+
+-- the symbol on top takes a token that is not the last one
+pub loop-held-preserved-then-left-ne0-2 : goal.loop-held-preserved-then-left-ne0-2
+loop-held-preserved-then-left-ne0-2 g c =
+    let old : SliceState g.row.T.Denot =
+    record { table = c.args.table.now; stack = reverse (take c.args.start.count c.args.cells.now) } in
+    let now : SliceState g.row.T.Denot =
+    record { table = c.loop-held.table; stack = reverse (take c.loop-held.left c.loop-held.cells) } in
+    let inv = c.loop-held.invariant in
+    let i = c.loop-held.next in
+    let opened = c.loop-held.opened in
+    let end = c.min-end.result in
+    let toks = tokens_of c.args.body.now in
+    let less = less_deep opened end i c.args.max_depth inv.shallow inv.more in
+    let low = count_low opened c.args.max_depth g.row.N (less_within _ _ less) c.requires.size c.requires.at_depth_limit in
+    let t = c.token-in-loop-held.result in
+    let same = c.token-in-loop-held.ensures in
+    let front : take (i + 1) toks ≡ take i toks ++ t ∷ [] = inv.front ∙ ap (λ (k : ℕ). take i toks ++ k ∷ []) (sym same) in
+    let rest : drop i toks ≡ t ∷ drop (i + 1) toks = inv.rest ∙ ap (λ (k : ℕ). k ∷ drop (i + 1) toks) (sym same) in
+    let class = inv.class ∙ ap known_class (sym same) in
+    let counted : count_one (is_bra t) (is_ket t) (Some opened) ≡ open_count ((opened + c.bracket_step-opened.result) % 65536) =
+    counted_by_step opened t c.loop-held.known class low
+    ∙ ap (λ (k : ℕ). open_count ((opened + k) % 65536)) (sym c.bracket_step-opened.ensures) in
+    let cells = c.loop-held.cells in
+    let s = get_or cells (c.loop-held.left - 1) c.index-cells-top.result in
+    let below = reverse (take (c.loop-held.left - 1) cells) in
+    let a = c.predict_token-answer.result in
+    let top : now.stack ≡ s ∷ below =
+    on_top cells c.loop-held.left c.index-cells-top.result
+    (top_some c.loop-held.left g.row.N inv.some inv.inside) (omega arith) in
     let new : SliceState g.row.T.Denot =
     record { table = c.predict_token-answer.new.self; stack = reverse (take c.put-left.result c.put-left.new.cells) } in
     let next = took g.T.Predict g.met.T.Predict.laws c.args.max_depth c.args.body.now c.args.start.read c.args.start.unclosed old
     i opened end t ((opened + c.bracket_step-opened.result) % 65536) now new s below a inv.mid
-    c.token_at-token.ensures.front c.token_at-token.ensures.rest top c.predict_token-answer.ensures.answer
+    front rest top c.predict_token-answer.ensures.answer
     (sym c.is_take.ensures ∙ c.if-is_take.true) c.put-left.ensures.stack c.predict_token-answer.ensures.words_stay
     c.predict_token-answer.ensures.counts_each_answer less counted in
     record {
       inside = c.put-left.ensures.inside;
+      some = c.if-left-ne0-2.true;
       from = from_next c.args.start.read i inv.from;
-      upto = next_within i end c.loop-next-test.true;
-      shallow = shallow_next opened end i c.args.max_depth inv.shallow c.loop-next-test.true _ next.1;
+      more = not_last i end inv.more c.if-next-end.false;
+      shallow = shallow_next opened end i c.args.max_depth inv.shallow inv.more _ next.1;
+      front = c.at-held-then-is_take.ensures.front;
+      rest = c.at-held-then-is_take.ensures.rest;
+      class = c.known-known-then-is_take.ensures ∙ ap known_class c.token-then-is_take.ensures;
       mid = next.0;
     }
 
@@ -123,113 +135,117 @@ follow_word-requires g c =
     let old : SliceState g.row.T.Denot =
     record { table = c.args.table.now; stack = reverse (take c.args.start.count c.args.cells.now) } in
     let now : SliceState g.row.T.Denot =
-    record { table = c.loop-next.table; stack = reverse (take c.loop-next.left c.loop-next.cells) } in
-    let inv = c.loop-next.invariant in
-    let i = c.loop-next.next in
-    let opened = c.loop-next.opened in
+    record { table = c.loop-held.table; stack = reverse (take c.loop-held.left c.loop-held.cells) } in
+    let inv = c.loop-held.invariant in
+    let i = c.loop-held.next in
+    let opened = c.loop-held.opened in
     let end = c.min-end.result in
-    let t = c.token_at-token.result in
-    let less = less_deep opened end i c.args.max_depth inv.shallow c.loop-next-test.true in
-    let whole = top_whole c.loop-next.left g.row.N c.if-left-eq0.false inv.inside in
-    let stack : reverse (take (c.loop-next.left - 1 + 1) c.loop-next.cells) ≡ now.stack =
-    ap (λ (k : ℕ). reverse (take k c.loop-next.cells)) whole in
+    let toks = tokens_of c.args.body.now in
+    let less = less_deep opened end i c.args.max_depth inv.shallow inv.more in
+    let low = count_low opened c.args.max_depth g.row.N (less_within _ _ less) c.requires.size c.requires.at_depth_limit in
+    let t = c.token-then-is_stop.result in
+    let same = c.token-then-is_stop.ensures in
+    let front : take (i + 1) toks ≡ take i toks ++ t ∷ [] = inv.front ∙ ap (λ (k : ℕ). take i toks ++ k ∷ []) (sym same) in
+    let rest : drop i toks ≡ t ∷ drop (i + 1) toks = inv.rest ∙ ap (λ (k : ℕ). k ∷ drop (i + 1) toks) (sym same) in
+    let class = inv.class ∙ ap known_class (sym same) in
+    let whole = top_whole c.loop-held.left g.row.N inv.some inv.inside in
+    let stack : reverse (take (c.loop-held.left - 1 + 1) c.loop-held.cells) ≡ now.stack =
+    ap (λ (k : ℕ). reverse (take k c.loop-held.cells)) whole in
     let asked = c.predict_token-answer.new.self in
-    let said = said_same g.T.Predict g.met.T.Predict.laws c.args.max_depth c.args.body.now c.args.start.read c.args.start.unclosed
-    old t now asked _ c.predict_token-answer.ensures.words_stay stack in
-    let below = top_inside c.loop-next.left g.row.N c.if-left-eq0.false inv.inside in
-    let room = room_for g.T.Predict g.met.T.Predict.laws c.args.max_depth c.args.body.now c.args.start.read c.args.start.unclosed
-    old
-    i opened end g.row.N t now inv.mid less c.requires.at_depth_limit c.token_at-token.ensures.rest in (
+    let said = said_same g.T.Predict g.met.T.Predict.laws c.args.max_depth c.args.body.now c.args.start.read c.args.start.unclosed old
+    t now asked _ c.predict_token-answer.ensures.words_stay stack in
+    let below = top_inside c.loop-held.left g.row.N inv.some inv.inside in
+    let room = room_for g.T.Predict g.met.T.Predict.laws c.args.max_depth c.args.body.now c.args.start.read c.args.start.unclosed old
+    i opened end g.row.N t now inv.mid less c.requires.at_depth_limit rest in (
       search rules,
       (
         c.requires.size,
         (
           below,
           (
-            c.known-known.ensures,
+            class,
             subst (λ (o : Option (List Sym)). IfSome o (λ after. length after ≤ g.row.N)) said room,
           ),
         ),
       ),
     )
 
-pub returns-in_default : goal.returns-in_default
-returns-in_default g c = record {
-  inside = subst (λ (k : ℕ). k ≤ g.row.N) (sym c.reject_at-in_default.ensures.count) (omega arith);
-  moves = one_behind c.args.start.read c.loop-next.next c.reject_at-in_default.result.tokens c.loop-next.invariant.from
-      c.reject_at-in_default.ensures.tokens;
-  tokens = read_inside (length c.args.body.now) c.loop-next.next
-      (before_end _ c.args.start.read (c.args.max_depth - c.args.start.unclosed) c.min-end.result c.min-end.ensures
-      c.loop-next.next c.loop-next-test.true)
-      c.reject_at-in_default.result.tokens c.reject_at-in_default.ensures.tokens;
-  reads =
-      let old : SliceState g.row.T.Denot =
-      record { table = c.args.table.now; stack = reverse (take c.args.start.count c.args.cells.now) } in
-      let now : SliceState g.row.T.Denot =
-      record { table = c.loop-next.table; stack = reverse (take c.loop-next.left c.loop-next.cells) } in
-      let inv = c.loop-next.invariant in
-      let i = c.loop-next.next in
-      let opened = c.loop-next.opened in
-      let end = c.min-end.result in
-      let t = c.token_at-token.result in
-      let less = less_deep opened end i c.args.max_depth inv.shallow c.loop-next-test.true in
-      let counted : count_one (is_bra t) (is_ket t) (Some opened) ≡ open_count ((opened +
-      c.bracket_step-opened-then-is_stop.result) % 65536) =
-      counted_by_step opened t c.known-known.result c.known-known.ensures
-      (count_low opened c.args.max_depth g.row.N (less_within _ _ less) c.requires.size c.requires.at_depth_limit)
-      ∙ ap (λ (k : ℕ). open_count ((opened + k) % 65536)) (sym c.bracket_step-opened-then-is_stop.ensures) in
-      let whole = top_whole c.loop-next.left g.row.N c.if-left-eq0.false inv.inside in
-      let stack : reverse (take (c.loop-next.left - 1 + 1) c.loop-next.cells) ≡ now.stack =
-      ap (λ (k : ℕ). reverse (take k c.loop-next.cells)) whole in
-      let asked = c.predict_token-answer.new.self in
-      let said = said_same g.T.Predict g.met.T.Predict.laws c.args.max_depth c.args.body.now c.args.start.read c.args.start.unclosed
-      old t now asked _ c.predict_token-answer.ensures.words_stay stack in
-      let due = due_same g.T.Predict g.met.T.Predict.laws c.args.max_depth c.args.body.now c.args.start.read c.args.start.unclosed
-      old t now asked _ c.predict_token-answer.ensures.words_stay stack in
-      let steps = c.follow_word.ensures.steps in
-      let once = c.predict_token-answer.ensures.counts_each_answer in
-      let new : SliceState g.row.T.Denot = record {
-        table = c.follow_word.new.table;
-        stack = reverse (take c.reject_at-in_default.result.count c.follow_word.new.cells);
-      } in
-      stops_here g.T.Predict g.met.T.Predict.laws c.args.max_depth c.args.body.now c.args.start.read c.args.start.unclosed old
-      i opened end t c.reject_at-in_default.result.tokens c.reject_at-in_default.result.unclosed
-      c.reject_at-in_default.result.place now new inv.mid
-      (token_inside (length c.args.body.now) i
-      (before_end _ c.args.start.read (c.args.max_depth - c.args.start.unclosed) end c.min-end.ensures i c.loop-next-test.true) _
-      (tokens_of-length c.args.body.now))
-      c.token_at-token.ensures.front c.token_at-token.ensures.rest
-      (said ∙ c.in_default.ensures.reject_at)
-      (c.follow_word.ensures.words ∙ c.predict_token-answer.ensures.words_stay) (1, omega arith, once_more _ _ _ _ _ due once steps)
-      (c.reject_at-in_default.ensures.unclosed ∙ sym counted)
-      (ap (λ (k : ℕ). reverse (take k c.follow_word.new.cells)) c.reject_at-in_default.ensures.count)
-      c.reject_at-in_default.ensures.tokens c.reject_at-in_default.ensures.place;
-  none_left = λ _. c.reject_at-in_default.ensures.count;
-}
-
-pub loop-next-preserved-then-is_stop : goal.loop-next-preserved-then-is_stop
-loop-next-preserved-then-is_stop g c =
+pub returns-in_default-clause-reads : goal.returns-in_default-clause-reads
+returns-in_default-clause-reads g c =
     let old : SliceState g.row.T.Denot =
     record { table = c.args.table.now; stack = reverse (take c.args.start.count c.args.cells.now) } in
     let now : SliceState g.row.T.Denot =
-    record { table = c.loop-next.table; stack = reverse (take c.loop-next.left c.loop-next.cells) } in
-    let inv = c.loop-next.invariant in
-    let i = c.loop-next.next in
-    let opened = c.loop-next.opened in
+    record { table = c.loop-held.table; stack = reverse (take c.loop-held.left c.loop-held.cells) } in
+    let inv = c.loop-held.invariant in
+    let i = c.loop-held.next in
+    let opened = c.loop-held.opened in
     let end = c.min-end.result in
-    let t = c.token_at-token.result in
-    let less = less_deep opened end i c.args.max_depth inv.shallow c.loop-next-test.true in
-    let counted : count_one (is_bra t) (is_ket t) (Some opened) ≡ open_count ((opened +
-    c.bracket_step-opened-then-is_stop.result) % 65536) =
-    counted_by_step opened t c.known-known.result c.known-known.ensures
-    (count_low opened c.args.max_depth g.row.N (less_within _ _ less) c.requires.size c.requires.at_depth_limit)
+    let toks = tokens_of c.args.body.now in
+    let less = less_deep opened end i c.args.max_depth inv.shallow inv.more in
+    let low = count_low opened c.args.max_depth g.row.N (less_within _ _ less) c.requires.size c.requires.at_depth_limit in
+    let t = c.token-then-is_stop.result in
+    let same = c.token-then-is_stop.ensures in
+    let front : take (i + 1) toks ≡ take i toks ++ t ∷ [] = inv.front ∙ ap (λ (k : ℕ). take i toks ++ k ∷ []) (sym same) in
+    let rest : drop i toks ≡ t ∷ drop (i + 1) toks = inv.rest ∙ ap (λ (k : ℕ). k ∷ drop (i + 1) toks) (sym same) in
+    let class = inv.class ∙ ap known_class (sym same) in
+    let counted : count_one (is_bra t) (is_ket t) (Some opened) ≡ open_count ((opened + c.bracket_step-opened-then-is_stop.result) % 65536) =
+    counted_by_step opened t c.loop-held.known class low
     ∙ ap (λ (k : ℕ). open_count ((opened + k) % 65536)) (sym c.bracket_step-opened-then-is_stop.ensures) in
-    let whole = top_whole c.loop-next.left g.row.N c.if-left-eq0.false inv.inside in
-    let stack : reverse (take (c.loop-next.left - 1 + 1) c.loop-next.cells) ≡ now.stack =
-    ap (λ (k : ℕ). reverse (take k c.loop-next.cells)) whole in
+    let whole = top_whole c.loop-held.left g.row.N inv.some inv.inside in
+    let stack : reverse (take (c.loop-held.left - 1 + 1) c.loop-held.cells) ≡ now.stack =
+    ap (λ (k : ℕ). reverse (take k c.loop-held.cells)) whole in
     let asked = c.predict_token-answer.new.self in
-    let said = said_same g.T.Predict g.met.T.Predict.laws c.args.max_depth c.args.body.now c.args.start.read c.args.start.unclosed
-    old t now asked _ c.predict_token-answer.ensures.words_stay stack in
+    let said = said_same g.T.Predict g.met.T.Predict.laws c.args.max_depth c.args.body.now c.args.start.read c.args.start.unclosed old
+    t now asked _ c.predict_token-answer.ensures.words_stay stack in
+    let due = due_same g.T.Predict g.met.T.Predict.laws c.args.max_depth c.args.body.now c.args.start.read c.args.start.unclosed old
+    t now asked _ c.predict_token-answer.ensures.words_stay stack in
+    let steps = c.follow_word.ensures.steps in
+    let once = c.predict_token-answer.ensures.counts_each_answer in
+    let new : SliceState g.row.T.Denot = record {
+      table = c.follow_word.new.table;
+      stack = reverse (take c.reject_at.result.count c.follow_word.new.cells);
+    } in
+    stops_here g.T.Predict g.met.T.Predict.laws c.args.max_depth c.args.body.now c.args.start.read c.args.start.unclosed old
+    i opened end t c.reject_at.result.tokens c.reject_at.result.unclosed
+    c.reject_at.result.place now new inv.mid
+    (token_inside (length c.args.body.now) i
+    (before_end _ c.args.start.read (c.args.max_depth - c.args.start.unclosed) end c.min-end.ensures i inv.more) _
+    (tokens_of-length c.args.body.now))
+    front rest
+    (said ∙ c.in_default.ensures.reject_at)
+    (c.follow_word.ensures.words ∙ c.predict_token-answer.ensures.words_stay) (1, omega arith, once_more _ _ _ _ _ due once steps)
+    (c.reject_at.ensures.unclosed ∙ sym counted)
+    (ap (λ (k : ℕ). reverse (take k c.follow_word.new.cells)) c.reject_at.ensures.count)
+    c.reject_at.ensures.tokens c.reject_at.ensures.place
+
+-- the last token of the run is a word
+pub returns-then-next-end-2-clause-reads : goal.returns-then-next-end-2-clause-reads
+returns-then-next-end-2-clause-reads g c =
+    let old : SliceState g.row.T.Denot =
+    record { table = c.args.table.now; stack = reverse (take c.args.start.count c.args.cells.now) } in
+    let now : SliceState g.row.T.Denot =
+    record { table = c.loop-held.table; stack = reverse (take c.loop-held.left c.loop-held.cells) } in
+    let inv = c.loop-held.invariant in
+    let i = c.loop-held.next in
+    let opened = c.loop-held.opened in
+    let end = c.min-end.result in
+    let toks = tokens_of c.args.body.now in
+    let less = less_deep opened end i c.args.max_depth inv.shallow inv.more in
+    let low = count_low opened c.args.max_depth g.row.N (less_within _ _ less) c.requires.size c.requires.at_depth_limit in
+    let t = c.token-then-is_stop.result in
+    let same = c.token-then-is_stop.ensures in
+    let front : take (i + 1) toks ≡ take i toks ++ t ∷ [] = inv.front ∙ ap (λ (k : ℕ). take i toks ++ k ∷ []) (sym same) in
+    let rest : drop i toks ≡ t ∷ drop (i + 1) toks = inv.rest ∙ ap (λ (k : ℕ). k ∷ drop (i + 1) toks) (sym same) in
+    let class = inv.class ∙ ap known_class (sym same) in
+    let counted : count_one (is_bra t) (is_ket t) (Some opened) ≡ open_count ((opened + c.bracket_step-opened-then-is_stop.result) % 65536) =
+    counted_by_step opened t c.loop-held.known class low
+    ∙ ap (λ (k : ℕ). open_count ((opened + k) % 65536)) (sym c.bracket_step-opened-then-is_stop.ensures) in
+    let whole = top_whole c.loop-held.left g.row.N inv.some inv.inside in
+    let stack : reverse (take (c.loop-held.left - 1 + 1) c.loop-held.cells) ≡ now.stack =
+    ap (λ (k : ℕ). reverse (take k c.loop-held.cells)) whole in
+    let asked = c.predict_token-answer.new.self in
+    let said = said_same g.T.Predict g.met.T.Predict.laws c.args.max_depth c.args.body.now c.args.start.read c.args.start.unclosed old
+    t now asked _ c.predict_token-answer.ensures.words_stay stack in
     let due = due_same g.T.Predict g.met.T.Predict.laws c.args.max_depth c.args.body.now c.args.start.read c.args.start.unclosed old
     t now asked _ c.predict_token-answer.ensures.words_stay stack in
     let steps = c.follow_word.ensures.steps in
@@ -238,139 +254,263 @@ loop-next-preserved-then-is_stop g c =
     record { table = c.follow_word.new.table; stack = reverse (take c.in-Some.now c.follow_word.new.cells) } in
     let next = goes_on g.T.Predict g.met.T.Predict.laws c.args.max_depth c.args.body.now c.args.start.read c.args.start.unclosed old
     i opened end t ((opened + c.bracket_step-opened-then-is_stop.result) % 65536) now new inv.mid
-    c.token_at-token.ensures.front c.token_at-token.ensures.rest (said ∙ c.in-Some.ensures.taken)
+    front rest (said ∙ c.in-Some.ensures.taken)
     (c.follow_word.ensures.words ∙ c.predict_token-answer.ensures.words_stay) (1, omega arith, once_more _ _ _ _ _ due once steps) less
     counted in
-    record {
-      inside = c.in-Some.ensures.inside;
-      from = from_next c.args.start.read i inv.from;
-      upto = next_within i end c.loop-next-test.true;
-      shallow = shallow_next opened end i c.args.max_depth inv.shallow c.loop-next-test.true _ next.1;
-      mid = next.0;
-    }
+    run_whole g.T.Predict g.met.T.Predict.laws c.args.max_depth c.args.body.now c.args.start.read c.args.start.unclosed old
+    (i + 1) ((opened + c.bracket_step-opened-then-is_stop.result) % 65536) end c.run_end-then-next-end-2.result.tokens
+    c.run_end-then-next-end-2.result.unclosed c.run_end-then-next-end-2.result.place new _ next.0 c.if-next-end-2.true
+    c.run_end-then-next-end-2.ensures.tokens c.run_end-then-next-end-2.ensures.unclosed
+    c.run_end-then-next-end-2.ensures.place
+    (ap (λ (k : ℕ). record { table = c.follow_word.new.table; stack = reverse (take k c.follow_word.new.cells) })
+    c.run_end-then-next-end-2.ensures.count)
 
--- the symbol on top is skipped
-pub loop-next-preserved : goal.loop-next-preserved
-loop-next-preserved g c =
+-- a word is taken, or the symbol on top is skipped
+pub loop-held-preserved : goal.loop-held-preserved
+loop-held-preserved g c =
     let old : SliceState g.row.T.Denot =
     record { table = c.args.table.now; stack = reverse (take c.args.start.count c.args.cells.now) } in
     let now : SliceState g.row.T.Denot =
-    record { table = c.loop-next.table; stack = reverse (take c.loop-next.left c.loop-next.cells) } in
-    let inv = c.loop-next.invariant in
-    let i = c.loop-next.next in
-    let opened = c.loop-next.opened in
+    record { table = c.loop-held.table; stack = reverse (take c.loop-held.left c.loop-held.cells) } in
+    let inv = c.loop-held.invariant in
+    let i = c.loop-held.next in
+    let opened = c.loop-held.opened in
     let end = c.min-end.result in
-    let t = c.token_at-token.result in
-    let less = less_deep opened end i c.args.max_depth inv.shallow c.loop-next-test.true in
-    let cells = c.loop-next.cells in
-    let s = get_or cells (c.loop-next.left - 1) c.index-cells-top.result in
-    let below = reverse (take (c.loop-next.left - 1) cells) in
-    let a = c.predict_token-answer.result in
-    let top : now.stack ≡ s ∷ below =
-    on_top cells c.loop-next.left c.index-cells-top.result
-    (top_some c.loop-next.left g.row.N c.if-left-eq0.false inv.inside)
-    (all_inside c.loop-next.left g.row.N c.if-left-eq0.false inv.inside _ c.type_inv.cells) in
-    let takes = sym c.is_take.ensures ∙ c.if-is_take.false in
-    let stops = sym c.is_stop.ensures ∙ c.if-is_stop.false in
-    let new : SliceState g.row.T.Denot = record { table = c.predict_token-answer.new.self; stack = below } in
-    record {
-      inside = rest_inside c.loop-next.left g.row.N c.if-left-eq0.false inv.inside;
-      from = inv.from;
-      upto = inv.upto;
-      shallow = inv.shallow;
-      mid = skipped g.T.Predict g.met.T.Predict.laws c.args.max_depth c.args.body.now c.args.start.read c.args.start.unclosed old
-          i opened end t now new s a inv.mid c.loop-next-test.true c.token_at-token.ensures.rest top
+    let toks = tokens_of c.args.body.now in
+    let less = less_deep opened end i c.args.max_depth inv.shallow inv.more in
+    let low = count_low opened c.args.max_depth g.row.N (less_within _ _ less) c.requires.size c.requires.at_depth_limit in
+    elim c.if-is_stop.branch [
+      | then-is_stop+in-Some+else-next-end-2 w ↦
+          let t = w.token-then-is_stop.result in
+          let same = w.token-then-is_stop.ensures in
+          let front : take (i + 1) toks ≡ take i toks ++ t ∷ [] = inv.front ∙ ap (λ (k : ℕ). take i toks ++ k ∷ []) (sym same) in
+          let rest : drop i toks ≡ t ∷ drop (i + 1) toks = inv.rest ∙ ap (λ (k : ℕ). k ∷ drop (i + 1) toks) (sym same) in
+          let class = inv.class ∙ ap known_class (sym same) in
+          let counted : count_one (is_bra t) (is_ket t) (Some opened) ≡ open_count ((opened + w.bracket_step-opened-then-is_stop.result) % 65536) =
+          counted_by_step opened t c.loop-held.known class low
+          ∙ ap (λ (k : ℕ). open_count ((opened + k) % 65536)) (sym w.bracket_step-opened-then-is_stop.ensures) in
+          let whole = top_whole c.loop-held.left g.row.N inv.some inv.inside in
+          let stack : reverse (take (c.loop-held.left - 1 + 1) c.loop-held.cells) ≡ now.stack =
+          ap (λ (k : ℕ). reverse (take k c.loop-held.cells)) whole in
+          let asked = c.predict_token-answer.new.self in
+          let said = said_same g.T.Predict g.met.T.Predict.laws c.args.max_depth c.args.body.now c.args.start.read c.args.start.unclosed old
+          t now asked _ c.predict_token-answer.ensures.words_stay stack in
+          let due = due_same g.T.Predict g.met.T.Predict.laws c.args.max_depth c.args.body.now c.args.start.read c.args.start.unclosed old
+          t now asked _ c.predict_token-answer.ensures.words_stay stack in
+          let steps = w.follow_word.ensures.steps in
+          let once = c.predict_token-answer.ensures.counts_each_answer in
+          let new : SliceState g.row.T.Denot =
+          record { table = w.follow_word.new.table; stack = reverse (take w.in-Some.now w.follow_word.new.cells) } in
+          let next = goes_on g.T.Predict g.met.T.Predict.laws c.args.max_depth c.args.body.now c.args.start.read c.args.start.unclosed old
+          i opened end t ((opened + w.bracket_step-opened-then-is_stop.result) % 65536) now new inv.mid
+          front rest (said ∙ w.in-Some.ensures.taken)
+          (w.follow_word.ensures.words ∙ c.predict_token-answer.ensures.words_stay) (1, omega arith, once_more _ _ _ _ _ due once steps) less
+          counted in
+          record {
+            inside = rw w.left-is w.in-Some.ensures.inside;
+            some = c.if-left-eq0.false;
+            from = rw w.next-is (from_next c.args.start.read i inv.from);
+            more = rw w.next-is (not_last i end inv.more w.if-next-end-2.false);
+            shallow = rw (w.opened-is, w.next-is) (shallow_next opened end i c.args.max_depth inv.shallow inv.more _ next.1);
+            front = rw (w.next-is, w.held-is) w.at-held-then-is_stop.ensures.front;
+            rest = rw (w.next-is, w.held-is) w.at-held-then-is_stop.ensures.rest;
+            class = rw (w.known-is, w.held-is)
+                (w.known-known-then-is_stop.ensures ∙ ap known_class w.token-then-is_stop-2.ensures);
+            mid = rw (w.next-is, w.opened-is, w.table-is, w.left-is, w.cells-is) next.0;
+          }
+      | else-is_stop w ↦
+          let t = c.token-in-loop-held.result in
+          let same = c.token-in-loop-held.ensures in
+          let front : take (i + 1) toks ≡ take i toks ++ t ∷ [] = inv.front ∙ ap (λ (k : ℕ). take i toks ++ k ∷ []) (sym same) in
+          let rest : drop i toks ≡ t ∷ drop (i + 1) toks = inv.rest ∙ ap (λ (k : ℕ). k ∷ drop (i + 1) toks) (sym same) in
+          let class = inv.class ∙ ap known_class (sym same) in
+          let cells = c.loop-held.cells in
+          let s = get_or cells (c.loop-held.left - 1) c.index-cells-top.result in
+          let below = reverse (take (c.loop-held.left - 1) cells) in
+          let a = c.predict_token-answer.result in
+          let top : now.stack ≡ s ∷ below =
+          on_top cells c.loop-held.left c.index-cells-top.result
+          (top_some c.loop-held.left g.row.N inv.some inv.inside)
+          (omega arith) in
+          let takes = sym c.is_take.ensures ∙ c.if-is_take.false in
+          let stops = sym c.is_stop.ensures ∙ w.if-is_stop.false in
+          let new : SliceState g.row.T.Denot = record { table = c.predict_token-answer.new.self; stack = below } in
+          let mid = skipped g.T.Predict g.met.T.Predict.laws c.args.max_depth c.args.body.now c.args.start.read c.args.start.unclosed old
+          i opened end t now new s a inv.mid inv.more rest top
           (c.predict_token-answer.ensures.answer stops) takes stops c.predict_token-answer.ensures.words_stay
-          c.predict_token-answer.ensures.counts_each_answer;
-    }
+          c.predict_token-answer.ensures.counts_each_answer in
+          record {
+            inside = rw w.left-is (rest_inside c.loop-held.left g.row.N inv.some inv.inside);
+            some = c.if-left-eq0.false;
+            from = rw w.next-is inv.from;
+            more = rw w.next-is inv.more;
+            shallow = rw (w.opened-is, w.next-is) inv.shallow;
+            front = rw (w.next-is, w.held-is) inv.front;
+            rest = rw (w.next-is, w.held-is) inv.rest;
+            class = rw (w.known-is, w.held-is) inv.class;
+            mid = rw (w.next-is, w.opened-is, w.table-is, w.left-is, w.cells-is) mid;
+          }
+    ]
 
-pub returns : goal.returns
-returns g c = record {
-  inside = c.loop-next.invariant.inside;
-  moves = end_moves (length c.args.body.now) c.args.start.read (c.args.max_depth - c.args.start.unclosed) c.min-end.result
-      c.min-end.ensures c.requires.read (some_left _ _ c.requires.deep);
-  tokens = end_inside (length c.args.body.now) c.args.start.read (c.args.max_depth - c.args.start.unclosed) c.min-end.result
-      c.min-end.ensures;
-  reads =
-      let old : SliceState g.row.T.Denot =
-      record { table = c.args.table.now; stack = reverse (take c.args.start.count c.args.cells.now) } in
-      let now : SliceState g.row.T.Denot =
-      record { table = c.loop-next.table; stack = reverse (take c.loop-next.left c.loop-next.cells) } in
-      let inv = c.loop-next.invariant in
-      let last : c.loop-next.next ≡ c.min-end.result =
-      all_of c.loop-next.next c.min-end.result inv.upto c.loop-next-test.false in
-      subst (λ (k : ℕ). ReadsTo g.T.Predict c.args.max_depth c.args.body.now c.args.start.read c.args.start.unclosed old k
-      (Some c.loop-next.opened) None now) last
-      (reads_all g.T.Predict g.met.T.Predict.laws c.args.max_depth c.args.body.now c.args.start.read c.args.start.unclosed old
-      c.loop-next.next c.loop-next.opened now
-      (ended g.T.Predict g.met.T.Predict.laws c.args.max_depth c.args.body.now c.args.start.read c.args.start.unclosed old
-      c.loop-next.next c.loop-next.opened c.min-end.result now last inv.mid));
-  none_left = λ some. absurd cc;
-}
-
--- the preconditions of the calls
-pub token_at-token-requires : goal.token_at-token-requires
-token_at-token-requires g c = whole_token (length c.args.body.now) c.loop-next.next
-    (before_end _ c.args.start.read (c.args.max_depth - c.args.start.unclosed) c.min-end.result c.min-end.ensures
-    c.loop-next.next c.loop-next-test.true)
-
-pub reject_at-requires : goal.reject_at-requires
-reject_at-requires g c =
-    place_fits (length c.args.body.now) c.loop-next.next
-    (before_end _ c.args.start.read (c.args.max_depth - c.args.start.unclosed) c.min-end.result c.min-end.ensures
-    c.loop-next.next c.loop-next-test.true) c.requires.room
-
-pub reject_at-requires-in_default : goal.reject_at-requires-in_default
-reject_at-requires-in_default g c =
-    place_fits (length c.args.body.now) c.loop-next.next
-    (before_end _ c.args.start.read (c.args.max_depth - c.args.start.unclosed) c.min-end.result c.min-end.ensures
-    c.loop-next.next c.loop-next-test.true) c.requires.room
-
-pub overflow_sub-top : goal.overflow_sub-top
-overflow_sub-top g c = top_some c.loop-next.left g.row.N c.if-left-eq0.false c.loop-next.invariant.inside
-
-pub listed : goal.listed
-listed g c =
-    subst (λ (n : ℕ). c.loop-next.left - 1 < n) (sym c.type_inv.cells)
-    (top_inside c.loop-next.left g.row.N c.if-left-eq0.false c.loop-next.invariant.inside)
-
-pub bounds-cells-top : goal.bounds-cells-top
-bounds-cells-top g c = top_inside c.loop-next.left g.row.N c.if-left-eq0.false c.loop-next.invariant.inside
-
-pub predict_token-answer-requires : goal.predict_token-answer-requires
-predict_token-answer-requires g c = c.known-known.ensures
-
-pub put-left-requires : goal.put-left-requires
-put-left-requires g c =
+-- the stack is empty, so nothing takes the token: after one was taken, after a word or a skipped symbol, or at first
+pub returns-clause-reads : goal.returns-clause-reads
+returns-clause-reads g c =
     let old : SliceState g.row.T.Denot =
     record { table = c.args.table.now; stack = reverse (take c.args.start.count c.args.cells.now) } in
-    let now : SliceState g.row.T.Denot =
-    record { table = c.loop-next.table; stack = reverse (take c.loop-next.left c.loop-next.cells) } in
-    let inv = c.loop-next.invariant in
-    let i = c.loop-next.next in
-    let opened = c.loop-next.opened in
     let end = c.min-end.result in
-    let less = less_deep opened end i c.args.max_depth inv.shallow c.loop-next-test.true in (
-      search rules,
-      (
-        c.requires.size,
-        room_on_top c.loop-next.left g.row.N c.if-left-eq0.false inv.inside c.loop-next.cells (omega arith)
-            (low_enough g.T.Predict g.met.T.Predict.laws c.args.max_depth c.args.body.now c.args.start.read c.args.start.unclosed
-            old i opened end g.row.N now inv.mid less c.requires.at_depth_limit),
-      ),
-    )
-
--- a token that is taken, or a symbol that is removed, is not read again
-pub loop-next-smaller-then-is_take : goal.loop-next-smaller-then-is_take
-loop-next-smaller-then-is_take g c =
-    token_less c.min-end.result c.loop-next.next c.put-left.result c.loop-next.left g.row.N c.loop-next-test.true
-    c.put-left.ensures.inside c.requires.size
-
-pub loop-next-smaller-then-is_stop : goal.loop-next-smaller-then-is_stop
-loop-next-smaller-then-is_stop g c =
-    token_less c.min-end.result c.loop-next.next c.in-Some.now c.loop-next.left g.row.N c.loop-next-test.true
-    c.in-Some.ensures.inside c.requires.size
-
-pub loop-next-smaller : goal.loop-next-smaller
-loop-next-smaller g c =
-    stack_less ((c.min-end.result - c.loop-next.next) * 4097) c.loop-next.left c.if-left-eq0.false
+    let size = length c.args.body.now in
+    let toks = tokens_of c.args.body.now in
+    let known = c.if-left-ne0.known in
+    let shut = c.reject_at-2 in
+    elim c.if-left-ne0.branch [
+      | then-left-ne0+then-is_take+else-next-end+else-left-ne0-2 w ↦
+          let now : SliceState g.row.T.Denot =
+          record { table = w.loop-held.table; stack = reverse (take w.loop-held.left w.loop-held.cells) } in
+          let inv = w.loop-held.invariant in
+          let i = w.loop-held.next in
+          let opened = w.loop-held.opened in
+          let less = less_deep opened end i c.args.max_depth inv.shallow inv.more in
+          let low = count_low opened c.args.max_depth g.row.N (less_within _ _ less) c.requires.size c.requires.at_depth_limit in
+          let t = w.token-in-loop-held.result in
+          let same = w.token-in-loop-held.ensures in
+          let front : take (i + 1) toks ≡ take i toks ++ t ∷ [] = inv.front ∙ ap (λ (k : ℕ). take i toks ++ k ∷ []) (sym same) in
+          let rest : drop i toks ≡ t ∷ drop (i + 1) toks = inv.rest ∙ ap (λ (k : ℕ). k ∷ drop (i + 1) toks) (sym same) in
+          let class = inv.class ∙ ap known_class (sym same) in
+          let counted : count_one (is_bra t) (is_ket t) (Some opened) ≡ open_count ((opened + w.bracket_step-opened.result) % 65536) =
+          counted_by_step opened t w.loop-held.known class low
+          ∙ ap (λ (k : ℕ). open_count ((opened + k) % 65536)) (sym w.bracket_step-opened.ensures) in
+          let cells = w.loop-held.cells in
+          let s = get_or cells (w.loop-held.left - 1) w.index-cells-top.result in
+          let below = reverse (take (w.loop-held.left - 1) cells) in
+          let a = w.predict_token-answer.result in
+          let top : now.stack ≡ s ∷ below =
+          on_top cells w.loop-held.left w.index-cells-top.result
+          (top_some w.loop-held.left g.row.N inv.some inv.inside) (omega arith) in
+          let new : SliceState g.row.T.Denot =
+          record { table = w.predict_token-answer.new.self; stack = reverse (take w.put-left.result w.put-left.new.cells) } in
+          let next = took g.T.Predict g.met.T.Predict.laws c.args.max_depth c.args.body.now c.args.start.read c.args.start.unclosed old
+          i opened end t ((opened + w.bracket_step-opened.result) % 65536) now new s below a inv.mid
+          front rest top w.predict_token-answer.ensures.answer
+          (sym w.is_take.ensures ∙ w.if-is_take.true) w.put-left.ensures.stack w.predict_token-answer.ensures.words_stay
+          w.predict_token-answer.ensures.counts_each_answer less counted in
+          let here = i + 1 in
+          let more : here < end = not_last i end inv.more w.if-next-end.false in
+          let inside = token_inside size here
+          (before_end _ c.args.start.read (c.args.max_depth - c.args.start.unclosed) end c.min-end.ensures here more) _
+          (tokens_of-length c.args.body.now) in
+          let shallow = shallow_next opened end i c.args.max_depth inv.shallow inv.more _ next.1 in
+          let few = count_low _ c.args.max_depth g.row.N (less_within _ _ (less_deep _ end here c.args.max_depth shallow more))
+          c.requires.size c.requires.at_depth_limit in
+          rejects_next g.T.Predict g.met.T.Predict.laws c.args.max_depth c.args.body.now c.args.start.read c.args.start.unclosed old
+          c.if-left-ne0.next c.if-left-ne0.opened end w.at-held-then-is_take.result c.if-left-ne0.left c.bracket_step.result shut.result.tokens
+          shut.result.count known shut.result.unclosed shut.result.place c.if-left-ne0.table c.if-left-ne0.cells
+          (rw (w.next-is, w.opened-is, w.table-is, w.left-is, w.cells-is) next.0)
+          (w.left-is ∙ w.if-left-ne0-2.false) (rw (w.next-is) inside) (rw (w.next-is) w.at-held-then-is_take.ensures.front) (rw (w.next-is) w.at-held-then-is_take.ensures.rest)
+          (w.known-is ∙ w.known-known-then-is_take.ensures ∙ ap known_class w.token-then-is_take.ensures) (rw (w.opened-is) few) c.bracket_step.ensures
+          shut.ensures.tokens shut.ensures.unclosed shut.ensures.place shut.ensures.count
+      | then-left-ne0+else-is_take+then-left-eq0 w ↦
+          let now : SliceState g.row.T.Denot =
+          record { table = w.loop-held.table; stack = reverse (take w.loop-held.left w.loop-held.cells) } in
+          let inv = w.loop-held.invariant in
+          let i = w.loop-held.next in
+          let opened = w.loop-held.opened in
+          let less = less_deep opened end i c.args.max_depth inv.shallow inv.more in
+          let low = count_low opened c.args.max_depth g.row.N (less_within _ _ less) c.requires.size c.requires.at_depth_limit in
+          elim w.if-is_stop.branch [
+            | then-is_stop+in-Some+else-next-end-2 v ↦
+                let t = v.token-then-is_stop.result in
+                let same = v.token-then-is_stop.ensures in
+                let front : take (i + 1) toks ≡ take i toks ++ t ∷ [] = inv.front ∙ ap (λ (k : ℕ). take i toks ++ k ∷ []) (sym same) in
+                let rest : drop i toks ≡ t ∷ drop (i + 1) toks = inv.rest ∙ ap (λ (k : ℕ). k ∷ drop (i + 1) toks) (sym same) in
+                let class = inv.class ∙ ap known_class (sym same) in
+                let counted : count_one (is_bra t) (is_ket t) (Some opened) ≡ open_count ((opened + v.bracket_step-opened-then-is_stop.result) % 65536) =
+                counted_by_step opened t w.loop-held.known class low
+                ∙ ap (λ (k : ℕ). open_count ((opened + k) % 65536)) (sym v.bracket_step-opened-then-is_stop.ensures) in
+                let whole = top_whole w.loop-held.left g.row.N inv.some inv.inside in
+                let stack : reverse (take (w.loop-held.left - 1 + 1) w.loop-held.cells) ≡ now.stack =
+                ap (λ (k : ℕ). reverse (take k w.loop-held.cells)) whole in
+                let asked = w.predict_token-answer.new.self in
+                let said = said_same g.T.Predict g.met.T.Predict.laws c.args.max_depth c.args.body.now c.args.start.read c.args.start.unclosed old
+                t now asked _ w.predict_token-answer.ensures.words_stay stack in
+                let due = due_same g.T.Predict g.met.T.Predict.laws c.args.max_depth c.args.body.now c.args.start.read c.args.start.unclosed old
+                t now asked _ w.predict_token-answer.ensures.words_stay stack in
+                let steps = v.follow_word.ensures.steps in
+                let once = w.predict_token-answer.ensures.counts_each_answer in
+                let new : SliceState g.row.T.Denot =
+                record { table = v.follow_word.new.table; stack = reverse (take v.in-Some.now v.follow_word.new.cells) } in
+                let next = goes_on g.T.Predict g.met.T.Predict.laws c.args.max_depth c.args.body.now c.args.start.read c.args.start.unclosed old
+                i opened end t ((opened + v.bracket_step-opened-then-is_stop.result) % 65536) now new inv.mid
+                front rest (said ∙ v.in-Some.ensures.taken)
+                (v.follow_word.ensures.words ∙ w.predict_token-answer.ensures.words_stay) (1, omega arith, once_more _ _ _ _ _ due once steps) less
+                counted in
+                let here = i + 1 in
+                let more : here < end = not_last i end inv.more v.if-next-end-2.false in
+                let inside = token_inside size here
+                (before_end _ c.args.start.read (c.args.max_depth - c.args.start.unclosed) end c.min-end.ensures here more) _
+                (tokens_of-length c.args.body.now) in
+                let shallow = shallow_next opened end i c.args.max_depth inv.shallow inv.more _ next.1 in
+                let few = count_low _ c.args.max_depth g.row.N (less_within _ _ (less_deep _ end here c.args.max_depth shallow more))
+                c.requires.size c.requires.at_depth_limit in
+                rejects_next g.T.Predict g.met.T.Predict.laws c.args.max_depth c.args.body.now c.args.start.read c.args.start.unclosed old
+                c.if-left-ne0.next c.if-left-ne0.opened end v.at-held-then-is_stop.result c.if-left-ne0.left c.bracket_step.result shut.result.tokens
+                shut.result.count known shut.result.unclosed shut.result.place c.if-left-ne0.table c.if-left-ne0.cells
+                (rw (w.next-is ∙ v.next-is, w.opened-is ∙ v.opened-is, w.table-is ∙ v.table-is, w.left-is ∙ v.left-is, w.cells-is ∙ v.cells-is) next.0)
+                (w.left-is ∙ w.if-left-eq0.true) (rw (w.next-is ∙ v.next-is) inside) (rw (w.next-is ∙ v.next-is) v.at-held-then-is_stop.ensures.front) (rw (w.next-is ∙ v.next-is) v.at-held-then-is_stop.ensures.rest)
+                (w.known-is ∙ v.known-is ∙ v.known-known-then-is_stop.ensures ∙ ap known_class v.token-then-is_stop-2.ensures) (rw (w.opened-is ∙ v.opened-is) few) c.bracket_step.ensures
+                shut.ensures.tokens shut.ensures.unclosed shut.ensures.place shut.ensures.count
+            | else-is_stop v ↦
+                let t = w.token-in-loop-held.result in
+                let same = w.token-in-loop-held.ensures in
+                let front : take (i + 1) toks ≡ take i toks ++ t ∷ [] = inv.front ∙ ap (λ (k : ℕ). take i toks ++ k ∷ []) (sym same) in
+                let rest : drop i toks ≡ t ∷ drop (i + 1) toks = inv.rest ∙ ap (λ (k : ℕ). k ∷ drop (i + 1) toks) (sym same) in
+                let class = inv.class ∙ ap known_class (sym same) in
+                let cells = w.loop-held.cells in
+                let s = get_or cells (w.loop-held.left - 1) w.index-cells-top.result in
+                let below = reverse (take (w.loop-held.left - 1) cells) in
+                let a = w.predict_token-answer.result in
+                let top : now.stack ≡ s ∷ below =
+                on_top cells w.loop-held.left w.index-cells-top.result
+                (top_some w.loop-held.left g.row.N inv.some inv.inside) (omega arith) in
+                let takes = sym w.is_take.ensures ∙ w.if-is_take.false in
+                let stops = sym w.is_stop.ensures ∙ v.if-is_stop.false in
+                let new : SliceState g.row.T.Denot = record { table = w.predict_token-answer.new.self; stack = below } in
+                let mid = skipped g.T.Predict g.met.T.Predict.laws c.args.max_depth c.args.body.now c.args.start.read c.args.start.unclosed old
+                i opened end t now new s a inv.mid inv.more rest top
+                (w.predict_token-answer.ensures.answer stops) takes stops w.predict_token-answer.ensures.words_stay
+                w.predict_token-answer.ensures.counts_each_answer in
+                let here = i in
+                let more : here < end = inv.more in
+                let inside = token_inside size here
+                (before_end _ c.args.start.read (c.args.max_depth - c.args.start.unclosed) end c.min-end.ensures here more) _
+                (tokens_of-length c.args.body.now) in
+                let shallow = inv.shallow in
+                let few = count_low _ c.args.max_depth g.row.N (less_within _ _ (less_deep _ end here c.args.max_depth shallow more))
+                c.requires.size c.requires.at_depth_limit in
+                rejects_next g.T.Predict g.met.T.Predict.laws c.args.max_depth c.args.body.now c.args.start.read c.args.start.unclosed old
+                c.if-left-ne0.next c.if-left-ne0.opened end w.loop-held.held c.if-left-ne0.left c.bracket_step.result shut.result.tokens
+                shut.result.count known shut.result.unclosed shut.result.place c.if-left-ne0.table c.if-left-ne0.cells
+                (rw (w.next-is ∙ v.next-is, w.opened-is ∙ v.opened-is, w.table-is ∙ v.table-is, w.left-is ∙ v.left-is, w.cells-is ∙ v.cells-is) mid)
+                (w.left-is ∙ w.if-left-eq0.true) (rw (w.next-is ∙ v.next-is) inside) (rw (w.next-is ∙ v.next-is) inv.front) (rw (w.next-is ∙ v.next-is) inv.rest)
+                (w.known-is ∙ v.known-is ∙ inv.class) (rw (w.opened-is ∙ v.opened-is) few) c.bracket_step.ensures
+                shut.ensures.tokens shut.ensures.unclosed shut.ensures.place shut.ensures.count
+          ]
+      | else-left-ne0 w ↦
+          let here = c.args.start.read in
+          let more : here < end = end_moves size c.args.start.read (c.args.max_depth - c.args.start.unclosed) end c.min-end.ensures c.requires.read (some_left _ _ c.requires.deep) in
+          let inside = token_inside size here
+          (before_end _ c.args.start.read (c.args.max_depth - c.args.start.unclosed) end c.min-end.ensures here more) _
+          (tokens_of-length c.args.body.now) in
+          let shallow = start_shallow c.args.start.unclosed c.args.max_depth size c.args.start.read end c.min-end.ensures c.requires.deep in
+          let few = count_low _ c.args.max_depth g.row.N (less_within _ _ (less_deep _ end here c.args.max_depth shallow more))
+          c.requires.size c.requires.at_depth_limit in
+          rejects_next g.T.Predict g.met.T.Predict.laws c.args.max_depth c.args.body.now c.args.start.read c.args.start.unclosed old
+          c.if-left-ne0.next c.if-left-ne0.opened end c.at-held.result c.if-left-ne0.left c.bracket_step.result shut.result.tokens
+          shut.result.count known shut.result.unclosed shut.result.place c.if-left-ne0.table c.if-left-ne0.cells
+          (rw (w.next-is, w.opened-is, w.table-is, w.left-is, w.cells-is) (begun g.T.Predict g.met.T.Predict.laws c.args.max_depth c.args.body.now c.args.start.read c.args.start.unclosed old
+          c.args.start.read c.args.start.unclosed end old
+          (at_start g.T.Predict g.met.T.Predict.laws c.args.max_depth c.args.body.now c.args.start.read c.args.start.unclosed old
+          (less_within _ _ c.requires.deep) c.requires.lawful)))
+          (w.left-is ∙ w.if-left-ne0.false) (rw (w.next-is) inside) (rw (w.next-is) c.at-held.ensures.front) (rw (w.next-is) c.at-held.ensures.rest)
+          (w.known-is ∙ c.known-known.ensures ∙ ap known_class c.token.ensures) (rw (w.opened-is) few) c.bracket_step.ensures
+          shut.ensures.tokens shut.ensures.unclosed shut.ensures.place shut.ensures.count
+    ]

@@ -1,19 +1,25 @@
-use Rattle.std.proofs.Common.{◌≤◌, ◌+◌, ◌-◌, ◌*◌, take, reverse}
+use Rattle.std.proofs.Common.{◌≡◌, ◌≢◌, ◌≤◌, ◌<◌, ◌+◌, ◌-◌, ◌*◌, ◌++◌, [], ◌∷◌, take, drop, reverse}
+use Rattle.daide_token.specs.Class.{class_of as known_class}
+use Rattle.daide_token.specs.Token.{tokens_of}
 use Rattle.daide_reader.proofs.StretchLemmas.{MidToken}
 use Rattle.daide_reader.proofs.slice.run_below_depth_limit.Given as goal
 
--- the locals are a reader that has read the tokens so far, or is inside one
-abbrev pub invariant-loop-next : goal.invariant-loop-next
-invariant-loop-next g l = record {
+-- the locals are a reader that has read the tokens before `held`, or is inside it, and its stack is not empty
+abbrev pub invariant-loop-held : goal.invariant-loop-held
+invariant-loop-held g l = record {
   inside : l.left ≤ g.row.N;
+  some : l.left ≢ 0;
   from : l.fn.start.read ≤ l.next;
-  upto : l.next ≤ l.end;
+  more : l.next < l.end;
   shallow : l.opened + (l.end - l.next) ≤ l.max_depth;
+  front : take (l.next + 1) (tokens_of l.body) ≡ take l.next (tokens_of l.body) ++ l.held ∷ [];
+  rest : drop l.next (tokens_of l.body) ≡ l.held ∷ drop (l.next + 1) (tokens_of l.body);
+  class : l.known ≡ known_class l.held;
   mid : MidToken g.T.Predict g.met.T.Predict.laws l.max_depth l.body l.fn.start.read l.fn.start.unclosed
       (record { table = l.fn.table; stack = reverse (take l.fn.start.count l.fn.cells) })
       l.next l.opened l.end (record { table = l.table; stack = reverse (take l.left l.cells) });
 }
 
 -- after a token that is taken the stack may be higher; inside a token it is lower
-abbrev pub decreases-loop-next : goal.decreases-loop-next
-decreases-loop-next g l = (l.end - l.next) * 4097 + l.left
+abbrev pub decreases-loop-held : goal.decreases-loop-held
+decreases-loop-held g l = (l.end - l.next) * 4097 + l.left

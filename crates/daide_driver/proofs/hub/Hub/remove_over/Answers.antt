@@ -79,11 +79,23 @@ unwrap-requires g c =
     is_there c.ending.result
     (c.ending.ensures.over ∙ closed_over (is_over place.session.state.phase) _ closed)
 
+-- the session is closed, so its fault may be looked up
+pub fault_field-requires : goal.fault_field-requires
+fault_field-requires g c =
+    let s = c.self.inside in
+    let place = c.remove-session.result in
+    let inside = place_inside (λ p. (p.session, p.ports)) (limits_with s.limits.config (words_of s.words)) s.max s.places.items
+    c.args.i c.args.self.now c.self.view_is c.requires in
+    let same = same_read s.places.items c.args.i c.index.result.now place inside c.index.ensures
+    c.remove-session.ensures.value in
+    ap (λ p. is_closed p.session) (sym same) ∙ sym c.is_closed.ensures ∙ c.if-not-is_closed.false
+
 pub returns-clause-reported : goal.returns-clause-reported
 returns-clause-reported g c =
     let s = c.self.inside in
     let place = c.remove-session.result in
     let read = place_read (λ p. (p.session, p.ports)) (limits_with s.limits.config (words_of s.words)) s.max s.places.items
     c.args.i place c.args.self.now c.self.view_is c.requires c.remove-session.ensures.value in
-    subst (λ found. IfSome found (λ (p : SessionView × g.row.P.Denot). IsReportedOf p.0 c.account.result c.unwrap.result))
-    (sym read) (c.account.ensures, sym c.ending.ensures.value ∙ c.unwrap.ensures)
+    subst (λ found. IfSome found (λ (p : SessionView × g.row.P.Denot). IsReportedOf p.0 c.account.result c.unwrap.result
+    c.fault_field.result))
+    (sym read) (c.account.ensures, sym c.ending.ensures.value ∙ c.unwrap.ensures, c.fault_field.ensures)

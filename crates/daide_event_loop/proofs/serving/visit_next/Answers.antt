@@ -1,0 +1,47 @@
+use Rattle.std.proofs.Common.{◌≡◌, ℕ, ◌+◌, ◌++◌, refl, sym, ◌∙◌, subst}
+use Rattle.std.specs.Prelude.{nat_le}
+use Rattle.daide_event_loop.specs.Serving.{VisitsCalmIf, turns_left_over}
+use Rattle.daide_event_loop.proofs.BeginningLemmas.{visited_count}
+use Rattle.daide_event_loop.proofs.FindingLemmas.{still_next}
+use Rattle.daide_event_loop.proofs.TransitLemmas.{transits_then}
+use Rattle.daide_event_loop.proofs.WaitingLemmas.{first_false, later_false}
+use Rattle.daide_event_loop.proofs.serving.visit_next.Goals as goal
+
+pub returns-clause-visits : goal.returns-clause-visits
+returns-clause-visits g c =
+    let one = c.visit-one.ensures.visits in
+    let again = c.catch_up-again.ensures.visits in
+    let before = c.args.found.busy_turns in (
+      one.0 ++ again.0,
+      transits_then g.S.System.transition one.0 again.0 c.args.system.now c.visit-one.new.system c.catch_up-again.new.system
+          one.1 again.1,
+      record {
+        mid = c.visit-one.new.hub;
+        first = one.0;
+        second = again.0;
+        visit = one.2;
+        calm = subst (λ (n : ℕ). VisitsCalmIf g.P.Ports.transition (nat_le 32 (before + n)) c.visit-one.new.hub again.0
+            c.catch_up-again.new.hub) one.3 again.2;
+        counted = subst (λ (n : ℕ). c.or-2.result.busy_turns ≡ turns_left_over (before + n)) one.3
+            (c.or-2.ensures.turns ∙ c.catch_up-again.ensures.turns);
+        asked = refl;
+      },
+    )
+
+pub returns-clause-moved : goal.returns-clause-moved
+returns-clause-moved g c = λ none.
+    let all = sym c.or-2.ensures.moved ∙ none in
+    let both = sym c.or.ensures.moved ∙ first_false c.or.result.has_moved c.catch_up-again.result.has_moved all in
+    let one = c.visit-one.ensures.visits in (
+      first_false c.args.found.has_moved c.visit-one.result.has_moved both,
+      λ are. c.catch_up-again.ensures.moved
+          (later_false c.or.result.has_moved c.catch_up-again.result.has_moved all) (c.args.i + 1)
+          (still_next g.P.Ports.transition g.S.System.transition c.args.hub.now c.visit-one.new.hub c.args.i one.0 one.2
+          (c.visit-one.ensures.moved ∙ later_false c.args.found.has_moved c.visit-one.result.has_moved both) are),
+    )
+
+pub returns-clause-max : goal.returns-clause-max
+returns-clause-max g c =
+    let one = c.visit-one.ensures.visits in
+    c.catch_up-again.ensures.max
+    ∙ (visited_count g.P.Ports.transition c.args.hub.now c.args.i one.0 c.visit-one.new.hub one.2).0

@@ -1,0 +1,110 @@
+-- The field of a frame that a fault is about, by the bytes received. Its value and its place are what an operator and the
+-- author of a bot see. (own)
+use Rattle.std.specs.Prelude.{ℕ, ◌+◌, ◌-◌, ◌&&◌, Bool, false, not, nat_le, List, [], ◌∷◌, length, take, drop, slice_index}
+use Rattle.std.specs.Prelude.{Option, Some, None, is_some, if◌then◌else◌}
+use Rattle.std.specs.Int.{w16, from_be_bytes}
+use Rattle.daide_frame.specs.declared.code.Code.{Code}
+use Rattle.daide_frame.specs.declared.code.Code.TheVariants.{ImTimeout, ImNotFirst, WrongEndian, WrongMagic}
+use Rattle.daide_frame.specs.declared.code.Code.TheVariants.{WrongVersion, SecondIm, ImFromServer, UnknownMessage}
+use Rattle.daide_frame.specs.declared.code.Code.TheVariants.{WrongLength, DmBeforeRm, RmNotFirst, SecondRm}
+use Rattle.daide_frame.specs.declared.code.Code.TheVariants.{RmFromClient, InvalidToken}
+use Rattle.daide_frame.specs.Head.{kind_of}
+use Rattle.daide_frame.specs.Frames.{head_in}
+use Rattle.daide_protocol.specs.declared.ending.Ending.{Ending}
+use Rattle.daide_protocol.specs.declared.ending.Ending.TheVariants.{Ended, Lost, Final, Error, Fault, Stopped}
+use Rattle.daide_protocol.specs.Machine.{SessionState, coming, ending_in}
+use Rattle.daide_io.specs.declared.fault_field.FaultField.{FaultField}
+use Rattle.daide_io.specs.declared.fault_field.FaultField.TheVariants.{Kind, Length, Version, MagicNumber, Token}
+
+-- the two bytes at a place, the high byte first
+abbrev pub two_bytes_at : List ℕ → ℕ → Option ℕ
+two_bytes_at bytes place =
+    if nat_le (place + 2) (length bytes)
+    then Some (from_be_bytes w16 (slice_index bytes place ∷ slice_index bytes (place + 1) ∷ []))
+    else None
+
+abbrev pub field_with : (ℕ → FaultField) → Option ℕ → Option FaultField
+field_with field None = None
+field_with field (Some value) = Some (field value)
+
+-- ---- each field
+
+abbrev pub type_field : List ℕ → Option FaultField
+type_field [] = None
+type_field (kind ∷ header) = Some (Kind kind)
+
+abbrev pub length_field : List ℕ → Option FaultField
+length_field header = field_with Length (two_bytes_at header 2)
+
+abbrev pub version_field : List ℕ → Option FaultField
+version_field body = field_with Version (two_bytes_at body 0)
+
+abbrev pub magic_field : List ℕ → Option FaultField
+magic_field body = field_with MagicNumber (two_bytes_at body 2)
+
+-- the last two bytes: a fault is at the second byte of the first invalid token
+abbrev pub token_field : List ℕ → Option FaultField
+token_field body =
+    let place = length body - 2 in
+    field_with (λ value. Token value (4 + place)) (two_bytes_at body place)
+
+-- ---- the field of each fault
+
+-- an IM whose length is in the other byte order is refused before its body, and then its magic number is looked at
+abbrev pub byte_order_field : List ℕ → List ℕ → Option FaultField
+byte_order_field header [] = length_field header
+byte_order_field header (byte ∷ body) = magic_field (byte ∷ body)
+
+abbrev pub has_known_type : List ℕ → Bool
+has_known_type [] = false
+has_known_type (kind ∷ header) = is_some (kind_of kind)
+
+-- A frame is unknown by its type, or since its length is above the cap. By itself the header of the latter is refused
+-- too, and that of an RM before the IM is not.
+abbrev pub unknown_field : Bool → List ℕ → Option FaultField
+unknown_field is_good header =
+    if not is_good && has_known_type header then length_field header else type_field header
+
+-- By the code of the fault, whether the header is accepted by itself, and the header and the body so far. An IM that did
+-- not arrive in time has none. A frame that is not permitted now has its type.
+abbrev pub fault_field : Code → Bool → List ℕ → List ℕ → Option FaultField
+fault_field ImTimeout is_good header body = None
+fault_field ImNotFirst is_good header body = type_field header
+fault_field WrongEndian is_good header body = byte_order_field header body
+fault_field WrongMagic is_good header body = magic_field body
+fault_field WrongVersion is_good header body = version_field body
+fault_field SecondIm is_good header body = type_field header
+fault_field ImFromServer is_good header body = type_field header
+fault_field UnknownMessage is_good header body = unknown_field is_good header
+fault_field WrongLength is_good header body = length_field header
+fault_field DmBeforeRm is_good header body = type_field header
+fault_field RmNotFirst is_good header body = type_field header
+fault_field SecondRm is_good header body = type_field header
+fault_field RmFromClient is_good header body = type_field header
+fault_field InvalidToken is_good header body = token_field body
+
+-- the place of a field: its first byte's number in the frame, from 0
+abbrev pub place_of : FaultField → ℕ
+place_of (Kind value) = 0
+place_of (Length value) = 2
+place_of (Version value) = 4
+place_of (MagicNumber value) = 6
+place_of (Token value place) = place
+
+-- ---- the field of a session's fault
+
+-- the bytes since the last whole frame of the side whose fault it is
+abbrev pub field_in : Option Ending → SessionState → Option FaultField
+field_in None state = None
+field_in (Some (Ended side)) state = None
+field_in (Some (Lost side)) state = None
+field_in (Some (Final side)) state = None
+field_in (Some (Error side)) state = None
+field_in (Some Stopped) state = None
+field_in (Some (Fault side code)) state =
+    let bytes = (coming state side).pending in
+    fault_field code (is_some (head_in state.limits.cap bytes)) (take 4 bytes) (drop 4 bytes)
+
+-- the field that the fault is about which ended the session, if a fault did
+abbrev pub fault_field_of : SessionState → Option FaultField
+fault_field_of state = field_in (ending_in state.phase) state

@@ -1,0 +1,62 @@
+-- What `settings` prints of some documents, worked out from docs/FORMATS.md.
+use Rattle.std.proofs.Common.{◌≡◌, ℕ, List, [], ◌∷◌, ◌++◌, Option, Some, None, refl, ap, ◌∙◌, codes}
+use Rattle.std.specs.Fmt.{digits}
+use Rattle.toml.specs.Data.{no_members}
+use Rattle.daide_settings.specs.declared.settings.key.Key.{Key}
+use Rattle.daide_settings.specs.declared.settings.key.Key.TheVariants.{TopLevel, MaxBody, MaxDepth}
+use Rattle.daide_settings.specs.declared.settings.key.Key.TheVariants.{ImSeconds, MaxSessions, Sessions, Turns, IdleSeconds}
+use Rattle.daide_settings.specs.declared.settings.key.Key.TheVariants.{Words, StallSeconds, Endless, Allow, MaxPerAddress, Control}
+use Rattle.daide_settings.specs.declared.settings.key.TheConstants.Key.{ALL}
+use Rattle.daide_settings.specs.declared.settings.SettingsError.{SettingsError}
+use Rattle.daide_settings.specs.declared.settings.SettingsError.TheVariants.{WrongType, Range}
+use Rattle.daide_settings.specs.Judged.{fault_at}
+use Rattle.daide_settings.specs.Report.{default_line, fault_words, must_be, AreFaultLines, IsFaultPart, IsSettingsReport}
+
+-- ---- the lines of keys that are not set
+
+default_lines : default_line TopLevel ++ (default_line MaxBody ++ (default_line MaxDepth ++ (default_line ImSeconds
+    ++ (default_line MaxSessions ++ (default_line Sessions ++ (default_line Turns ++ default_line IdleSeconds))))))
+    ≡ codes "top_level = 60 # default\nmax_body = 65526 # default\nmax_depth = 62 # default\nim_seconds = 30 # default\nmax_sessions = 16 # default\nsessions = 1 # default\nturns = 1000000000 # default\nidle_seconds = 0 # default\n"
+unfolding digits
+default_lines = refl
+
+other_defaults : default_line Words ++ (default_line StallSeconds ++ (default_line Endless ++ (default_line Allow
+    ++ (default_line MaxPerAddress ++ default_line Control))))
+    ≡ codes "words = [] # default\nstall_seconds = 60 # default\nendless = false # default\nallow = [\"0.0.0.0/0\", \"::/0\"] # default\nmax_per_address = 0 # default\n# control is not set\n"
+unfolding digits
+other_defaults = refl
+
+-- ---- the lines of faults
+
+depth_out_of_range : fault_words (Range MaxDepth) ++ (codes ": 255" ++ must_be MaxDepth)
+    ≡ codes "max_depth out of range: 255; it must be an integer from 4 to 254\n"
+depth_out_of_range = refl
+
+turns_of_wrong_type : fault_words (WrongType Turns) ++ (codes ": \"x\"" ++ must_be Turns)
+    ≡ codes "wrong type for turns: \"x\"; it must be an integer from 1 to 1000000000000\n"
+turns_of_wrong_type = refl
+
+-- ---- a document without a key
+
+abbrev part_text : Key → Option SettingsError → List ℕ
+part_text key None = []
+part_text key (Some fault) = fault_words fault ++ must_be key
+
+absent_part : (key : Key) (fault : Option SettingsError) (part : List ℕ) → IsFaultPart key fault None part →
+    part ≡ part_text key fault
+absent_part key None part h = h
+absent_part key (Some fault) part h = h
+
+abbrev faults_text : List Key → List ℕ
+faults_text [] = []
+faults_text (key ∷ keys) = part_text key (fault_at key no_members) ++ faults_text keys
+
+absent_parts : (keys : List Key) (text : List ℕ) → AreFaultLines no_members keys text → text ≡ faults_text keys
+absent_parts [] text h = h
+absent_parts (key ∷ keys) text h = h.4 ∙ (ap (λ (l : List ℕ). l ++ h.1) (absent_part key (fault_at key no_members) h.0 h.2)
+    ∙ ap (λ (l : List ℕ). part_text key (fault_at key no_members) ++ l) (absent_parts keys h.1 h.3))
+
+-- an empty document has two faults, and its report is their two lines
+empty_document : (report : List ℕ) → IsSettingsReport (Some no_members) report → report
+    ≡ codes "missing listen; it must be a string of 1 to 255 bytes\nmissing server; it must be a string of 1 to 255 bytes\n"
+empty_document report h = h.4 ∙ (ap (λ (l : List ℕ). l ++ h.1) h.2 ∙ absent_parts ALL h.1 h.3)
