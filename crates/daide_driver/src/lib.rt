@@ -2,8 +2,8 @@
 //!
 //! A session does no I/O. Its two wires and its clock are `Ports`, of `daide_protocol`. `turn_io` is one turn,
 //! `relaying` makes turns until the session is closed, and `hub` holds sessions with their ports. `status` is what an
-//! operator sees of a session and of its fault. The contracts have the trace of the port calls as a parameter, whether the ports record
-//! it or not.
+//! operator sees of a session and of its fault. The contracts have the trace of the port calls as a parameter, whether
+//! the ports record it or not.
 #![tactic(auto)]
 
 pub mod hub;

@@ -240,9 +240,9 @@ VisitsCalmIf transition false old answers new = (answers ≡ []) × (new ≡ old
 abbrev pub turns_left_over : ℕ → ℕ
 turns_left_over turns = if nat_le 32 turns then 0 else turns
 
--- The session at a place is visited, after this many turns of busy sessions. Once they had 32 turns, each calm session is
--- visited before any other. So a calm session with news waits for at most 32 turns of busy ones, and not for one of
--- each. (own)
+-- The session at a place is visited, after this many turns of busy sessions in the round. Once they had 32 turns, each
+-- calm session is visited before any other. So in a round a calm session with news waits for at most 32 turns of busy
+-- ones, and not for one of each. Each round counts anew, so over the end of a round it may wait for 63. (own)
 pub record VisitsNext {P : Type 0} (transition : P → PortCall → P → Type 0) (turns : ℕ) (old : HubView (QuotaPortsView P))
     (i : ℕ) (answers : List (SystemCall P)) (new : HubView (QuotaPortsView P)) (left : ℕ) : Type 0 where
   pub mid : HubView (QuotaPortsView P)
@@ -253,7 +253,8 @@ pub record VisitsNext {P : Type 0} (transition : P → PortCall → P → Type 0
   pub counted : left ≡ turns_left_over (turns + busy_turns_in visit)
   pub asked : answers ≡ first ++ second
 
--- the sessions at the first n places are visited, in their order, and the calm ones again after each 32 turns of busy ones
+-- the sessions at the first n places are visited, in their order, and the calm ones again after each 32 turns of busy
+-- ones
 abbrev pub TurnsBelow : {P : Type 0} → (P → PortCall → P → Type 0) → ℕ → ℕ → HubView (QuotaPortsView P) →
     List (SystemCall P) → HubView (QuotaPortsView P) → Type 0
 TurnsBelow transition zero turns old answers new = (answers ≡ []) × (new ≡ old) × (turns ≡ 0)

@@ -622,9 +622,9 @@ impl<P: Ports, A: Memory + Copy> Service<P, A> {
     /// A session is due a turn if its last turn made progress, if it is new, or else if the system has news for its
     /// ports (`VisitsPlace`, `TakesTurns`). The system begins each turn with the session's ports (`begin_turn`), and the
     /// turn is made by the clauses of `turn` (`TakesTurn`). So a short frame passes in one visit, and a session with bytes
-    /// without end has one turn in a round, as all others like it. A session is calm if its last turn made no progress and
-    /// few turns did before it (`is_calm`). If there is news for it, it waits for at most 32 turns of busy sessions
-    /// (`VisitsNext`). Exactly the sessions that are over and for which nothing waits are taken out.
+    /// without end has one turn in a round, as all others like it. A session is calm if its last turn made no progress
+    /// and few turns did before it (`is_calm`). If there is news for it, it waits in a round for at most 32 turns of busy
+    /// sessions (`VisitsNext`). Exactly the sessions that are over and for which nothing waits are taken out.
     /// It waits if and only if nothing moved and the run is not done. Then it watches the ports of each session (`watch`).
     ///
     /// `refused`: its only fault is no memory for a session.
