@@ -5,8 +5,9 @@
 
 Each file there is drawn as the picture of its name. `layers`, `session-machine`, `session-life` and `message` are
 diagrams. `proofs` has one stacked bar per crate. Any other file is a table of figures and is drawn as bars, so a new one
-needs no code. With `--check` nothing is written, and the status is 1 if a picture is not the one of its figures. Lines that begin with `#` contain the picture's title and the source of its figures. The same data give the same bytes.
-The pictures follow the reader's light or dark colour scheme.
+needs no code. With `--check` nothing is written, and the status is 1 if a picture is not the one of its figures, or has
+none. Lines that begin with `#` contain the picture's title and the source of its figures. The same data give the same
+bytes. The pictures follow the reader's light or dark colour scheme.
 """
 
 import argparse
@@ -286,7 +287,10 @@ def main():
             print(f"docs/img/{path.stem}.svg")
         elif not target.exists() or target.read_text(encoding="utf-8") != text:
             stale.append(f"docs/img/{path.stem}.svg is not what bench/draw.py draws of bench/figures/{path.name}")
-    if stale:
+    figures = {path.stem for path in (HERE / "figures").glob("*.csv")}
+    pictures = sorted((HERE.parent / "docs/img").glob("*.svg"))
+    stale += [f"docs/img/{path.name} has no figures in bench/figures" for path in pictures if path.stem not in figures]
+    if is_check and stale:
         sys.exit("\n".join(stale))
 
 
