@@ -7,7 +7,7 @@ ghost use Rattle.daide_sockets.specs.Scheduling.{RunEvolves, run_state};
 
 use crate::folder::{Folder, SessionFile, end, tell_if_ended};
 use crate::running::Finish;
-use daide_io::{Connect, Network, Notice, Orders, SessionEnd, SessionStatus, System};
+use daide_io::{Connect, Interest, Network, Notice, Orders, SessionEnd, SessionStatus, System};
 use daide_log::{Moment, TimedRecording};
 use daide_sockets::ports::SocketPorts;
 use daide_sockets::system::Sockets;
@@ -102,13 +102,9 @@ impl<'w, N: Network, R: AllocGlobal + Files, C: Clock, E: Write + Drop> System<
         self.sockets.show(ports.ports(), status);
     }
 
-    /// A record that has just ended is news too, so that the next turn begins at once and logs it.
-    fn has_news(
-        &mut self,
-        ports: &TimedRecording<SocketPorts<'w, N::Connection>, SessionFile<R::File>>,
-    ) -> bool {
-        let news = self.sockets.has_news(ports.ports());
-        news || ports.has_just_ended()
+    /// A record that has just ended is work of its ports, so that the next turn begins at once and logs it.
+    fn has_news(&mut self, interest: &Interest) -> bool {
+        self.sockets.has_news(interest)
     }
 
     fn begin_turn(
@@ -119,12 +115,8 @@ impl<'w, N: Network, R: AllocGlobal + Files, C: Clock, E: Write + Drop> System<
         ports.begin_turn(&mut self.sockets, self.now);
     }
 
-    fn watch(
-        &mut self,
-        ports: &TimedRecording<SocketPorts<'w, N::Connection>, SessionFile<R::File>>,
-    ) {
-        self.sockets
-            .watch_also(ports.ports(), ports.has_just_ended());
+    fn watch(&mut self, interest: &Interest) {
+        self.sockets.watch(interest);
     }
 
     fn accept(&mut self) -> bool {

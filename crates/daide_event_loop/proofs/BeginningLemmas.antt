@@ -6,6 +6,7 @@ use Rattle.std.proofs.Common.{◌≤◌, refl, sym, ap, ◌∙◌, subst, arith,
 use Rattle.std.specs.Prelude.{IfSome, All, slice_get, slice_set, nat_le, not, ◌&&◌, if◌then◌else◌}
 use Rattle.std.proofs.lemmas.List.{length-set, append_assoc}
 use Rattle.std.proofs.lemmas.List.Elements.{All-nil, All-cons}
+use Rattle.std.proofs.lemmas.Option.{get_or_from_slice_get}
 use Rattle.daide_protocol.specs.Wires.{SessionView}
 use Rattle.daide_io.specs.Ports.{PortCall, TurnBegins}
 use Rattle.daide_io.specs.System.{SystemCall, Begins, Shows, ReportsNews, BeginsTurn, Watches, Accepts, Connects}
@@ -205,6 +206,24 @@ pub slice_some : {X : Type 0} (xs : List X) (i : ℕ) → i < length xs → (x :
 slice_some [] i h = absurd (omega (arith, h))
 slice_some (x ∷ xs) zero h = (x, refl)
 slice_some (x ∷ xs) (suc i) h = slice_some xs i (omega (arith, h))
+
+set_back : {X : Type 0} (xs : List X) (i : ℕ) (x : X) → slice_get xs i ≡ Some x → slice_set xs i x ≡ xs
+set_back [] zero x h = refl
+set_back [] (suc i) x h = refl
+set_back (one ∷ xs) zero x h = ap (λ y. y ∷ xs) (sym (get_or_from_slice_get (one ∷ xs) zero x x h))
+set_back (one ∷ xs) (suc i) x h = ap (λ l. one ∷ l) (set_back xs i x h)
+
+-- a hub whose ports at a place are set to what they are is the same
+pub ports_back : {P : Type 0} (hub : HubView P) (i : ℕ) (own : P) → IfSome (slice_get hub.places i) (λ place. own ≡ place.1) →
+    with_ports hub i own ≡ hub
+ports_back hub i own h = by (slice_get hub.places i) refl h
+  where
+    by : (place : Option _) → slice_get hub.places i ≡ place → IfSome place (λ place. own ≡ place.1) →
+        with_ports_at hub i place own ≡ hub
+    by None e k = refl
+    by (Some place) e k =
+        ap (λ ports. with_ports_at hub i (Some place) ports) k
+        ∙ ap (λ places. record hub { places = places }) (set_back hub.places i place e)
 
 pub get_set : {X : Type 0} (xs : List X) (i : ℕ) (x : X) → i < length xs → slice_get (slice_set xs i x) i ≡ Some x
 get_set [] i x h = absurd (omega (arith, h))

@@ -1,8 +1,8 @@
 -- What the visits of a round found, place by place.
 use Rattle.std.proofs.Common.{◌≡◌, ℕ, zero, suc, ◌<◌, ◌≤◌, ◌+◌, Bool, true, false, List, [], ◌∷◌, ◌++◌, length}
 use Rattle.std.proofs.Common.{refl, sym, ap, ◌∙◌, subst, arith, append-nil, Option, Some, None}
-use Rattle.std.specs.Prelude.{◌||◌, ◌&&◌, ◌==◌, ◌≢◌, IfSome, slice_get}
-use Rattle.std.proofs.lemmas.Bool.{eqb-true, eqb-false}
+use Rattle.std.specs.Prelude.{◌||◌, ◌&&◌, ◌==◌, ◌≢◌, nat_le, not, if◌then◌else◌, IfSome, slice_get}
+use Rattle.std.proofs.lemmas.Bool.{eqb-true, eqb-false, lt-leb}
 use Rattle.std.proofs.lemmas.List.Folds.{list_any-append}
 use Rattle.daide_protocol.specs.Machine.{SessionState, is_over}
 use Rattle.daide_protocol.specs.Wires.{SessionView, is_closed, no_frame}
@@ -11,7 +11,7 @@ use Rattle.daide_io.specs.System.{SystemCall, TransitsBy}
 use Rattle.daide_driver.specs.Hub.{HubView, AddsSession}
 use Rattle.daide_event_loop.specs.QuotaPorts.{QuotaPortsView}
 use Rattle.daide_event_loop.specs.Serving.{IsDueBy, VisitsPlace, VisitsNext, VisitsIfCalm, is_calm_in, TurnsBelow, TurnsAll}
-use Rattle.daide_event_loop.specs.Serving.{has_moved_in, RemovesClosed, any_moved, any_closed, AreOpen, AreStill}
+use Rattle.daide_event_loop.specs.Serving.{turns_left_over, has_moved_in, RemovesClosed, any_moved, any_closed, AreOpen, AreStill}
 use Rattle.daide_event_loop.specs.Serving.{retirements, retirement_where, remaining}
 use Rattle.daide_event_loop.proofs.BeginningLemmas.{Turning, none_turned, another_visit, slice_some, Looks}
 use Rattle.daide_event_loop.proofs.BeginningLemmas.{Calming, none_calmed, another_calmed}
@@ -20,6 +20,10 @@ use Rattle.daide_event_loop.proofs.VisitLemmas.{gets_at, others_stay}
 use Rattle.daide_event_loop.proofs.WaitingLemmas.{first_false, later_false}
 
 -- ---- lists
+
+pub is_not : (b : Bool) → not b ≡ true → b ≡ false
+is_not false h = refl
+is_not true h = absurd (cc)
 
 or_false : (b : Bool) → (b || false) ≡ b
 or_false true = refl
@@ -36,6 +40,15 @@ below_it k i few far = by (k == i) refl
     by : (here : Bool) → (k == i) ≡ here → k < i
     by true e = absurd (far (eqb-true k i e))
     by false e = let differ : k ≢ i = eqb-false k i e in omega (arith, few, differ)
+
+-- ---- the turns of busy sessions
+
+-- without another one they are as many as before, and fewer than 32
+pub none_more : (before n : ℕ) → n ≡ 0 → before < 32 →
+    (nat_le 32 (before + n) ≡ false) × (before ≡ turns_left_over (before + n))
+none_more before n e few =
+    let under : nat_le 32 (before + n) ≡ false = lt-leb 32 (before + n) (omega (arith, e, few)) in
+    (under, subst (λ (b : Bool). before ≡ (if b then 0 else before + n)) (sym under) (omega (arith, e)))
 
 -- ---- open sessions
 

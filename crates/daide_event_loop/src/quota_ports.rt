@@ -4,10 +4,11 @@ ghost use Rattle.std.specs.Prelude.{◌≡◌, false, true, Some, None, is_none}
 ghost use Rattle.daide_io.specs.ByteCounts.{no_bytes};
 ghost use Rattle.daide_io.specs.Ports.{TurnBegins};
 ghost use Rattle.daide_event_loop.specs.QuotaPorts.{load_at_turn};
-ghost use Rattle.daide_io.specs.System.{TransitsBy};
+ghost use Rattle.daide_io.specs.System.{TransitsBy, ReportsNews, Watches};
 
 use daide_frame::side::Side;
 use daide_io::byte_counts::ByteCounts;
+use daide_io::interest::Interest;
 use daide_io::ports::{ClockEvent, Ports, Pull, Put};
 use daide_io::system::System;
 use daide_protocol::ending::Ending;
@@ -28,9 +29,12 @@ pub struct QuotaPorts<P: Ports> {
     first_synthetic_end: Option<Ending>,
     /// The bytes delivered and taken so far.
     bytes: ByteCounts,
+    /// What the session waits for; `None` if a call was made since this was asked.
+    interest: Option<Interest>,
 }
 
 impl<P: Ports> Model for QuotaPorts<P> {
+    ghost use Rattle.std.specs.Prelude.{IfSome};
     ghost use Rattle.daide_event_loop.specs.QuotaPorts.{QuotaPortsView};
 
     ghost Value = { QuotaPortsView P };
@@ -43,6 +47,9 @@ impl<P: Ports> Model for QuotaPorts<P> {
       first_synthetic_end = m.first_synthetic_end;
       bytes = m.bytes;
     } };
+
+    // no call was made on the ports since the interest was asked
+    ghost invariant = { λ m. IfSome m.interest (λ interest. P.interest m.ports interest) };
 }
 
 /// The most load of a session.
@@ -85,6 +92,7 @@ impl<P: Ports> QuotaPorts<P> {
             load: 0,
             first_synthetic_end: None,
             bytes: ByteCounts::new(),
+            interest: None,
         }
     }
 
@@ -94,6 +102,7 @@ impl<P: Ports> QuotaPorts<P> {
         ensures begins { Meters P.transition self.old TurnBegins self.new }
         ensures asked { TransitsBy S.transition system.old (beginning self.old self.new) system.new }
     {
+        self.interest = None;
         self.turns_left = self.turns_left.and_then(|turns| turns.checked_sub(1));
         self.load = load_at_turn(self.made_progress, self.load);
         self.made_progress = false;
@@ -138,6 +147,38 @@ impl<P: Ports> QuotaPorts<P> {
         self.bytes
     }
 
+    /// Keeps what the session waits for until the next call, if its last turn made no progress. So until then no round
+    /// asks the ports inside.
+    pub fn settle(&mut self)
+        ensures { self.new ≡ self.old }
+    {
+        if !self.made_progress {
+            self.interest = Some(self.ports.interest());
+        }
+    }
+
+    /// Returns whether the system has news for the ports inside.
+    #[inline(always)]
+    pub fn has_news<S: System<P>>(&self, system: &mut S) -> bool
+        ensures { S.transition system.old (ReportsNews self.now.ports result) system.new }
+    {
+        match &self.interest {
+            Some(interest) => system.has_news(interest),
+            None => system.has_news(&self.ports.interest()),
+        }
+    }
+
+    /// Has the next wait watch the ports inside.
+    #[inline(always)]
+    pub fn watch<S: System<P>>(&self, system: &mut S)
+        ensures { S.transition system.old (Watches self.now.ports) system.new }
+    {
+        match &self.interest {
+            Some(interest) => system.watch(interest),
+            None => system.watch(&self.ports.interest()),
+        }
+    }
+
     /// Returns the ports inside by reference.
     pub fn ports(&self) -> &P
         ensures { result.now ≡ self.now.ports }
@@ -156,6 +197,7 @@ impl<P: Ports> QuotaPorts<P> {
             load: _,
             first_synthetic_end: _,
             bytes: _,
+            interest: _,
         } = self;
         ports
     }
@@ -166,7 +208,10 @@ impl<P: Ports> Ports for QuotaPorts<P> {
 
     ghost transition = { Meters P.transition };
 
+    ghost interest = { λ ports interest. P.interest ports.ports interest };
+
     fn pull(&mut self, side: Side, buffer: &mut [u8]) -> Pull {
+        self.interest = None;
         let pull = match self.turns_left {
             Some(_turns) => self.ports.pull(side, buffer),
             None => {
@@ -185,6 +230,7 @@ impl<P: Ports> Ports for QuotaPorts<P> {
     }
 
     fn put(&mut self, side: Side, bytes: &[u8]) -> Put {
+        self.interest = None;
         let put = match self.turns_left {
             Some(_turns) => self.ports.put(side, bytes),
             None => {
@@ -202,6 +248,7 @@ impl<P: Ports> Ports for QuotaPorts<P> {
     }
 
     fn clock(&mut self) -> ClockEvent {
+        self.interest = None;
         let event = match self.turns_left {
             Some(_turns) => self.ports.clock(),
             None => ClockEvent::NoEvent,
@@ -212,5 +259,9 @@ impl<P: Ports> Ports for QuotaPorts<P> {
                 ClockEvent::ImTimeIsOver | ClockEvent::StopIsRequested => true,
             };
         event
+    }
+
+    fn interest(&self) -> Interest {
+        self.ports.interest()
     }
 }

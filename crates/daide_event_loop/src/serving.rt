@@ -208,6 +208,7 @@ fn take_turn<P: Ports, A: Allocator + Copy, S: System<P>>(
 
 /// Returns whether the session at a place is due a turn: whether its last turn made progress, or else whether the system
 /// has news for its ports.
+#[inline(always)]
 fn is_due<P: Ports, A: Allocator + Copy, S: System<P>>(
     hub: &Hub<QuotaPorts<P>, A>,
     i: usize,
@@ -219,7 +220,7 @@ fn is_due<P: Ports, A: Allocator + Copy, S: System<P>>(
         × IsDueBy place.1.made_progress place.1.ports report result) }
 {
     let ports = hub.ports(i);
-    ports.has_moved() || system.has_news(ports.ports())
+    ports.has_moved() || ports.has_news(system)
 }
 
 /// Returns the most turns of a session in one visit, by whether it is calm. So a session with bytes without end has one
@@ -259,9 +260,37 @@ fn take_turns<P: Ports, A: Allocator + Copy, S: System<P>>(
     }
 }
 
+/// Keeps what the session at a place waits for, if its last turn made no progress.
+#[inline(always)]
+fn settle<P: Ports, A: Allocator + Copy>(hub: &mut Hub<QuotaPorts<P>, A>, i: usize)
+    requires { i < length hub.old.places }
+    ensures { hub.new ≡ hub.old }
+{
+    hub.ports_mut(i).settle();
+}
+
+/// Makes turns of the session at a place as `take_turns` does, and then keeps what it waits for.
+#[inline(always)]
+fn turn_and_settle<P: Ports, A: Allocator + Copy, S: System<P>>(
+    hub: &mut Hub<QuotaPorts<P>, A>,
+    i: usize,
+    most: usize,
+    system: &mut S,
+)
+    requires { i < length hub.old.places }
+    ensures turns { (answers : List (SystemCall P)) × TransitsBy S.transition system.old answers system.new
+        × TakesTurns P.transition true most hub.old i answers hub.new }
+    ensures count { length hub.new.places ≡ length hub.old.places }
+{
+    take_turns(hub, i, most, system);
+    settle(hub, i);
+}
+
 /// What the visits of sessions found. So no other session is looked at again in a round.
 #[derive(Clone, Copy)]
 struct Findings {
+    /// Whether a session had a turn, so that something else may be found.
+    had_turn: bool,
     /// Whether the last turn of a session made progress.
     has_moved: bool,
     /// Whether a session is closed after a turn.
@@ -273,6 +302,7 @@ struct Findings {
 impl Findings {
     /// Nothing was found.
     const NONE: Findings = Findings {
+        had_turn: false,
         has_moved: false,
         has_closed: false,
         busy_turns: 0,
@@ -285,6 +315,7 @@ impl Findings {
         ensures turns { result.busy_turns ≡ later.busy_turns }
     {
         Findings {
+            had_turn: self.had_turn || later.had_turn,
             has_moved: self.has_moved || later.has_moved,
             has_closed: self.has_closed || later.has_closed,
             busy_turns: later.busy_turns,
@@ -314,13 +345,16 @@ fn visit<P: Ports, A: Allocator + Copy, S: System<P>>(
     ensures moved { has_moved_in (slice_get hub.new.places i) ≡ result.has_moved }
     ensures count { length hub.new.places ≡ length hub.old.places }
     ensures closed { result.has_closed ≡ false → AreOpen hub.old.places → AreOpen hub.new.places }
+    ensures none { result.had_turn ≡ false →
+        (result.busy_turns ≡ 0) × (result.has_moved ≡ false) × (result.has_closed ≡ false) }
 {
     if !is_due(hub, i, system) {
         return Findings::NONE;
     }
     let is_calm = hub.ports(i).is_calm();
-    take_turns(hub, i, most_turns(is_calm), system);
+    turn_and_settle(hub, i, most_turns(is_calm), system);
     Findings {
+        had_turn: true,
         has_moved: hub.ports(i).has_moved(),
         has_closed: hub.session(i).is_closed(),
         busy_turns: busy_turn(is_calm),
@@ -409,6 +443,10 @@ fn visit_next<P: Ports, A: Allocator + Copy, S: System<P>>(
         (found.has_closed ≡ false) × (AreOpen hub.old.places → AreOpen hub.new.places) }
 {
     let one = visit(hub, i, system);
+    // Most sessions of most rounds end here.
+    if !one.had_turn {
+        return found;
+    }
     let again = catch_up(found.busy_turns + one.busy_turns, hub, system);
     found.or(one).or(again)
 }
@@ -564,8 +602,7 @@ fn watch_all<P: Ports, A: Allocator + Copy, S: System<P>>(
     ensures { TransitsBy S.transition system.old (watches hub.now.places) system.new }
 {
     for i in 0..hub.count() {
-        let ports = hub.ports(i);
-        system.watch(ports.ports());
+        hub.ports(i).watch(system);
     }
 }
 

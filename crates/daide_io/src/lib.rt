@@ -11,6 +11,7 @@
 pub mod byte_counts;
 pub mod duplex;
 pub mod fault_field;
+pub mod interest;
 pub mod network;
 pub mod outcome;
 pub mod ports;
@@ -19,6 +20,7 @@ pub mod system;
 pub use byte_counts::ByteCounts;
 pub use duplex::Duplex;
 pub use fault_field::FaultField;
+pub use interest::Interest;
 pub use network::{ConnectStatus, Network, SocketEvent};
 pub use outcome::IoResult;
 pub use ports::{Ports, Pull, Put};

@@ -11,9 +11,11 @@
 ghost use Rattle.daide_io.specs.Ports.{TurnBegins};
 ghost use Rattle.daide_io.specs.System.{SystemCall, Begins, Shows, ReportsNews, BeginsTurn, Watches, Accepts, Connects};
 ghost use Rattle.daide_io.specs.System.{Retires, Notifies, Waits};
+ghost use Rattle.daide_io.specs.declared.interest.Interest.{Interest};
 
 use crate::byte_counts::ByteCounts;
 use crate::fault_field::FaultField;
+use crate::interest::Interest;
 use crate::ports::Ports;
 use daide_grammar::level::Level;
 use daide_protocol::account::Account;
@@ -116,11 +118,11 @@ pub trait System<P: Ports> {
     fn show(&mut self, ports: &P, status: SessionStatus)
         ensures { transition self.old (Shows ports.now status) self.new };
 
-    /// Returns whether a turn of the session with these ports may do something: whether, since its last turn began, an
+    /// Returns whether a turn of the session with this interest may do something: whether, since its last turn began, an
     /// event came for one of its wires, or one of its deadlines expired. It is called for sessions whose last turn made
     /// no progress. If it returns false, the session has no turn in this round.
-    fn has_news(&mut self, ports: &P) -> bool
-        ensures { transition self.old (ReportsNews ports.now result) self.new };
+    fn has_news(&mut self, interest: &Interest) -> bool
+        ensures { (ports : P) → P.interest ports interest.now → transition self.old (ReportsNews ports result) self.new };
 
     /// Begins a turn of the session with these ports. It does what the ports have to do once a turn, such as counting
     /// the turn, writing bytes that were held for too long, and reading a deadline. So the calls of the ports only
@@ -129,11 +131,10 @@ pub trait System<P: Ports> {
         ensures ports { P.transition ports.old TurnBegins ports.new }
         ensures system { transition self.old (BeginsTurn ports.old ports.new) self.new };
 
-    /// Has the next wait watch the ports of a session: the system notes what they need from it until their next turn,
-    /// such as their nearest deadline. It is called for each session right before a wait. It changes no port, and calls
-    /// none.
-    fn watch(&mut self, ports: &P)
-        ensures { transition self.old (Watches ports.now) self.new };
+    /// Has the next wait watch the ports of the session with this interest: the system notes what they need from it until
+    /// their next turn, such as their nearest deadline. It is called for each session right before a wait.
+    fn watch(&mut self, interest: &Interest)
+        ensures { (ports : P) → P.interest ports interest.now → transition self.old (Watches ports) self.new };
 
     /// Returns whether a bot arrived. From then on its connect to the server is pending, and its IM timer runs. If an
     /// accept fails, also for lack of descriptors, it returns false.

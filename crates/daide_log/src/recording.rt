@@ -7,6 +7,7 @@ ghost use Rattle.daide_io.specs.System.{BeginsTurn};
 use crate::record::{Record, RecordEnd, RecordedEvent};
 use crate::sink::Sink;
 use daide_frame::Side;
+use daide_io::interest::Interest;
 use daide_io::ports::{ClockEvent, Ports, Pull, Put};
 use daide_io::system::System;
 use daide_log_lines::event_line::MOST;
@@ -141,6 +142,8 @@ impl<P: Ports, W: Sink + Drop> Ports for Recording<P, W> {
 
     ghost transition = { Records P.transition (HasFailed W.Fails) };
 
+    ghost interest = { λ ports interest. P.interest ports.ports interest };
+
     fn pull(&mut self, side: Side, buffer: &mut [u8]) -> Pull {
         let most = buffer.len().min(MOST);
         let pull = self.ports.pull(side, &mut buffer[..most]);
@@ -177,5 +180,9 @@ impl<P: Ports, W: Sink + Drop> Ports for Recording<P, W> {
             ClockEvent::StopIsRequested => self.record_event(RecordedEvent::Stop, Activity::Ended),
         }
         event
+    }
+
+    fn interest(&self) -> Interest {
+        self.ports.interest()
     }
 }

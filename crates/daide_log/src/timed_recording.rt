@@ -11,6 +11,7 @@ use crate::record::{Record, RecordEnd, RecordedEvent};
 use crate::recording::Activity;
 use crate::sink::Sink;
 use daide_frame::Side;
+use daide_io::interest::Interest;
 use daide_io::ports::{ClockEvent, Ports, Pull, Put};
 use daide_io::system::System;
 use daide_log_lines::event_line::MOST;
@@ -174,8 +175,11 @@ impl<P: Ports, W: Sink + Drop> TimedRecording<P, W> {
 impl<P: Ports, W: Sink + Drop> Ports for TimedRecording<P, W> {
     ghost use Rattle.daide_log.specs.Recording.{HasFailed};
     ghost use Rattle.daide_log.specs.TimedRecording.{TimedRecords};
+    ghost use Rattle.daide_io.specs.Interest.{MayAddWork};
 
     ghost transition = { TimedRecords P.transition (HasFailed W.Fails) };
+
+    ghost interest = { λ ports interest. MayAddWork (P.interest ports.ports) interest };
 
     fn pull(&mut self, side: Side, buffer: &mut [u8]) -> Pull {
         let most = buffer.len().min(MOST);
@@ -213,5 +217,10 @@ impl<P: Ports, W: Sink + Drop> Ports for TimedRecording<P, W> {
             ClockEvent::StopIsRequested => self.record_event(RecordedEvent::Stop, Activity::Ended),
         }
         event
+    }
+
+    /// A record that has just ended is something to do at once, so that the next turn begins and it is logged.
+    fn interest(&self) -> Interest {
+        self.ports.interest().or_work(self.has_just_ended())
     }
 }

@@ -8,6 +8,7 @@ use daide_gate::serving::serve;
 use daide_gate::settings::{Settings, read_settings};
 use daide_gate::system::{Cause, Connect, Notice, Orders, SessionEnd, SessionStatus, System};
 use daide_gate::{ByteCounts, FaultField, Level, Phase, SideCounts, Summary};
+use daide_io::interest::Interest;
 use daide_test_support::memory_ports::{Call, MemoryPorts, Script, ScriptedRead};
 use daide_test_support::rows::holds;
 use std::alloc::Global;
@@ -162,7 +163,7 @@ impl System<MemoryPorts<'static>> for Harness {
         let _ = self.shown.push(shown);
     }
 
-    fn has_news(&mut self, _ports: &MemoryPorts<'static>) -> bool {
+    fn has_news(&mut self, _interest: &Interest) -> bool {
         let news = self.scene.news.get(self.news).is_none_or(|news| *news);
         self.news = self.news.saturating_add(1);
         self.note(if news { Event::News } else { Event::NoNews });
@@ -174,7 +175,7 @@ impl System<MemoryPorts<'static>> for Harness {
         ports.begin_turn();
     }
 
-    fn watch(&mut self, _ports: &MemoryPorts<'static>) {
+    fn watch(&mut self, _interest: &Interest) {
         self.note(Event::Watched);
     }
 

@@ -6,6 +6,7 @@ use daide_gate::{
     Config, Connect, Notice, Orders, Ports, Pull, Record, RecordEnd, SessionEnd, SessionStatus,
     System, Words, check_log,
 };
+use daide_io::interest::Interest;
 use daide_log::{Comment, Moment, TimedRecording};
 use daide_test_support::memory_ports::{MemoryPorts, Script, ScriptedRead};
 use daide_test_support::rows::{holds, same};
@@ -71,7 +72,7 @@ impl System<MemoryPorts<'static>> for Turns {
 
     fn show(&mut self, _ports: &MemoryPorts<'static>, _status: SessionStatus) {}
 
-    fn has_news(&mut self, _ports: &MemoryPorts<'static>) -> bool {
+    fn has_news(&mut self, _interest: &Interest) -> bool {
         true
     }
 
@@ -79,7 +80,7 @@ impl System<MemoryPorts<'static>> for Turns {
         ports.begin_turn();
     }
 
-    fn watch(&mut self, _ports: &MemoryPorts<'static>) {}
+    fn watch(&mut self, _interest: &Interest) {}
 
     fn accept(&mut self) -> bool {
         false

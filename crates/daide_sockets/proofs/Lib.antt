@@ -3,6 +3,7 @@ mod OnceLemmas
 mod LingeringLemmas
 mod TableLemmas
 mod AtRestLemmas
+pub mod InterestLemmas
 pub mod InTimeLemmas
 mod BesideLemmas
 mod FinishingLemmas

@@ -12,11 +12,12 @@ ghost use Rattle.daide_buffered_io.specs.Streams.{Transfers, stream_of};
 ghost use Rattle.daide_buffered_io.specs.Taking.{bytes_taken};
 ghost use Rattle.daide_sockets.specs.Lingering.{IsWriting};
 ghost use Rattle.daide_sockets.specs.Sockets.{read_if, due_after};
-ghost use Rattle.daide_sockets.specs.Table.{merged, report_at, without_report, watching};
+ghost use Rattle.daide_sockets.specs.Table.{merged, report_at, without_report};
 ghost use Rattle.daide_sockets.specs.Timers.{BeginsAt, PullsInTime, PutsInTime, FlushesInTime, BeginsInTime, SetsTimers, clock_event, is_got, timers_of};
 ghost use Rattle.daide_sockets.specs.Times.{IsStallEnd, has_stalled, is_past};
 ghost use Rattle.daide_sockets.specs.Wakeups.{StaysUnread, IsPulled, IsOffered, Settles};
-ghost use Rattle.daide_sockets.specs.Wakeups.{may_session_go_on, session_due, has_session_news};
+ghost use Rattle.daide_sockets.specs.Wakeups.{session_due};
+ghost use Rattle.daide_sockets.specs.Interests.{interest_of};
 
 use crate::socket::{Socket, TurnsHeld};
 use crate::table::{SocketTable, earlier, is_past, merged, timeout_end};
@@ -24,6 +25,7 @@ use crate::timed::Timed;
 use daide_buffered_io::readiness::Readiness;
 use daide_frame::side::Side;
 use daide_io::duplex::Duplex;
+use daide_io::interest::Interest;
 use daide_io::ports::{ClockEvent, Ports, Pull, Put};
 use std::time::{Duration, Instant};
 
@@ -184,7 +186,7 @@ fn put_or_flush_peer<S: Duplex + Drop>(
 ///
 /// A pull with room that finds nothing leaves the socket not readable, with nothing read ahead, or it must be tried again.
 /// A put that nothing is taken of leaves it not writable, or it must be tried again (`transition`, `Settles`). What must be
-/// tried again, and what is held that may be written, is work, which each wait watches (`watch`). A socket that is writable
+/// tried again, and what is held that may be written, is work, which each wait watches (`interest`). A socket that is writable
 /// stays so, but for a write that its stream did not take whole (`transition`, `OnlyPuts`). So while a run waits, bytes are
 /// held only after such a write, or before a poll first reported the socket as writable.
 ///
@@ -314,13 +316,6 @@ impl<'w, S: Drop> SocketPorts<'w, S> {
         self.is_stopped = true;
     }
 
-    /// Returns whether an operator stopped the session.
-    pub(crate) fn is_stopped(&self) -> bool
-        ensures { result ≡ self.now.is_stopped }
-    {
-        self.is_stopped
-    }
-
     /// Returns the number of bytes that are held for the bot, and for the server.
     pub(crate) fn held(&self) -> (usize, usize)
         ensures bot { result.0 ≡ length self.now.bot.stream.write_buffer }
@@ -374,19 +369,6 @@ impl<'w, S: Drop> SocketPorts<'w, S> {
         (bot, server)
     }
 
-    /// Returns whether something may be done at once for the session: a poll reported something that was not taken yet,
-    /// or there is work.
-    fn may_go_on(&self, table: &SocketTable) -> bool
-        ensures { result ≡ may_session_go_on table.now (record {
-          bot = self.now.bot;
-          server = self.now.server;
-          reading = self.now.idle.reading;
-          im_due = self.now.im_due;
-        }) }
-    {
-        self.bot.may_go_on(table) || self.server.may_go_on(table)
-    }
-
     /// Returns the nearest deadline of the session after its last turn; `None` if there is none.
     fn due(&self) -> Option<Instant>
         ensures { result ≡ session_due (record {
@@ -399,52 +381,6 @@ impl<'w, S: Drop> SocketPorts<'w, S> {
         let now = self.idle.reading;
         let due = earlier(self.bot.deadline(now), self.server.deadline(now));
         earlier(due, self.im_due)
-    }
-
-    /// Returns whether the nearest deadline of the session after its last turn is past at this reading of the clock. It
-    /// compares each deadline, and does not look for the nearest.
-    fn is_overdue(&self, now: Option<Instant>) -> bool
-        ensures { result ≡ is_past now (session_due (record {
-          bot = self.now.bot;
-          server = self.now.server;
-          reading = self.now.idle.reading;
-          im_due = self.now.im_due;
-        })) }
-    {
-        let begun = self.idle.reading;
-        let is_late = self.bot.is_overdue(begun, now) || self.server.is_overdue(begun, now);
-        is_late || is_past(now, self.im_due)
-    }
-
-    /// Returns whether there is news since the last turn: something may be done at once, or a deadline is past.
-    pub fn has_news(&self, table: &SocketTable) -> bool
-        ensures { result ≡ has_session_news table.now (record {
-          bot = self.now.bot;
-          server = self.now.server;
-          reading = self.now.idle.reading;
-          im_due = self.now.im_due;
-        }) }
-    {
-        self.may_go_on(table) || self.is_overdue(table.now())
-    }
-
-    /// Has the next wait watch the session: whether something may be done at once for it, by its ports or for another
-    /// reason, and its nearest deadline. So no wait blocks beyond these.
-    pub fn watch(&self, table: &mut SocketTable, other: bool)
-        ensures { table.new ≡ watching table.old (may_session_go_on table.old (record {
-          bot = self.now.bot;
-          server = self.now.server;
-          reading = self.now.idle.reading;
-          im_due = self.now.im_due;
-        }) || other) (session_due (record {
-          bot = self.now.bot;
-          server = self.now.server;
-          reading = self.now.idle.reading;
-          im_due = self.now.im_due;
-        })) }
-    {
-        let has_work = self.may_go_on(table) || other;
-        table.watch(has_work, self.due());
     }
 
     /// Counts the beginning of a turn at this reading of the clock. Makes no system call.
@@ -587,6 +523,8 @@ impl<S: Duplex + Drop> Ports for SocketPorts<'_, S> {
         (new.bot.stream, new.server.stream) × Settles S.calls answer (old.bot, old.server) (new.bot, new.server)
         × SetsTimers answer (timers_of old) (timers_of new) };
 
+    ghost interest = { λ ports interest. interest ≡ interest_of ports };
+
     fn pull(&mut self, side: Side, buffer: &mut [u8]) -> Pull
         ensures within { IsPullWithin result (length buffer.old) }
         ensures transition { Transfers S.to_give S.taken (self.old.bot.stream, self.old.server.stream)
@@ -648,5 +586,17 @@ impl<S: Duplex + Drop> Ports for SocketPorts<'_, S> {
         ensures same { self.new ≡ self.old }
     {
         clock_event(self.stops, self.im_timer_expired)
+    }
+
+    fn interest(&self) -> Interest
+        ensures { result ≡ interest_of self.now }
+    {
+        Interest {
+            bot: self.bot.key,
+            server: self.server.key,
+            has_work: self.bot.has_work() || self.server.has_work(),
+            is_stopped: self.is_stopped,
+            due: self.due(),
+        }
     }
 }

@@ -15,7 +15,7 @@ ghost use Rattle.daide_sockets.specs.Sockets.{has_socket_work, next_deadline};
 ghost use Rattle.daide_sockets.specs.Table.{earlier, merged, report_at, without_report};
 ghost use Rattle.daide_sockets.specs.Timers.{FlushesInTime, BeginsInTime, PutsInTime};
 ghost use Rattle.daide_sockets.specs.Times.{StallsNext, has_stalled, is_past};
-ghost use Rattle.daide_sockets.specs.Wakeups.{StaysUnread, IsNothing, IsPulled, IsOffered, may_go_on};
+ghost use Rattle.daide_sockets.specs.Wakeups.{StaysUnread, IsNothing, IsPulled, IsOffered};
 
 use crate::poller::Poller;
 use crate::table::{SocketTable, earlier, is_past, merged, stalls_next};
@@ -165,29 +165,12 @@ impl<'w, S: Drop> Socket<'w, S> {
         earlier(self.stalls_at, silent_from)
     }
 
-    /// Returns whether the nearest deadline of its peer's timeouts, after a turn that began at one reading of the clock, is past
-    /// at another.
-    pub(crate) fn is_overdue(&self, begun: Option<Instant>, now: Option<Instant>) -> bool
-        ensures { result ≡ is_past now (next_deadline begun self.now.stalls_at self.now.silent_from) }
-    {
-        let is_silent = is_past(now, self.silent_from) && !is_past(begun, self.silent_from);
-        is_silent || is_past(now, self.stalls_at)
-    }
-
     /// Returns whether something may be done at once: a byte is buffered that may be written, or a read or a write
     /// must be tried again.
     pub(crate) fn has_work(&self) -> bool
         ensures { result ≡ has_socket_work self.now.stream self.now.readiness self.now.tries_again }
     {
         self.tries_again || self.stream.is_behind() && self.readiness.may_write
-    }
-
-    /// Returns whether something may be done at once: a poll reported something that was not taken yet, or there is
-    /// work.
-    pub(crate) fn may_go_on(&self, table: &SocketTable) -> bool
-        ensures { result ≡ may_go_on table.now self.now }
-    {
-        table.is_reported_at(self.key) || self.has_work()
     }
 
     /// Returns the stream itself.

@@ -23,7 +23,8 @@ ghost use Rattle.daide_sockets.specs.Table.{Table, watching, IsNoTime, PollsOnce
 ghost use Rattle.std.specs.declared.time.Duration.{Duration};
 ghost use Rattle.daide_sockets.specs.Timers.{SetsTimers, timers_of};
 ghost use Rattle.daide_sockets.specs.Times.{IsSeconds, IsIdleTime, is_past};
-ghost use Rattle.daide_sockets.specs.Wakeups.{Settles, RestsOnce, may_session_go_on, session_due, has_session_news};
+ghost use Rattle.daide_sockets.specs.Wakeups.{Settles, RestsOnce, has_session_news};
+ghost use Rattle.daide_sockets.specs.Interests.{interest_of, may_go_on_for};
 
 mod arrivals;
 mod orders;
@@ -38,6 +39,7 @@ use crate::present::Present;
 use crate::session_notice::{Lasted, SessionNotice};
 use crate::table::SocketTable;
 use daide_buffered_io::pool::Pool;
+use daide_io::interest::Interest;
 use daide_io::network::Network;
 use daide_io::system::{Connect, Notice, Orders, SessionEnd, SessionStatus, System};
 use daide_settings::{AddressRange, Settings};
@@ -234,26 +236,6 @@ impl<'w, N: Network, E: Write + Drop> Sockets<'w, N, E> {
         self.is_verbose = is_verbose;
     }
 
-    /// Has the next wait watch a session. If `other` is true, it does not block.
-    pub fn watch_also(&mut self, ports: &SocketPorts<'w, N::Connection>, other: bool)
-        ensures watched { self.new.poller.table ≡ watching self.old.poller.table
-            (may_session_go_on self.old.poller.table (record {
-              bot = ports.now.bot;
-              server = ports.now.server;
-              reading = ports.now.idle.reading;
-              im_due = ports.now.im_due;
-            }) || other) (session_due (record {
-              bot = ports.now.bot;
-              server = ports.now.server;
-              reading = ports.now.idle.reading;
-              im_due = ports.now.im_due;
-            })) }
-        ensures network { self.new.poller.network ≡ self.old.poller.network }
-        ensures same { self.new ≡ record self.old { poller = self.new.poller } }
-    {
-        ports.watch(&mut self.poller.table, other);
-    }
-
     /// Logs a line of a session, if sessions are logged.
     fn tell_of_session(&mut self, notice: SessionNotice)
         ensures { self.new ≡ record self.old { errors = self.new.errors } }
@@ -423,20 +405,18 @@ impl<'w, N: Network, E: Write + Drop> System<SocketPorts<'w, N::Connection>> for
         }
     }
 
-    fn has_news(&mut self, ports: &SocketPorts<'w, N::Connection>) -> bool
-        ensures transition { RunEvolves N.transition N.Connection.to_give N.Connection.taken N.Connection.calls
+    #[inline(always)]
+    fn has_news(&mut self, interest: &Interest) -> bool
+        ensures transition { (ports : PortsOf N.Connection) → interest.now ≡ interest_of ports →
+            RunEvolves N.transition N.Connection.to_give N.Connection.taken N.Connection.calls
             (λ (ports : PortsOf N.Connection). ports)
             (run_state (self.old.poller.network, self.old.poller.table) (self.old.idle_time, self.old.stall_time) self.old.acceptor
-            (vec_capacity self.old.arrivals) self.old.arrivals.items self.old.closings) (ReportsNews ports.now result)
+            (vec_capacity self.old.arrivals) self.old.arrivals.items self.old.closings) (ReportsNews ports result)
             (run_state (self.new.poller.network, self.new.poller.table) (self.new.idle_time, self.new.stall_time) self.new.acceptor
             (vec_capacity self.new.arrivals) self.new.arrivals.items self.new.closings) }
-        ensures news { result ≡ (is_newly_stopped self.old.control.stops_now ports.now.is_stopped
-            || has_session_news self.new.poller.table (record {
-              bot = ports.now.bot;
-              server = ports.now.server;
-              reading = ports.now.idle.reading;
-              im_due = ports.now.im_due;
-            })) }
+        ensures news { (ports : PortsOf N.Connection) → interest.now ≡ interest_of ports →
+            result ≡ (is_newly_stopped self.old.control.stops_now ports.is_stopped
+            || has_session_news self.new.poller.table (timers_of ports).sockets) }
         ensures looks { nat_le 32 self.old.poller.table.turns ≡ true → (time : Option Duration) × IsNoTime time
             × PollsOnce N.transition time self.old.poller.network self.old.poller.table self.new.poller.network
             self.new.poller.table }
@@ -444,7 +424,7 @@ impl<'w, N: Network, E: Write + Drop> System<SocketPorts<'w, N::Connection>> for
         ensures same { self.new ≡ record self.old { poller = self.new.poller } }
     {
         self.poller.look_by_turns();
-        self.stops_newly(ports) || ports.has_news(&self.poller.table)
+        self.stops_newly(interest.is_stopped) || self.poller.table.has_news_for(interest)
     }
 
     fn begin_turn(&mut self, ports: &mut SocketPorts<'w, N::Connection>)
@@ -477,16 +457,21 @@ impl<'w, N: Network, E: Write + Drop> System<SocketPorts<'w, N::Connection>> for
         }
     }
 
-    fn watch(&mut self, ports: &SocketPorts<'w, N::Connection>)
-        ensures transition { RunEvolves N.transition N.Connection.to_give N.Connection.taken N.Connection.calls
+    #[inline(always)]
+    fn watch(&mut self, interest: &Interest)
+        ensures transition { (ports : PortsOf N.Connection) → interest.now ≡ interest_of ports →
+            RunEvolves N.transition N.Connection.to_give N.Connection.taken N.Connection.calls
             (λ (ports : PortsOf N.Connection). ports)
             (run_state (self.old.poller.network, self.old.poller.table) (self.old.idle_time, self.old.stall_time) self.old.acceptor
-            (vec_capacity self.old.arrivals) self.old.arrivals.items self.old.closings) (Watches ports.now)
+            (vec_capacity self.old.arrivals) self.old.arrivals.items self.old.closings) (Watches ports)
             (run_state (self.new.poller.network, self.new.poller.table) (self.new.idle_time, self.new.stall_time) self.new.acceptor
             (vec_capacity self.new.arrivals) self.new.arrivals.items self.new.closings) }
+        ensures watched { self.new.poller.table ≡ watching self.old.poller.table
+            (may_go_on_for self.old.poller.table interest.now) interest.now.due }
+        ensures network { self.new.poller.network ≡ self.old.poller.network }
         ensures same { self.new ≡ record self.old { poller = self.new.poller } }
     {
-        self.watch_also(ports, false);
+        self.poller.table.watch_for(interest);
     }
 
     fn accept(&mut self) -> bool {

@@ -5,14 +5,16 @@
 //! each wait. So an idle session makes no system call.
 
 ghost use Rattle.std.specs.Duration.{as_nanos};
-ghost use Rattle.std.specs.Prelude.{◌≡◌, ◌+◌, ◌<◌, ◌≤◌, ◌||◌, nat_le, length, IsNone, IfSome, IfNone, IfOk, None, [], false};
+ghost use Rattle.std.specs.Prelude.{◌≡◌, ◌+◌, ◌<◌, ◌≤◌, ◌||◌, if◌then◌else◌, nat_le, length, IsNone, IfSome, IfNone, IfOk, None, [], false};
 ghost use Rattle.daide_sockets.specs.Table.{first_free, TakesRow};
 ghost use Rattle.daide_sockets.specs.Table.{row_at, merged, report_at, has_report, is_reported_at, has_pending};
 ghost use Rattle.daide_sockets.specs.Table.{changed, without_report, watching, unwatched, freed, with_event, with_news, latest};
 ghost use Rattle.daide_sockets.specs.Table.{earlier, IsUntil};
+ghost use Rattle.daide_sockets.specs.Interests.{may_go_on_for, has_news_for};
 ghost use Rattle.daide_sockets.specs.Times.{IsAfter, IsStallEnd, StallsNext, is_past, is_time_over};
 
 use daide_buffered_io::readiness::Readiness;
+use daide_io::interest::Interest;
 use daide_io::network::SocketEvent;
 use std::alloc::{AllocError, Global};
 use std::marker::Model;
@@ -149,6 +151,17 @@ pub(crate) fn earlier(one: Option<Instant>, other: Option<Instant>) -> Option<In
                 Some(other)
             }
         }
+    }
+}
+
+/// Returns whether a moment comes before another one; one or both may be missing.
+fn is_nearer(one: Option<Instant>, other: Option<Instant>) -> bool
+    ensures { earlier other one ≡ (if result then one else other) }
+{
+    match (one, other) {
+        (None, _) => false,
+        (Some(_), None) => true,
+        (Some(one), Some(other)) => !is_past(Some(one), Some(other)),
     }
 }
 
@@ -332,11 +345,47 @@ impl SocketTable {
     }
 
     /// Has the next wait watch a session too: whether something may be done at once for it, and its nearest deadline.
+    #[inline(always)]
     pub(crate) fn watch(&mut self, has_work: bool, due: Option<Instant>)
         ensures { self.new ≡ watching self.old has_work due }
     {
-        self.watched_work = self.watched_work || has_work;
-        self.watched_due = earlier(self.watched_due, due);
+        if has_work {
+            self.watched_work = true;
+        }
+        // Most deadlines are later than one that is watched already.
+        if is_nearer(due, self.watched_due) {
+            self.watched_due = due;
+        }
+    }
+
+    /// Returns whether something may be done at once for the session with this interest: a poll reported something that was
+    /// not taken yet, or there is work.
+    #[inline(always)]
+    fn may_go_on_for(&self, interest: &Interest) -> bool
+        ensures { result ≡ may_go_on_for self.now interest.now }
+    {
+        self.is_reported_at(interest.bot)
+            || self.is_reported_at(interest.server)
+            || interest.has_work
+    }
+
+    /// Returns whether there is news for the session with this interest: something may be done at once, or its nearest
+    /// deadline is past.
+    #[inline(always)]
+    pub fn has_news_for(&self, interest: &Interest) -> bool
+        ensures { result ≡ has_news_for self.now interest.now }
+    {
+        self.may_go_on_for(interest) || is_past(self.reading, interest.due)
+    }
+
+    /// Has the next wait watch the session with this interest: whether something may be done at once for it, and its nearest
+    /// deadline. So no wait blocks beyond these.
+    #[inline(always)]
+    pub fn watch_for(&mut self, interest: &Interest)
+        ensures { self.new ≡ watching self.old (may_go_on_for self.old interest.now) interest.now.due }
+    {
+        let has_work = self.may_go_on_for(interest);
+        self.watch(has_work, interest.due);
     }
 
     /// Returns what the next wait watches: whether something may be done at once, and the nearest deadline.

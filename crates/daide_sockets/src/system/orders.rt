@@ -10,7 +10,6 @@ ghost use Rattle.daide_sockets.specs.Table.{Table};
 
 use super::Sockets;
 use crate::control::seconds_between;
-use crate::ports::SocketPorts;
 use daide_io::network::Network;
 use daide_io::system::Orders;
 use daide_status::RunStatus;
@@ -24,11 +23,12 @@ fn counted(count: usize) -> u32
 }
 
 impl<'w, N: Network, E: Write + Drop> Sockets<'w, N, E> {
-    /// Returns whether a session is to be stopped in its next turn: an operator requested it, and no turn has stopped it.
-    pub(super) fn stops_newly(&self, ports: &SocketPorts<'w, N::Connection>) -> bool
-        ensures { result ≡ is_newly_stopped self.now.control.stops_now ports.now.is_stopped }
+    /// Returns whether a session is to be stopped in its next turn: an operator requested it, and no turn has stopped it
+    /// before (`is_stopped`).
+    pub(super) fn stops_newly(&self, is_stopped: bool) -> bool
+        ensures { result ≡ is_newly_stopped self.now.control.stops_now is_stopped }
     {
-        self.control.stops_now() && !ports.is_stopped()
+        self.control.stops_now() && !is_stopped
     }
 
     /// Returns the status of the run.

@@ -9,11 +9,10 @@ returns-else-has_moved g c =
     let own = c.ports-ports.result.now in
     let news = c.has_news.result in
     let go = g.S.System.transition in
-    looked g.P.Ports.transition go c.args.hub.now c.args.i own c.args.system.now c.has_news.new.self news
+    looked g.P.Ports.transition go c.args.hub.now c.args.i own c.args.system.now c.has_news.new.system news
     (ReportsNews own.ports news ∷ []) c.ports-ports.ensures (
-      c.has_news.new.self,
-      subst (λ (ports : g.row.P.Denot). go c.args.system.now (ReportsNews ports news) c.has_news.new.self) c.ports.ensures
-          c.has_news.ensures,
+      c.has_news.new.system,
+      c.has_news.ensures,
       refl,
     )
     (subst (λ (moved : Bool). IsDueBy moved own.ports (ReportsNews own.ports news ∷ []) news)

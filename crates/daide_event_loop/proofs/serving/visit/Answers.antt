@@ -28,23 +28,23 @@ pub returns-clause-visits : goal.returns-clause-visits
 returns-clause-visits g c =
     let hub = c.args.hub.now in
     let go = g.S.System.transition in
-    visited g.P.Ports.transition go hub c.take_turns.new.hub c.args.i c.args.system.now c.is_due.new.system
-    c.take_turns.new.system true c.is_calm-is_calm.result c.most_turns.result c.busy_turn.result c.requires
+    visited g.P.Ports.transition go hub c.turn_and_settle.new.hub c.args.i c.args.system.now c.is_due.new.system
+    c.turn_and_settle.new.system true c.is_calm-is_calm.result c.most_turns.result c.busy_turn.result c.requires
     (subst (λ (due : Bool). IfSome (slice_get hub.places c.args.i) (Looks g.P.Ports.transition go c.args.system.now c.is_due.new.system due))
     c.if-not-is_due.false c.is_due.ensures)
     (calm_there g.P.Ports.transition go hub c.args.i c.ports.result.now c.is_calm-is_calm.result c.requires c.ports.ensures c.is_calm-is_calm.ensures)
-    c.most_turns.ensures c.take_turns.ensures.turns c.busy_turn.ensures.count
+    c.most_turns.ensures c.turn_and_settle.ensures.turns c.busy_turn.ensures.count
 
 pub returns-clause-moved : goal.returns-clause-moved
 returns-clause-moved g c =
-    let same = c.take_turns.ensures.count in
+    let same = c.turn_and_settle.ensures.count in
     let inside = c.requires in
-    moved_there g.P.Ports.transition g.S.System.transition c.take_turns.new.hub c.args.i c.ports-2.result.now c.has_moved.result
+    moved_there g.P.Ports.transition g.S.System.transition c.turn_and_settle.new.hub c.args.i c.ports-2.result.now c.has_moved.result
     (omega (arith, same, inside)) c.ports-2.ensures c.has_moved.ensures
 
 pub returns-clause-closed : goal.returns-clause-closed
 returns-clause-closed g c = λ none are.
     let all = returns-clause-visits g c in
-    open_after g.P.Ports.transition g.S.System.transition c.args.hub.now c.take_turns.new.hub c.args.i all.0 all.2
-    (place_open (slice_get c.take_turns.new.hub.places c.args.i) c.session.result.now c.session.ensures
+    open_after g.P.Ports.transition g.S.System.transition c.args.hub.now c.turn_and_settle.new.hub c.args.i all.0 all.2
+    (place_open (slice_get c.turn_and_settle.new.hub.places c.args.i) c.session.result.now c.session.ensures
     (sym c.is_closed.ensures ∙ none)) are

@@ -1,11 +1,44 @@
-use Rattle.std.proofs.Common.{◌≡◌, ℕ, ◌+◌, ◌++◌, refl, sym, ◌∙◌, subst}
+use Rattle.std.proofs.Common.{◌≡◌, ℕ, ◌+◌, ◌++◌, Bool, true, false, [], refl, sym, ◌∙◌, subst, append-nil}
 use Rattle.std.specs.Prelude.{nat_le}
 use Rattle.daide_event_loop.specs.Serving.{VisitsCalmIf, turns_left_over}
 use Rattle.daide_event_loop.proofs.BeginningLemmas.{visited_count}
-use Rattle.daide_event_loop.proofs.FindingLemmas.{still_next}
+use Rattle.daide_event_loop.proofs.FindingLemmas.{is_not, none_more, still_next}
 use Rattle.daide_event_loop.proofs.TransitLemmas.{transits_then}
 use Rattle.daide_event_loop.proofs.WaitingLemmas.{first_false, later_false}
 use Rattle.daide_event_loop.proofs.serving.visit_next.Goals as goal
+
+pub returns-then-not-one-clause-visits : goal.returns-then-not-one-clause-visits
+returns-then-not-one-clause-visits g c =
+    let one = c.visit-one.ensures.visits in
+    let none = c.visit-one.ensures.none (is_not _ c.if-not-one.true) in
+    let more = none_more c.args.found.busy_turns _ (sym one.3 ∙ none.0) c.requires.few in (
+      one.0,
+      one.1,
+      record {
+        mid = c.visit-one.new.hub;
+        first = one.0;
+        second = [];
+        visit = one.2;
+        calm = subst (λ (b : Bool). VisitsCalmIf g.P.Ports.transition b c.visit-one.new.hub [] c.visit-one.new.hub)
+            (sym more.0) (refl, refl);
+        counted = more.1;
+        asked = sym (append-nil one.0);
+      },
+    )
+
+pub returns-then-not-one-clause-moved : goal.returns-then-not-one-clause-moved
+returns-then-not-one-clause-moved g c = λ still.
+    let one = c.visit-one.ensures.visits in
+    let none = c.visit-one.ensures.none (is_not _ c.if-not-one.true) in (
+      still,
+      λ are. still_next g.P.Ports.transition g.S.System.transition c.args.hub.now c.visit-one.new.hub c.args.i one.0 one.2
+          (c.visit-one.ensures.moved ∙ none.1) are,
+    )
+
+pub returns-then-not-one-clause-max : goal.returns-then-not-one-clause-max
+returns-then-not-one-clause-max g c =
+    let one = c.visit-one.ensures.visits in
+    (visited_count g.P.Ports.transition c.args.hub.now c.args.i one.0 c.visit-one.new.hub one.2).0
 
 pub returns-clause-visits : goal.returns-clause-visits
 returns-clause-visits g c =

@@ -13,13 +13,12 @@ pub loop-i-preserved : goal.loop-i-preserved
 loop-i-preserved g c =
     let places = c.args.hub.now.places in
     let inside = subst (λ n. c.loop-i.i < n) c.count-i-end.ensures c.loop-i-test.true in
-    let own = c.ports-ports.result.now in
-    let more = watch_more places c.loop-i.i own inside c.ports-ports.ensures in
+    let own = c.ports.result.now in
+    let more = watch_more places c.loop-i.i own inside c.ports.ensures in
     rw (add-one, more)
     (transits_then g.S.System.transition (watches (take c.loop-i.i places)) (Watches own.ports ∷ []) _ _ _ c.loop-i.invariant (
-      c.watch.new.self,
-      subst (λ (ports : g.row.P.Denot). g.S.System.transition c.loop-i.system (Watches ports) c.watch.new.self)
-          c.ports.ensures c.watch.ensures,
+      c.watch.new.system,
+      c.watch.ensures,
       refl,
     ))
 
