@@ -1,13 +1,13 @@
 -- The progress of a turn, the cause of an ending, and the order of retirements. The expected values are independent of
 -- the definitions, so a result in place of its neighbour does not check.
-use Rattle.std.proofs.Common.{◌≡◌, ℕ, ◌+◌, true, false, List, [], ◌∷◌, map, take, replicate, Some, None, Option, refl}
+use Rattle.std.proofs.Common.{◌≡◌, ℕ, zero, suc, ◌+◌, Bool, true, false, List, [], ◌∷◌, ◌++◌, map, take, replicate, Some, None, Option, refl}
 use Rattle.std.specs.List.{range_with_len}
 use Rattle.daide_frame.specs.declared.side.Side.{Side}
 use Rattle.daide_frame.specs.declared.side.Side.TheVariants.{Bot, Server}
 use Rattle.daide_frame.specs.declared.code.Code.TheVariants.{SecondRm}
 use Rattle.daide_frame.specs.PerSide.{both}
 use Rattle.daide_protocol.specs.declared.ending.Ending.{Ending}
-use Rattle.daide_protocol.specs.declared.ending.Ending.TheVariants.{Ended, Lost, Final, Fault}
+use Rattle.daide_protocol.specs.declared.ending.Ending.TheVariants.{Ended, Lost, Final, Error, Fault, Stopped}
 use Rattle.daide_protocol.specs.declared.account.Account.{Account}
 use Rattle.daide_protocol.specs.declared.account.SideCounts.{SideCounts}
 use Rattle.daide_protocol.specs.declared.bot_name.BotName.TheVariants.{Unknown}
@@ -25,12 +25,14 @@ use Rattle.daide_io.specs.declared.system.Notice.TheVariants.{TurnsSpent}
 use Rattle.daide_io.specs.declared.system.Cause.TheVariants as Causes
 use Rattle.daide_io.specs.declared.fault_field.FaultField.TheVariants as Fields
 use Rattle.daide_io.specs.declared.byte_counts.ByteCounts.{ByteCounts}
-use Rattle.daide_io.specs.ByteCounts.{no_bytes}
+use Rattle.daide_io.specs.ByteCounts.{no_bytes, counted_after}
+use Rattle.daide_io.specs.FaultField.{fault_field_of}
 use Rattle.daide_event_loop.specs.QuotaPorts.{QuotaPortsView, left_after, progress_after, progress_by, reported_after, beginning}
+use Rattle.daide_event_loop.specs.QuotaPorts.{load_at_turn, load_after, is_calm}
 use Rattle.daide_event_loop.specs.Served.{turns_in, while_left}
 use Rattle.daide_settings.specs.declared.settings.Settings.{Settings}
 use Rattle.daide_event_loop.specs.declared.admission_counters.AdmissionCounters.{AdmissionCounters}
-use Rattle.daide_event_loop.specs.Serving.{may_accept, is_served, turns_left_over}
+use Rattle.daide_event_loop.specs.Serving.{may_accept, is_served, most_turns, turns_left_over}
 use Rattle.daide_settings.specs.BotsInAll.{bots_in_all}
 use Rattle.daide_event_loop.specs.Serving.{cause_by, retirements, remaining, heeding, opening}
 use Rattle.daide_io.specs.System.{Begins, Shows, BeginsTurn, Retires, Notifies, no_orders}
@@ -68,6 +70,43 @@ turns_taken : (side : Side) → (left_after TurnBegins (Some 2) ≡ Some 1) × (
     × (left_after (Clock NoEvent) (Some 0) ≡ Some 0) × (left_after (Clock ImTimeIsOver) (Some 1) ≡ Some 1)
     × (left_after (Pulled side 4 (Got 4) []) (Some 1) ≡ Some 1) × (left_after (Offered side [] Failed) (Some 1) ≡ Some 1)
 turns_taken side = (refl, refl, refl, refl, refl, refl, refl, refl)
+
+-- ---- calm and busy sessions
+
+-- the load after this many turns one after another, each of which made progress or none
+abbrev load_by : Bool → ℕ → ℕ → ℕ
+load_by made_progress zero load = load
+load_by made_progress (suc turns) load = load_at_turn made_progress (load_by made_progress turns load)
+
+-- each turn after progress adds one, up to 64; each after rest takes 16 away; no other call changes the load
+loads : (side : Side) → (map (λ turns. load_by true turns 0) (0 ∷ 1 ∷ 31 ∷ 32 ∷ 63 ∷ 64 ∷ 65 ∷ 200 ∷ [])
+    ≡ 0 ∷ 1 ∷ 31 ∷ 32 ∷ 63 ∷ 64 ∷ 64 ∷ 64 ∷ [])
+    × (map (λ turns. load_by false turns 64) (0 ∷ 1 ∷ 2 ∷ 3 ∷ 4 ∷ 5 ∷ []) ≡ 64 ∷ 48 ∷ 32 ∷ 16 ∷ 0 ∷ 0 ∷ [])
+    × (load_by false 1 17 ≡ 1) × (load_by false 1 15 ≡ 0)
+    × (load_after TurnBegins true 5 ≡ 6) × (load_after TurnBegins false 21 ≡ 5) × (load_after (Clock ImTimeIsOver) true 5 ≡ 5)
+    × (load_after (Pulled side 4 (Got 4) []) true 5 ≡ 5) × (load_after (Offered side [] Failed) true 5 ≡ 5)
+loads side = (refl, refl, refl, refl, refl, refl, refl, refl, refl)
+
+-- ports at rest, or not, with this load
+abbrev loaded : Bool → ℕ → QuotaPortsView ℕ
+loaded made_progress load = record {
+  ports = 1;
+  turns_left = Some 9;
+  made_progress = made_progress;
+  load = load;
+  first_synthetic_end = None;
+  bytes = no_bytes;
+}
+
+-- below a load of 32 a session at rest is calm, and one whose last turn made progress never is
+calm_sessions : (map (λ load. is_calm (loaded false load)) (range_with_len 0 65) ≡ replicate 32 true ++ replicate 33 false)
+    × (map (λ load. is_calm (loaded true load)) (range_with_len 0 65) ≡ replicate 65 false)
+calm_sessions = (refl, refl)
+
+-- a calm session has up to eight turns in a visit, a busy one has one; the turns of busy ones are counted up to 32
+turns_of_a_visit : (most_turns true ≡ 8) × (most_turns false ≡ 1)
+    × (map turns_left_over (range_with_len 0 33) ≡ range_with_len 0 32 ++ 0 ∷ [])
+turns_of_a_visit = (refl, refl, refl)
 
 -- ---- the cause of an ending
 
@@ -173,6 +212,23 @@ others_stay : (limits : Limits) →
     remaining (six limits) ≡ (queued limits, ports 2 (Some 9)) ∷ (session limits (Open limits.top_level) 30 [], ports 3 (Some 9)) ∷ []
 others_stay limits = refl
 
+-- only a fault is about a field, though the server's frame is not whole
+no_field_without_a_fault : (limits : Limits) →
+    map (λ ending. fault_field_of (session limits (Over ending) 10 []).state)
+    (Ended Server ∷ Lost Server ∷ Final Server ∷ Error Server ∷ Stopped ∷ Fault Server SecondRm ∷ Fault Bot SecondRm ∷ [])
+    ≡ None ∷ None ∷ None ∷ None ∷ None ∷ Some (Fields.Kind 1) ∷ None ∷ []
+no_field_without_a_fault limits = refl
+
+-- ---- bytes
+
+-- each count wraps at 2^64, and no other count changes
+bytes_wrap : let most : ℕ = 18446744073709551615 in
+    (counted_after (Pulled Bot 4 (Got 2) []) (record (bytes 5) { from_bot = most }) ≡ record (bytes 5) { from_bot = 1 })
+    × (counted_after (Pulled Server 4 (Got 1) []) (record (bytes 5) { from_server = most }) ≡ record (bytes 5) { from_server = 0 })
+    × (counted_after (Offered Bot [] (Took 3)) (record (bytes 5) { to_bot = most }) ≡ record (bytes 5) { to_bot = 2 })
+    × (counted_after (Offered Server [] (Took 4)) (record (bytes 5) { to_server = most }) ≡ record (bytes 5) { to_server = 3 })
+bytes_wrap = (refl, refl, refl, refl)
+
 -- ---- turns that begin
 
 -- of three turns the third is beyond a quota of two; the system begins a turn with ports within their quota, and with
@@ -214,6 +270,19 @@ served_or_not : (settings : Settings) →
     × (is_served (counted (record settings { endless = true; sessions = 7 }) 4294967295) 0 ≡ true)
 served_or_not settings = (refl, refl, refl, refl, refl, refl, refl)
 
+-- the counters of a run of seven bots, with this many connects under way
+abbrev pending : Settings → ℕ → ℕ → AdmissionCounters
+pending settings connecting accepted =
+    record (counted (record settings { endless = false; sessions = 7 }) accepted) { connecting = connecting }
+
+-- a connect under way needs one of the two places, and a run with one, or with a session, is not served
+connects_under_way : (settings : Settings) →
+    (may_accept (pending settings 1 3) 0 ≡ true) × (may_accept (pending settings 1 3) 1 ≡ false)
+    × (may_accept (pending settings 2 3) 0 ≡ false) × (may_accept (pending settings 0 3) 1 ≡ true)
+    × (may_accept (pending settings 0 3) 2 ≡ false) × (is_served (pending settings 1 7) 0 ≡ false)
+    × (is_served (pending settings 0 7) 1 ≡ false) × (is_served (pending settings 0 6) 0 ≡ false)
+connects_under_way settings = (refl, refl, refl, refl, refl, refl, refl, refl)
+
 -- ---- a round begins
 
 -- the first three of these sessions, each with its own status and its own bytes: before the first message and after the end the level is
@@ -232,6 +301,24 @@ shown_in_order : (limits : Limits) →
       bytes = bytes 3;
     }) ∷ []
 shown_in_order limits = refl
+
+-- an answer of six bytes and an FM that are queued for the server count for it, and not for the bot
+queued_for_the_server : (limits : Limits) →
+    opening (record { stops_accepting = false; shows_sessions = true })
+    ((record (session limits (Open limits.top_level) 30 []) {
+      wires = both [] (record { to = Server; answers = Some Server; bytes = 2 ∷ 0 ∷ 0 ∷ 2 ∷ 72 ∷ 19 ∷ [] }
+        ∷ record { to = Server; answers = None; bytes = fm_bytes } ∷ []);
+    }, ports 3 (Some 9)) ∷ [])
+    ≡ Begins (record { stops_accepting = false; shows_sessions = true })
+    ∷ Shows 3 (record {
+      phase = Phases.Open;
+      level = limits.top_level;
+      account = counts limits 30;
+      queued_to_bot = 0;
+      queued_to_server = 10;
+      bytes = bytes 3;
+    }) ∷ []
+queued_for_the_server limits = refl
 
 -- without orders a round begins with this one call, and heeds nothing
 nothing_ordered : (limits : Limits) (counters : AdmissionCounters) →

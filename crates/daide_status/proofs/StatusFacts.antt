@@ -1,6 +1,6 @@
 -- The status of a run with no session, with one and with two, in each format. The texts were worked out from
 -- docs/FORMATS.md by hand.
-use Rattle.std.proofs.Common.{◌≡◌, ℕ, ◌++◌, true, false, List, [], ◌∷◌, Some, None, codes, refl}
+use Rattle.std.proofs.Common.{◌≡◌, ℕ, ◌++◌, true, false, List, [], ◌∷◌, map, Some, None, codes, refl}
 use Rattle.std.specs.Fmt.{digits}
 use Rattle.daide_token.specs.Names.{name_of, names}
 use Rattle.daide_token.specs.Text.{text_with}
@@ -8,11 +8,13 @@ use Rattle.daide_protocol.specs.declared.bot_name.BotName.TheVariants.{Unknown, 
 use Rattle.daide_protocol.specs.BotName.{kept}
 use Rattle.std.specs.declared.net.socket_addr.SocketAddr.{SocketAddr}
 use Rattle.std.specs.declared.net.socket_addr.SocketAddr.TheVariants.{V4}
-use Rattle.daide_grammar.specs.declared.level.Level.TheVariants.{L0, L20}
-use Rattle.daide_protocol.specs.declared.phase.Phase.TheVariants.{WaitRm, Open}
+use Rattle.daide_grammar.specs.declared.level.Level.TheVariants.{L0, L10, L20, L30, L40, L50, L60}
+use Rattle.daide_protocol.specs.declared.phase.Phase.TheVariants.{WaitIm, WaitRm, Open, Over}
 use Rattle.daide_status.specs.declared.request.Format.TheVariants.{Table, Json, Prometheus}
 use Rattle.daide_status.specs.declared.snapshot.RunStatus.{RunStatus}
 use Rattle.daide_status.specs.declared.snapshot.SessionRow.{SessionRow}
+use Rattle.daide_status.specs.Columns.{phase_cell}
+use Rattle.daide_status.specs.Pieces.{phase_name}
 use Rattle.daide_status.specs.StatusTexts.{status_text}
 
 -- ---- the snapshots
@@ -108,6 +110,15 @@ table_of_one = refl
 table_of_two : status_text Table busy_run (first ∷ second ∷ []) ≡ busy_line ++ columns ++ first_line ++ second_line
 unfolding digits text_with name_of names
 table_of_two = refl
+
+-- each phase, and each level of an open session, has a cell of its own; a name has no blanks to fill its column
+cells :
+    (map (λ phase. phase_cell phase L30) (WaitIm ∷ WaitRm ∷ Over ∷ []) ≡ codes "wait IM" ∷ codes "wait RM" ∷ codes "over   " ∷ [])
+    × (map (phase_cell Open) (L0 ∷ L10 ∷ L20 ∷ L30 ∷ L40 ∷ L50 ∷ L60 ∷ [])
+    ≡ codes "open 0 " ∷ codes "open 10" ∷ codes "open 20" ∷ codes "open 30" ∷ codes "open 40" ∷ codes "open 50" ∷ codes "open 60" ∷ [])
+    × (map phase_name (WaitIm ∷ WaitRm ∷ Open ∷ Over ∷ [])
+    ≡ codes "wait IM" ∷ codes "wait RM" ∷ codes "open" ∷ codes "over" ∷ [])
+cells = (refl, refl, refl)
 
 -- ---- as a document
 
