@@ -1,4 +1,4 @@
-use Rattle.std.proofs.Common.{[], ◌∷◌}
+use Rattle.std.proofs.Common.{[]}
 use Rattle.daide_sockets.proofs.RowLemmas.{handed_both, none_handed, report_taken}
 use Rattle.daide_sockets.proofs.control.ControlListener.accept.Goals as goal
 
