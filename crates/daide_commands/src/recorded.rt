@@ -84,9 +84,9 @@ impl<'w, N: Network, R: AllocGlobal + Files, C: Clock, E: Write + Drop> System<
     ghost transition = { λ old answer new. RunEvolves N.transition N.Connection.to_give N.Connection.taken
         N.Connection.calls (λ ports. ports.ports)
         (run_state (old.sockets.poller.network, old.sockets.poller.table) (old.sockets.idle_time, old.sockets.stall_time)
-        old.sockets.acceptor (vec_capacity old.sockets.arrivals) old.sockets.arrivals.items old.sockets.closings) answer
+        old.sockets.acceptor old.sockets.control (vec_capacity old.sockets.arrivals) old.sockets.arrivals.items old.sockets.closings) answer
         (run_state (new.sockets.poller.network, new.sockets.poller.table) (new.sockets.idle_time, new.sockets.stall_time)
-        new.sockets.acceptor (vec_capacity new.sockets.arrivals) new.sockets.arrivals.items new.sockets.closings) };
+        new.sockets.acceptor new.sockets.control (vec_capacity new.sockets.arrivals) new.sockets.arrivals.items new.sockets.closings) };
 
     /// The times that are recorded in the round are that of its beginning.
     fn begin_round(&mut self) -> Orders {

@@ -63,8 +63,10 @@ pub fn no_bot_waits_beside_records<S: Duplex + Drop, N: Network, W: Sink + Drop>
 /// The list keeps the room with which it was created: for all sessions (`Sockets::new`: `room`). A run has at most 2^32 - 1
 /// bots.
 ///
-/// Not said: that each row that is taken belongs to one of these sockets. It is read from the code: whoever drops a socket
-/// frees its row.
+/// Each row that is taken belongs to one of these sockets (`no_row_leaks`): whoever drops a socket frees its row.
+///
+/// Not said: that the ports which the loop retires have the rows with which they came. It is read from the code: no call of
+/// ports changes their keys.
 pub fn each_bot_has_room<S: Duplex + Drop, N: Network>()
     ensures { EachBotHasRoom ⟦<SocketPorts<'static, S> as Ports>⟧.transition N.transition S.to_give S.taken S.calls
         (λ ports. ports) }

@@ -77,10 +77,10 @@ module _ {P S : Type 0} (to_give taken : S → Option (List ℕ)) (calls : S →
       by false e = let less = remove_len old.streams in (omega (arith, less), λ h. omega (arith, less, h))
 
   -- one closes more, and at most 256 do
-  closes_len : (reading : Option Instant) (old : ClosingList S) (stream : Buffer S) (new : ClosingList S) →
-      ClosesAt to_give taken calls reading old stream new → (length new.streams ≤ length old.streams + 1)
+  closes_len : (reading : Option Instant) (old : ClosingList S) (key : ℕ) (stream : Buffer S) (new : ClosingList S) →
+      ClosesAt to_give taken calls reading old key stream new → (length new.streams ≤ length old.streams + 1)
       × (length old.streams ≤ 256 → length new.streams ≤ 256)
-  closes_len reading old stream new h =
+  closes_len reading old key stream new h =
       let now : length new.streams ≡ length ((with_room old).streams ++ h.last ∷ []) = ap (λ (l : ClosingList S). length l.streams) h.now in
       let more = length-append (with_room old).streams (h.last ∷ []) in
       let room = room_len old in
@@ -160,7 +160,7 @@ module _ {P S : Type 0} (to_give taken : S → Option (List ℕ)) (calls : S →
   one (Connects Failed) old new h =
       let out = taken_out_len old.arrivals new.arrivals h.0 h.1 in
       let came = h.3 in
-      let more = closes_len h.2.0 old.closing h.0.bot new.closing h.2.1 in
+      let more = closes_len h.2.0 old.closing h.0.bot_key h.0.bot new.closing h.2.1 in
       let longer = more.0 in
       record {
         bots = omega (arith, came, out);
@@ -179,8 +179,8 @@ module _ {P S : Type 0} (to_give taken : S → Option (List ℕ)) (calls : S →
       }
   one (Retires ports end) old new h =
       let both = h.0 in
-      let first = closes_len both.1.0 old.closing (pair ports).bot both.0 both.1.1 in
-      let second = closes_len both.2.0 both.0 (pair ports).server new.closing both.2.1 in
+      let first = closes_len both.1.0 old.closing (pair ports).bot_key (pair ports).bot both.0 both.1.1 in
+      let second = closes_len both.2.0 both.0 (pair ports).server_key (pair ports).server new.closing both.2.1 in
       let one_more = first.0 in
       let two_more = second.0 in
       let came = h.1 in

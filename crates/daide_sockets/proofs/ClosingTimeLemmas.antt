@@ -496,22 +496,22 @@ module _ {S : Type 0} (to_give taken : S → Option (List ℕ)) (calls : S → O
         by true = all
         by false = (without_first old.streams all.0, all.1)
 
-    closes_since : (reading : Option Instant) (old : ClosingList S) (stream : Buffer S) (new : ClosingList S) →
-        Contains clock reading → ClosesAt to_give taken calls reading old stream new → AllSince old → AllSince new
-    closes_since reading old stream new there at all =
+    closes_since : (reading : Option Instant) (old : ClosingList S) (key : ℕ) (stream : Buffer S) (new : ClosingList S) →
+        Contains clock reading → ClosesAt to_give taken calls reading old key stream new → AllSince old → AllSince new
+    closes_since reading old key stream new there at all =
         let room = room_since old all in
         let In : Option Instant → Type 0 = λ moment. Contains clock moment in
         let own : Own at.last = (
           record {
             start = reading;
-            key = at.key;
+            key = key;
             known = at.known;
             stream = stream;
             first = at.last;
             bound = at.bound;
             bounded = subst (λ (t : Option Duration). IsClosingBound reading t at.bound) all.1 at.bounded;
             begins = subst (λ (t : Option Duration).
-                WritesOut to_give taken calls reading (begins_closing t at.bound at.key at.known stream) at.last) all.1 at.writes;
+                WritesOut to_give taken calls reading (begins_closing t at.bound key at.known stream) at.last) all.1 at.writes;
             readings = [];
             looks = refl;
           },
@@ -540,11 +540,11 @@ module _ {S : Type 0} (to_give taken : S → Option (List ℕ)) (calls : S → O
       call_since (Accepts came) old new here there h all = same_since old.closing new.closing h all
       call_since (Connects (Ready ports)) old new here there h all = same_since old.closing new.closing h all
       call_since (Connects Failed) old new here there h all =
-          closes_since old.table.reading old.closing h.0 new.closing here h.1 all
+          closes_since old.table.reading old.closing h.0 h.1 new.closing here h.2 all
       call_since (Connects Pending) old new here there h all = same_since old.closing new.closing h all
       call_since (Retires ports end) old new here there h all =
-          closes_since old.table.reading h.0 (pair ports).server new.closing here h.2
-          (closes_since old.table.reading old.closing (pair ports).bot h.0 here h.1 all)
+          closes_since old.table.reading h.0 (pair ports).server_key (pair ports).server new.closing here h.2
+          (closes_since old.table.reading old.closing (pair ports).bot_key (pair ports).bot h.0 here h.1 all)
       call_since (Notifies notice) old new here there h all = same_since old.closing new.closing h all
       call_since Waits old new here there h all = same_since old.closing new.closing h all
 

@@ -1,12 +1,13 @@
 -- The laws of `laws`, each used once. A fact takes only its law, so that a weaker law does not check.
 use Rattle.std.proofs.Common.{◌≡◌, ℕ, ◌+◌, ◌≤◌, Bool, true, false, List, [], ◌∷◌, Option, Some, None, length, refl, ap, ◌∙◌, subst, arith}
-use Rattle.std.specs.Prelude.{◌<◌, ◌||◌, All, Contains}
+use Rattle.std.specs.Prelude.{◌<◌, ◌++◌, ◌||◌, if◌then◌else◌, All, Contains}
 use Rattle.std.proofs.lemmas.List.Elements.{All-contains, All-head, All-tail}
 use Rattle.std.specs.Duration.{as_nanos}
 use Rattle.std.specs.Time.{instant_nanos}
 use Rattle.std.specs.declared.time.Duration.{Duration}
 use Rattle.std.specs.declared.time.Instant.{Instant}
-use Rattle.daide_io.specs.System.{Accepts, Connects, TransitsBy}
+use Rattle.daide_io.specs.System.{SystemCall, Accepts, Connects, Retires, TransitsBy}
+use Rattle.daide_io.specs.declared.system.SessionEnd.{SessionEnd}
 use Rattle.daide_io.specs.declared.system.Connect.TheVariants.{Ready, Failed}
 use Rattle.daide_io.specs.Streams.{StreamCall}
 use Rattle.daide_sockets.specs.Pairing.{Arriving, Paired, RunSockets, Transits}
@@ -15,12 +16,15 @@ use Rattle.daide_sockets.specs.Beside.{WaitsAreInTimeBeside, may_close_on, closi
 use Rattle.daide_sockets.specs.Accounted.{SocketsAreAccounted}
 use Rattle.daide_sockets.specs.PairedOnce.{SessionsComeOnce, is_same}
 use Rattle.daide_sockets.specs.ClosingTime.{ReadingsGoOn, overdue_looks, bound_of, readings_of, IsClosingInTime, ClosingSocketsLeave}
-use Rattle.daide_sockets.specs.Scheduling.{RunState, ClosesByClock}
+use Rattle.daide_sockets.specs.Rows.{AreRowsOf, closing_keys, is_key, occurrences_of, keys_of_arrivals, listener_keys}
+use Rattle.daide_sockets.specs.RowsOfRun.{NoRowLeaks, SessionsGoOn, keys_of_all, keys_of_sessions, taken_rows}
+use Rattle.daide_sockets.specs.Scheduling.{RunState, ClosesByClock, HandsAlong, keys_in}
 use Rattle.daide_sockets.specs.Table.{Table, IsWaitTime}
 use Rattle.daide_sockets.specs.InTime.{WaitsAreInTime, IsInTimeFor, watching_all}
 use Rattle.daide_sockets.specs.Control.{has_work_at}
 use Rattle.daide_sockets.specs.ControlInTime.{IsPlaceInTime, ControlWaitsAreInTime}
 use Rattle.daide_sockets.specs.ControlSlots.{is_place_free, has_free, watching_control}
+use Rattle.daide_sockets.proofs.RowLemmas.{occurrences_of_both}
 use Rattle.daide_sockets.specs.declared.control.Control.{Control}
 use Rattle.daide_sockets.specs.declared.control.ControlListener.{ControlListener}
 use Rattle.daide_sockets.specs.declared.control_connection.ControlConnection.{ControlConnection}
@@ -167,3 +171,43 @@ module _ {N P S : Type 0} (to_give taken : S → Option (List ℕ)) (calls : S �
       let at = (in_time.bound begun start (omega (arith, first, seven))).due in
       let within = at.2 in
       (at.0, at.1, omega (arith, within, first, seven))
+
+module _ {N P S : Type 0} (law : NoRowLeaks N P S) (pair : P → Paired S) (old new : RunState N S) where
+  abbrev Step : RunState N S × List (Paired S) → SystemCall P → RunState N S × List (Paired S) → Type 0
+  Step first call last = HandsAlong pair first.0 call last.0 × SessionsGoOn pair first.1 call last.1
+
+  -- Of a session that began and was retired, and whose sockets are closed, no row is left. A closed listener has none, and a
+  -- control socket without a connection has that of its listener, 7.
+  no_row_left : (ports : P) (end : SessionEnd) → AreRowsOf old.table (keys_of_all {N = N} [] old) →
+      TransitsBy Step (old, []) (Connects (Ready ports) ∷ Retires ports end ∷ []) (new, []) → new.acceptor.is_closed ≡ true →
+      new.control ≡ 7 ∷ [] → new.arrivals ≡ [] → new.closing.streams ≡ [] → taken_rows new.table.rows ≡ 1
+  no_row_left ports end rows goes closed control arrivals closing =
+      (law.0 pair old new [] [] (Connects (Ready ports) ∷ Retires ports end ∷ []) rows goes).count
+      ∙ ap (λ (b : Bool). length ((if b then [] else new.acceptor.key ∷ []) ++ new.control ++ keys_of_arrivals new.arrivals
+      ++ closing_keys new.closing.streams)) closed
+      ∙ ap (λ (l : List ℕ). length ([] ++ l ++ keys_of_arrivals new.arrivals ++ closing_keys new.closing.streams)) control
+      ∙ ap (λ (l : List (Arriving S)). length ([] ++ 7 ∷ [] ++ keys_of_arrivals l ++ closing_keys new.closing.streams)) arrivals
+      ∙ ap (λ (l : List (ClosingStream S)). length ([] ++ 7 ∷ [] ++ [] ++ closing_keys l)) closing
+
+  -- while a session has the rows 3 and 4, no socket that closes has the row 4
+  no_row_shared : (ports : P) (stream : ClosingStream S) → AreRowsOf old.table (keys_of_all {N = N} [] old) →
+      TransitsBy Step (old, []) (Connects (Ready ports) ∷ []) (new, pair ports ∷ []) → (pair ports).bot_key ≡ 3 →
+      (pair ports).server_key ≡ 4 → new.closing.streams ≡ stream ∷ [] → stream.key ≡ 4 → ⊥
+  no_row_shared ports stream rows goes bot server closing key =
+      let once = (law.0 pair old new [] (pair ports ∷ []) (Connects (Ready ports) ∷ []) rows goes).once 4 in
+      let l = listener_keys new.acceptor ++ new.control ++ keys_of_arrivals new.arrivals in
+      let all = occurrences_of_both 4 (keys_of_sessions (pair ports ∷ [])) (keys_in new) in
+      let others = occurrences_of_both 4 l (closing_keys new.closing.streams) in
+      let own : is_key (pair ports).server_key 4 ≡ 1 = ap (λ (n : ℕ). is_key n 4) server in
+      let closes : occurrences_of 4 (closing_keys new.closing.streams) ≡ is_key stream.key 4 + 0 =
+      ap (λ (s : List (ClosingStream S)). occurrences_of 4 (closing_keys s)) closing in
+      let same : is_key stream.key 4 ≡ 1 = ap (λ (n : ℕ). is_key n 4) key in
+      absurd (omega (arith, once, all, others, own, closes, same))
+
+  -- of two sessions and one socket that closes, without any other, at most six rows are taken
+  six_rows : (sessions : List (Paired S)) (answers : List (SystemCall P)) → AreRowsOf old.table (keys_of_all {N = N} [] old) →
+      TransitsBy Step (old, []) answers (new, sessions) → length sessions ≡ 2 → length new.arrivals ≡ 0 →
+      length new.closing.streams ≡ 1 → length new.control ≡ 0 → taken_rows new.table.rows ≤ 6
+  six_rows sessions answers rows goes two none one no_control =
+      let most = (law.0 pair old new [] sessions answers rows goes).most in
+      omega (arith, most, two, none, one, no_control)

@@ -2,6 +2,9 @@ mod PairingLemmas
 mod OnceLemmas
 mod LingeringLemmas
 mod TableLemmas
+mod RowLemmas
+mod ControlRowLemmas
+mod RunRowLemmas
 mod AtRestLemmas
 pub mod InterestLemmas
 pub mod InTimeLemmas

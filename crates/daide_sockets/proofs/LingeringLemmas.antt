@@ -201,7 +201,7 @@ module _ {S : Type 0} (to_give taken : S → Option (List ℕ)) (calls : S → O
       inl (refl, (later, set ∙ ap (λ (l : Streams). slice_set l at later) e, h)),
     )
 
-    remove_set : (xs : Streams) (i : ℕ) (y : ClosingStream S) → remove (slice_set xs i y) i ≡ remove xs i
+    pub remove_set : (xs : Streams) (i : ℕ) (y : ClosingStream S) → remove (slice_set xs i y) i ≡ remove xs i
     remove_set [] i y = refl
     remove_set (x ∷ xs) zero y = refl
     remove_set (x ∷ xs) (suc i) y = ap (λ (l : Streams). x ∷ l) (remove_set xs i y)

@@ -1,12 +1,32 @@
 -- The arrivals are checked one by one.
 use Rattle.std.proofs.Common.{◌≡◌, ℕ, suc, ◌+◌, ◌<◌, List, [], ◌∷◌, ◌++◌, length, refl, sym, ap, ◌∙◌, arith}
-use Rattle.std.proofs.Common.{append_assoc, append-nil}
+use Rattle.std.proofs.Common.{◌⊎◌, append_assoc, append-nil, inl, inr, subst}
 use Rattle.std.proofs.Common.{get_or}
 use Rattle.std.specs.Prelude.{remove}
 use Rattle.std.proofs.lemmas.List.{length-append}
-use Rattle.daide_sockets.specs.Pairing.{Arriving, StaysPending, AllStayPending, ChecksArrivals, TakesOut}
+use Rattle.daide_sockets.specs.Pairing.{Arriving, IsFreshConnect, StaysPending, AllStayPending, ChecksArrivals, TakesOut}
 
 module _ {S : Type 0} where
+  -- a bot stays pending, by one call and then another
+  pub same_pending : (arrival : Arriving S) → StaysPending arrival arrival
+  same_pending arrival = record { number = refl; bot = refl; bot_key = refl; server = inl refl; gives_up = refl; im_due = refl }
+
+  pub stays_both : (old mid new : Arriving S) → StaysPending old mid → StaysPending mid new → StaysPending old new
+  stays_both old mid new h k = record {
+    number = k.number ∙ h.number;
+    bot = k.bot ∙ h.bot;
+    bot_key = k.bot_key ∙ h.bot_key;
+    server = by h.server k.server;
+    gives_up = k.gives_up ∙ h.gives_up;
+    im_due = k.im_due ∙ h.im_due;
+  }
+    where
+      by : (mid.server ≡ old.server) ⊎ IsFreshConnect mid.server → (new.server ≡ mid.server) ⊎ IsFreshConnect new.server →
+          (new.server ≡ old.server) ⊎ IsFreshConnect new.server
+      by a (inr fresh) = inr fresh
+      by (inl a) (inl b) = inl (b ∙ a)
+      by (inr a) (inl b) = inr (subst IsFreshConnect (sym b) a)
+
   pub nothing_looked_at : (old : List (Arriving S)) → ChecksArrivals 0 old old
   nothing_looked_at old = record {
     seen = [];

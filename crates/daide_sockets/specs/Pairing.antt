@@ -21,21 +21,24 @@ pub record ConnectRow : Type 0 where
   pub key : ℕ
   pub known : Readiness
 
--- a bot whose connect to the server is pending: its session's number, its stream, that of the connect, if there is one,
--- and its row; the deadline of the connect, and that of its initial message
+-- a bot whose connect to the server is pending: its session's number, its stream, and the key of its row; the stream of
+-- the connect, if there is one, and its row; the deadline of the connect, and that of its initial message
 pub record Arriving (S : Type 0) : Type 0 where
   pub number : ℕ
   pub bot : Buffer S
+  pub bot_key : ℕ
   pub server : Option (Buffer S)
   pub row : Option ConnectRow
   pub gives_up : Option Instant
   pub im_due : Option Instant
 
--- the number of a session, and the streams of its bot and of the server
+-- the number of a session, the streams of its bot and of the server, and the keys of their rows
 pub record Paired (S : Type 0) : Type 0 where
   pub number : ℕ
   pub bot : Buffer S
   pub server : Buffer S
+  pub bot_key : ℕ
+  pub server_key : ℕ
 
 -- the number of bots accepted, the bots with pending connects, and the closing streams
 pub record RunSockets (S : Type 0) : Type 0 where
@@ -54,16 +57,18 @@ abbrev pub IsFreshConnect : {S : Type 0} → Option (Buffer S) → Type 0
 IsFreshConnect None = Unit {0}
 IsFreshConnect (Some stream) = IsFresh stream
 
--- the ports hold this bot's stream and that of its own connect, under its number
+-- the ports hold this bot's stream, with its row, and that of its own connect, under its number
 pub record IsJoined {S : Type 0} (arrival : Arriving S) (pair : Paired S) : Type 0 where
   pub number : pair.number ≡ arrival.number
   pub bot : pair.bot ≡ arrival.bot
   pub server : arrival.server ≡ Some pair.server
+  pub bot_key : pair.bot_key ≡ arrival.bot_key
 
 -- the same bot, whose connect is unchanged or began again
 pub record StaysPending {S : Type 0} (old new : Arriving S) : Type 0 where
   pub number : new.number ≡ old.number
   pub bot : new.bot ≡ old.bot
+  pub bot_key : new.bot_key ≡ old.bot_key
   pub server : (new.server ≡ old.server) ⊎ IsFreshConnect new.server
   pub gives_up : new.gives_up ≡ old.gives_up
   pub im_due : new.im_due ≡ old.im_due
@@ -113,11 +118,10 @@ abbrev pub with_room : {S : Type 0} → ClosingList S → ClosingList S
 with_room closing = if nat_lt (length closing.streams) 256 then closing
     else record closing { streams = remove closing.streams 0; next = closing.next - 1; pass_end = closing.pass_end - 1 }
 
--- One more stream closes, as the last, after the pass, at this reading of the clock, from which its bound is counted. Its
--- buffered bytes stay buffered, except for those that it took.
+-- One more stream, with the row of this key, closes, as the last, after the pass, at this reading of the clock, from which
+-- its bound is counted. Its buffered bytes stay buffered, except for those that it took.
 pub record ClosesAt {S : Type 0} (to_give taken : S → Option (List ℕ)) (calls : S → Option (List StreamCall))
-    (reading : Option Instant) (old : ClosingList S) (stream : Buffer S) (new : ClosingList S) : Type 0 where
-  pub key : ℕ
+    (reading : Option Instant) (old : ClosingList S) (key : ℕ) (stream : Buffer S) (new : ClosingList S) : Type 0 where
   pub known : Readiness
   pub bound : Option Instant
   pub bounded : IsClosingBound reading old.stall_time bound
@@ -127,21 +131,23 @@ pub record ClosesAt {S : Type 0} (to_give taken : S → Option (List ℕ)) (call
 
 -- the same at some reading
 abbrev pub Closes : {S : Type 0} → (S → Option (List ℕ)) → (S → Option (List ℕ)) → (S → Option (List StreamCall)) →
-    ClosingList S → Buffer S → ClosingList S → Type 0
-Closes to_give taken calls old stream new =
-    (reading : Option Instant) × ClosesAt to_give taken calls reading old stream new
+    ClosingList S → ℕ → Buffer S → ClosingList S → Type 0
+Closes to_give taken calls old key stream new =
+    (reading : Option Instant) × ClosesAt to_give taken calls reading old key stream new
 
 -- the bot's stream closes, and then the server's, both at this reading of the clock
 abbrev pub ClosesBothAt : {S : Type 0} → (S → Option (List ℕ)) → (S → Option (List ℕ)) →
     (S → Option (List StreamCall)) → Option Instant → ClosingList S → Paired S → ClosingList S → Type 0
 ClosesBothAt {S} to_give taken calls reading old pair new = (mid : ClosingList S)
-    × ClosesAt to_give taken calls reading old pair.bot mid × ClosesAt to_give taken calls reading mid pair.server new
+    × ClosesAt to_give taken calls reading old pair.bot_key pair.bot mid
+    × ClosesAt to_give taken calls reading mid pair.server_key pair.server new
 
 -- the bot's stream closes, and then the server's
 abbrev pub ClosesBoth : {S : Type 0} → (S → Option (List ℕ)) → (S → Option (List ℕ)) → (S → Option (List StreamCall)) →
     ClosingList S → Paired S → ClosingList S → Type 0
 ClosesBoth {S} to_give taken calls old pair new = (mid : ClosingList S)
-    × Closes to_give taken calls old pair.bot mid × Closes to_give taken calls mid pair.server new
+    × Closes to_give taken calls old pair.bot_key pair.bot mid
+    × Closes to_give taken calls mid pair.server_key pair.server new
 
 -- ---- one check
 
@@ -153,7 +159,8 @@ FirstArrivalEvolves {S = S} to_give taken calls pair old (Ready ports) new = (ar
     × (old.arrivals ≡ arrival ∷ new.arrivals) × IsJoined arrival (pair ports) × (new.came ≡ old.came)
     × (new.closing ≡ old.closing)
 FirstArrivalEvolves {S = S} to_give taken calls pair old Failed new = (arrival : Arriving S)
-    × (old.arrivals ≡ arrival ∷ new.arrivals) × Closes to_give taken calls old.closing arrival.bot new.closing
+    × (old.arrivals ≡ arrival ∷ new.arrivals)
+    × Closes to_give taken calls old.closing arrival.bot_key arrival.bot new.closing
     × (new.came ≡ old.came)
 FirstArrivalEvolves {S = S} to_give taken calls pair old Pending new = (arrival moved : Arriving S) × (rest : List (Arriving S))
     × (old.arrivals ≡ arrival ∷ rest) × (new.arrivals ≡ rest ++ moved ∷ []) × StaysPending arrival moved
@@ -193,7 +200,8 @@ Transits {S = S} to_give taken calls pair old (Connects (Ready ports)) new = (ar
     × TakesOut old.arrivals arrival new.arrivals × IsJoined arrival (pair ports) × (new.came ≡ old.came)
     × (new.closing ≡ old.closing)
 Transits {S = S} to_give taken calls pair old (Connects Failed) new = (arrival : Arriving S)
-    × TakesOut old.arrivals arrival new.arrivals × Closes to_give taken calls old.closing arrival.bot new.closing
+    × TakesOut old.arrivals arrival new.arrivals
+    × Closes to_give taken calls old.closing arrival.bot_key arrival.bot new.closing
     × (new.came ≡ old.came)
 Transits to_give taken calls pair old (Connects Pending) new =
     ChecksArrivals (length old.arrivals) old.arrivals new.arrivals × (new.came ≡ old.came) × (new.closing ≡ old.closing)

@@ -1,5 +1,5 @@
 -- What the sockets of a run schedule: the timeouts with which sessions begin, accepts, and what a wait watches. (own)
-use Rattle.std.specs.Prelude.{◌≡◌, ℕ, ◌<◌, true, List, length, Option}
+use Rattle.std.specs.Prelude.{◌≡◌, ℕ, ◌<◌, ◌++◌, true, List, length, Option}
 use Rattle.std.specs.declared.time.Duration.{Duration}
 use Rattle.daide_io.specs.Network.{NetworkCall}
 use Rattle.daide_io.specs.Streams.{StreamCall}
@@ -8,34 +8,39 @@ use Rattle.daide_io.specs.System.{Retires, Notifies, Waits}
 use Rattle.daide_io.specs.declared.system.Connect.{Connect}
 use Rattle.daide_io.specs.declared.system.Connect.TheVariants.{Ready, Failed, Pending}
 use Rattle.daide_sockets.specs.declared.admission.Acceptor.{Acceptor}
+use Rattle.daide_sockets.specs.declared.control.Control.{Control}
 use Rattle.daide_sockets.specs.declared.ports.SocketPorts.{SocketPorts}
 use Rattle.daide_sockets.specs.Accepting.{is_accept_due, MakesAccept}
 use Rattle.daide_sockets.specs.Beside.{listener_watched, others_watched}
 use Rattle.daide_buffered_io.specs.Buffers.{Buffer}
 use Rattle.daide_sockets.specs.Lingering.{ClosingList, LooksAround, in_pass}
 use Rattle.daide_sockets.specs.Pairing.{Arriving, Paired, RunSockets, ClosesAt, ClosesBothAt, Transits}
+use Rattle.daide_sockets.specs.Rows.{HandsRows, control_keys, keys_of_run, pair_keys}
 use Rattle.daide_sockets.specs.Table.{Table, IsNoTime}
 use Rattle.daide_sockets.specs.Timers.{SessionTimers, BeginsAt, timers_of}
 use Rattle.daide_sockets.specs.Wakeups.{Wakes, RestsOnce}
 
 -- The sockets of a run: its network and its table; the timeouts of each peer, of its silence and of a stall, none for
--- never; the listener; how many bots may have a connect under way; those that have one; and the closing streams.
+-- never; the listener; the keys of the control socket's rows; how many bots may have a connect under way; those that have
+-- one; and the closing streams.
 pub record RunState (N S : Type 0) : Type 0 where
   pub network : N
   pub table : Table
   pub times : Option Duration × Option Duration
   pub acceptor : Acceptor
+  pub control : List ℕ
   pub room : ℕ
   pub arrivals : List (Arriving S)
   pub closing : ClosingList S
 
-abbrev pub run_state : {N S : Type 0} → N × Table → Option Duration × Option Duration → Acceptor → ℕ → List (Arriving S) →
-    ClosingList S → RunState N S
-run_state polled times acceptor room arrivals closing = record {
+abbrev pub run_state : {N S : Type 0} → N × Table → Option Duration × Option Duration → Acceptor → Control S → ℕ →
+    List (Arriving S) → ClosingList S → RunState N S
+run_state polled times acceptor control room arrivals closing = record {
   network = polled.0;
   table = polled.1;
   times = times;
   acceptor = acceptor;
+  control = control_keys control;
   room = room;
   arrivals = arrivals;
   closing = closing;
@@ -45,9 +50,15 @@ run_state polled times acceptor room arrivals closing = record {
 abbrev pub sockets_in : {N S : Type 0} → RunState N S → RunSockets S
 sockets_in state = record { came = state.acceptor.came; arrivals = state.arrivals; closing = state.closing }
 
--- the content of ports: the number of their session, and its streams
+-- the content of ports: the number of their session, its streams, and the keys of their rows
 abbrev pub pair_of : {S : Type 0} → SocketPorts S → Paired S
-pair_of ports = record { number = ports.number; bot = ports.bot.stream; server = ports.server.stream }
+pair_of ports = record {
+  number = ports.number;
+  bot = ports.bot.stream;
+  server = ports.server.stream;
+  bot_key = ports.bot.key;
+  server_key = ports.server.key;
+}
 
 -- ---- accepts
 
@@ -109,7 +120,7 @@ abbrev pub ClosesByClock : {N P S : Type 0} → (S → Option (List ℕ)) → (S
 ClosesByClock to_give taken calls pair old (Begins orders) new =
     LooksAround to_give taken calls new.table.reading (in_pass old.closing) new.closing
 ClosesByClock {S = S} to_give taken calls pair old (Connects Failed) new =
-    (bot : Buffer S) × ClosesAt to_give taken calls old.table.reading old.closing bot new.closing
+    (key : ℕ) × (bot : Buffer S) × ClosesAt to_give taken calls old.table.reading old.closing key bot new.closing
 ClosesByClock to_give taken calls pair old (Retires ports end) new =
     ClosesBothAt to_give taken calls old.table.reading old.closing (pair ports) new.closing
 ClosesByClock to_give taken calls pair old (Connects (Ready ports)) new = new.closing ≡ old.closing
@@ -131,11 +142,38 @@ pub record AwaitsBots {N C S : Type 0} (transition : N → NetworkCall C → N �
   pub awaits : is_accept_due old.table old.acceptor.key old.acceptor.readiness old.acceptor.resumes_at ≡ true →
       IsNoTime rests.time
 
+-- ---- rows
+
+-- the keys of the rows that these hold: the listener, the control socket, the bots with connects under way, and the closing
+-- streams
+abbrev pub keys_in : {N S : Type 0} → RunState N S → List ℕ
+keys_in state = keys_of_run state.acceptor state.control state.arrivals state.closing.streams
+
+-- What a system call does to the rows of the table, by the keys of those who hold one (`HandsRows`). Ports that are ready get
+-- the two rows of their bot and of its connect, and those of ports that are retired are the closing streams'. A turn keeps the
+-- rows of its session. `pair` is the content of ports.
+abbrev pub HandsAlong : {N P S : Type 0} → (P → Paired S) → RunState N S → SystemCall P → RunState N S → Type 0
+HandsAlong pair old (Connects (Ready ports)) new =
+    HandsRows old.table (keys_in old) new.table (pair_keys (pair ports) ++ keys_in new)
+HandsAlong pair old (Retires ports end) new =
+    HandsRows old.table (pair_keys (pair ports) ++ keys_in old) new.table (keys_in new)
+HandsAlong pair old (BeginsTurn before after) new = (pair_keys (pair after) ≡ pair_keys (pair before))
+    × HandsRows old.table (keys_in old) new.table (keys_in new)
+HandsAlong pair old (Connects Failed) new = HandsRows old.table (keys_in old) new.table (keys_in new)
+HandsAlong pair old (Connects Pending) new = HandsRows old.table (keys_in old) new.table (keys_in new)
+HandsAlong pair old (Begins orders) new = HandsRows old.table (keys_in old) new.table (keys_in new)
+HandsAlong pair old (Accepts came) new = HandsRows old.table (keys_in old) new.table (keys_in new)
+HandsAlong pair old (Shows ports status) new = HandsRows old.table (keys_in old) new.table (keys_in new)
+HandsAlong pair old (ReportsNews ports news) new = HandsRows old.table (keys_in old) new.table (keys_in new)
+HandsAlong pair old (Watches ports) new = HandsRows old.table (keys_in old) new.table (keys_in new)
+HandsAlong pair old (Notifies notice) new = HandsRows old.table (keys_in old) new.table (keys_in new)
+HandsAlong pair old Waits new = HandsRows old.table (keys_in old) new.table (keys_in new)
+
 -- ---- all of it
 
 -- All that a system call does to the sockets of a run: to its bots and its closing streams (`Transits`), as far as a
--- session's wait needs it (`Wakes`), what it schedules (`Schedules`), and to its closing streams by the clock
--- (`ClosesByClock`). `ports_in` is the content of ports.
+-- session's wait needs it (`Wakes`), what it schedules (`Schedules`), to its closing streams by the clock
+-- (`ClosesByClock`), and to the rows of the table (`HandsAlong`). `ports_in` is the content of ports.
 abbrev pub RunEvolves : {N C P S : Type 0} → (N → NetworkCall C → N → Type 0) → (S → Option (List ℕ)) →
     (S → Option (List ℕ)) → (S → Option (List StreamCall)) → (P → SocketPorts S) → RunState N S → SystemCall P →
     RunState N S → Type 0
@@ -144,3 +182,4 @@ RunEvolves transition to_give taken calls ports_in old call new =
     × Wakes transition (λ ports. (timers_of (ports_in ports)).sockets) (old.network, old.table) call (new.network, new.table)
     × Schedules transition (λ ports. timers_of (ports_in ports)) old call new
     × ClosesByClock to_give taken calls (λ ports. pair_of (ports_in ports)) old call new
+    × HandsAlong (λ ports. pair_of (ports_in ports)) old call new

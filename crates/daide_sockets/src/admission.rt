@@ -3,13 +3,14 @@
 //! Neither an accept nor a connect blocks. The server's name is resolved at the start. If it has several addresses,
 //! they are tried one after the other, within one deadline for all.
 
-ghost use Rattle.std.specs.Prelude.{◌≡◌, ◌≢◌, ◌⊎◌, ◌+◌, ◌<◌, ◌++◌, ◌∷◌, [], Some, None, Err, true, false, IfOk, IfErr, IfSome, IsSome};
+ghost use Rattle.std.specs.Prelude.{◌≡◌, ◌≢◌, ◌⊎◌, ◌+◌, ◌<◌, ◌++◌, ◌∷◌, [], Some, None, Err, true, false, IfOk, IfErr, IfSome, IsSome, MatchResult, option_map};
 ghost use Rattle.std.specs.Option.{is_some};
 ghost use Rattle.daide_buffered_io.specs.Buffers.{Buffer};
 ghost use Rattle.daide_io.specs.Network.{AsksConnect, StopsListening};
 ghost use Rattle.daide_sockets.specs.Beside.{may_connect, arrivals_watched, listener_watched};
 ghost use Rattle.daide_sockets.specs.InTime.{watching_all};
 ghost use Rattle.daide_sockets.specs.Pairing.{ConnectsTo};
+ghost use Rattle.daide_sockets.specs.Rows.{HandsRows, KeepsRows, arrival_keys, connect_key, key_in, result_key, listener_keys};
 ghost use Rattle.daide_sockets.specs.Table.{watching, no_report, report_at};
 ghost use Rattle.daide_sockets.specs.Accepting.{is_accept_made, is_accept_due, accept_pause, ReportsAccept, MakesAccept, GivesConnection, Pauses};
 ghost use Rattle.std.specs.Duration.{as_nanos};
@@ -34,6 +35,9 @@ use std::marker::Model;
 use std::net::SocketAddr;
 use std::time::{Duration, Instant};
 
+/// The key of a listener that is closed: that of no row, since a table has fewer.
+const NO_ROW: usize = usize::MAX;
+
 /// The pause after a failed accept, for example for lack of descriptors, in milliseconds.
 pub(crate) const ACCEPT_PAUSE: u64 = 100;
 
@@ -49,7 +53,7 @@ pub(crate) enum Declined {
 /// The state of the network's listener, with a pause after a failed accept.
 #[derive(Drop)]
 pub struct Acceptor {
-    /// The key of its row.
+    /// The key of its row; `NO_ROW` once it is closed.
     key: usize,
     /// What is known of the listener without a system call.
     readiness: Readiness,
@@ -66,8 +70,10 @@ pub struct Acceptor {
 impl Acceptor {
     /// Has the listener followed. Returns `None` if the table has no free row, or the system refuses.
     pub fn new<N: Network>(poller: &mut Poller<N>) -> Option<Acceptor>
-        ensures { IfSome result (λ acceptor. (acceptor.came ≡ 0) × (acceptor.resumes_at ≡ None)
+        ensures begins { IfSome result (λ acceptor. (acceptor.came ≡ 0) × (acceptor.resumes_at ≡ None)
             × (acceptor.awaits_bots ≡ false) × (acceptor.is_closed ≡ false)) }
+        ensures rows { IfSome result (λ acceptor.
+            HandsRows poller.old.table [] poller.new.table (listener_keys acceptor)) }
     {
         let key = poller.listen()?;
         Some(Acceptor {
@@ -89,6 +95,7 @@ impl Acceptor {
             self.new ≡ record self.old { awaits_bots = false } }
         ensures unasked { self.new.awaits_bots ≡ false }
         ensures came { self.new.came ≡ self.old.came }
+        ensures row { listener_keys self.new ≡ listener_keys self.old }
     {
         self.awaits_bots = false;
         if is_past(now, self.resumes_at) {
@@ -114,14 +121,30 @@ impl Acceptor {
         table.watch(is_due, self.resumes_at);
     }
 
-    /// Closes the listener: no bot is accepted any more, and no wait is for one.
+    /// Frees the row of the listener, unless it is closed already.
+    fn free_row(&self, table: &mut SocketTable)
+        ensures rows { HandsRows table.old (listener_keys self.now) table.new [] }
+        ensures clock { table.new.reading ≡ table.old.reading }
+    {
+        if self.is_closed {
+            return;
+        }
+        table.release(self.key);
+    }
+
+    /// Closes the listener: no bot is accepted any more, and no wait is for one. Its row is free then, and its key names
+    /// none, since another socket may get that row.
     pub(crate) fn close<N: Network>(&mut self, poller: &mut Poller<N>)
         ensures came { self.new.came ≡ self.old.came }
         ensures none { (self.new.awaits_bots ≡ false) × (self.new.resumes_at ≡ None) }
         ensures closed { self.new.is_closed ≡ true }
-        ensures table { poller.new.table ≡ poller.old.table }
+        ensures row { (self.new.key ≡ usize.MAX) × (self.new.readiness.may_read ≡ false) }
+        ensures rows { HandsRows poller.old.table (listener_keys self.old) poller.new.table (listener_keys self.new) }
+        ensures clock { poller.new.table.reading ≡ poller.old.table.reading }
         ensures closes { N.transition poller.old.network StopsListening poller.new.network }
     {
+        self.free_row(&mut poller.table);
+        self.key = NO_ROW;
         self.readiness.may_read = false;
         self.awaits_bots = false;
         self.resumes_at = None;
@@ -180,6 +203,9 @@ impl Acceptor {
         ensures left { result ≡ None →
             is_accept_due poller.new.table self.new.key self.new.readiness self.new.resumes_at ≡ false }
         ensures given { IfSome result (λ _. GivesConnection N.transition poller.old.network) }
+        ensures rows { KeepsRows poller.old.table poller.new.table }
+        ensures key { self.new.key ≡ self.old.key }
+        ensures row { listener_keys self.new ≡ listener_keys self.old }
     {
         // Most rounds of a run end here.
         if !self.is_due(&poller.table) {
@@ -221,6 +247,7 @@ impl Acceptor {
             Pauses now kind self.new.resumes_at × (self.new.readiness.may_read ≡ false) }
         ensures left { IfErr result (λ _. is_accept_made now self.new.readiness.may_read self.new.resumes_at ≡ false) }
         ensures key { self.new.key ≡ self.old.key }
+        ensures row { listener_keys self.new ≡ listener_keys self.old }
         ensures came { self.new.came ≡ self.old.came }
         ensures awaited { self.new.awaits_bots ≡ self.old.awaits_bots }
     {
@@ -309,6 +336,8 @@ impl Acceptor {
         ensures refused { result ≡ Err None → self.old.came < u32.MAX →
             is_accept_due poller.new.table self.new.key self.new.readiness self.new.resumes_at ≡ true →
             Pauses poller.old.table.reading ErrorKind.Other None }
+        ensures rows { HandsRows poller.old.table [] poller.new.table (result_key (λ bot. bot.1.key) result) }
+        ensures row { listener_keys self.new ≡ listener_keys self.old }
         ensures declined { (address : SocketAddr) → result ≡ Err (Some address) →
             may_come rules.entry.0.now rules.entry.1 present.old.hosts.items (host_of (socket_ip address)) ≡ false }
     {
@@ -362,6 +391,7 @@ impl<'w, S: Drop> Model for PendingConnection<'w, S> {
     ghost view = { λ a. record {
       number = a.number;
       bot = a.bot.stream;
+      bot_key = a.bot.key;
       server = option_map (λ socket. socket.stream) a.server;
       row = option_map (λ socket. record { key = socket.key; known = socket.readiness }) a.server;
       gives_up = a.gives_up;
@@ -392,6 +422,7 @@ fn begun<N: Network>(
     ensures connects { IfSome result (λ begun. ConnectsTo N.transition servers.now begun.0 begun.1 poller.new.network) }
     ensures unknown { IfSome result (λ begun. report_at poller.new.table begun.1 ≡ no_report) }
     ensures clock { poller.new.table.reading ≡ poller.old.table.reading }
+    ensures rows { HandsRows poller.old.table [] poller.new.table (key_in (option_map (λ begun. begun.1) result)) }
 {
     while let Some(address) = servers.get(*tried) {
         *tried += 1;
@@ -412,12 +443,24 @@ fn connecting<'w, S: Duplex + Drop>(
     pool: &'w Pool,
     number: u32,
 ) -> Option<Socket<'w, S>>
-    ensures { IfSome result (λ socket. IsFresh socket.stream × (socket.made_for ≡ number)) }
+    ensures fresh { IfSome result (λ socket. IsFresh socket.stream × (socket.made_for ≡ number)) }
+    ensures key { option_map (λ socket. socket.key) result ≡ option_map (λ begun. begun.1) begun }
 {
     match begun {
         Some((stream, key)) => Some(Socket::over(pool, stream, key).of_connect(number)),
         None => None,
     }
+}
+
+/// Closes a connect, if there is one, and frees its row.
+fn release_connect<S: Drop>(server: Option<Socket<'_, S>>, table: &mut SocketTable)
+    ensures rows { HandsRows table.old (key_in (option_map (λ socket. socket.key) server.entry)) table.new [] }
+    ensures clock { table.new.reading ≡ table.old.reading }
+{
+    let Some(server) = server else {
+        return;
+    };
+    table.release(server.key);
 }
 
 impl<'w, S: Duplex + Drop> PendingConnection<'w, S> {
@@ -431,6 +474,7 @@ impl<'w, S: Duplex + Drop> PendingConnection<'w, S> {
         ensures number { result.number ≡ came.entry.0 }
         ensures bot { result.bot ≡ came.entry.1.stream }
         ensures server { IsFreshConnect result.server }
+        ensures rows { HandsRows poller.old.table (came.entry.1.key ∷ []) poller.new.table (arrival_keys result) }
         ensures im_due { IsAfter poller.old.table.reading (as_nanos times.0) result.im_due }
         ensures gives_up { IsAfter poller.old.table.reading (as_nanos times.1) result.gives_up }
     {
@@ -467,6 +511,8 @@ impl<'w, S: Duplex + Drop> PendingConnection<'w, S> {
         ensures still { result ≡ ConnectStatus.Pending → may_connect poller.new.table self.new.row ≡ false }
         ensures rest { self.new ≡ record self.old { row = self.new.row } }
         ensures clock { poller.new.table.reading ≡ poller.old.table.reading }
+        ensures rows { KeepsRows poller.old.table poller.new.table }
+        ensures key { connect_key self.new.row ≡ connect_key self.old.row }
     {
         let Some(server) = &mut self.server else {
             return ConnectStatus::Failed;
@@ -485,10 +531,39 @@ impl<'w, S: Duplex + Drop> PendingConnection<'w, S> {
     /// Closes the connect, and frees its row for the next one.
     fn drop_connect(&mut self, table: &mut SocketTable)
         ensures connect { self.new ≡ record self.old { server = None; row = None } }
+        ensures rows { HandsRows table.old (arrival_keys self.old) table.new (arrival_keys self.new) }
         ensures clock { table.new.reading ≡ table.old.reading }
     {
-        if let Some(server) = self.server.take() {
-            table.release(server.key);
+        let server = self.server.take();
+        release_connect(server, table);
+    }
+
+    /// Closes the connect, and starts one to the next address, if one is left.
+    fn try_next<N: Network<Connection = S>>(
+        &mut self,
+        poller: &mut Poller<N>,
+        servers: &[SocketAddr],
+    )
+        ensures goes_on { StaysPending self.old self.new }
+        ensures clock { poller.new.table.reading ≡ poller.old.table.reading }
+        ensures rows { HandsRows poller.old.table (arrival_keys self.old) poller.new.table (arrival_keys self.new) }
+    {
+        self.drop_connect(&mut poller.table);
+        let begun = begun(poller, servers, &mut self.tried);
+        self.server = connecting(begun, self.bot.pool, self.number);
+    }
+
+    /// Closes the connect once its deadline is past at the table's reading of the clock.
+    fn drop_if_late(&mut self, table: &mut SocketTable)
+        ensures in_time { is_past table.old.reading self.old.gives_up ≡ false → self.new ≡ self.old }
+        ensures late { is_past table.old.reading self.old.gives_up ≡ true →
+            self.new ≡ record self.old { server = None; row = None } }
+        ensures goes_on { StaysPending self.old self.new }
+        ensures clock { table.new.reading ≡ table.old.reading }
+        ensures rows { HandsRows table.old (arrival_keys self.old) table.new (arrival_keys self.new) }
+    {
+        if table.is_over(self.gives_up) {
+            self.drop_connect(table);
         }
     }
 
@@ -509,19 +584,14 @@ impl<'w, S: Duplex + Drop> PendingConnection<'w, S> {
         ensures early { result ≡ false → is_past poller.old.table.reading self.old.gives_up ≡ false →
             may_connect poller.old.table self.old.row ≡ true }
         ensures clock { poller.new.table.reading ≡ poller.old.table.reading }
+        ensures rows { HandsRows poller.old.table (arrival_keys self.old) poller.new.table (arrival_keys self.new) }
     {
         match self.progress(poller) {
             ConnectStatus::Connected => return false,
-            ConnectStatus::Failed => {
-                self.drop_connect(&mut poller.table);
-                let begun = begun(poller, servers, &mut self.tried);
-                self.server = connecting(begun, self.bot.pool, self.number);
-            }
+            ConnectStatus::Failed => self.try_next(poller, servers),
             ConnectStatus::Pending => {}
         }
-        if poller.table.is_over(self.gives_up) {
-            self.drop_connect(&mut poller.table);
-        }
+        self.drop_if_late(&mut poller.table);
         self.server.is_some()
     }
 
@@ -538,13 +608,17 @@ impl<'w, S: Duplex + Drop> PendingConnection<'w, S> {
           number = ports.number;
           bot = ports.bot.stream;
           server = ports.server.stream;
+          bot_key = ports.bot.key;
+          server_key = ports.server.key;
         })) }
         ensures im_due { IfOk result (λ ports. ports.im_due ≡ self.entry.im_due) }
         ensures silent_from { IfOk result (λ ports. IsStallEnd now times.0 ports.bot.silent_from
             × IsStallEnd now times.0 ports.server.silent_from) }
         ensures begins { IfOk result (λ ports. BeginsAt now times (timers_of ports)) }
         ensures unreached { IfErr result (λ left. (left.number ≡ self.entry.number)
-            × (left.bot.stream ≡ self.entry.bot) × (self.entry.server ≡ None)) }
+            × (left.bot.stream ≡ self.entry.bot) × (self.entry.server ≡ None) × (left.bot.key ≡ self.entry.bot_key)) }
+        ensures keys { MatchResult result (λ ports. arrival_keys self.entry ≡ ports.bot.key ∷ ports.server.key ∷ [])
+            (λ left. arrival_keys self.entry ≡ left.bot.key ∷ []) }
     {
         let PendingConnection {
             number,
@@ -574,7 +648,9 @@ impl<'w, S: Duplex + Drop> PendingConnection<'w, S> {
 
     /// Gives up the connect, and returns the bot.
     pub(crate) fn give_up(self, table: &mut SocketTable) -> Unreached<'w, S>
-        ensures given_up { (result.number ≡ self.entry.number) × (result.bot.stream ≡ self.entry.bot) }
+        ensures given_up { (result.number ≡ self.entry.number) × (result.bot.stream ≡ self.entry.bot)
+            × (result.bot.key ≡ self.entry.bot_key) }
+        ensures rows { HandsRows table.old (arrival_keys self.entry) table.new (result.bot.key ∷ []) }
         ensures clock { table.new.reading ≡ table.old.reading }
     {
         let mut arrival = self;

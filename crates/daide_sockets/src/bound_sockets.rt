@@ -2,6 +2,7 @@
 
 ghost use Rattle.std.specs.Prelude.{◌≡◌, ◌+◌, ◌*◌, ◌^◌, ◌<◌, IfOk, IfSome, false, []};
 ghost use Rattle.daide_sockets.specs.Lingering.{no_closing};
+ghost use Rattle.daide_sockets.specs.Rows.{AreRowsOf, control_keys, keys_of_run};
 ghost use Rattle.daide_sockets.specs.Times.{IsSeconds, IsIdleTime};
 
 use crate::control::MOST_CONTROLS;
@@ -92,6 +93,7 @@ pub fn bind_sockets<'r, R: AllocGlobal + Clock + Net>(
 ) -> Result<BoundSockets<'r, R>, BindError>
     ensures rows { IfOk result (λ ground. settings.now.max_sessions < 2 ^ 62 →
         ground.table.max_rows ≡ 2 * settings.now.max_sessions + MOST_CLOSING + MOST_CONTROLS + 2) }
+    ensures free { IfOk result (λ ground. ground.table.rows ≡ []) }
 {
     let listener = match listener_at(rt, settings.listen.as_str()) {
         Ok(listener) => listener,
@@ -133,6 +135,8 @@ pub fn sockets_on<'w, N: Network, E: Write + Drop>(
     ensures stall_time { IfSome result (λ sockets. IsIdleTime settings.now.stall_seconds sockets.stall_time
         × (sockets.stall_seconds ≡ settings.now.stall_seconds)) }
     ensures connect_time { IfSome result (λ sockets. IsSeconds CONNECT_SECONDS sockets.connect_time) }
+    ensures rows { ground.entry.2.rows ≡ [] → IfSome result (λ sockets. AreRowsOf sockets.poller.table
+        (keys_of_run sockets.acceptor (control_keys sockets.control) sockets.arrivals.items sockets.closings.streams)) }
 {
     Sockets::new(
         alloc,

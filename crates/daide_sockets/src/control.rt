@@ -3,7 +3,7 @@
 //! They are read and written when a round begins, each once, so no session waits for them. A wait watches them as it
 //! watches sessions.
 
-ghost use Rattle.std.specs.Prelude.{◌≡◌, ◌||◌, List, Option, [], ◌∷◌, false, true, IfSome, None, Some};
+ghost use Rattle.std.specs.Prelude.{◌≡◌, ◌||◌, List, Option, [], ◌∷◌, false, true, IfSome, None, Some, option_map};
 ghost use Rattle.daide_sockets.specs.Accepting.{is_accept_due, Pauses};
 ghost use Rattle.daide_sockets.specs.Snapshot.{seconds_between, or_zero};
 ghost use Rattle.daide_sockets.specs.Control.{gathers_at, stops_at, stops_now_at};
@@ -11,6 +11,7 @@ ghost use Rattle.daide_sockets.specs.ControlSlots.{places, Each, at_some, PlaceA
 ghost use Rattle.daide_sockets.specs.ControlSlots.{at_place, has_free, with_one, watching_place, watching_places, watching_listener};
 ghost use Rattle.daide_sockets.specs.ControlSlots.{MakesControlAccept, AcceptsOne, watching_control, BeginsRound};
 ghost use Rattle.daide_sockets.specs.ControlSlots.{is_listener_due};
+ghost use Rattle.daide_sockets.specs.Rows.{HandsRows, control_keys, control_listener_keys, key_in, place_keys};
 
 use crate::admission::ACCEPT_PAUSE;
 use crate::control_connection::ControlConnection;
@@ -58,6 +59,7 @@ fn advance_place<S: Duplex + Drop>(
     run: &RunStatus,
 )
     ensures advances { PlaceAdvances S.to_give S.taken S.calls run.now table.old.reading place.old place.new }
+    ensures rows { HandsRows table.old (place_keys (place.old ∷ [])) table.new (place_keys (place.new ∷ [])) }
     ensures clock { table.new.reading ≡ table.old.reading }
 {
     let Some(connection) = place else {
@@ -128,6 +130,7 @@ impl<S: Duplex + Drop> Slots<S> {
     fn advance(&mut self, table: &mut SocketTable, alloc: Global, run: &RunStatus)
         ensures advances { Each (PlaceAdvances S.to_give S.taken S.calls run.now table.old.reading) (places self.old)
             (places self.new) }
+        ensures rows { HandsRows table.old (place_keys (places self.old)) table.new (place_keys (places self.new)) }
         ensures clock { table.new.reading ≡ table.old.reading }
     {
         advance_place(&mut self.first, table, alloc, run);
@@ -261,6 +264,9 @@ impl ControlListener {
         ensures not_made { is_accept_due poller.old.table self.old.key self.old.readiness self.old.resumes_at ≡ false →
             (result ≡ None) × (self.new ≡ self.old) × (poller.new ≡ poller.old) }
         ensures clock { poller.new.table.reading ≡ poller.old.table.reading }
+        ensures rows { HandsRows poller.old.table [] poller.new.table
+            (key_in (option_map (λ accepted. accepted.1) result)) }
+        ensures key { self.new.key ≡ self.old.key }
     {
         if !self.is_due(&poller.table) {
             return None;
@@ -312,7 +318,10 @@ pub struct Control<S: Duplex + Drop> {
 
 /// Has the listener of the control socket followed, if the network has one. Returns `None` if the table has no free row,
 /// or the system refuses.
-fn listener_of<N: Network>(poller: &mut Poller<N>) -> Option<Option<ControlListener>> {
+fn listener_of<N: Network>(poller: &mut Poller<N>) -> Option<Option<ControlListener>>
+    ensures rows { IfSome result (λ listener.
+        HandsRows poller.old.table [] poller.new.table (control_listener_keys listener)) }
+{
     let key = poller.table.take_row()?;
     match poller.network.listen_for_control(key) {
         Some(true) => Some(Some(ControlListener {
@@ -340,6 +349,8 @@ impl<S: Duplex + Drop> Control<S> {
     ) -> Option<Control<S>>
         ensures no_orders { IfSome result (λ control. (control.stops_accepting ≡ false) × (control.stops_now ≡ false)) }
         ensures free { IfSome result (λ control. places control.slots ≡ None ∷ None ∷ None ∷ None ∷ []) }
+        ensures rows { IfSome result (λ control.
+            HandsRows poller.old.table [] poller.new.table (control_keys control)) }
     {
         let listener = listener_of(poller)?;
         Some(Control {
@@ -357,6 +368,7 @@ impl<S: Duplex + Drop> Control<S> {
         ensures accepts { AcceptsOne poller.old.table.reading (places self.old.slots) (places self.new.slots) }
         ensures same { (self.new.stops_accepting ≡ self.old.stops_accepting) × (self.new.stops_now ≡ self.old.stops_now)
             × (self.new.started_at ≡ self.old.started_at) }
+        ensures rows { HandsRows poller.old.table (control_keys self.old) poller.new.table (control_keys self.new) }
         ensures clock { poller.new.table.reading ≡ poller.old.table.reading }
     {
         let Some(listener) = &mut self.listener else {
@@ -421,6 +433,7 @@ impl<S: Duplex + Drop> Control<S> {
         ensures clock { poller.new.table.reading ≡ poller.old.table.reading }
         ensures kept { self.old.stops_accepting ≡ true → self.new.stops_accepting ≡ true }
         ensures now_kept { self.old.stops_now ≡ true → self.new.stops_now ≡ true }
+        ensures rows { HandsRows poller.old.table (control_keys self.old) poller.new.table (control_keys self.new) }
     {
         self.slots.advance(&mut poller.table, self.alloc, run);
         self.accept(poller);
@@ -437,6 +450,7 @@ impl<S: Duplex + Drop> Control<S> {
     pub(crate) fn show(&mut self, row: &SessionRow)
         ensures shows { Each (PlaceShows row.now) (places self.old.slots) (places self.new.slots) }
         ensures same { self.new ≡ record self.old { slots = self.new.slots } }
+        ensures row { control_keys self.new ≡ control_keys self.old }
     {
         self.slots.show(row);
     }

@@ -55,6 +55,7 @@ impl<S: Duplex + Drop> ControlConnection<S> {
         ensures reads { result.stage ≡ Stage.Reads }
         ensures empty { result.line.items ≡ [] }
         ensures closes_at { result.closes_at ≡ closes_at }
+        ensures key { result.key ≡ key }
     {
         ControlConnection {
             stream,

@@ -6,6 +6,7 @@ ghost use Rattle.daide_sockets.specs.ClosingTime.{ClosingSocketsLeave};
 ghost use Rattle.daide_sockets.specs.ControlInTime.{ControlWaitsAreInTime};
 ghost use Rattle.daide_sockets.specs.InTime.{WaitsAreInTime};
 ghost use Rattle.daide_sockets.specs.PairedOnce.{SessionsComeOnce};
+ghost use Rattle.daide_sockets.specs.RowsOfRun.{NoRowLeaks};
 
 use daide_io::duplex::Duplex;
 use daide_io::network::Network;
@@ -64,4 +65,18 @@ pub fn sockets_are_accounted<P: Ports, S: Duplex + Drop>()
 /// more than 256 (`sockets_are_accounted`).
 pub fn closing_sockets_leave<P: Ports, S: Duplex + Drop, N: Network>()
     ensures { ClosingSocketsLeave S.to_give S.taken S.calls N P }
+{}
+
+/// No row leaks, and no two sockets share one. Take a run over sockets, at any moment between two of its calls: the taken
+/// rows of the table are exactly those of the listener until it is closed, of both sockets of each session, of each bot that
+/// waits for its connect and of the connect if it has one, of each closing socket, and of the control socket: its listener
+/// and its connections. Each has one (`HoldsItsRows`). So the taken rows are at most two for each session and each bot that
+/// waits, one for each closing socket, five for control, and one for the listener.
+///
+/// A run of sockets begins so (`Sockets::new`: `rows`). Each call says which rows change hands, as the sockets' own
+/// `transition` says (`HandsAlong`). The sessions are the ports that the run returned and did not get back (`SessionsGoOn`): the
+/// premise is that it gets back what it returned. A call of ports leaves their keys as they are (`StaysUnread`, `IsPulled`,
+/// `HandsAlong`).
+pub fn no_row_leaks<P: Ports, S: Duplex + Drop, N: Network>()
+    ensures { NoRowLeaks N P S }
 {}

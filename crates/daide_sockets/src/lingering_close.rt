@@ -16,6 +16,7 @@ ghost use Rattle.daide_sockets.specs.InTime.{watching_all};
 ghost use Rattle.daide_sockets.specs.Lingering.{ClosingStream, ClosingList, IsClosingBound, begins_closing, no_closing, TriesWriting, WritesOut};
 ghost use Rattle.daide_sockets.specs.Lingering.{Discards, is_released, LingersOn, LeavesNow, with_report, LooksAtOne, LooksAlong};
 ghost use Rattle.daide_sockets.specs.Lingering.{in_pass, LooksAround, GoOnFor};
+ghost use Rattle.daide_sockets.specs.Rows.{HandsRows, KeepsRows, closing_keys, kept_key};
 ghost use Rattle.daide_sockets.specs.Table.{report_at, watching};
 ghost use Rattle.daide_sockets.specs.Wakeups.{RestsOnce};
 ghost use Rattle.daide_sockets.specs.Pairing.{ClosesAt, ClosesBothAt, with_room};
@@ -194,6 +195,7 @@ impl<'w, S: Duplex + Drop> LingeringClose<'w, S> {
     fn lingers(&mut self, now: Option<Instant>) -> bool
         ensures lingers { result ≡ true → LingersOn S.to_give S.taken S.calls now self.old self.new }
         ensures leaves { result ≡ false → LeavesNow S.to_give S.taken S.calls now self.old }
+        ensures key { self.new.key ≡ self.old.key }
     {
         if is_past(now, self.closes_at) {
             return false;
@@ -209,6 +211,7 @@ impl<'w, S: Duplex + Drop> LingeringClose<'w, S> {
     fn take_report(&mut self, table: &mut SocketTable)
         ensures taken { self.new ≡ with_report (report_at table.old self.old.key) self.old }
         ensures clock { table.new.reading ≡ table.old.reading }
+        ensures rows { KeepsRows table.old table.new }
     {
         self.socket.take_report(table);
     }
@@ -220,6 +223,8 @@ impl<'w, S: Duplex + Drop> LingeringClose<'w, S> {
         ensures leaves { result ≡ false → LeavesNow S.to_give S.taken S.calls now
             (with_report (report_at table.old self.old.key) self.old) }
         ensures clock { table.new.reading ≡ table.old.reading }
+        ensures rows { HandsRows table.old (self.old.key ∷ []) table.new (kept_key result self.old.key) }
+        ensures key { self.new.key ≡ self.old.key }
     {
         self.take_report(table);
         let stays = self.lingers(now);
@@ -310,6 +315,7 @@ impl<'w, S: Duplex + Drop> ClosingSockets<'w, S> {
         requires { 0 < length self.old }
         ensures oldest { self.new ≡ remove self.old 0 }
         ensures clock { table.new.reading ≡ table.old.reading }
+        ensures rows { HandsRows table.old (closing_keys self.old) table.new (closing_keys self.new) }
     {
         let oldest = self.sockets.remove(0);
         table.release(oldest.socket.key);
@@ -328,6 +334,7 @@ impl<'w, S: Duplex + Drop> ClosingSockets<'w, S> {
         requires { at < length self.old }
         ensures looks { LooksAtOne S.to_give S.taken S.calls now at self.old result self.new }
         ensures clock { table.new.reading ≡ table.old.reading }
+        ensures rows { HandsRows table.old (closing_keys self.old) table.new (closing_keys self.new) }
     {
         let closing = &mut self.sockets[at];
         if closing.goes_on(table, now) {
@@ -349,6 +356,7 @@ impl<'w, S: Duplex + Drop> ClosingSockets<'w, S> {
         requires there { to ≤ length self.old }
         ensures looks { LooksAlong S.to_give S.taken S.calls now from to self.old result self.new }
         ensures clock { table.new.reading ≡ table.old.reading }
+        ensures rows { HandsRows table.old (closing_keys self.old) table.new (closing_keys self.new) }
     {
         let mut at = from;
         for _place in from..to {
@@ -414,6 +422,7 @@ impl<'w, S: Duplex + Drop> Closings<'w, S> {
         ensures last_ones { self.new ≡ with_room self.old }
         ensures room { length self.new.streams < MOST_CLOSING }
         ensures clock { table.new.reading ≡ table.old.reading }
+        ensures rows { HandsRows table.old (closing_keys self.old.streams) table.new (closing_keys self.new.streams) }
     {
         if self.sockets.len() < MOST_CLOSING {
             return;
@@ -425,8 +434,11 @@ impl<'w, S: Duplex + Drop> Closings<'w, S> {
 
     /// Begins to close a socket. If there are `MOST_CLOSING` already, the oldest is closed.
     pub fn begin(&mut self, table: &mut SocketTable, socket: Socket<'w, S>)
-        ensures closes { ClosesAt S.to_give S.taken S.calls table.old.reading self.old socket.entry.stream self.new }
+        ensures closes { ClosesAt S.to_give S.taken S.calls table.old.reading self.old socket.entry.key socket.entry.stream
+            self.new }
         ensures clock { table.new.reading ≡ table.old.reading }
+        ensures rows { HandsRows table.old (socket.entry.key ∷ closing_keys self.old.streams) table.new
+            (closing_keys self.new.streams) }
     {
         let now = table.now();
         self.make_room(table);
@@ -437,11 +449,15 @@ impl<'w, S: Duplex + Drop> Closings<'w, S> {
 
     /// Begins to close both sockets of a session.
     pub fn begin_both(&mut self, table: &mut SocketTable, ports: SocketPorts<'w, S>)
-        ensures { ClosesBothAt S.to_give S.taken S.calls table.old.reading self.old (record {
+        ensures closes { ClosesBothAt S.to_give S.taken S.calls table.old.reading self.old (record {
           number = ports.entry.number;
           bot = ports.entry.bot.stream;
           server = ports.entry.server.stream;
+          bot_key = ports.entry.bot.key;
+          server_key = ports.entry.server.key;
         }) self.new }
+        ensures rows { HandsRows table.old (ports.entry.bot.key ∷ ports.entry.server.key ∷ closing_keys self.old.streams)
+            table.new (closing_keys self.new.streams) }
     {
         let (bot, server) = ports.into_sockets();
         self.begin(table, bot);
@@ -462,6 +478,7 @@ impl<'w, S: Duplex + Drop> Closings<'w, S> {
     fn look_around(&mut self, table: &mut SocketTable, now: Option<Instant>)
         ensures looks { LooksAround S.to_give S.taken S.calls now (in_pass self.old) self.new }
         ensures clock { table.new.reading ≡ table.old.reading }
+        ensures rows { HandsRows table.old (closing_keys self.old.streams) table.new (closing_keys self.new.streams) }
     {
         self.begin_pass();
         let came_since = self.sockets.len() - self.pass_end;
@@ -474,6 +491,7 @@ impl<'w, S: Duplex + Drop> Closings<'w, S> {
     pub fn advance(&mut self, table: &mut SocketTable)
         ensures looks { LooksAround S.to_give S.taken S.calls table.old.reading (in_pass self.old) self.new }
         ensures clock { table.new.reading ≡ table.old.reading }
+        ensures rows { HandsRows table.old (closing_keys self.old.streams) table.new (closing_keys self.new.streams) }
     {
         // Most rounds have no closing socket.
         if self.sockets.len() == 0 {
@@ -492,6 +510,8 @@ impl<'w, S: Duplex + Drop> Closings<'w, S> {
             × ((self.new.streams ≡ []) ⊎ (rounds ≡ u64.MAX)) }
         ensures readings { FinishesAll N.transition S.to_give S.taken S.calls u64.MAX poller.old.network
             poller.old.table.reading self.old self.new }
+        ensures rows { HandsRows poller.old.table (closing_keys self.old.streams) poller.new.table
+            (closing_keys self.new.streams) }
     {
         // A round that was broken off may have watched more, which no wait is for any more.
         let table = &mut poller.table;

@@ -1,8 +1,9 @@
 //! The network of a run, polled into its table.
 
-ghost use Rattle.std.specs.Prelude.{◌≡◌, nat_le, Option, IfSome, true, false};
+ghost use Rattle.std.specs.Prelude.{◌≡◌, nat_le, Option, IfSome, IfOk, [], true, false};
 ghost use Rattle.std.specs.declared.time.Duration.{Duration};
 ghost use Rattle.daide_io.specs.Network.{Listens, Follows};
+ghost use Rattle.daide_sockets.specs.Rows.{HandsRows, KeepsRows, key_in};
 ghost use Rattle.daide_sockets.specs.Table.{PollsOnce, IsNoTime, WaitsOnce, TakesRow};
 
 use crate::table::SocketTable;
@@ -25,7 +26,9 @@ pub struct Poller<N: Network> {
 
 impl<N: Network> Poller<N> {
     /// Creates the poller of a network, and reads the clock. Fails if its memory is refused.
-    pub fn new(alloc: Global, network: N, table: SocketTable) -> Result<Poller<N>, AllocError> {
+    pub fn new(alloc: Global, network: N, table: SocketTable) -> Result<Poller<N>, AllocError>
+        ensures rows { IfOk result (λ poller. KeepsRows table poller.table) }
+    {
         let news = Vec::with_capacity(alloc, EVENTS)?;
         let mut poller = Poller {
             network,
@@ -42,6 +45,7 @@ impl<N: Network> Poller<N> {
     pub(crate) fn listen(&mut self) -> Option<usize>
         ensures followed { IfSome result (λ key. N.transition self.old.network (Listens key true) self.new.network) }
         ensures row { IfSome result (λ key. TakesRow self.old.table key self.new.table) }
+        ensures rows { HandsRows self.old.table [] self.new.table (key_in result) }
     {
         let key = self.table.take_row()?;
         if !self.network.listen(key) {
@@ -57,6 +61,7 @@ impl<N: Network> Poller<N> {
         ensures followed { IfSome result (λ key.
             N.transition self.old.network (Follows connection.old key true connection.new) self.new.network) }
         ensures row { IfSome result (λ key. TakesRow self.old.table key self.new.table) }
+        ensures rows { HandsRows self.old.table [] self.new.table (key_in result) }
         ensures clock { self.new.table.reading ≡ self.old.table.reading }
     {
         let key = self.table.take_row()?;
@@ -82,6 +87,7 @@ impl<N: Network> Poller<N> {
         ensures looks { nat_le 32 self.old.table.turns ≡ true → (time : Option Duration) × IsNoTime time
             × PollsOnce N.transition time self.old.network self.old.table self.new.network self.new.table }
         ensures rests { nat_le 32 self.old.table.turns ≡ false → self.new ≡ self.old }
+        ensures rows { KeepsRows self.old.table self.new.table }
     {
         if self.table.has_many_turns() {
             self.look();

@@ -11,6 +11,7 @@ ghost use Rattle.daide_buffered_io.specs.Calls.{OnlyPuts};
 ghost use Rattle.daide_buffered_io.specs.Streams.{Transfers, stream_of};
 ghost use Rattle.daide_buffered_io.specs.Taking.{bytes_taken};
 ghost use Rattle.daide_sockets.specs.Lingering.{IsWriting};
+ghost use Rattle.daide_sockets.specs.Rows.{KeepsRows};
 ghost use Rattle.daide_sockets.specs.Sockets.{read_if, due_after};
 ghost use Rattle.daide_sockets.specs.Table.{merged, report_at, without_report};
 ghost use Rattle.daide_sockets.specs.Timers.{BeginsAt, PullsInTime, PutsInTime, FlushesInTime, BeginsInTime, SetsTimers, clock_event, is_got, timers_of};
@@ -229,6 +230,7 @@ impl<'w, S: Drop> SocketPorts<'w, S> {
         ensures no_im { IsNone result.im_due }
         ensures goes_on { result.is_stopped ≡ false }
         ensures timed { (result.bot.timed ≡ bot.entry.timed) × (result.server.timed ≡ server.entry.timed) }
+        ensures keys { (result.bot.key ≡ bot.entry.key) × (result.server.key ≡ server.entry.key) }
     {
         SocketPorts {
             number: 0,
@@ -267,6 +269,7 @@ impl<'w, S: Drop> SocketPorts<'w, S> {
         ensures timed { (result.bot.timed ≡ self.entry.bot.timed) × (result.server.timed ≡ self.entry.server.timed) }
         ensures goes_on { result.is_stopped ≡ self.entry.is_stopped }
         ensures begins { BeginsAt now times (timers_of result) }
+        ensures keys { (result.bot.key ≡ self.entry.bot.key) × (result.server.key ≡ self.entry.server.key) }
     {
         let (time, stall_time) = times;
         let SocketPorts {
@@ -353,6 +356,7 @@ impl<'w, S: Drop> SocketPorts<'w, S> {
     pub fn into_sockets(self) -> (Socket<'w, S>, Socket<'w, S>)
         ensures bot { result.0.stream ≡ self.entry.bot.stream }
         ensures server { result.1.stream ≡ self.entry.server.stream }
+        ensures keys { (result.0.key ≡ self.entry.bot.key) × (result.1.key ≡ self.entry.server.key) }
     {
         let SocketPorts {
             number: _,
@@ -450,6 +454,7 @@ impl<S: Duplex + Drop> SocketPorts<'_, S> {
             self.new.bot.stream.stream }
         ensures server_writes { OnlyPuts S.calls self.old.server.readiness self.old.server.stream.stream self.new.server.readiness
             self.new.server.stream.stream }
+        ensures keys { (self.new.bot.key ≡ self.old.bot.key) × (self.new.server.key ≡ self.old.server.key) }
     {
         self.bot.begin_turn(self.idle.reading, self.held_for_bot);
         self.server
@@ -498,6 +503,8 @@ impl<S: Duplex + Drop> SocketPorts<'_, S> {
         ensures counted { table.old.turns < u64.MAX → table.new.turns ≡ table.old.turns + 1 }
         ensures timers { SetsTimers TurnBegins (timers_of self.old) (timers_of self.new) }
         ensures settles { Settles S.calls TurnBegins (self.old.bot, self.old.server) (self.new.bot, self.new.server) }
+        ensures keys { (self.new.bot.key ≡ self.old.bot.key) × (self.new.server.key ≡ self.old.server.key) }
+        ensures rows { KeepsRows table.old table.new }
     {
         table.note_turn();
         self.count_turn(table.now());

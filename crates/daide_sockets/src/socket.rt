@@ -4,13 +4,14 @@
 //! session, and at most `MOST_HELD` bytes each way of each socket. It works over any stream, and its contracts state the
 //! bytes that this returned and accepted.
 
-ghost use Rattle.std.specs.Prelude.{◌≡◌, ◌<◌, ◌||◌, ◌&&◌, nat_lt, IsNone, IfSome, None, [], min, length, take, true, false};
+ghost use Rattle.std.specs.Prelude.{◌≡◌, ◌<◌, ◌||◌, ◌&&◌, nat_lt, IsNone, IfSome, None, [], option_map, min, length, take, true, false};
 ghost use Rattle.daide_io.specs.Ports.{IsPullWithin, IsPutWithin, pulled_len};
 ghost use Rattle.daide_buffered_io.specs.Buffers.{Passes, ReadsNothing, IsBufferedPull, IsFlushed};
 ghost use Rattle.daide_buffered_io.specs.Calls.{OnlyPuts};
 ghost use Rattle.daide_buffered_io.specs.Taking.{bytes_taken, taken_len};
 ghost use Rattle.daide_sockets.specs.Lingering.{IsWriting, IsWritingOver};
 ghost use Rattle.daide_sockets.specs.Pairing.{IsFresh};
+ghost use Rattle.daide_sockets.specs.Rows.{HandsRows, key_in};
 ghost use Rattle.daide_sockets.specs.Sockets.{has_socket_work, next_deadline};
 ghost use Rattle.daide_sockets.specs.Table.{earlier, merged, report_at, without_report};
 ghost use Rattle.daide_sockets.specs.Timers.{FlushesInTime, BeginsInTime, PutsInTime};
@@ -72,6 +73,7 @@ impl<'w, S: Duplex + Drop> Socket<'w, S> {
     ) -> Option<Socket<'w, S>>
         ensures fresh { IfSome result (λ socket. IsFresh socket.stream) }
         ensures clock { poller.new.table.reading ≡ poller.old.table.reading }
+        ensures rows { HandsRows poller.old.table [] poller.new.table (key_in (option_map (λ socket. socket.key) result)) }
     {
         let mut stream = stream;
         let key = poller.follow(&mut stream)?;
@@ -86,6 +88,7 @@ impl<'w, S: Drop> Socket<'w, S> {
         ensures stream { result.stream ≡ record { stream = stream; read_buffer = []; write_buffer = []; has_failed = false } }
         ensures timed { result.timed ≡ record { is_silent = false; is_stalled = false; ends_stalled = false } }
         ensures stall_time { IsNone result.stall_time }
+        ensures key { result.key ≡ key }
     {
         Socket {
             stream: Buffered::new(stream),
@@ -108,6 +111,7 @@ impl<'w, S: Drop> Socket<'w, S> {
     pub(crate) fn of_connect(self, number: u32) -> Socket<'w, S>
         ensures stream { result.stream ≡ self.entry.stream }
         ensures made_for { result.made_for ≡ number }
+        ensures key { result.key ≡ self.entry.key }
     {
         let mut socket = self;
         socket.made_for = number;
@@ -407,6 +411,7 @@ impl<S: Duplex + Drop> Socket<'_, S> {
         ensures gathering { self.new.is_gathering ≡ self.old.is_gathering }
         ensures in_time { FlushesInTime now self.old self.new }
         ensures writes { OnlyPuts S.calls self.old.readiness self.old.stream.stream self.new.readiness self.new.stream.stream }
+        ensures key { self.new.key ≡ self.old.key }
     {
         if held.is_over() {
             self.flush_at(now);
@@ -425,6 +430,7 @@ impl<S: Duplex + Drop> Socket<'_, S> {
         ensures gathering { self.new.is_gathering ≡ false }
         ensures in_time { BeginsInTime now self.old self.new }
         ensures writes { OnlyPuts S.calls self.old.readiness self.old.stream.stream self.new.readiness self.new.stream.stream }
+        ensures key { self.new.key ≡ self.old.key }
     {
         self.is_gathering = false;
         self.tries_again = false;

@@ -17,6 +17,7 @@ ghost use Rattle.daide_sockets.specs.Capacity.{capacity_after};
 ghost use Rattle.daide_sockets.specs.Lines.{milliseconds_between};
 ghost use Rattle.daide_sockets.specs.Pairing.{ClosesBothAt};
 ghost use Rattle.daide_sockets.specs.Present.{position_of, time_in, without_at};
+ghost use Rattle.daide_sockets.specs.Rows.{AreRowsOf, HandsRows, control_keys, keys_of_run};
 ghost use Rattle.daide_sockets.specs.Scheduling.{RunEvolves, run_state};
 ghost use Rattle.daide_sockets.specs.Sockets.{due_after};
 ghost use Rattle.daide_sockets.specs.Table.{Table, watching, IsNoTime, PollsOnce};
@@ -90,6 +91,11 @@ fn idle_time_of(seconds: u32) -> Option<Duration>
 /// (`awaited`), so it does not block while an accept is due. A bot is accepted only if it may come by the settings, beside
 /// the hosts of those that are there (`allowed`). A bot that comes is added to those, and the end of its session removes it
 /// (`retire` and `let_go`: `hosts`).
+///
+/// Each call says which rows of the table it takes and frees, by the keys of the sockets that have one (`HandsAlong`). An
+/// accepted bot gets a row, and so does its connect. Ports that are ready have these two, and those of ports that are retired
+/// are the closing sockets' then. A socket that is closed leaves its row free, and so does the listener. A run begins with
+/// those of its listeners (`new`: `rows`). So over a run no row leaks (`no_row_leaks`).
 ///
 /// No call changes the timeouts of the run, which are those of the settings (`new`: `idle_time`, `stall_time`). The ports of
 /// a connect begin with them, at the table's reading of the clock (`Schedules`).
@@ -174,6 +180,8 @@ impl<'w, N: Network, E: Write + Drop> Sockets<'w, N, E> {
         ensures none_present { IfSome result (λ sockets. (sockets.present.numbers.items ≡ [])
             × (sockets.present.hosts.items ≡ []) × (sockets.present.addresses.items ≡ [])
             × (sockets.present.times.items ≡ [])) }
+        ensures rows { ground.entry.2.rows ≡ [] → IfSome result (λ sockets. AreRowsOf sockets.poller.table
+            (keys_of_run sockets.acceptor (control_keys sockets.control) sockets.arrivals.items sockets.closings.streams)) }
     {
         let (network, servers, table, pool) = ground;
         let Ok(mut poller) = Poller::new(alloc, network, table) else {
@@ -282,6 +290,9 @@ impl<'w, N: Network, E: Write + Drop> Sockets<'w, N, E> {
         ensures clock { self.new.poller.table.reading ≡ self.old.poller.table.reading }
         ensures control { self.new.control ≡ self.old.control }
         ensures times { (self.new.idle_time ≡ self.old.idle_time) × (self.new.stall_time ≡ self.old.stall_time) }
+        ensures rows { HandsRows self.old.poller.table (keys_of_run self.old.acceptor (control_keys self.old.control)
+            self.old.arrivals.items self.old.closings.streams) self.new.poller.table (keys_of_run self.new.acceptor
+            (control_keys self.new.control) self.new.arrivals.items self.new.closings.streams) }
     {
         self.acceptor.begin_round(self.poller.table.now());
         self.closings.advance(&mut self.poller.table);
@@ -341,6 +352,9 @@ impl<'w, N: Network, E: Write + Drop> Sockets<'w, N, E> {
             self.old.poller.network self.old.poller.table.reading self.old.closings self.new.closings }
         ensures came { self.new.acceptor.came ≡ self.old.acceptor.came }
         ensures arrivals { self.new.arrivals.items ≡ self.old.arrivals.items }
+        ensures rows { HandsRows self.old.poller.table (keys_of_run self.old.acceptor (control_keys self.old.control)
+            self.old.arrivals.items self.old.closings.streams) self.new.poller.table (keys_of_run self.new.acceptor
+            (control_keys self.new.control) self.new.arrivals.items self.new.closings.streams) }
     {
         self.closings.finish(&mut self.poller);
     }
@@ -349,6 +363,9 @@ impl<'w, N: Network, E: Write + Drop> Sockets<'w, N, E> {
     /// (`others_watched`). It only polls if something may be done at once for one of them.
     fn rest(&mut self)
         ensures rest { self.new ≡ record self.old { poller = self.new.poller } }
+        ensures rows { HandsRows self.old.poller.table (keys_of_run self.old.acceptor (control_keys self.old.control)
+            self.old.arrivals.items self.old.closings.streams) self.new.poller.table (keys_of_run self.new.acceptor
+            (control_keys self.new.control) self.new.arrivals.items self.new.closings.streams) }
         ensures polls { RestsOnce N.transition (others_watched self.old.poller.table
             (listener_watched self.old.poller.table self.old.acceptor) self.old.arrivals.items
             self.old.closings.streams) self.old.poller.network self.old.poller.table self.new.poller.network
@@ -363,18 +380,18 @@ impl<'w, N: Network, E: Write + Drop> Sockets<'w, N, E> {
 impl<'w, N: Network, E: Write + Drop> System<SocketPorts<'w, N::Connection>> for Sockets<'w, N, E> {
     ghost transition = { λ old answer new. RunEvolves N.transition N.Connection.to_give N.Connection.taken N.Connection.calls
         (λ (ports : PortsOf N.Connection). ports)
-        (run_state (old.poller.network, old.poller.table) (old.idle_time, old.stall_time) old.acceptor
+        (run_state (old.poller.network, old.poller.table) (old.idle_time, old.stall_time) old.acceptor old.control
         (vec_capacity old.arrivals) old.arrivals.items old.closings) answer
-        (run_state (new.poller.network, new.poller.table) (new.idle_time, new.stall_time) new.acceptor
+        (run_state (new.poller.network, new.poller.table) (new.idle_time, new.stall_time) new.acceptor new.control
         (vec_capacity new.arrivals) new.arrivals.items new.closings) };
 
     fn begin_round(&mut self) -> Orders
         ensures transition { RunEvolves N.transition N.Connection.to_give N.Connection.taken N.Connection.calls
             (λ (ports : PortsOf N.Connection). ports)
             (run_state (self.old.poller.network, self.old.poller.table) (self.old.idle_time, self.old.stall_time) self.old.acceptor
-            (vec_capacity self.old.arrivals) self.old.arrivals.items self.old.closings) (Begins result)
+            self.old.control (vec_capacity self.old.arrivals) self.old.arrivals.items self.old.closings) (Begins result)
             (run_state (self.new.poller.network, self.new.poller.table) (self.new.idle_time, self.new.stall_time) self.new.acceptor
-            (vec_capacity self.new.arrivals) self.new.arrivals.items self.new.closings) }
+            self.new.control (vec_capacity self.new.arrivals) self.new.arrivals.items self.new.closings) }
         ensures orders { result.stops_accepting ≡ self.new.control.stops_accepting }
         ensures kept { self.old.control.stops_accepting ≡ true → self.new.control.stops_accepting ≡ true }
         ensures now_kept { self.old.control.stops_now ≡ true → self.new.control.stops_now ≡ true }
@@ -389,9 +406,9 @@ impl<'w, N: Network, E: Write + Drop> System<SocketPorts<'w, N::Connection>> for
         ensures transition { RunEvolves N.transition N.Connection.to_give N.Connection.taken N.Connection.calls
             (λ (ports : PortsOf N.Connection). ports)
             (run_state (self.old.poller.network, self.old.poller.table) (self.old.idle_time, self.old.stall_time) self.old.acceptor
-            (vec_capacity self.old.arrivals) self.old.arrivals.items self.old.closings) (Shows ports.now status)
+            self.old.control (vec_capacity self.old.arrivals) self.old.arrivals.items self.old.closings) (Shows ports.now status)
             (run_state (self.new.poller.network, self.new.poller.table) (self.new.idle_time, self.new.stall_time) self.new.acceptor
-            (vec_capacity self.new.arrivals) self.new.arrivals.items self.new.closings) }
+            self.new.control (vec_capacity self.new.arrivals) self.new.arrivals.items self.new.closings) }
         ensures shows { IsSome (slice_get self.old.present.addresses.items
             (position_of ports.now.number self.old.present.numbers.items)) → (row : SessionRow)
             × IsSessionRow self.old.poller.table.reading ports.now.number
@@ -411,9 +428,9 @@ impl<'w, N: Network, E: Write + Drop> System<SocketPorts<'w, N::Connection>> for
             RunEvolves N.transition N.Connection.to_give N.Connection.taken N.Connection.calls
             (λ (ports : PortsOf N.Connection). ports)
             (run_state (self.old.poller.network, self.old.poller.table) (self.old.idle_time, self.old.stall_time) self.old.acceptor
-            (vec_capacity self.old.arrivals) self.old.arrivals.items self.old.closings) (ReportsNews ports result)
+            self.old.control (vec_capacity self.old.arrivals) self.old.arrivals.items self.old.closings) (ReportsNews ports result)
             (run_state (self.new.poller.network, self.new.poller.table) (self.new.idle_time, self.new.stall_time) self.new.acceptor
-            (vec_capacity self.new.arrivals) self.new.arrivals.items self.new.closings) }
+            self.new.control (vec_capacity self.new.arrivals) self.new.arrivals.items self.new.closings) }
         ensures news { (ports : PortsOf N.Connection) → interest.now ≡ interest_of ports →
             result ≡ (is_newly_stopped self.old.control.stops_now ports.is_stopped
             || has_session_news self.new.poller.table (timers_of ports).sockets) }
@@ -435,9 +452,9 @@ impl<'w, N: Network, E: Write + Drop> System<SocketPorts<'w, N::Connection>> for
         ensures system { RunEvolves N.transition N.Connection.to_give N.Connection.taken N.Connection.calls
             (λ (ports : PortsOf N.Connection). ports)
             (run_state (self.old.poller.network, self.old.poller.table) (self.old.idle_time, self.old.stall_time) self.old.acceptor
-            (vec_capacity self.old.arrivals) self.old.arrivals.items self.old.closings) (BeginsTurn ports.old ports.new)
+            self.old.control (vec_capacity self.old.arrivals) self.old.arrivals.items self.old.closings) (BeginsTurn ports.old ports.new)
             (run_state (self.new.poller.network, self.new.poller.table) (self.new.idle_time, self.new.stall_time) self.new.acceptor
-            (vec_capacity self.new.arrivals) self.new.arrivals.items self.new.closings) }
+            self.new.control (vec_capacity self.new.arrivals) self.new.arrivals.items self.new.closings) }
         ensures silent { (ports.new.bot.timed.is_silent ≡ ports.old.bot.timed.is_silent)
             × (ports.new.server.timed.is_silent ≡ ports.old.server.timed.is_silent) }
         ensures gathering { (ports.new.bot.is_gathering ≡ false) × (ports.new.server.is_gathering ≡ false) }
@@ -463,9 +480,9 @@ impl<'w, N: Network, E: Write + Drop> System<SocketPorts<'w, N::Connection>> for
             RunEvolves N.transition N.Connection.to_give N.Connection.taken N.Connection.calls
             (λ (ports : PortsOf N.Connection). ports)
             (run_state (self.old.poller.network, self.old.poller.table) (self.old.idle_time, self.old.stall_time) self.old.acceptor
-            (vec_capacity self.old.arrivals) self.old.arrivals.items self.old.closings) (Watches ports)
+            self.old.control (vec_capacity self.old.arrivals) self.old.arrivals.items self.old.closings) (Watches ports)
             (run_state (self.new.poller.network, self.new.poller.table) (self.new.idle_time, self.new.stall_time) self.new.acceptor
-            (vec_capacity self.new.arrivals) self.new.arrivals.items self.new.closings) }
+            self.new.control (vec_capacity self.new.arrivals) self.new.arrivals.items self.new.closings) }
         ensures watched { self.new.poller.table ≡ watching self.old.poller.table
             (may_go_on_for self.old.poller.table interest.now) interest.now.due }
         ensures network { self.new.poller.network ≡ self.old.poller.network }
@@ -499,14 +516,16 @@ impl<'w, N: Network, E: Write + Drop> System<SocketPorts<'w, N::Connection>> for
         ensures transition { RunEvolves N.transition N.Connection.to_give N.Connection.taken N.Connection.calls
             (λ (ports : PortsOf N.Connection). ports)
             (run_state (self.old.poller.network, self.old.poller.table) (self.old.idle_time, self.old.stall_time) self.old.acceptor
-            (vec_capacity self.old.arrivals) self.old.arrivals.items self.old.closings) (Retires ports.entry end)
+            self.old.control (vec_capacity self.old.arrivals) self.old.arrivals.items self.old.closings) (Retires ports.entry end)
             (run_state (self.new.poller.network, self.new.poller.table) (self.new.idle_time, self.new.stall_time) self.new.acceptor
-            (vec_capacity self.new.arrivals) self.new.arrivals.items self.new.closings) }
+            self.new.control (vec_capacity self.new.arrivals) self.new.arrivals.items self.new.closings) }
         ensures closes { ClosesBothAt N.Connection.to_give N.Connection.taken N.Connection.calls
             self.old.poller.table.reading self.old.closings (record {
               number = ports.entry.number;
               bot = ports.entry.bot.stream;
               server = ports.entry.server.stream;
+              bot_key = ports.entry.bot.key;
+              server_key = ports.entry.server.key;
             }) self.new.closings }
         ensures numbers { self.new.present.numbers.items
             ≡ without_at (position_of ports.entry.number self.old.present.numbers.items) self.old.present.numbers.items }
@@ -537,9 +556,9 @@ impl<'w, N: Network, E: Write + Drop> System<SocketPorts<'w, N::Connection>> for
         ensures transition { RunEvolves N.transition N.Connection.to_give N.Connection.taken N.Connection.calls
             (λ (ports : PortsOf N.Connection). ports)
             (run_state (self.old.poller.network, self.old.poller.table) (self.old.idle_time, self.old.stall_time) self.old.acceptor
-            (vec_capacity self.old.arrivals) self.old.arrivals.items self.old.closings) Waits
+            self.old.control (vec_capacity self.old.arrivals) self.old.arrivals.items self.old.closings) Waits
             (run_state (self.new.poller.network, self.new.poller.table) (self.new.idle_time, self.new.stall_time) self.new.acceptor
-            (vec_capacity self.new.arrivals) self.new.arrivals.items self.new.closings) }
+            self.new.control (vec_capacity self.new.arrivals) self.new.arrivals.items self.new.closings) }
         ensures polls { RestsOnce N.transition (others_watched self.old.poller.table
             (listener_watched self.old.poller.table self.old.acceptor) self.old.arrivals.items
             self.old.closings.streams) self.old.poller.network self.old.poller.table self.new.poller.network

@@ -1,13 +1,14 @@
 //! The bots that come to a run: accepts, connects to the server, and those that are given up.
 
 ghost use Rattle.std.specs.Duration.{as_nanos};
-ghost use Rattle.std.specs.Prelude.{◌≡◌, ◌+◌, ◌<◌, IfSome, IfNone, None, Some, true, length, not, vec_capacity};
+ghost use Rattle.std.specs.Prelude.{◌≡◌, ℕ, ◌+◌, ◌<◌, ◌++◌, [], ◌∷◌, IfSome, IfNone, None, Some, true, length, not, vec_capacity};
 ghost use Rattle.daide_io.specs.System.{Accepts};
 ghost use Rattle.daide_buffered_io.specs.Buffers.{Buffer};
 ghost use Rattle.daide_sockets.specs.Accepting.{is_accept_due, MakesAccept, GivesConnection};
 ghost use Rattle.daide_sockets.specs.declared.ports.SocketPorts.{SocketPorts as PortsOf};
 ghost use Rattle.daide_sockets.specs.Pairing.{FirstArrivalEvolves, ClosesAt, Comes, ComesWith};
 ghost use Rattle.daide_sockets.specs.Present.{IsAllowed, IsPresentWith, position_of, without_at};
+ghost use Rattle.daide_sockets.specs.Rows.{HandsRows, closing_keys, connected_keys, control_keys, keys_of_run};
 ghost use Rattle.daide_sockets.specs.Scheduling.{RunEvolves, run_state};
 ghost use Rattle.daide_sockets.specs.Timers.{BeginsAt, timers_of};
 
@@ -44,7 +45,7 @@ impl<'w, N: Network, E: Write + Drop> Sockets<'w, N, E> {
     /// Ends the session of a bot whose server was unreachable, and starts the close of its socket.
     fn let_go(&mut self, left: Unreached<'w, N::Connection>)
         ensures closes { ClosesAt N.Connection.to_give N.Connection.taken N.Connection.calls
-            self.old.poller.table.reading self.old.closings left.entry.bot.stream self.new.closings }
+            self.old.poller.table.reading self.old.closings left.entry.bot.key left.entry.bot.stream self.new.closings }
         ensures came { self.new.acceptor.came ≡ self.old.acceptor.came }
         ensures arrivals { self.new.arrivals.items ≡ self.old.arrivals.items }
         ensures numbers { self.new.present.numbers.items
@@ -56,6 +57,9 @@ impl<'w, N: Network, E: Write + Drop> Sockets<'w, N, E> {
         ensures clock { self.new.poller.table.reading ≡ self.old.poller.table.reading }
         ensures timeouts { (self.new.idle_time ≡ self.old.idle_time) × (self.new.stall_time ≡ self.old.stall_time) }
         ensures acceptor { self.new.acceptor ≡ self.old.acceptor }
+        ensures control { self.new.control ≡ self.old.control }
+        ensures rows { HandsRows self.old.poller.table (left.entry.bot.key ∷ closing_keys self.old.closings.streams)
+            self.new.poller.table (closing_keys self.new.closings.streams) }
         ensures times { self.new.present.times.items
             ≡ without_at (position_of left.entry.number self.old.present.numbers.items) self.old.present.times.items }
     {
@@ -79,16 +83,28 @@ impl<'w, N: Network, E: Write + Drop> Sockets<'w, N, E> {
         ensures given_up { self.old.control.stops_now ≡ true → result ≡ Connect.Failed }
         ensures evolves { FirstArrivalEvolves N.Connection.to_give N.Connection.taken
             N.Connection.calls
-            (λ ports. record { number = ports.number; bot = ports.bot.stream; server = ports.server.stream })
+            (λ ports. record {
+              number = ports.number;
+              bot = ports.bot.stream;
+              server = ports.server.stream;
+              bot_key = ports.bot.key;
+              server_key = ports.server.key;
+            })
             (record { came = self.old.acceptor.came; arrivals = self.old.arrivals.items; closing = self.old.closings })
             result (record { came = self.new.acceptor.came; arrivals = self.new.arrivals.items; closing = self.new.closings }) }
-        ensures closes { result ≡ Connect.Failed → (bot : Buffer N.Connection) × ClosesAt N.Connection.to_give
-            N.Connection.taken N.Connection.calls self.old.poller.table.reading self.old.closings bot self.new.closings }
+        ensures closes { result ≡ Connect.Failed → (key : ℕ) × (bot : Buffer N.Connection)
+            × ClosesAt N.Connection.to_give N.Connection.taken N.Connection.calls self.old.poller.table.reading
+            self.old.closings key bot self.new.closings }
         ensures begins { (ports : PortsOf N.Connection) → result ≡ Connect.Ready ports →
             BeginsAt self.old.poller.table.reading (self.old.idle_time, self.old.stall_time) (timers_of ports) }
         ensures clock { self.new.poller.table.reading ≡ self.old.poller.table.reading }
         ensures times { (self.new.idle_time ≡ self.old.idle_time) × (self.new.stall_time ≡ self.old.stall_time) }
         ensures acceptor { self.new.acceptor ≡ self.old.acceptor }
+        ensures control { self.new.control ≡ self.old.control }
+        ensures rows { HandsRows self.old.poller.table (keys_of_run self.old.acceptor (control_keys self.old.control)
+            self.old.arrivals.items self.old.closings.streams) self.new.poller.table (connected_keys (λ ports.
+            ports.bot.key ∷ ports.server.key ∷ []) result ++ keys_of_run self.new.acceptor (control_keys self.new.control)
+            self.new.arrivals.items self.new.closings.streams) }
     {
         let mut arrival = self.arrivals.remove(0);
         let is_given_up = self.control.stops_now();
@@ -158,6 +174,9 @@ impl<'w, N: Network, E: Write + Drop> Sockets<'w, N, E> {
         ensures present { IfSome result (λ began. IsPresentWith self.old.poller.table.reading self.old.present began
             self.new.present) }
         ensures absent { IfNone result (self.new.present ≡ self.old.present) }
+        ensures rows { HandsRows self.old.poller.table (keys_of_run self.old.acceptor (control_keys self.old.control)
+            self.old.arrivals.items self.old.closings.streams) self.new.poller.table (keys_of_run self.new.acceptor
+            (control_keys self.new.control) self.new.arrivals.items self.new.closings.streams) }
         ensures timeouts { (self.new.idle_time ≡ self.old.idle_time) × (self.new.stall_time ≡ self.old.stall_time) }
     {
         self.acceptor.await_bots();
@@ -191,9 +210,9 @@ impl<'w, N: Network, E: Write + Drop> Sockets<'w, N, E> {
         ensures transition { RunEvolves N.transition N.Connection.to_give N.Connection.taken N.Connection.calls
             (λ (ports : PortsOf N.Connection). ports)
             (run_state (self.old.poller.network, self.old.poller.table) (self.old.idle_time, self.old.stall_time) self.old.acceptor
-            (vec_capacity self.old.arrivals) self.old.arrivals.items self.old.closings) (Accepts result)
+            self.old.control (vec_capacity self.old.arrivals) self.old.arrivals.items self.old.closings) (Accepts result)
             (run_state (self.new.poller.network, self.new.poller.table) (self.new.idle_time, self.new.stall_time) self.new.acceptor
-            (vec_capacity self.new.arrivals) self.new.arrivals.items self.new.closings) }
+            self.new.control (vec_capacity self.new.arrivals) self.new.arrivals.items self.new.closings) }
     {
         let Some(began) = self.accept_next() else {
             return false;

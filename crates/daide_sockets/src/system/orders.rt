@@ -6,6 +6,7 @@ ghost use Rattle.daide_status.specs.declared.snapshot.RunStatus.{RunStatus};
 ghost use Rattle.daide_sockets.specs.Accepting.{is_accept_due};
 ghost use Rattle.daide_sockets.specs.ControlSlots.{BeginsRound, is_newly_stopped, watching_control};
 ghost use Rattle.daide_sockets.specs.Snapshot.{counted, seconds_between, or_zero, IsRunStatus};
+ghost use Rattle.daide_sockets.specs.Rows.{HandsRows, control_keys, keys_of_run};
 ghost use Rattle.daide_sockets.specs.Table.{Table};
 
 use super::Sockets;
@@ -84,6 +85,8 @@ impl<'w, N: Network, E: Write + Drop> Sockets<'w, N, E> {
         ensures kept { self.old.control.stops_accepting ≡ true → self.new.control.stops_accepting ≡ true }
         ensures now_kept { self.old.control.stops_now ≡ true → self.new.control.stops_now ≡ true }
         ensures same { self.new ≡ record self.old { poller = self.new.poller; control = self.new.control } }
+        ensures rows { HandsRows self.old.poller.table (control_keys self.old.control) self.new.poller.table
+            (control_keys self.new.control) }
     {
         if self.control.is_at_rest(&self.poller.table) {
             return self.control.orders_at_rest();
@@ -122,6 +125,9 @@ impl<'w, N: Network, E: Write + Drop> Sockets<'w, N, E> {
             × (result.stops_accepting ≡ true → self.old.control.stops_accepting ≡ false → self.new.acceptor.is_closed ≡ true) }
         ensures came { self.new.acceptor.came ≡ self.old.acceptor.came }
         ensures clock { self.new.poller.table.reading ≡ self.old.poller.table.reading }
+        ensures rows { HandsRows self.old.poller.table (keys_of_run self.old.acceptor (control_keys self.old.control)
+            self.old.arrivals.items self.old.closings.streams) self.new.poller.table (keys_of_run self.new.acceptor
+            (control_keys self.new.control) self.new.arrivals.items self.new.closings.streams) }
         ensures same { self.new ≡ record self.old {
           poller = self.new.poller;
           acceptor = self.new.acceptor;

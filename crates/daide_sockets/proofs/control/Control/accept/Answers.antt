@@ -1,7 +1,11 @@
-use Rattle.std.proofs.Common.{◌≡◌, ℕ, Option, sym, subst, inr, rules}
+use Rattle.std.proofs.Common.{◌≡◌, ℕ, Option, [], ◌∷◌, ap, sym, ◌∙◌, subst, inr, rules}
+use Rattle.daide_sockets.specs.ControlSlots.{places}
+use Rattle.daide_sockets.specs.Rows.{control_listener_keys}
+use Rattle.daide_sockets.specs.declared.control.ControlListener.{ControlListener}
 use Rattle.std.specs.Duration.{as_nanos}
 use Rattle.std.specs.declared.time.Instant.{Instant}
 use Rattle.daide_sockets.specs.Times.{IsAfter}
+use Rattle.daide_sockets.proofs.ControlRowLemmas.{comes_to_place}
 use Rattle.daide_sockets.proofs.control.Control.accept.Goals as goal
 
 pub returns-clause-accepts : goal.returns-clause-accepts
@@ -22,3 +26,12 @@ returns-clause-accepts g c =
       },
       c.put.ensures,
     )
+
+pub returns-clause-rows : goal.returns-clause-rows
+returns-clause-rows g c =
+    comes_to_place {S = g.row.S.Denot} c.args.poller.now.table c.accept.new.poller.table c.in-Some-accept.key
+    (control_listener_keys c.args.self.now.listener) (c.accept.new.self.key ∷ []) (places c.args.self.now.slots)
+    (places c.put.new.self) c.new.result (rw c.in-Some-accept.is at c.accept.ensures.rows) c.new.ensures.key (search rules)
+    c.put.ensures
+    (ap (λ (n : ℕ). n ∷ []) c.accept.ensures.key
+    ∙ sym (ap (λ (l : Option ControlListener). control_listener_keys l) c.in-Some.is))

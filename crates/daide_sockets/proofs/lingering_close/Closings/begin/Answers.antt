@@ -1,7 +1,9 @@
 use Rattle.std.proofs.Common.{Option, ap, subst, sym, ◌∙◌}
 use Rattle.std.specs.declared.time.Duration.{Duration}
 use Rattle.daide_sockets.specs.Lingering.{ClosingStream, ClosingList, IsClosingBound, WritesOut, begins_closing}
+use Rattle.daide_sockets.specs.Rows.{HandsRows, closing_keys}
 use Rattle.daide_sockets.proofs.LingeringLemmas.{room_time, appended}
+use Rattle.daide_sockets.proofs.RowLemmas.{begins_held}
 use Rattle.daide_sockets.proofs.lingering_close.Closings.begin.Goals as goal
 
 pub returns-clause-closes : goal.returns-clause-closes
@@ -13,7 +15,6 @@ returns-clause-closes g c =
     ∙ room_time g.S.Duplex.to_give g.S.Duplex.taken g.S.Duplex.calls c.now-now.result _ in
     rw (sym c.now-now.ensures)
     (record {
-      key = c.args.socket.key;
       known = c.args.socket.readiness;
       bound = bound;
       bounded = subst (λ (t : Option Duration). IsClosingBound c.now-now.result t bound) time c.new-closing.ensures.bound;
@@ -25,3 +26,12 @@ returns-clause-closes g c =
           c.end_writing.ensures.writes;
       now = appended g.S.Duplex.to_give g.S.Duplex.taken g.S.Duplex.calls c.now-now.result _ _ last _ room c.push.ensures;
     })
+
+pub returns-clause-rows : goal.returns-clause-rows
+returns-clause-rows g c =
+    rw c.push.ensures
+    (begins_held _ _ c.args.self.now.streams _ c.end_writing.new.self c.args.socket.key
+    (c.end_writing.ensures.writes.key ∙ c.end_writing.ensures.writes.tries.key
+    ∙ ap (λ (o : ClosingStream g.row.S.Denot). o.key) c.new-closing.ensures.begins)
+    (subst (λ (l : ClosingList g.row.S.Denot). HandsRows c.args.table.now (closing_keys c.args.self.now.streams) c.make_room.new.table
+    (closing_keys l.streams)) (sym c.self.view_is) c.make_room.ensures.rows))

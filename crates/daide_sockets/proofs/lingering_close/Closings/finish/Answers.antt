@@ -2,10 +2,11 @@ use Rattle.std.proofs.Common.{◌+◌, ap, arith, refl, inl, inr}
 use Rattle.daide_sockets.specs.Table.{Table}
 use Rattle.daide_sockets.proofs.LingeringLemmas.{one_round_more}
 use Rattle.daide_sockets.proofs.FinishingLemmas.{one_wait_more}
+use Rattle.daide_sockets.proofs.RowLemmas.{handed_both, keeps_rows, none_handed, rests_keep}
 use Rattle.daide_sockets.proofs.lingering_close.Closings.finish.Goals as goal
 
 pub loop-round-init : goal.loop-round-init
-loop-round-init g c = record { rounds = refl; readings = refl }
+loop-round-init g c = record { rounds = refl; readings = refl; rows = none_handed _ _ _ (λ key. refl) }
 
 pub returns-then-is_empty-clause-rounds : goal.returns-then-is_empty-clause-rounds
 returns-then-is_empty-clause-rounds g c = (
@@ -44,6 +45,18 @@ returns-clause-readings g c =
       ends = inr (omega (arith, past, few), refl);
     }
 
+pub returns-then-is_empty-clause-rows : goal.returns-then-is_empty-clause-rows
+returns-then-is_empty-clause-rows g c =
+    handed_both _ _ _ _ _ _ (none_handed c.args.poller.now.table c.unwatch.new.self _
+    (keeps_rows c.args.poller.now.table c.unwatch.new.self (ap (λ (t : Table). t.rows) c.unwatch.ensures)))
+    (handed_both _ _ _ _ _ _ c.loop-round.invariant.rows c.advance.ensures.rows)
+
+pub returns-clause-rows : goal.returns-clause-rows
+returns-clause-rows g c =
+    handed_both _ _ _ _ _ _ (none_handed c.args.poller.now.table c.unwatch.new.self _
+    (keeps_rows c.args.poller.now.table c.unwatch.new.self (ap (λ (t : Table). t.rows) c.unwatch.ensures)))
+    c.loop-round.invariant.rows
+
 pub loop-round-preserved : goal.loop-round-preserved
 loop-round-preserved g c = record {
   rounds = one_round_more g.S.Duplex.to_give g.S.Duplex.taken g.S.Duplex.calls _ _ _ _ c.loop-round.invariant.rounds
@@ -56,4 +69,7 @@ loop-round-preserved g c = record {
         advances = c.advance.ensures.looks;
         rests = c.rest.ensures;
       });
+  rows = handed_both _ _ _ _ _ _ c.loop-round.invariant.rows
+      (handed_both _ _ _ _ _ _ c.advance.ensures.rows
+      (none_handed _ _ _ (rests_keep g.N.Network.transition _ _ _ _ _ c.rest.ensures)));
 }

@@ -1,5 +1,6 @@
 use Rattle.daide_sockets.specs.Finishing.{FinishesFor}
 use Rattle.daide_sockets.specs.Lingering.{GoOnFor}
+use Rattle.daide_sockets.specs.Rows.{HandsRows, closing_keys}
 use Rattle.daide_sockets.proofs.lingering_close.Closings.finish.Given as goal
 
 -- the rounds so far, with a wait after each
@@ -9,4 +10,5 @@ invariant-loop-round g l = record {
   readings : FinishesFor g.N.Network.transition g.S.Duplex.to_give g.S.Duplex.taken g.S.Duplex.calls l._round
       (record { network = l.initial.poller.network; table = l.initial.poller.table; closing = l.initial.self })
       (record { network = l.poller.network; table = l.poller.table; closing = l.self });
+  rows : HandsRows l.initial.poller.table (closing_keys l.initial.self.streams) l.poller.table (closing_keys l.self.streams);
 }

@@ -1,4 +1,8 @@
-use Rattle.std.proofs.Common.{rules}
+use Rattle.std.proofs.Common.{[], ◌∷◌, ◌∙◌, ap, rules}
+use Rattle.daide_sockets.specs.declared.admission.Acceptor.{Acceptor}
+use Rattle.daide_sockets.specs.Rows.{listener_keys}
+use Rattle.daide_sockets.proofs.RowLemmas.{handed_both}
+use Rattle.daide_sockets.proofs.RunRowLemmas.{arrival_hands, none_come}
 use Rattle.daide_sockets.proofs.system.Sockets.accept_next.Goals as goal
 
 pub returns-clause-comes : goal.returns-clause-comes
@@ -18,3 +22,19 @@ returns-clause-times g c = (c.new-arrival.result, search rules, search rules, se
 pub returns-in-Err-clause-left : goal.returns-in-Err-clause-left
 returns-in-Err-clause-left g c = λ room few due.
     c.in-Err.ensures.left (rw c.await_bots.ensures few) (rw c.tell_of_declined.ensures at due)
+
+pub returns-in-Err-clause-rows : goal.returns-in-Err-clause-rows
+returns-in-Err-clause-rows g c =
+    rw c.tell_of_declined.ensures
+    (none_come _ _ c.args.self.now.acceptor c.next_bot-next.new.self _ _ _ (c.next_bot-next.ensures.row ∙ ap (λ (a : Acceptor). listener_keys a) c.await_bots.ensures)
+    (rw c.in-Err.is at c.next_bot-next.ensures.rows))
+
+pub returns-clause-rows : goal.returns-clause-rows
+returns-clause-rows g c =
+    arrival_hands _ _ c.args.self.now.acceptor c.next_bot-next.new.self _ _ _ _ c.new-arrival.result
+    (c.next_bot-next.ensures.row ∙ ap (λ (a : Acceptor). listener_keys a) c.await_bots.ensures) (search rules)
+    (handed_both _ _ _ [] (c.in-Ok.next.1.key ∷ []) _ (rw c.in-Ok.is at c.next_bot-next.ensures.rows) c.new-arrival.ensures.rows)
+
+pub returns-clause-made : goal.returns-clause-made
+returns-clause-made g c = λ room few due.
+    c.next_bot-next.ensures.made (rw c.await_bots.ensures due) (rw c.await_bots.ensures few)

@@ -1,6 +1,7 @@
 use Rattle.std.proofs.Common.{◌≡◌, List, ◌∷◌, refl, sym, ap, ◌∙◌, rules}
 use Rattle.daide_sockets.specs.Pairing.{Arriving}
 use Rattle.daide_sockets.proofs.PairingLemmas.{first_removed}
+use Rattle.daide_sockets.proofs.RunRowLemmas.{first_closes, first_joins, first_stays}
 use Rattle.daide_sockets.proofs.system.Sockets.look_at_first.Goals as goal
 
 pub returns-in-Ok-clause-evolves : goal.returns-in-Ok-clause-evolves
@@ -35,8 +36,35 @@ returns-then-is_given_up-clause-evolves g c = (c.remove-arrival.result, search r
 
 pub returns-then-is_given_up-clause-closes : goal.returns-then-is_given_up-clause-closes
 returns-then-is_given_up-clause-closes g c =
-    λ e. (c.give_up-left.result.bot.stream, rw (sym c.give_up-left.ensures.clock) c.let_go.ensures.closes)
+    λ e. (c.give_up-left.result.bot.key, c.give_up-left.result.bot.stream, rw (sym c.give_up-left.ensures.clock) c.let_go.ensures.closes)
 
 pub returns-in-Err-join-clause-closes : goal.returns-in-Err-join-clause-closes
 returns-in-Err-join-clause-closes g c =
-    λ e. (c.in-Err-join.left.bot.stream, rw (sym c.advances.ensures.clock) c.let_go-in-Err-join.ensures.closes)
+    λ e. (c.in-Err-join.left.bot.key, c.in-Err-join.left.bot.stream, rw (sym c.advances.ensures.clock) c.let_go-in-Err-join.ensures.closes)
+
+pub returns-then-is_given_up-clause-rows : goal.returns-then-is_given_up-clause-rows
+returns-then-is_given_up-clause-rows g c =
+    rw (c.let_go.ensures.acceptor, c.let_go.ensures.control, c.let_go.ensures.arrivals)
+    (first_closes _ c.args.self.now.acceptor _ _ _ c.remove-arrival.result
+    (first_removed _ _ _ c.requires c.remove-arrival.ensures.value c.remove-arrival.ensures.items) _ _ _ _ _ _ refl
+    c.give_up-left.ensures.rows c.let_go.ensures.rows)
+
+pub returns-in-Ok-clause-rows : goal.returns-in-Ok-clause-rows
+returns-in-Ok-clause-rows g c =
+    first_stays _ c.args.self.now.acceptor _ _ _ c.remove-arrival.result
+    (first_removed _ _ _ c.requires c.remove-arrival.ensures.value c.remove-arrival.ensures.items) _ _ _ c.advances.new.self
+    (search rules) c.advances.ensures.rows
+
+pub returns-in-Ok-join-clause-rows : goal.returns-in-Ok-join-clause-rows
+returns-in-Ok-join-clause-rows g c =
+    rw c.tell_of_server.ensures
+    (first_joins _ c.args.self.now.acceptor _ _ _ c.remove-arrival.result
+    (first_removed _ _ _ c.requires c.remove-arrival.ensures.value c.remove-arrival.ensures.items) _ _ _ _
+    (rw c.in-Ok-join.is at c.join.ensures.keys) c.advances.ensures.rows)
+
+pub returns-in-Err-join-clause-rows : goal.returns-in-Err-join-clause-rows
+returns-in-Err-join-clause-rows g c =
+    rw (c.let_go-in-Err-join.ensures.acceptor, c.let_go-in-Err-join.ensures.control, c.let_go-in-Err-join.ensures.arrivals)
+    (first_closes _ c.args.self.now.acceptor _ _ _ c.remove-arrival.result
+    (first_removed _ _ _ c.requires c.remove-arrival.ensures.value c.remove-arrival.ensures.items) _ _ _ _ _ _
+    (rw c.in-Err-join.is at c.join.ensures.keys) c.advances.ensures.rows c.let_go-in-Err-join.ensures.rows)

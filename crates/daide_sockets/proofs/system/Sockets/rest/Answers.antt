@@ -1,8 +1,10 @@
-use Rattle.std.proofs.Common.{List, ap, ◌∙◌}
+use Rattle.std.proofs.Common.{List, ap, refl, ◌∙◌}
 use Rattle.daide_sockets.specs.Beside.{arrivals_watched, listener_watched}
 use Rattle.daide_sockets.specs.InTime.{watching_all}
 use Rattle.daide_sockets.specs.Pairing.{Arriving}
 use Rattle.daide_sockets.proofs.BesideLemmas.{rests_beside}
+use Rattle.daide_sockets.proofs.RowLemmas.{rests_keep}
+use Rattle.daide_sockets.proofs.RunRowLemmas.{none_hands}
 use Rattle.daide_sockets.proofs.system.Sockets.rest.Goals as goal
 
 pub returns-clause-polls : goal.returns-clause-polls
@@ -14,3 +16,8 @@ returns-clause-polls g c =
     ∙ ap (λ (arrivals : List (Arriving g.row.N-Connection.Denot)).
     watching_all c.watch.new.table (arrivals_watched c.watch.new.table arrivals)) c.as_slice.ensures.value)
     c.rest.ensures
+
+pub returns-clause-rows : goal.returns-clause-rows
+returns-clause-rows g c =
+    none_hands _ _ c.args.self.now.acceptor c.args.self.now.acceptor _ _ _ refl
+    (rests_keep g.N.Network.transition _ _ _ _ _ (returns-clause-polls g c))

@@ -1,6 +1,10 @@
 use Rattle.std.proofs.Common.{◌≡◌, refl, ap, ◌∙◌}
+use Rattle.daide_sockets.specs.Rows.{HandsRows, control_keys, keys_of_run}
 use Rattle.daide_sockets.specs.Table.{Table}
 use Rattle.daide_sockets.proofs.ControlInTimeLemmas.{control_clock}
+use Rattle.daide_sockets.proofs.ControlRowLemmas.{watched_keeps}
+use Rattle.daide_sockets.proofs.RowLemmas.{handed_both}
+use Rattle.daide_sockets.proofs.RunRowLemmas.{control_hands, listener_hands, none_hands}
 use Rattle.daide_sockets.proofs.system.Sockets.take_orders.Goals as goal
 use Rattle.daide_sockets.proofs.system.Sockets.take_orders.Goals.{then-is_stopped_now, else-is_stopped_now+else-not-is_closed}
 
@@ -9,8 +13,27 @@ returns-clause-clock g c =
     let control = c.begin_control-orders.new.self in
     let before : c.if-is_stopped_now.self.poller.table.reading ≡ control.poller.table.reading =
     elim c.if-is_stopped_now.branch [
-      | then-is_stopped_now w ↦ rw (w.self-is, w.close.ensures.table) refl
+      | then-is_stopped_now w ↦ rw w.self-is w.close.ensures.clock
       | else-is_stopped_now+else-not-is_closed w ↦ rw w.self-is refl
     ] in
     ap (λ (t : Table). t.reading) c.watch.ensures ∙ control_clock {S = g.row.N-Connection.Denot} c.if-is_stopped_now.self.poller.table c.if-is_stopped_now.self.control
     ∙ before ∙ c.begin_control-orders.ensures.clock
+
+pub returns-clause-rows : goal.returns-clause-rows
+returns-clause-rows g c =
+    let control = c.begin_control-orders.new.self in
+    let now = c.if-is_stopped_now.self in
+    let first : HandsRows c.args.self.now.poller.table (keys_of_run c.args.self.now.acceptor (control_keys c.args.self.now.control)
+    c.args.self.now.arrivals.items c.args.self.now.closings.streams) control.poller.table (keys_of_run control.acceptor
+    (control_keys control.control) control.arrivals.items control.closings.streams) =
+    rw c.begin_control-orders.ensures.same (control_hands _ _ c.args.self.now.acceptor _ _ _ _ c.begin_control-orders.ensures.rows) in
+    let second : HandsRows control.poller.table (keys_of_run control.acceptor (control_keys control.control)
+    control.arrivals.items control.closings.streams) now.poller.table (keys_of_run now.acceptor (control_keys now.control)
+    now.arrivals.items now.closings.streams) =
+    elim c.if-is_stopped_now.branch [
+      | then-is_stopped_now w ↦ rw w.self-is (listener_hands _ _ control.acceptor w.close.new.self _ _ _ w.close.ensures.rows)
+      | else-is_stopped_now+else-not-is_closed w ↦ rw w.self-is (none_hands _ _ control.acceptor control.acceptor _ _ _ refl (λ key. refl))
+    ] in
+    handed_both _ _ _ _ _ _ first (handed_both _ _ _ _ _ _ second
+    (none_hands _ _ now.acceptor now.acceptor _ _ _ refl (watched_keeps {S = g.row.N-Connection.Denot} now.poller.table
+    c.watch.new.table now.control c.watch.ensures)))

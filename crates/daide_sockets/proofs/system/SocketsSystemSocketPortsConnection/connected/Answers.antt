@@ -1,6 +1,7 @@
 use Rattle.std.proofs.Common.{◌≡◌, ℕ, ◌<◌, length, refl, sym, ◌∙◌, subst, arith}
 use Rattle.daide_sockets.specs.Pairing.{ChecksArrivals}
 use Rattle.daide_sockets.proofs.PairingLemmas.{next_out, one_more, checked_len}
+use Rattle.daide_sockets.proofs.RowLemmas.{handed_both}
 use Rattle.daide_sockets.proofs.system.SocketsSystemSocketPortsConnection.connected.Goals as goal
 
 pub returns-in-Ready : goal.returns-in-Ready
@@ -28,6 +29,7 @@ returns-in-Ready g c =
             (c.in-Ready.ensures.begins c.in-Ready.ports refl),
       ),
       e.4 ∙ c.loop-look.invariant.closing,
+      handed_both _ _ _ _ _ _ c.loop-look.invariant.rows c.in-Ready.ensures.rows,
     )
 
 pub returns-in-Failed : goal.returns-in-Failed
@@ -53,6 +55,7 @@ returns-in-Failed g c =
         tt,
       ),
       rw (sym c.loop-look.invariant.clock, sym c.loop-look.invariant.closing) (c.in-Failed.ensures.closes refl),
+      handed_both _ _ _ _ _ _ c.loop-look.invariant.rows c.in-Failed.ensures.rows,
     )
 
 pub loop-look-preserved : goal.loop-look-preserved
@@ -67,6 +70,8 @@ loop-look-preserved g c =
       idle_time = c.in-Pending.ensures.times.0 ∙ c.loop-look.invariant.idle_time;
       stall_time = c.in-Pending.ensures.times.1 ∙ c.loop-look.invariant.stall_time;
       acceptor = c.in-Pending.ensures.acceptor ∙ c.loop-look.invariant.acceptor;
+      control = c.in-Pending.ensures.control ∙ c.loop-look.invariant.control;
+      rows = handed_both _ _ _ _ _ _ c.loop-look.invariant.rows c.in-Pending.ensures.rows;
       clock = c.in-Pending.ensures.clock ∙ c.loop-look.invariant.clock;
     }
 
@@ -92,6 +97,7 @@ returns g c =
         tt,
       ),
       c.loop-look.invariant.closing,
+      c.loop-look.invariant.rows,
     )
 
 -- one is left to check
