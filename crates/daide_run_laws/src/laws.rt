@@ -78,9 +78,9 @@ pub fn each_bot_has_room_beside_records<S: Duplex + Drop, N: Network, W: Sink + 
         S.calls (λ ports. ports.ports) }
 {}
 
-/// No session waits for ever. Take a run over sockets whose settings have an idle timeout and a stall timeout, a session of
-/// it, and a clock that goes on: the session begins at a reading, and each of its turns at a reading that is not before the
-/// one of the turn before (`ClockGoesOn`). At each wait of the run that is not for no time at all, the session has a nearest
+/// No session waits for ever. Take a run over sockets whose settings have an idle timeout and a stall timeout, and a session
+/// of it. Its clock goes on: the session begins at a reading, and each of its turns at a reading that is not before the one
+/// of the turn before (`ClockGoesOn`). At each wait of the run that is not for no time at all, the session has a nearest
 /// deadline. It is at most the longer of the two timeouts after the reading of its last turn, and the poll ends by it
 /// (`HasDeadline`). What its peers do is in no premise.
 ///

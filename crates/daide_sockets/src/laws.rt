@@ -30,7 +30,7 @@ pub fn control_waits_are_in_time<S: Duplex + Drop>()
     ensures { ControlWaitsAreInTime S }
 {}
 
-/// A wait leaves none behind of the sockets that are no session's. Each wait of a run watches the listener, each connect
+/// A wait leaves out no socket that is not a session's. Each wait of a run watches the listener, each connect
 /// and each closing socket (`Schedules`, `others_watched`). It takes no time if an accept is awaited and due, if a poll
 /// reported something of a connect, or if a closing socket may do something at once: it has buffered bytes and is
 /// writable, or its writing is over and it is readable. It ends by the end of the pause of accepts, by the deadline of each

@@ -108,8 +108,8 @@ fn idle_time_of(seconds: u32) -> Option<Duration>
 ///
 /// Before a wait, a run notes whether it is full and whether accepts pause, and logs what changed (`wait`: `capacity`).
 ///
-/// Not said: that a wait ended because something came. That the port in a row of a status is the connection's, which the
-/// system returns (`Network::local_address`). That held bytes are given up only after a failed write, or after
+/// Not said: that a wait ended because something came, and that the port in a row of a status is the connection's: the
+/// system returns it (`Network::local_address`). That held bytes are given up only after a failed write, or after
 /// `stall_seconds`, is read from `flush_at` and `give_up_stalled`. `SessionNotice::of_end` and `why_of` give the counts
 /// and the cause in a line of a session's end. Tests and `scripts/recorded` show that `--verbose` writes it.
 #[derive(Drop)]
