@@ -20,8 +20,8 @@ use daide_sockets::ports::SocketPorts;
 /// The ports are those that ship, over any two streams, and `N` is the network. The calls of the run have their effect on
 /// it and on the table as the sockets' own `transition` says (`Wakes`).
 ///
-/// Not said: that the network reports what becomes readable or writable after a call that would have blocked. That is its
-/// own.
+/// Not said: that the network reports what becomes readable or writable after a call that would have blocked. That depends
+/// on the network.
 pub fn no_wakeup_is_lost<S: Duplex + Drop, N: Network>()
     ensures { NoWakeupIsLost ⟦<SocketPorts<'static, S> as Ports>⟧.transition (λ ports. record {
       bot = ports.bot;
