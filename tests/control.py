@@ -503,6 +503,38 @@ def requests_without_a_run_say_why(program):
             same((done.stdout, done.stderr, done.returncode), ("", f"daide-gate: {told}\n", status), f"'{words}' with {text!r}")
 
 
+def answers_of_others_are_told(program):
+    """Somebody else listens at the path, and reads the request. It closes, or answers as a run that does not know it."""
+    with tempfile.TemporaryDirectory() as room:
+        path, settings = f"{room}/control", pathlib.Path(room) / "settings.toml"
+        settings.write_text(f"listen = '{HOST}:1'\nserver = '{HOST}:1'\ncontrol = '{path}'\n", encoding="utf-8")
+        unknown = b"unknown request\n"
+        rows = (
+            ("status", b"", "", "no answer", 1),
+            ("status --format json", b"", "", "no answer", 1),
+            ("status", unknown, "", "the run does not know the request", 1),
+            ("status", b"some status\n", "some status\n", None, 0),
+            ("stop", unknown, "", "the run does not know the request", 1),
+            ("stop", b"", "", None, 0),
+        )
+        with socket.socket(socket.AF_UNIX) as listener:
+            listener.bind(path)
+            listener.listen()
+            listener.settimeout(SECONDS)
+            for words, answer, printed, fault, status in rows:
+                asking = subprocess.Popen([str(program), *words.split(), str(settings)], stdout=subprocess.PIPE,
+                                          stderr=subprocess.PIPE, text=True)
+                stream, _ = listener.accept()
+                with stream:
+                    stream.settimeout(SECONDS)
+                    while not stream.recv(64).endswith(b"\n"):
+                        pass
+                    stream.sendall(answer)
+                told = "" if fault is None else f"daide-gate: {path}: {fault}\n"
+                same((*asking.communicate(timeout=SECONDS), asking.returncode), (printed, told, status),
+                     f"'{words}' that gets {answer!r}")
+
+
 def script_stops_a_run_by_the_protocol(program):
     """At SIGTERM and at SIGINT the script at the top ends each session with FM, and has the run's status."""
     for number in (signal.SIGTERM, signal.SIGINT):
@@ -541,5 +573,6 @@ TESTS = [
     control_refuses_another_user,
     stale_socket_is_replaced,
     requests_without_a_run_say_why,
+    answers_of_others_are_told,
     script_stops_a_run_by_the_protocol,
 ]

@@ -1,5 +1,6 @@
 -- What the commands `status` and `stop` send to a run. (own)
-use Rattle.std.specs.Prelude.{ℕ, ◌++◌, Bool, true, false, List, [], ◌∷◌}
+use Rattle.std.specs.Prelude.{◌≢◌, ◌≤◌, ℕ, ◌++◌, Bool, true, false, List, [], ◌∷◌, length, Option}
+use Rattle.std.specs.Io.KnownBytes.{Appends}
 use Rattle.daide_status.specs.declared.request.ControlRequest.{ControlRequest}
 use Rattle.daide_status.specs.declared.request.ControlRequest.TheVariants.{Stop, StopNow}
 use Rattle.daide_status.specs.Requests.{request_text}
@@ -16,3 +17,10 @@ stop_request true = StopNow
 -- the most bytes of an answer that is printed
 abbrev pub longest_answer : ℕ
 longest_answer = 4194304
+
+-- the output got an answer of a run: some bytes, and no more than the most
+pub record IsAnswerPrinted (old new : Option (List ℕ)) : Type 0 where
+  pub answer : List ℕ
+  pub some : answer ≢ []
+  pub few : length answer ≤ longest_answer
+  pub printed : Appends old new answer

@@ -25,6 +25,7 @@ use Rattle.daide_show.specs.declared.frame_view.ShowFault.TheVariants as show_fa
 use Rattle.daide_text.specs.Frames.{Writes, WritesUpTo}
 use Rattle.daide_text.specs.declared.frames.TextFault.{TextFault}
 use Rattle.daide_commands.specs.Gateway.{Announces}
+use Rattle.daide_commands.specs.Controlling.{IsAnswerPrinted}
 use Rattle.daide_commands.specs.declared.arguments.Order.{Order}
 use Rattle.daide_commands.specs.declared.arguments.Order.TheVariants.{Show, Check, Frame, Settings, Run, BadSide, BadLevel}
 use Rattle.daide_commands.specs.declared.arguments.Order.TheVariants.{Status, Stop, BadFormat, BadTimeout}
@@ -161,7 +162,7 @@ OrderEnds failed (Settings order) known rest old new status = SettingsRuns order
 OrderEnds failed (Run order) known rest old new status = (status ≤ 1) × (status ≡ 0 → Announces failed old new)
 OrderEnds failed BadSide known rest old new status = (status ≡ 2) × (new ≡ old)
 OrderEnds failed BadLevel known rest old new status = (status ≡ 2) × (new ≡ old)
-OrderEnds failed (Status order) known rest old new status = status ≤ 1
+OrderEnds failed (Status order) known rest old new status = (status ≤ 1) × (status ≡ 0 → IsAnswerPrinted old new)
 OrderEnds failed (Stop order) known rest old new status = (status ≤ 1) × (new ≡ old)
 OrderEnds failed BadFormat known rest old new status = (status ≡ 2) × (new ≡ old)
 OrderEnds failed BadTimeout known rest old new status = (status ≡ 2) × (new ≡ old)

@@ -3,10 +3,10 @@
 //! A request is one line, and its answer is what comes until the end of the stream. The operating system decides who
 //! listens at the path, so the contracts are about any streams.
 
-ghost use Rattle.std.specs.Prelude.{◌≡◌, ◌≤◌, ◌++◌, ◌∷◌, [], length, IfOk, OnOk, IfSome};
+ghost use Rattle.std.specs.Prelude.{◌≡◌, ◌≢◌, ◌≤◌, ◌++◌, ◌∷◌, [], length, IfOk, OnOk, IfSome};
 ghost use Rattle.std.specs.Io.KnownBytes.{Appends};
 ghost use Rattle.daide_status.specs.Requests.{request_text};
-ghost use Rattle.daide_commands.specs.Controlling.{request_line, stop_request, longest_answer};
+ghost use Rattle.daide_commands.specs.Controlling.{IsAnswerPrinted, request_line, stop_request, longest_answer};
 
 use crate::arguments::{StatusOrder, StopOrder};
 use crate::faults::{CLEAN, FAULT, tell};
@@ -39,7 +39,7 @@ enum RequestFault {
     Unsent(ErrorKind),
     /// The answer could not be read.
     Unread(ErrorKind),
-    /// No answer came in time.
+    /// No answer came in time, or the stream ended without one.
     Silent,
     /// The run does not know the request.
     Unknown,
@@ -105,10 +105,14 @@ fn answer_of<S: Read>(alloc: Global, stream: &mut S) -> Result<Vec<u8>, RequestF
     Ok(answer)
 }
 
-/// Prints an answer, unless the run does not know the request.
+/// Prints an answer, unless there is none or the run does not know the request.
 fn print_answer<O: Write>(answer: &[u8], output: &mut O) -> Result<(), RequestFault>
-    ensures { OnOk result (Appends (O.contents output.old) (O.contents output.new) answer.now) }
+    ensures some { OnOk result (answer.now ≢ []) }
+    ensures printed { OnOk result (Appends (O.contents output.old) (O.contents output.new) answer.now) }
 {
+    if answer.is_empty() {
+        return Err(RequestFault::Silent);
+    }
     if answer == UNKNOWN {
         return Err(RequestFault::Unknown);
     }
@@ -140,7 +144,9 @@ fn print_status<R: AllocGlobal + Net, O: Write>(
     path: &ControlPath,
     request: ControlRequest,
     output: &mut O,
-) -> Result<(), RequestFault> {
+) -> Result<(), RequestFault>
+    ensures { OnOk result (IsAnswerPrinted (O.contents output.old) (O.contents output.new)) }
+{
     let timeout = Duration::from_secs(ANSWER_SECONDS);
     let mut stream = connect(rt, path, Some(timeout))?;
     send(request, &mut stream)?;
@@ -182,23 +188,20 @@ fn stop_request(is_now: bool) -> ControlRequest
     }
 }
 
-/// Returns the status of a request. Reports a fault with the path on standard error.
-fn end_request<E: Write>(
-    ended: Result<(), RequestFault>,
+/// Reports a request that was not carried out, with the path, on standard error.
+fn end_refused<E: Write>(
+    fault: RequestFault,
     path: &ControlPath,
     errors: &mut E,
 ) -> io::Result<u8>
-    ensures { IfOk result (λ status. status ≤ FAULT) }
+    ensures { IfOk result (λ status. status ≡ FAULT) }
 {
-    match ended {
-        Ok(()) => Ok(CLEAN),
-        Err(fault) => tell(errors, format_args!("{}: {fault}", path.as_str()), FAULT),
-    }
+    tell(errors, format_args!("{}: {fault}", path.as_str()), FAULT)
 }
 
 /// Reports that settings have no control socket, or why there are none.
 fn end_without_path<E: Write>(fault: Option<RunFault>, errors: &mut E) -> io::Result<u8>
-    ensures { IfOk result (λ status. status ≤ FAULT) }
+    ensures { IfOk result (λ status. status ≡ FAULT) }
 {
     match fault {
         Some(fault) => tell(errors, fault, FAULT),
@@ -213,7 +216,9 @@ pub(crate) fn run_status<R: AllocGlobal + Files + Net, O: Write, E: Write>(
     output: &mut O,
     errors: &mut E,
 ) -> io::Result<u8>
-    ensures { IfOk result (λ status. status ≤ FAULT) }
+    ensures bounded { IfOk result (λ status. status ≤ FAULT) }
+    ensures printed { IfOk result (λ status. status ≡ CLEAN →
+        IsAnswerPrinted (O.contents output.old) (O.contents output.new)) }
 {
     let settings = match settings_at(rt, order.settings) {
         Ok(settings) => settings,
@@ -223,8 +228,10 @@ pub(crate) fn run_status<R: AllocGlobal + Files + Net, O: Write, E: Write>(
         return end_without_path(None, errors);
     };
     let request = ControlRequest::Status(order.format);
-    let ended = print_status(rt, path, request, output);
-    end_request(ended, path, errors)
+    match print_status(rt, path, request, output) {
+        Ok(()) => Ok(CLEAN),
+        Err(fault) => end_refused(fault, path, errors),
+    }
 }
 
 /// Stops the run with the settings of a file, and waits until it is over. Returns the status of the program. Nothing is
@@ -243,6 +250,8 @@ pub(crate) fn run_stop<R: AllocGlobal + Files + Net, E: Write>(
     let Some(path) = &settings.control else {
         return end_without_path(None, errors);
     };
-    let ended = stop_run(rt, path, order);
-    end_request(ended, path, errors)
+    match stop_run(rt, path, order) {
+        Ok(()) => Ok(CLEAN),
+        Err(fault) => end_refused(fault, path, errors),
+    }
 }
