@@ -189,11 +189,7 @@ fn stop_request(is_now: bool) -> ControlRequest
 }
 
 /// Reports a request that was not carried out, with the path, on standard error.
-fn end_refused<E: Write>(
-    fault: RequestFault,
-    path: &ControlPath,
-    errors: &mut E,
-) -> io::Result<u8>
+fn end_refused<E: Write>(fault: RequestFault, path: &ControlPath, errors: &mut E) -> io::Result<u8>
     ensures { IfOk result (λ status. status ≡ FAULT) }
 {
     tell(errors, format_args!("{}: {fault}", path.as_str()), FAULT)

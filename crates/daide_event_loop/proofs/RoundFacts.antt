@@ -305,10 +305,13 @@ shown_in_order limits = refl
 -- an answer of six bytes and an FM that are queued for the server count for it, and not for the bot
 queued_for_the_server : (limits : Limits) →
     opening (record { stops_accepting = false; shows_sessions = true })
-    ((record (session limits (Open limits.top_level) 30 []) {
-      wires = both [] (record { to = Server; answers = Some Server; bytes = 2 ∷ 0 ∷ 0 ∷ 2 ∷ 72 ∷ 19 ∷ [] }
-        ∷ record { to = Server; answers = None; bytes = fm_bytes } ∷ []);
-    }, ports 3 (Some 9)) ∷ [])
+    ((
+      record (session limits (Open limits.top_level) 30 []) {
+        wires = both [] (record { to = Server; answers = Some Server; bytes = 2 ∷ 0 ∷ 0 ∷ 2 ∷ 72 ∷ 19 ∷ [] }
+            ∷ record { to = Server; answers = None; bytes = fm_bytes } ∷ []);
+      },
+      ports 3 (Some 9),
+    ) ∷ [])
     ≡ Begins (record { stops_accepting = false; shows_sessions = true })
     ∷ Shows 3 (record {
       phase = Phases.Open;
