@@ -3,6 +3,7 @@ mod ExchangeLemmas
 mod Reading
 mod StreamLemmas
 mod AcceptedLemmas
+mod RecordedLemmas
 mod CommandLemmas
 pub mod Listed
 mod RunLemmas

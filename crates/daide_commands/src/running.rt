@@ -4,6 +4,7 @@ ghost use Rattle.std.specs.Prelude.{◌≡◌, ◌≤◌, None, [], IfOk, IfErr,
 ghost use Rattle.daide_log.specs.Recording.{HasFailed};
 ghost use Rattle.daide_commands.specs.Running.{RunEnds, RunsOn, TextRuns, RecordedRunEnds, RecordedTextRuns, IsOfText, ending_by};
 ghost use Rattle.daide_commands.specs.Gateway.{Announces};
+ghost use Rattle.daide_sockets.specs.Scheduling.{pair_of};
 ghost use Rattle.daide_words.specs.Words.{words_of};
 
 use crate::arguments::RunOrder;
@@ -155,16 +156,12 @@ fn serve_bound<'r, R: AllocGlobal + Clock + Net, F: AllocGlobal + Files, O: Sink
 ) -> Result<(), RunFault>
     ensures plain { reports.entry.folder ≡ None →
         RunEnds ⟦<Connection as Duplex>⟧.to_give ⟦<Connection as Duplex>⟧.taken ⟦<Connection as Duplex>⟧.calls
-        (λ ports. record { number = ports.number; bot = ports.bot.stream; server = ports.server.stream })
+        (λ ports. pair_of ports)
         ⟦<SocketPorts<'static, Connection> as Ports>⟧.transition settings.now (HasFailed O.Fails)
         (O.contents output.old) (O.contents output.new) result }
     ensures recorded { IfSome reports.entry.folder (λ folder.
         RunEnds ⟦<Connection as Duplex>⟧.to_give ⟦<Connection as Duplex>⟧.taken ⟦<Connection as Duplex>⟧.calls
-        (λ ports. record {
-          number = ports.ports.number;
-          bot = ports.ports.bot.stream;
-          server = ports.ports.server.stream;
-        })
+        (λ ports. pair_of ports.ports)
         ⟦<TimedRecording<SocketPorts<'static, Connection>, SessionFile<F::File>> as Ports>⟧.transition settings.now
         (HasFailed O.Fails) (O.contents output.old) (O.contents output.new) result) }
 {
@@ -209,16 +206,12 @@ fn serve_sockets<
 ) -> Result<(), RunFault>
     ensures plain { reports.entry.folder ≡ None →
         RunEnds ⟦<Connection as Duplex>⟧.to_give ⟦<Connection as Duplex>⟧.taken ⟦<Connection as Duplex>⟧.calls
-        (λ ports. record { number = ports.number; bot = ports.bot.stream; server = ports.server.stream })
+        (λ ports. pair_of ports)
         ⟦<SocketPorts<'static, Connection> as Ports>⟧.transition settings.now (HasFailed O.Fails)
         (O.contents output.old) (O.contents output.new) result }
     ensures recorded { IfSome reports.entry.folder (λ folder.
         RunEnds ⟦<Connection as Duplex>⟧.to_give ⟦<Connection as Duplex>⟧.taken ⟦<Connection as Duplex>⟧.calls
-        (λ ports. record {
-          number = ports.ports.number;
-          bot = ports.ports.bot.stream;
-          server = ports.ports.server.stream;
-        })
+        (λ ports. pair_of ports.ports)
         ⟦<TimedRecording<SocketPorts<'static, Connection>, SessionFile<F::File>> as Ports>⟧.transition settings.now
         (HasFailed O.Fails) (O.contents output.old) (O.contents output.new) result) }
 {
@@ -249,7 +242,7 @@ pub fn run_text<R: AllocGlobal + Files + Clock + Net, O: Sink, E: Write>(
     errors: &mut E,
 ) -> Result<(), RunFault>
     ensures runs { TextRuns ⟦<Connection as Duplex>⟧.to_give ⟦<Connection as Duplex>⟧.taken ⟦<Connection as Duplex>⟧.calls
-        (λ ports. record { number = ports.number; bot = ports.bot.stream; server = ports.server.stream })
+        (λ ports. pair_of ports)
         ⟦<SocketPorts<'static, Connection> as Ports>⟧.transition text.now (HasFailed O.Fails)
         (O.contents output.old) (O.contents output.new) result }
     ensures untouched { IfErr result (λ fault. IsOfText fault →
@@ -278,11 +271,7 @@ fn serve_recorded<'r, R: AllocGlobal + Files + Clock + Net, O: Sink, E: Write>(
 ) -> Result<(), RunFault>
     ensures { RecordedRunEnds ⟦<Connection as Duplex>⟧.to_give ⟦<Connection as Duplex>⟧.taken
         ⟦<Connection as Duplex>⟧.calls
-        (λ ports. record {
-          number = ports.ports.number;
-          bot = ports.ports.bot.stream;
-          server = ports.ports.server.stream;
-        })
+        (λ ports. pair_of ports.ports)
         ⟦<TimedRecording<SocketPorts<'static, Connection>, SessionFile<R::File>> as Ports>⟧.transition settings.now
         (HasFailed O.Fails) (O.contents output.old) (O.contents output.new) result }
 {
@@ -309,11 +298,7 @@ fn run_recorded<'r, R: AllocGlobal + Files + Clock + Net, O: Sink, E: Write>(
     errors: &mut E,
 ) -> Result<(), RunFault>
     ensures { RecordedTextRuns ⟦<Connection as Duplex>⟧.to_give ⟦<Connection as Duplex>⟧.taken ⟦<Connection as Duplex>⟧.calls
-        (λ ports. record {
-          number = ports.ports.number;
-          bot = ports.ports.bot.stream;
-          server = ports.ports.server.stream;
-        })
+        (λ ports. pair_of ports.ports)
         ⟦<TimedRecording<SocketPorts<'static, Connection>, SessionFile<R::File>> as Ports>⟧.transition settings_text.now
         (HasFailed O.Fails) (O.contents output.old) (O.contents output.new) result }
 {
