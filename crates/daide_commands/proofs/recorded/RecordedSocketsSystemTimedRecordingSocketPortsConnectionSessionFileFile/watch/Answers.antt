@@ -1,6 +1,9 @@
 use Rattle.std.proofs.Common.{◌≡◌, sym, ap, ◌∙◌}
+use Rattle.std.specs.Prelude.{◌||◌}
 use Rattle.daide_io.specs.declared.interest.Interest.{Interest}
 use Rattle.daide_sockets.specs.Table.{watching}
+use Rattle.daide_sockets.specs.Timers.{timers_of}
+use Rattle.daide_sockets.specs.Wakeups.{may_session_go_on}
 use Rattle.daide_commands.proofs.RecordedLemmas.{busier, is_of_busier, goes_on_for, due_for}
 use Rattle.daide_commands.proofs.recorded.RecordedSocketsSystemTimedRecordingSocketPortsConnectionSessionFileFile.watch.Goals as goal
 
@@ -11,7 +14,7 @@ returns g c = λ ports h.
     let e = c.watch.ensures.transition (busier ports.ports h.1) (is_of_busier ports.ports interest h) in
     let table = c.watch.ensures.watched
     ∙ (ap (λ b. watching old.table b interest.due) (goes_on_for old.table ports.ports interest h)
-    ∙ ap (λ due. watching old.table _ due) (due_for ports.ports interest h)) in (
+    ∙ ap (λ due. watching old.table (may_session_go_on old.table (timers_of ports.ports).sockets || h.1) due) (due_for ports.ports interest h)) in (
       e.0,
       (h.1, ap (λ n. (n, c.watch.new.self.poller.table)) c.watch.ensures.network ∙ ap (λ t. (old.network, t)) table),
       e.2,
