@@ -208,7 +208,7 @@ class Recogniser:
 
     def __init__(self, grammar, codes):
         self.rules, self.codes = grammar.rules, codes
-        self.empty = set()
+        self.empty, self.first_states = set(), {}
         while True:
             more = {name for name, rules in self.rules.items() if any(self.may_be_empty(rule) for rule in rules)}
             if more == self.empty:
@@ -258,8 +258,10 @@ class Recogniser:
         """Returns the states after each prefix of the tokens, up to the first prefix that begins none of the symbol's
         lists."""
         name = symbol[1:]
-        states = [{(name, rule, 0, 0) for rule in self.rules[name]}]
-        self.grow(states, 0)
+        if name not in self.first_states:
+            self.first_states[name] = {(name, rule, 0, 0) for rule in self.rules[name]}
+            self.grow([self.first_states[name]], 0)
+        states = [self.first_states[name]]
         for place, token in enumerate(tokens):
             on = {
                 (of, rule, dot + 1, start) for of, rule, dot, start in states[place]
@@ -309,11 +311,13 @@ class Drawer:
         own = set(recogniser.codes.values())
         others = [category << 8 | code for category in known for code in (0x08, 0x11, 0x12, 0xEE)]
         self.all = sorted(own | set(others)) + [0, 1, 1901, 8191, 0x2000, 0x3FFF]
-        self.drawn = set()
+        self.drawn, self.tokens_of = set(), {}
 
     def token(self, symbol):
         """Returns a random token of a symbol."""
-        return self.random.choice([token for token in self.all if self.recogniser.is_token(symbol, token)])
+        if symbol not in self.tokens_of:
+            self.tokens_of[symbol] = [token for token in self.all if self.recogniser.is_token(symbol, token)]
+        return self.random.choice(self.tokens_of[symbol])
 
     def grown(self, symbol, depth=0):
         """Returns a random list of a symbol, of limited length."""
