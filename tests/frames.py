@@ -33,11 +33,12 @@ ITS_HUH = bytes.fromhex("02 00 001c 4806 4000 4817 4000 4102 4001 4000 4902 4a40
 # `FRM ( FRA ) ( ENG ) ( XYZ ( ENG ) )` of a server.
 XYZ_OF_SERVER = bytes.fromhex("02 00 001a 4802 4000 4102 4001 4000 4101 4001 4000 4a40 4000 4101 4001 4001")
 
-# `NME ( 'Albert' ) ( 'v1' )`; `NME ( 'Bo' )`, whose version is missing, and `HUH ( NME ( 'Bo' ) ERR )`; and
+# `NME ( 'Albert' ) ( 'v1' )`; `NME ( 'Bo' )`, whose version is missing, and `HUH ( NME ( 'Bo' ) ERR )`; `NME ( ) ( )`; and
 # `IAM ( ENG ) ( 1234 )`.
 NAMED = bytes.fromhex("02 00 001a 480c 4000 4b41 4b6c 4b62 4b65 4b72 4b74 4001 4000 4b76 4b31 4001")
 MISSES_VERSION = bytes.fromhex("02 00 000a 480c 4000 4b42 4b6f 4001")
 ITS_MISSING = bytes.fromhex("02 00 0012 4806 4000 480c 4000 4b42 4b6f 4001 4902 4001")
+EMPTY_NAME = bytes.fromhex("02 00 000a 480c 4000 4001 4000 4001")
 IAM_ENG = bytes.fromhex("02 00 000e 4807 4000 4101 4001 4000 04d2 4001")
 
 # `NME ( .. ) ( )`, with a name of 200 bytes: `O'B"\`, a line feed, an escape and the byte FF, and 192 letters `x`.
