@@ -98,10 +98,11 @@ def settings_are_launched_as_they_are_run(program):
     """`settings` with files and with standard input. A relative path of `control` is one of the caller's folder."""
     check_launched(program, "settings")
     with Clone(program) as clone:
-        settings = "listen = 'a:1'\nserver = 'b:2'\ncontrol = \"c.socket\"\n"
-        (clone.files / "controlled.toml").write_text(settings, encoding="utf-8")
         wanted = f"daide-gate: {clone.files}/c.socket: nobody listens\n".encode()
-        same(clone.run(clone.script, ["status", "controlled.toml"], b""), (b"", wanted, 1), "launched 'status'")
+        for quoted in ('"c.socket"', "'c.socket'"):
+            settings = f"listen = 'a:1'\nserver = 'b:2'\ncontrol = {quoted}\n"
+            (clone.files / "controlled.toml").write_text(settings, encoding="utf-8")
+            same(clone.run(clone.script, ["status", "controlled.toml"], b""), (b"", wanted, 1), f"launched 'status', {quoted}")
 
 
 def usages_are_launched_as_they_are_run(program):
