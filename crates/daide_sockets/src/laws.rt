@@ -67,11 +67,11 @@ pub fn closing_sockets_leave<P: Ports, S: Duplex + Drop, N: Network>()
     ensures { ClosingSocketsLeave S.to_give S.taken S.calls N P }
 {}
 
-/// No row leaks, and no two sockets share one. Take a run over sockets, at any moment between two of its calls: the taken
-/// rows of the table are exactly those of the listener until it is closed, of both sockets of each session, of each bot that
-/// waits for its connect and of the connect if it has one, of each closing socket, and of the control socket: its listener
-/// and its connections. Each has one (`HoldsItsRows`). So the taken rows are at most two for each session and each bot that
-/// waits, one for each closing socket, five for control, and one for the listener.
+/// No row leaks, and no two sockets share one. At any moment between two calls of a run over sockets, the taken rows of the
+/// table are exactly those of its sockets, one for each (`HoldsItsRows`). The listener has one until it is closed. Each
+/// session has two. Each bot that waits for its connect has one, and that connect has another. Each closing socket has one,
+/// and so have the control socket and each of its connections. So the taken rows are at most two for each session and each
+/// bot that waits, one for each closing socket, five for control, and one for the listener.
 ///
 /// A run of sockets begins so (`Sockets::new`: `rows`). Each call says which rows change hands, as the sockets' own
 /// `transition` says (`HandsAlong`). The sessions are the ports that the run returned and did not get back (`SessionsGoOn`): the
