@@ -1,3 +1,5 @@
 pub mod NoLostWakeups
 pub mod FreedPlaces
 pub mod Room
+pub mod RunRows
+pub mod FinishTime

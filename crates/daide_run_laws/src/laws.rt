@@ -1,9 +1,11 @@
 //! Laws of runs over sockets: functions with no parameters and an empty body, whose contracts are the laws.
 
 ghost use Rattle.daide_sockets.specs.Timers.{timers_of};
+ghost use Rattle.daide_run_laws.specs.FinishTime.{FinishingSocketsLeave};
 ghost use Rattle.daide_run_laws.specs.FreedPlaces.{NoSessionWaitsForEver, TimeoutsStay, DeadlinesPassSeldom};
 ghost use Rattle.daide_run_laws.specs.NoLostWakeups.{NoWakeupIsLost, NoBotWaits};
 ghost use Rattle.daide_run_laws.specs.Room.{EachBotHasRoom};
+ghost use Rattle.daide_run_laws.specs.RunRows.{EachRowIsHeld};
 
 use daide_io::duplex::Duplex;
 use daide_io::network::Network;
@@ -63,10 +65,7 @@ pub fn no_bot_waits_beside_records<S: Duplex + Drop, N: Network, W: Sink + Drop>
 /// The list keeps the room with which it was created: for all sessions (`Sockets::new`: `room`). A run has at most 2^32 - 1
 /// bots.
 ///
-/// Each row that is taken belongs to one of these sockets (`no_row_leaks`): whoever drops a socket frees its row.
-///
-/// Not said: that the ports which the loop retires have the rows with which they came. It is read from the code: no call of
-/// ports changes their keys.
+/// That each taken row is that of one of these sockets is `each_row_is_held`.
 pub fn each_bot_has_room<S: Duplex + Drop, N: Network>()
     ensures { EachBotHasRoom ⟦<SocketPorts<'static, S> as Ports>⟧.transition N.transition S.to_give S.taken S.calls
         (λ ports. ports) }
@@ -75,6 +74,25 @@ pub fn each_bot_has_room<S: Duplex + Drop, N: Network>()
 /// The same of a run that records its sessions.
 pub fn each_bot_has_room_beside_records<S: Duplex + Drop, N: Network, W: Sink + Drop>()
     ensures { EachBotHasRoom ⟦<TimedRecording<SocketPorts<'static, S>, W> as Ports>⟧.transition N.transition S.to_give S.taken
+        S.calls (λ ports. ports.ports) }
+{}
+
+/// No row of the table leaks in a run, and no two sockets share one. Take a run over sockets, and any number of rounds. After
+/// them the taken rows are exactly those of its sockets, one for each (`HoldsItsRows`). Each session of the loop has two. Each
+/// bot that waits for its connect has one, and that connect has another. Each closing socket has one, and so have the control
+/// socket and each of its connections, and the listener until it is closed.
+///
+/// The sockets of a run begin with the rows of their listeners (`Sockets::new`: `rows`). Each call says which rows change
+/// hands, as the sockets' own `transition` says (`HandsAlong`; the law `no_row_leaks` is about any such calls). The loop
+/// retires the ports that it got, and no call of ports changes the keys of their sockets (`Settles`).
+pub fn each_row_is_held<S: Duplex + Drop, N: Network>()
+    ensures { EachRowIsHeld ⟦<SocketPorts<'static, S> as Ports>⟧.transition N.transition S.to_give S.taken S.calls
+        (λ ports. ports) }
+{}
+
+/// The same of a run that records its sessions.
+pub fn each_row_is_held_beside_records<S: Duplex + Drop, N: Network, W: Sink + Drop>()
+    ensures { EachRowIsHeld ⟦<TimedRecording<SocketPorts<'static, S>, W> as Ports>⟧.transition N.transition S.to_give S.taken
         S.calls (λ ports. ports.ports) }
 {}
 
@@ -126,4 +144,13 @@ pub fn deadlines_pass_seldom<S: Duplex + Drop, N: Network>()
 pub fn deadlines_pass_seldom_beside_records<S: Duplex + Drop, N: Network, W: Sink + Drop>()
     ensures { DeadlinesPassSeldom ⟦<TimedRecording<SocketPorts<'static, S>, W> as Ports>⟧.transition
         (λ ports. timers_of ports.ports) N.transition }
+{}
+
+/// No socket closes for ever at the end of a run either. Take a run over sockets with a stall timeout, any trace of its calls,
+/// and then any number of the rounds of `Sockets::finish` (`readings`). Each socket that still closes is within the bound that
+/// it had while the run went on (`closing_sockets_leave`): the stall timeout and a second after it began to close, by the
+/// readings of the clock of the run and of these rounds (`IsClosingInTime`). Each wait of these rounds ends by that bound
+/// (`FinishRound`).
+pub fn finishing_sockets_leave<P: Ports, S: Duplex + Drop, N: Network>()
+    ensures { FinishingSocketsLeave N.transition S.to_give S.taken S.calls P }
 {}

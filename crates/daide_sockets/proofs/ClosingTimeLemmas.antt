@@ -26,7 +26,7 @@ use Rattle.daide_sockets.specs.Sockets.{is_some_byte}
 use Rattle.daide_sockets.specs.Table.{earlier}
 use Rattle.daide_sockets.specs.Times.{IsAfter, IsStallEnd, StallsNext, has_stalled, is_past, is_time_over}
 
-later_contains : {A : Type 0} (first : A) (rest : List A) (one : A) → Contains rest one → Contains (first ∷ rest) one
+pub later_contains : {A : Type 0} (first : A) (rest : List A) (one : A) → Contains rest one → Contains (first ∷ rest) one
 later_contains first rest one c = let inside = c.1 in (suc c.0, omega (arith, inside), c.2)
 
 -- ---- whether a stream is being written
@@ -327,7 +327,7 @@ module _ {S : Type 0} (to_give taken : S → Option (List ℕ)) (calls : S → O
       (since_due start readings clock.0 first h.0 h.1 set clock.1 begun)
 
   -- a stream that closes by the readings of a clock
-  abbrev Since : List (Option Instant) → ClosingStream S → Type 0
+  abbrev pub Since : List (Option Instant) → ClosingStream S → Type 0
   Since clock closing = (since : ClosesSince to_give taken calls (Some stall) closing)
       × All (λ reading. Contains clock reading) (since.start ∷ since.readings)
 
@@ -364,7 +364,7 @@ module _ {S : Type 0} (to_give taken : S → Option (List ℕ)) (calls : S → O
           let yet = not_past_yet now bound late in
           omega (arith, yet, exact)
 
-  in_time : (clock : List (Option Instant)) (closing : ClosingStream S) → Since clock closing →
+  pub in_time : (clock : List (Option Instant)) (closing : ClosingStream S) → Since clock closing →
       IsClosingInTime to_give taken calls stall clock closing
   in_time clock closing own =
       record { since = since; by_clock = own.1; overdue = few; deadline = deadline; bound = within }
@@ -419,7 +419,7 @@ module _ {S : Type 0} (to_give taken : S → Option (List ℕ)) (calls : S → O
     Own = Since clock
 
     -- each closing stream has begun so, and so will each further one
-    abbrev AllSince : ClosingList S → Type 0
+    abbrev pub AllSince : ClosingList S → Type 0
     AllSince list = All Own list.streams × (list.stall_time ≡ Some stall)
 
     one_more : (now : Option Instant) (old new : ClosingStream S) → Contains clock now →
@@ -469,7 +469,7 @@ module _ {S : Type 0} (to_give taken : S → Option (List ℕ)) (calls : S → O
         by true = all
         by false = all
 
-    round_since : (now : Option Instant) (old new : ClosingList S) → Contains clock now →
+    pub round_since : (now : Option Instant) (old new : ClosingList S) → Contains clock now →
         LooksAround to_give taken calls now (in_pass old) new → AllSince old → AllSince new
     round_since now old new there h all =
         let pass = pass_since old all in
@@ -522,7 +522,7 @@ module _ {S : Type 0} (to_give taken : S → Option (List ℕ)) (calls : S → O
           ap (λ (l : ClosingList S). l.stall_time) at.now ∙ room.1,
         )
 
-    same_since : (old new : ClosingList S) → new ≡ old → AllSince old → AllSince new
+    pub same_since : (old new : ClosingList S) → new ≡ old → AllSince old → AllSince new
     same_since old new e all = subst AllSince (sym e) all
 
     module _ {N P : Type 0} (pair : P → Paired S) where
@@ -558,7 +558,7 @@ module _ {S : Type 0} (to_give taken : S → Option (List ℕ)) (calls : S → O
       first_reading [] old new h = (0, omega arith, refl)
       first_reading (call ∷ answers) old new h = (0, omega arith, refl)
 
-      calls_since : (answers : List (SystemCall P)) (old new : RunState N S) (h : TransitsBy Step old answers new) →
+      pub calls_since : (answers : List (SystemCall P)) (old new : RunState N S) (h : TransitsBy Step old answers new) →
           ((reading : Option Instant) → Contains (readings answers old new h) reading → Contains clock reading) →
           AllSince old.closing → AllSince new.closing
       calls_since [] old new h within all =

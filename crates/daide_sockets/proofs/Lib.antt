@@ -2,16 +2,16 @@ mod PairingLemmas
 mod OnceLemmas
 mod LingeringLemmas
 mod TableLemmas
-mod RowLemmas
+pub mod RowLemmas
 mod ControlRowLemmas
-mod RunRowLemmas
+pub mod RunRowLemmas
 mod AtRestLemmas
 pub mod InterestLemmas
 pub mod InTimeLemmas
 mod BesideLemmas
 mod FinishingLemmas
 pub mod AccountedLemmas
-mod ClosingTimeLemmas
+pub mod ClosingTimeLemmas
 pub mod SchedulingLemmas
 mod AcceptLemmas
 pub mod ControlInTimeLemmas

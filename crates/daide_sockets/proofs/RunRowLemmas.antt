@@ -328,7 +328,7 @@ module _ {N P S : Type 0} (pair : P → Paired S) where
   abbrev Step : RunState N S × List (Paired S) → SystemCall P → RunState N S × List (Paired S) → Type 0
   Step first call last = HandsAlong pair first.0 call last.0 × SessionsGoOn pair first.1 call last.1
 
-  all_along : (answers : List (SystemCall P)) (first last : RunState N S × List (Paired S)) →
+  pub all_along : (answers : List (SystemCall P)) (first last : RunState N S × List (Paired S)) →
       AreRowsOf first.0.table (keys_of_all first.1 first.0) → TransitsBy Step first answers last →
       AreRowsOf last.0.table (keys_of_all last.1 last.0)
   all_along [] first last rows h = λ key.
@@ -338,7 +338,7 @@ module _ {N P S : Type 0} (pair : P → Paired S) where
       all_along answers h.0 last (along call first.0 h.0.0 first.1 h.0.1 rows h.1.0 h.1.1) h.2
 
   -- what exactly those rows mean
-  holds : (sessions : List (Paired S)) (state : RunState N S) → AreRowsOf state.table (keys_of_all sessions state) →
+  pub holds : (sessions : List (Paired S)) (state : RunState N S) → AreRowsOf state.table (keys_of_all sessions state) →
       HoldsItsRows sessions state
   holds sessions state rows =
       let l = listener_keys state.acceptor in

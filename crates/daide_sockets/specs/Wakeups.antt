@@ -50,9 +50,10 @@ pub record IsOffered {S : Type 0} (calls : S → Option (List StreamCall)) (byte
   pub none_taken : put ≡ Took 0 → 0 < length bytes → new.tries_again ≡ false → new.readiness.may_write ≡ false
   pub unread : StaysUnread calls old new
 
--- A turn began for a socket: reports of polls were added to what is known of it, and then it was put to, if at all.
+-- A turn began for a socket: it keeps its row, reports of polls were added to what is known of it, and then it was put to,
+-- if at all.
 abbrev pub BeginsToSettle : {S : Type 0} → (S → Option (List StreamCall)) → Socket S → Socket S → Type 0
-BeginsToSettle calls old new = (report : Readiness)
+BeginsToSettle calls old new = (new.key ≡ old.key) × (report : Readiness)
     × OnlyPuts calls (merged old.readiness report) old.stream.stream new.readiness new.stream.stream
 
 -- What the sockets of a session, the bot's and the server's, know after a call of its ports. From the socket of the side

@@ -74,9 +74,8 @@ pub fn closing_sockets_leave<P: Ports, S: Duplex + Drop, N: Network>()
 /// bot that waits, one for each closing socket, five for control, and one for the listener.
 ///
 /// A run of sockets begins so (`Sockets::new`: `rows`). Each call says which rows change hands, as the sockets' own
-/// `transition` says (`HandsAlong`). The sessions are the ports that the run returned and did not get back (`SessionsGoOn`): the
-/// premise is that it gets back what it returned. A call of ports leaves their keys as they are (`StaysUnread`, `IsPulled`,
-/// `HandsAlong`).
+/// `transition` says (`HandsAlong`). The sessions are the ports that the run returned and did not get back (`SessionsGoOn`).
+/// That the loop gives back what it got is `each_row_is_held`.
 pub fn no_row_leaks<P: Ports, S: Duplex + Drop, N: Network>()
     ensures { NoRowLeaks N P S }
 {}
