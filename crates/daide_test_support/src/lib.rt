@@ -1,7 +1,8 @@
 //! Support for all tests: comparisons, streams that fail, and ports in memory.
 //!
-//! This crate has no tests of its own, and only tests call it. The tests of the libraries are in `daide_codec_tests`
-//! and `daide_session_tests`, those of the program in `daide_run_tests`.
+//! This crate has no tests of its own, and only tests call it: those of the libraries (tests/codec, tests/session) and
+//! those of the program (tests/run). They are played without proof. This crate is proved, so its comparisons cannot
+//! pass by mistake.
 #![tactic(auto)]
 
 pub mod fakes;

@@ -5,8 +5,6 @@
 //! does not use, and without words. Some rows are also judged token by token, over each table and with either stack
 //! size.
 
-ghost use Rattle.std.specs.Prelude.{◌≤◌, IfOk, length};
-
 use crate::messages::{Example, example_of, tokens_of_text};
 use daide_grammar::dense::Dense;
 use daide_grammar::level::Level;
@@ -30,9 +28,7 @@ pub const LONGEST: usize = 65_534;
 const PIECES: &[usize] = &[LONGEST, 512, 1];
 
 /// Returns the body of a message. Fails if it has more than `LONGEST` bytes.
-pub fn body_of(alloc: Global, message: &[Token]) -> Result<Vec<u8>, Fail>
-    ensures { IfOk result (λ body. length body.items ≤ LONGEST) }
-{
+pub fn body_of(alloc: Global, message: &[Token]) -> Result<Vec<u8>, Fail> {
     let mut body = Vec::new(alloc);
     for token in message {
         body.extend_from_slice(&token.to_be())?;
@@ -49,9 +45,7 @@ pub fn judged<T: Predict, const N: usize>(
     sender: (Side2, Level),
     body: &[u8],
     piece: usize,
-) -> (Verdict, u64)
-    requires room { length body.now ≤ LONGEST }
-{
+) -> (Verdict, u64) {
     let (side, level) = sender;
     reader.start(side, level);
     for turn in 1..=LONGEST {
@@ -74,9 +68,7 @@ fn assert_judged<T: Predict, const N: usize>(
     body: &[u8],
     want: Verdict,
     text: &str,
-) -> Result<(), Fail>
-    requires room { length body.now ≤ LONGEST }
-{
+) -> Result<(), Fail> {
     let whole = judged(reader, sender, body, LONGEST);
     same(&whole.0, &want, &text)?;
     for piece in PIECES {
@@ -108,9 +100,7 @@ impl Sessions {
 /// Checks that each example has its verdict in a session, whatever the size of its pieces. A row is a side and a level
 /// | a message | the verdict on it.
 pub fn assert_verdicts(alloc: Global, rows: &str) -> Result<(), Fail> {
-    // The prover needs the type of the words' codes in scope to build a reader over words.
     let words = two_words();
-    let _names = words.names();
     let mut sessions = Sessions {
         plain: Reader::new(Extended::new(Words::new()), 62),
         worded: Reader::new(Extended::new(words), 62),
@@ -203,9 +193,7 @@ impl Readers {
 /// Checks that each example has its verdict token by token, and the same course over each table and with both stack
 /// sizes.
 pub fn assert_courses(alloc: Global, rows: &str) -> Result<(), Fail> {
-    // The prover needs the type of the words' codes in scope to build a reader over words.
     let words = Words::new();
-    let _names = words.names();
     let mut readers = Readers {
         plain: Reader::new(Plain::new(), 62),
         roomy: Reader::new(Plain::new(), 62),

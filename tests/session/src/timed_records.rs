@@ -64,7 +64,7 @@ fn moments_are_written(rt: HostRuntime) -> Result<(), Fail> {
 struct Turns;
 
 impl System<MemoryPorts<'static>> for Turns {
-    ghost transition = { λ old answer new. Unit {0} };
+    ghost transition = { λ _ _ _. Unit {0} };
 
     fn begin_round(&mut self) -> Orders {
         Orders::NONE

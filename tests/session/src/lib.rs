@@ -1,9 +1,5 @@
 //! Tests of sessions and of their drivers: the worked examples of sessions in docs/EXAMPLES.md, relays, hubs, and whole
-//! runs over ports in memory.
-//!
-//! There is nothing here to call. The expected bytes are worked out from the protocol. These tests are in a crate of
-//! their own, so that two processors prove them and the tests of the libraries at the same time.
-#![tactic(auto)]
+//! runs over ports in memory. The expected bytes are worked out from the protocol.
 
 #[cfg(test)]
 mod answers;

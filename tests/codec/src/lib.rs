@@ -2,11 +2,8 @@
 //! docs/EXAMPLES.md, each rule of the grammar, tables of known values, and each public call once on its successful
 //! path.
 //!
-//! There is nothing here to call. Contracts are proved, not tested. These tests compare the definitions with verdicts
-//! and bytes that were worked out from the protocol. They are in crates of their own, because a crate with tests is
-//! proved twice, with them and without. The tests of sessions are in `daide_session_tests`, so that two processors
-//! prove both crates at the same time.
-#![tactic(auto)]
+//! Contracts are proved, not tested. These tests compare the definitions with verdicts and bytes that were worked out
+//! from the protocol.
 
 #[cfg(test)]
 mod added;

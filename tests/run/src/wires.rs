@@ -1,8 +1,6 @@
 //! Sockets over streams in memory that accept what a row allows: the time of each write, and the readiness after each
 //! call. A network in which nothing moves polls them.
 
-ghost use Rattle.std.specs.Prelude.{◌≡◌, IfOk};
-
 use crate::wires::Step::{Idles, Puts, Turns};
 use daide_buffered_io::pool::Pool;
 use daide_buffered_io::readiness::Readiness;
@@ -50,9 +48,7 @@ impl Wire {
 }
 
 /// Returns `count`, or `WouldBlock` if it is 0.
-pub fn some(count: usize) -> io::Result<usize>
-    ensures same { IfOk result (λ moved. moved ≡ count) }
-{
+pub fn some(count: usize) -> io::Result<usize> {
     if count == 0 {
         return Err(ErrorKind::WouldBlock.into());
     }

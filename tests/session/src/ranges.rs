@@ -1,7 +1,5 @@
 //! Whole ranges of sizes: hubs of each size, sessions with each depth limit and each body cap, and the longest bodies.
 
-ghost use Rattle.daide_protocol.specs.Bounds.{IsSessionCount};
-
 use crate::relays::{NEVER, QUIET};
 use crate::script::{WIDEST, bytes_of, script_of};
 use daide_driver::hub::{AddFault, Hub};
@@ -22,9 +20,7 @@ const SMALL: Config = Config {
 };
 
 /// Checks that a hub of this size can be created, without words and with them.
-fn assert_hub(alloc: Global, max: usize) -> Result<(), Fail>
-    requires { IsSessionCount max }
-{
+fn assert_hub(alloc: Global, max: usize) -> Result<(), Fail> {
     let plain = Hub::<MemoryPorts<'_>>::new(alloc, SMALL, max);
     same(&plain.err(), &None, &max)?;
     let worded = Hub::<MemoryPorts<'_>>::with_limits(alloc, SMALL.limits()?, max, two_words());

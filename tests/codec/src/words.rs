@@ -2,8 +2,6 @@
 //!
 //! XYZ is a press of a power from level 20 on, QQQ an arrangement of an arrangement from level 30 on.
 
-ghost use Rattle.std.specs.Prelude.{◌≤◌, IfOk, length};
-
 use crate::judging::{LONGEST, body_of, judged};
 use crate::messages::tokens_of_text;
 use daide_frame::side::Side;
@@ -23,20 +21,13 @@ use std::alloc::{Allocator, Global};
 use std::test::Fail;
 
 /// Returns the verdict on a bot's message with a depth limit of 62, on the smallest sufficient stack.
-fn verdict_on_512(words: Words, level: Level, body: &[u8]) -> Verdict
-    requires { length body.now ≤ LONGEST }
-{
-    let _names = words.names();
+fn verdict_on_512(words: Words, level: Level, body: &[u8]) -> Verdict {
     let mut reader: Reader<Extended, 512> = Reader::new(Extended::new(words), 62);
     judged(&mut reader, (Side2::Client, level), body, 512).0
 }
 
 /// Returns the verdict with a depth limit, on the stack of a session, which is sufficient for the greatest limit.
-fn verdict_on_2048(words: Words, depth: u16, level: Level, body: &[u8]) -> Verdict
-    requires high { depth ≤ 254 }
-    requires room { length body.now ≤ LONGEST }
-{
-    let _names = words.names();
+fn verdict_on_2048(words: Words, depth: u16, level: Level, body: &[u8]) -> Verdict {
     let mut reader: Reader<Extended, 2048> = Reader::new(Extended::new(words), depth);
     judged(&mut reader, (Side2::Client, level), body, 512).0
 }
@@ -61,9 +52,7 @@ const MESSAGES: &[Message] = &[
 ];
 
 /// Returns the verdicts with the words and without them, of readers with both stack sizes.
-fn verdicts(level: Level, body: &[u8]) -> ((Verdict, Verdict), (Verdict, Verdict))
-    requires { length body.now ≤ LONGEST }
-{
+fn verdicts(level: Level, body: &[u8]) -> ((Verdict, Verdict), (Verdict, Verdict)) {
     let with = verdict_on_512(two_words(), level, body);
     let without = verdict_on_512(Words::new(), level, body);
     let roomy_with = verdict_on_2048(two_words(), 254, level, body);
@@ -72,9 +61,7 @@ fn verdicts(level: Level, body: &[u8]) -> ((Verdict, Verdict), (Verdict, Verdict
 }
 
 /// Returns the body of a message that is given as text.
-fn body_of_text(alloc: Global, text: &str) -> Result<Vec<u8>, Fail>
-    ensures { IfOk result (λ body. length body.items ≤ LONGEST) }
-{
+fn body_of_text(alloc: Global, text: &str) -> Result<Vec<u8>, Fail> {
     let tokens = tokens_of_text(alloc, text)?;
     body_of(alloc, tokens.as_slice())
 }
@@ -106,9 +93,7 @@ const DEPTHS: &[Depth] = &[
 ];
 
 /// Returns the verdicts with a depth limit of 62, of readers with both stack sizes, and with a limit of 254.
-fn verdicts_by_depth(body: &[u8]) -> (Verdict, Verdict, Verdict)
-    requires { length body.now ≤ LONGEST }
-{
+fn verdicts_by_depth(body: &[u8]) -> (Verdict, Verdict, Verdict) {
     let shallow = verdict_on_512(Words::new(), L10, body);
     let roomy = verdict_on_2048(Words::new(), 62, L10, body);
     let deep = verdict_on_2048(Words::new(), 254, L10, body);

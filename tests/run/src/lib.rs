@@ -1,23 +1,27 @@
 //! Tests of the program and of its sockets, in cases that only a test inside the program can see.
-//!
-//! There is nothing here to call. These tests are in a crate of their own, because a crate with tests is proved twice,
-//! with them and without.
-#![tactic(auto)]
 
 #[cfg(test)]
 mod addresses;
 #[cfg(test)]
 mod admission;
 #[cfg(test)]
+mod closings;
+#[cfg(test)]
+mod control;
+#[cfg(test)]
 mod doors;
 #[cfg(test)]
 mod frames;
+#[cfg(test)]
+mod im_timer;
 #[cfg(test)]
 mod memory;
 #[cfg(test)]
 mod program;
 #[cfg(test)]
 mod refusals;
+#[cfg(test)]
+mod rows;
 #[cfg(test)]
 mod session_lines;
 #[cfg(test)]

@@ -1,9 +1,7 @@
 //! A bot, a session and a server: the bytes that each side sends, in pieces, the bytes that it gets, and the state of
 //! the session.
 //!
-//! A conversation is a table of acts, which one short loop plays. So a test is its table, which is cheap to check.
-
-ghost use Rattle.std.specs.Prelude.{◌≤◌, length};
+//! A conversation is a table of acts, which one short loop plays. So a test is its table.
 
 use daide_frame::side::Side::{self, Bot, Server};
 use daide_grammar::level::Level;
@@ -146,9 +144,7 @@ fn take(session: &mut Session, side: Side, taken: &mut Vec<u8>, most: usize) -> 
 }
 
 /// Feeds as many of these bytes as there is room for, at most `most`, and returns their number.
-fn feed<A: Allocator>(session: &mut Session<A>, side: Side, bytes: &[u8], most: usize) -> usize
-    ensures { result ≤ length bytes.now }
-{
+fn feed<A: Allocator>(session: &mut Session<A>, side: Side, bytes: &[u8], most: usize) -> usize {
     let count = bytes.len().min(most).min(session.room(side));
     session.feed(side, &bytes[..count]);
     count
