@@ -6,9 +6,9 @@ use Rattle.daide_io.specs.declared.interest.Interest.{Interest}
 use Rattle.daide_sockets.specs.declared.ports.SocketPorts.{SocketPorts}
 use Rattle.daide_sockets.specs.Interests.{interest_of, may_go_on_for}
 use Rattle.daide_sockets.specs.Sockets.{has_socket_work}
-use Rattle.daide_sockets.specs.Table.{Table}
+use Rattle.daide_sockets.specs.Table.{Table, is_reported_at, watching}
 use Rattle.daide_sockets.specs.Timers.{timers_of}
-use Rattle.daide_sockets.specs.Wakeups.{may_session_go_on}
+use Rattle.daide_sockets.specs.Wakeups.{AsksForNews, WatchesUnless, may_session_go_on, session_due}
 use Rattle.daide_sockets.proofs.InterestLemmas.{waits_at_most}
 
 -- something may be done at once for the bot of these ports too
@@ -44,3 +44,36 @@ goes_on_for table ports interest h =
 pub due_for : {S : Type 0} (ports : SocketPorts S) (interest : Interest) →
     (h : MayAddWork (λ own. own ≡ interest_of ports) interest) → interest.due ≡ (interest_of ports).due
 due_for ports interest h = ap (λ (i : Interest). i.due) h.3 ∙ ap (λ (own : Interest). own.due) h.2
+
+added : (reported tries other held rest : Bool) →
+    ((reported || ((tries || other) || held)) || rest) ≡ (((reported || (tries || held)) || rest) || other)
+added true tries other held rest = refl
+added false true other held rest = refl
+added false false true true rest = refl
+added false false true false true = refl
+added false false true false false = refl
+added false false false true rest = refl
+added false false false false true = refl
+added false false false false false = refl
+
+later : (one other more : Bool) → ((one || other) || more) ≡ (one || (other || more))
+later true other more = refl
+later false other more = refl
+
+-- a question for news that watches these busier ports watches the ports, which may go on for another reason
+pub asked_of_busier : {S : Type 0} (news : Bool) (old new : Table) (ports : SocketPorts S) (other : Bool) →
+    AsksForNews news old (timers_of (busier ports other)).sockets new → AsksForNews news old (timers_of ports).sockets new
+asked_of_busier news old new ports other h = (h.0, h.1, by news h.2)
+  where
+    go : Bool
+    go = may_session_go_on h.0 (timers_of ports).sockets
+
+    by : (news : Bool) → WatchesUnless news h.0 (timers_of (busier ports other)).sockets new →
+        WatchesUnless news h.0 (timers_of ports).sockets new
+    by true w = w
+    by false w = (
+      other || w.0,
+      w.1 ∙ ap (λ (b : Bool). watching h.0 b (session_due (timers_of ports).sockets))
+          (ap (λ (b : Bool). b || w.0) (added (is_reported_at h.0 ports.bot.key) ports.bot.tries_again other _ _)
+          ∙ later go other w.0),
+    )

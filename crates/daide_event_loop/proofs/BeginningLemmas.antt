@@ -16,7 +16,7 @@ use Rattle.daide_io.specs.declared.system.SessionStatus.{SessionStatus}
 use Rattle.daide_driver.specs.Hub.{HubView, with_ports, with_ports_at, Changes, IsTurned}
 use Rattle.daide_event_loop.specs.QuotaPorts.{QuotaPortsView, Meters, beginning, beginning_where, is_calm}
 use Rattle.daide_event_loop.specs.Serving.{IsDueBy, OpensTurn, TakesTurn, TakesTurns, has_moved_in, VisitsPlace}
-use Rattle.daide_event_loop.specs.Serving.{VisitsIfCalm, VisitsCalm, VisitsCalmIf, VisitsNext, TurnsBelow, watches}
+use Rattle.daide_event_loop.specs.Serving.{VisitsIfCalm, VisitsCalm, VisitsCalmIf, VisitsNext, TurnsBelow, watch_unless, watch_after}
 use Rattle.daide_event_loop.specs.Serving.{busy_turns_in, is_calm_in}
 use Rattle.daide_event_loop.specs.Serving.{most_turns, shows, shows_where, opening}
 use Rattle.daide_event_loop.specs.Served.{sum_over_calls}
@@ -127,9 +127,14 @@ module _ {P : Type 0} where
   one_begins None before after = tt
   one_begins (Some turns) before after = tt
 
-  pub watches_only : (places : List (SessionView × QuotaPortsView P)) → OnlyTurns (watches places)
-  watches_only [] = tt
-  watches_only (place ∷ places) = watches_only places
+  watch_only : (moved : Bool) (ports : P) → OnlyTurns (watch_unless moved ports)
+  watch_only true ports = tt
+  watch_only false ports = tt
+
+  watches_only : (due : Bool) (place : Option (SessionView × QuotaPortsView P)) → OnlyTurns (watch_after due place)
+  watches_only false place = tt
+  watches_only true None = tt
+  watches_only true (Some place) = watch_only place.1.made_progress place.1.ports
 
   one_reports : (moved : Bool) (ports : P) (report : List (SystemCall P)) (due : Bool) → IsDueBy moved ports report due →
       OnlyTurns report
@@ -159,8 +164,10 @@ module _ {P : Type 0} where
       OnlyTurns answers
   visit_only port_transition old i answers new h =
       subst OnlyTurns (sym h.asked)
+      (only_append (h.report ++ h.turn) (watch_after h.due (slice_get new.places i))
       (only_append h.report h.turn (one_reports h.place.1.made_progress h.place.1.ports h.report h.due h.looks)
       (some_turns_only port_transition h.due (most_turns (is_calm h.place.1)) old i h.turn new h.turns))
+      (watches_only h.due (slice_get new.places i)))
 
   calm_visit_only : (port_transition : P → PortCall → P → Type 0) (calm : Bool) (old : HubView (QuotaPortsView P)) (i : ℕ)
       (answers : List (SystemCall P)) (new : HubView (QuotaPortsView P)) →
@@ -502,6 +509,18 @@ module _ {P S : Type 0} (port_transition : P → PortCall → P → Type 0) (tra
       subst (λ (o : Option (SessionView × QuotaPortsView P)). IfSome o (λ p. ports ≡ p.1)) found.1 value in
       ap is_calm_in found.1 ∙ ap (λ (m : QuotaPortsView P). is_calm m) (sym same) ∙ sym is
 
+-- the ports of the session at a place are watched
+pub settled : {P S : Type 0} (transition : S → SystemCall P → S → Type 0) (hub : HubView (QuotaPortsView P)) (i : ℕ)
+    (own : QuotaPortsView P) (s t : S) → i < length hub.places → IfSome (slice_get hub.places i) (λ place. own ≡ place.1) →
+    TransitsBy transition s (watch_unless own.made_progress own.ports) t →
+    TransitsBy transition s (watch_after true (slice_get hub.places i)) t
+settled {P = P} transition hub i own s t inside value watched =
+    let found = slice_some hub.places i inside in
+    let same : own ≡ found.0.1 =
+    subst (λ (o : Option (SessionView × QuotaPortsView P)). IfSome o (λ place. own ≡ place.1)) found.1 value in
+    subst (λ (o : Option (SessionView × QuotaPortsView P)). TransitsBy transition s (watch_after true o) t) (sym found.1)
+    (subst (λ (p : QuotaPortsView P). TransitsBy transition s (watch_unless p.made_progress p.ports) t) same watched)
+
 -- the visit of a place: what the system reports, and then the turns, if the session is due one
 module _ {P S : Type 0} (port_transition : P → PortCall → P → Type 0) (transition : S → SystemCall P → S → Type 0) where
   abbrev pub Looks : S → S → Bool → SessionView × QuotaPortsView P → Type 0
@@ -526,7 +545,8 @@ module _ {P S : Type 0} (port_transition : P → PortCall → P → Type 0) (tra
 
   pub visited : (hub new : HubView (QuotaPortsView P)) (i : ℕ) (s t u : S) (due calm : Bool) (most count : ℕ) → i < length hub.places →
       IfSome (slice_get hub.places i) (Looks s t due) → is_calm_in (slice_get hub.places i) ≡ calm → most ≡ most_turns calm →
-      ((turns : List (SystemCall P)) × TransitsBy transition t turns u × TakesTurns port_transition due most hub i turns new) →
+      ((turns : List (SystemCall P)) × TransitsBy transition t (turns ++ watch_after due (slice_get new.places i)) u
+      × TakesTurns port_transition due most hub i turns new) →
       count ≡ (if due && not calm then 1 else 0) → (answers : List (SystemCall P)) × TransitsBy transition s answers u
       × (visit : VisitsPlace port_transition hub i answers new) × (count ≡ busy_turns_in visit)
   visited hub new i s t u due calm most count inside looks is few turns counted =
@@ -534,8 +554,10 @@ module _ {P S : Type 0} (port_transition : P → PortCall → P → Type 0) (tra
       let own : is_calm found.0.1 ≡ calm = ap is_calm_in (sym found.1) ∙ is in
       let look : Looks s t due found.0 =
       subst (λ (o : Option (SessionView × QuotaPortsView P)). IfSome o (Looks s t due)) found.1 looks in (
-        look.0 ++ turns.0,
-        transits_then transition look.0 turns.0 s t u look.1 turns.1,
+        look.0 ++ turns.0 ++ watch_after due (slice_get new.places i),
+        subst (λ (l : List (SystemCall P)). TransitsBy transition s l u)
+            (sym (append_assoc look.0 turns.0 (watch_after due (slice_get new.places i))))
+            (transits_then transition look.0 (turns.0 ++ watch_after due (slice_get new.places i)) s t u look.1 turns.1),
         record {
           place = found.0;
           there = found.1;

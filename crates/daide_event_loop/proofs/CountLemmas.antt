@@ -12,7 +12,7 @@ use Rattle.daide_event_loop.specs.QuotaPorts.{QuotaPortsView}
 use Rattle.daide_io.specs.System.{SystemCall, Watches, Accepts, Connects, Retires, Notifies, Waits}
 use Rattle.daide_io.specs.declared.system.Orders.{Orders}
 use Rattle.daide_event_loop.specs.Serving.{arrived, come, closed, heeding, opening, AdmitsWhere, MeetsWhere, MeetsBy, last_words, retirement_where}
-use Rattle.daide_event_loop.specs.Serving.{end_of, retirement, retirements, watches, wait_where}
+use Rattle.daide_event_loop.specs.Serving.{end_of, retirement, retirements, wait_where}
 use Rattle.daide_event_loop.specs.Served.{comes, connects, unreached, sum_over_calls}
 use Rattle.daide_event_loop.proofs.BeginningLemmas.{OnlyTurns, none_counted, opening_none}
 
@@ -168,15 +168,7 @@ module _ {P : Type 0} where
   pub removal_counts : (places : List (SessionView × QuotaPortsView P)) (counters : AdmissionCounters) → Counts (retirements places) counters counters
   removal_counts places counters = silent_counts (retirements places) counters (silent_farewells places)
 
-  watched : (places : List (SessionView × QuotaPortsView P)) → Silent (watches places)
-  watched [] = nothing_said
-  watched (place ∷ places) =
-      silent_then (Watches place.1.ports ∷ []) (watches places) (record { came = refl; joined = refl; failed = refl })
-      (watched places)
-
-  pub wait_counts : (made_progress : Bool) (places : List (SessionView × QuotaPortsView P)) (counters : AdmissionCounters) →
-      Counts (wait_where made_progress places) counters counters
-  wait_counts true places counters = silent_counts [] counters nothing_said
-  wait_counts false places counters =
-      silent_counts (wait_where false places) counters
-      (silent_then (watches places) (Waits ∷ []) (watched places) (record { came = refl; joined = refl; failed = refl }))
+  pub wait_counts : (made_progress : Bool) (counters : AdmissionCounters) → Counts (wait_where made_progress) counters counters
+  wait_counts true counters = silent_counts [] counters nothing_said
+  wait_counts false counters =
+      silent_counts (wait_where false) counters (record { came = refl; joined = refl; failed = refl })

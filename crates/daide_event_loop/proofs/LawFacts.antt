@@ -1,8 +1,8 @@
 -- Each law of `laws`, used once at small values. Each fact takes only the law, so that a weaker law does not check.
-use Rattle.std.proofs.Common.{◌≡◌, ℕ, ◌+◌, ◌<◌, ⊎_elim, ◌++◌, true, false, List, [], ◌∷◌, length, refl, sym, ◌∙◌, ap, subst, arith}
+use Rattle.std.proofs.Common.{◌≡◌, ℕ, ◌+◌, ◌<◌, ⊎_elim, ◌++◌, true, false, List, [], ◌∷◌, length, refl, sym, ◌∙◌, ap, subst, arith, ◌⊎◌, inl, inr}
 use Rattle.std.specs.Prelude.{is_none, min, Contains, All}
 use Rattle.std.proofs.lemmas.List.Elements.{All-nil, All-cons, All-contains}
-use Rattle.std.proofs.lemmas.List.Elements.{All-weaker, Contains-append_right}
+use Rattle.std.proofs.lemmas.List.Elements.{Contains-append_right}
 use Rattle.daide_frame.specs.declared.side.Side.{Side}
 use Rattle.daide_frame.specs.declared.side.Side.TheVariants.{Bot, Server}
 use Rattle.daide_protocol.specs.Wires.{SessionView, room_of}
@@ -13,14 +13,14 @@ use Rattle.daide_io.specs.declared.system.Orders.{Orders}
 use Rattle.daide_io.specs.declared.system.SessionEnd.{SessionEnd}
 use Rattle.daide_io.specs.declared.system.SessionStatus.{SessionStatus}
 use Rattle.daide_io.specs.Ports.{PortCall, TurnBegins, Clock, Pulled, Offered, EvolvesBy, taken}
-use Rattle.daide_io.specs.System.{SystemCall, Begins, Shows, Watches, Accepts, Waits, no_orders}
+use Rattle.daide_io.specs.System.{SystemCall, Begins, Shows, ReportsNews, BeginsTurn, Watches, Accepts, Waits, no_orders}
 use Rattle.daide_settings.specs.declared.settings.Settings.{Settings}
 use Rattle.daide_driver.specs.Hub.{IsBegun, IsTurned}
 use Rattle.daide_event_loop.specs.QuotaPorts.{QuotaPortsView, Meters, progress_by, is_gain, is_loss}
 use Rattle.daide_event_loop.specs.Served.{SessionsAreServed, OrdersAreHeeded, MovesAreAnswered, TurnsAreCounted}
 use Rattle.daide_event_loop.specs.Served.{comes, sum_over_calls, retires, unreached}
 use Rattle.daide_event_loop.specs.Served.{run_limits, IsServed, IsEndOf}
-use Rattle.daide_event_loop.specs.Serving.{ServiceView, may_accept, watches, Round, Rounds, fresh, initial_service, is_done}
+use Rattle.daide_event_loop.specs.Serving.{ServiceView, may_accept, Round, Rounds, fresh, initial_service, is_done}
 use Rattle.daide_settings.specs.BotsInAll.{bots_in_all}
 use Rattle.daide_event_loop.specs.Independence.{SessionsAreIndependent, HaveSameRules, results_of, Received, Handed}
 use Rattle.daide_event_loop.specs.Waiting.{RunsAreIdleAtWaits, IsIdleAtWait, MakesNoProgress}
@@ -118,7 +118,7 @@ module _ {P : Type 0} where
       (side : Side) → 0 < room_of place.0 side → ⊥
   no_wait_with_room law settings round run place ongoing waits there side room =
       let all = law settings 0 [] round (initial_service settings) run (refl, refl) ongoing waits in
-      let idle = (All-contains (IsIdleAtWait AlwaysGives all.early) run.hub.places place all.sessions there).idle in
+      let idle = (All-contains (IsIdleAtWait AlwaysGives all.visits) run.hub.places place all.sessions there).idle in
       let pulled = idle.pulled side room in
       let call = Pulled side (min (room_of place.0 side) 512) pulled.0 pulled.1 in
       let gives = each_gives idle.turn idle.begun place.1.ports idle.evolves in
@@ -127,27 +127,23 @@ module _ {P : Type 0} where
       (λ (e : pulled.0 ≡ Got 0). let none = ap is_gain e in absurd (cc))
       (All-contains MakesNoProgress idle.turn call idle.still pulled.2)
 
-  abbrev IsWatched : List (SessionView × QuotaPortsView P) → SessionView × QuotaPortsView P → Type 0
-  IsWatched places place = Contains (watches places) (Watches place.1.ports)
-
-  each_watched : (places : List (SessionView × QuotaPortsView P)) → All (IsWatched places) places
-  each_watched [] = All-nil (IsWatched [])
-  each_watched (place ∷ places) =
-      All-cons (IsWatched (place ∷ places)) place places (0, omega arith, refl)
-      (All-weaker (IsWatched places) (IsWatched (place ∷ places)) (λ (other : SessionView × QuotaPortsView P) c.
-      Contains-append_right (Watches place.1.ports ∷ []) (watches places) (Watches other.1.ports) c) places (each_watched places))
-
-  -- in a first round that waits, the wait watches the ports of each session that is left
+  -- in a first round that waits, the wait watches the ports of each session that is left: the system reported no news for
+  -- them, or it was to watch them after a turn
   watched_at_once : (transition : P → PortCall → P → Type 0) → RunsAreIdleAtWaits transition → (settings : Settings)
       (round : List (SystemCall P)) (run : ServiceView P) (place : SessionView × QuotaPortsView P) →
       is_done (initial_service {P = P} settings) ≡ false →
       Round transition (initial_service settings) (round ++ Waits ∷ []) run → Contains run.hub.places place →
-      Contains round (Watches place.1.ports)
+      Contains round (ReportsNews place.1.ports false) ⊎ Contains round (Watches place.1.ports)
   watched_at_once transition law settings round run place ongoing waits there =
       let all = law settings 0 [] round (initial_service settings) run (refl, refl) ongoing waits in
-      subst (λ (l : List (SystemCall P)). Contains l (Watches place.1.ports)) (sym all.watched)
-      (Contains-append_right all.early (watches run.hub.places) (Watches place.1.ports)
-      (All-contains (IsWatched run.hub.places) run.hub.places place (each_watched run.hub.places) there))
+      let own = All-contains (IsIdleAtWait transition all.visits) run.hub.places place all.sessions there in
+      let within : (x : SystemCall P) → Contains all.visits x → Contains round x =
+      λ x c. subst (λ (l : List (SystemCall P)). Contains l x) (sym all.parts) (Contains-append_right all.early all.visits x c) in
+      ⊎_elim
+      (λ (turned : Contains all.visits (BeginsTurn own.idle.ports own.idle.begun) × Contains all.visits (Watches place.1.ports)).
+      inr (within (Watches place.1.ports) turned.1))
+      (λ (none : Contains all.visits (ReportsNews place.1.ports false)). inl (within (ReportsNews place.1.ports false) none))
+      own.asked
 
   -- a first round that waits asked for a bot, and none came
   asked_for_a_bot : (transition : P → PortCall → P → Type 0) → RunsAreIdleAtWaits transition → (settings : Settings)

@@ -20,9 +20,9 @@ use Rattle.daide_event_loop.specs.QuotaPorts.{QuotaPortsView}
 use Rattle.daide_event_loop.specs.Serving.{ServiceView, initial_service, may_accept, is_done, closed, heeding, opening}
 use Rattle.daide_settings.specs.BotsInAll.{bots_in_all}
 use Rattle.daide_event_loop.specs.Serving.{come, shows_where, AdmitsWhere, MeetsWhere, MeetsBy, last_words, retirement_where}
-use Rattle.daide_event_loop.specs.Serving.{end_of, retirements, watches, wait_where, any_progress, any_moved, Round}
+use Rattle.daide_event_loop.specs.Serving.{end_of, retirements, wait_where, any_progress, any_moved, Round}
 use Rattle.daide_event_loop.specs.Served.{sum_over_calls, accept_calls, show_calls, orders_with, stop_orders, show_orders, HeedsStops, HeedsOrders}
-use Rattle.daide_event_loop.proofs.BeginningLemmas.{none_counted, none_shown, turns_only, watches_only}
+use Rattle.daide_event_loop.proofs.BeginningLemmas.{none_counted, none_shown, turns_only}
 use Rattle.daide_event_loop.proofs.CountLemmas.{counted_append}
 
 -- ---- counts of the calls that a round begins with
@@ -119,14 +119,9 @@ module _ {P : Type 0} where
         one true = spoken (is_none place.1.turns_left)
         one false = refl
 
-    wait_none : (made_progress : Bool) (places : List (SessionView × QuotaPortsView P)) →
-        sum_over_calls count (wait_where made_progress places) ≡ 0
-    wait_none true places = refl
-    wait_none false places =
-        let both = counted_append count (watches places) (Waits ∷ []) in
-        let watched = none_counted count (watches places) early.news early.turns early.watched (watches_only places) in
-        let last = early.waits in
-        omega (arith, both, watched, last)
+    wait_none : (made_progress : Bool) → sum_over_calls count (wait_where made_progress) ≡ 0
+    wait_none true = refl
+    wait_none false = let last = early.waits in omega (arith, last)
 
     -- what a round counts, it counts when it begins and when it accepts a bot
     counted_early : (port_transition : P → PortCall → P → Type 0) (ys : List (SystemCall P)) (old new : ServiceView P) →
@@ -136,7 +131,7 @@ module _ {P : Type 0} where
         let opens = opening r.orders old.hub.places in
         let made_progress = any_progress r.admission || any_progress r.meeting || any_moved r.turned.places || any_progress r.removal
         || is_done new in
-        let last = wait_where made_progress new.hub.places in
+        let last = wait_where made_progress in
         let all = ap (sum_over_calls count) r.asked in
         let one = counted_append count (opens ++ r.admission ++ r.meeting ++ r.beginnings ++ r.removal) last in
         let two = counted_append count (opens ++ r.admission ++ r.meeting ++ r.beginnings) r.removal in
@@ -147,7 +142,7 @@ module _ {P : Type 0} where
         let b = none_counted count r.beginnings early.news early.turns early.watched
         (turns_only port_transition (length r.connected.places) r.turns.0 r.connected r.beginnings r.turned r.turns.1) in
         let c = ap (sum_over_calls count) r.removes.0 ∙ removal_none r.turned.places in
-        let d = wait_none made_progress new.hub.places in
+        let d = wait_none made_progress in
         omega (arith, all, one, two, three, four, five, a, b, c, d)
 
   -- ---- after a stop
@@ -309,7 +304,7 @@ module _ {P : Type 0} (port_transition : P → PortCall → P → Type 0) (setti
 
       last : List (SystemCall P)
       last = wait_where (any_progress r.admission || any_progress r.meeting || any_moved r.turned.places || any_progress r.removal
-          || is_done new) new.hub.places
+          || is_done new)
 
       rest : List (SystemCall P)
       rest = shows_where r.orders.shows_sessions old.hub.places ++ r.admission ++ r.meeting ++ r.beginnings ++ r.removal ++ last

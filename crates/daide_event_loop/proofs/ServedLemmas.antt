@@ -35,10 +35,10 @@ use Rattle.daide_event_loop.specs.Serving.{IsDueBy, TakesTurns, most_turns, Visi
 use Rattle.daide_event_loop.specs.Serving.{last_words, retirement, retirement_where}
 use Rattle.daide_event_loop.specs.Serving.{retirements, remaining, parting, closed, heeding, shows_where, opening}
 use Rattle.daide_event_loop.specs.Serving.{cause_by, end_of}
-use Rattle.daide_event_loop.specs.Serving.{MeetsBy, watches, wait_where, any_progress, any_moved, Round, Rounds, is_done}
+use Rattle.daide_event_loop.specs.Serving.{MeetsBy, wait_where, any_progress, any_moved, Round, Rounds, is_done}
 use Rattle.daide_event_loop.specs.Served.{IsServedSession, run_limits, IsSessionOfRun, IsServed, IsEndOf, RetiresClosed, connects, retires, sum_over_calls}
 use Rattle.daide_event_loop.specs.Served.{IsWholeRun}
-use Rattle.daide_event_loop.proofs.BeginningLemmas.{OnlyTurns, none_counted, opening_none, all_turns, all_shown, turns_only, watches_only}
+use Rattle.daide_event_loop.proofs.BeginningLemmas.{OnlyTurns, none_counted, opening_none, all_turns, all_shown, turns_only}
 use Rattle.daide_event_loop.proofs.VisitLemmas.{Gets, gets_own, some_most, some_turns, all_visited}
 use Rattle.daide_event_loop.proofs.CauseLemmas.{IsCut, cut_begins, cut_begun, cut_turn, cut_cause, cut_field}
 use Rattle.daide_event_loop.proofs.CountLemmas.{counted_append, Counts, counts_then, admission_counts, meeting_counts}
@@ -170,12 +170,9 @@ module _ {P : Type 0} where
             omega (arith, rest, same)),
       )
 
-  wait_passes : (made_progress : Bool) (places : List (SessionView × QuotaPortsView P)) →
-      Passes (wait_where made_progress places) 0 0
-  wait_passes true places = record { came = refl; went = refl }
-  wait_passes false places =
-      passes_then (watches places) (Waits ∷ []) 0 0 0 0
-      (turns_pass (watches places) (watches_only places)) (record { came = refl; went = refl })
+  wait_passes : (made_progress : Bool) → Passes (wait_where made_progress) 0 0
+  wait_passes true = record { came = refl; went = refl }
+  wait_passes false = record { came = refl; went = refl }
 
 -- a session that its port calls since the opening of a run lead to, with its counts and its look-ups
 abbrev IsReached : Limits → List PortCall → SessionView → Type 0
@@ -437,12 +434,9 @@ module _ {P : Type 0} (port_transition : P → PortCall → P → Type 0) (setti
         All-append Gone (retirements places) (retirement place) (all_parted places (All-tail Served place places h))
         (parted (is_closed place.0) place refl (All-head Served place places h))
 
-    waited : (made_progress : Bool) (places : List (SessionView × QuotaPortsView P)) →
-        All Gone (wait_where made_progress places)
-    waited true places = All-nil Gone
-    waited false places =
-        All-push Gone (watches places) Waits
-        (all_turns Gone (watches places) (λ ports news. tt) (λ before after. tt) (λ ports. tt) (watches_only places)) tt
+    waited : (made_progress : Bool) → All Gone (wait_where made_progress)
+    waited true = All-nil Gone
+    waited false = All-cons Gone Waits [] tt (All-nil Gone)
 
   -- ---- rounds
 
@@ -469,7 +463,7 @@ module _ {P : Type 0} (port_transition : P → PortCall → P → Type 0) (setti
       let heeded = heeding r.orders old.counters in
       let made_progress = any_progress r.admission || any_progress r.meeting || any_moved r.turned.places || any_progress r.removal
       || is_done new in
-      let last = wait_where made_progress new.hub.places in
+      let last = wait_where made_progress in
       let removes : Counts r.removal new.counters new.counters =
       subst (λ (l : List (SystemCall P)). Counts l new.counters new.counters) (sym r.removes.0)
       (removal_counts r.turned.places new.counters) in
@@ -483,7 +477,7 @@ module _ {P : Type 0} (port_transition : P → PortCall → P → Type 0) (setti
       (meeting_counts (r.came.connecting == 0) old.hub r.came r.meeting r.connected new.counters refl r.finishes))
       (turns_count r.beginnings new.counters (turns_only port_transition (length r.connected.places) r.turns.0 r.connected r.beginnings r.turned r.turns.1)))
       removes)
-      (wait_counts made_progress new.hub.places new.counters))
+      (wait_counts made_progress new.counters))
 
   round_serves : (xs ys : List (SystemCall P)) (old new : ServiceView P) → Keeps xs old → Round port_transition old ys new →
       Keeps (xs ++ ys) new
@@ -493,7 +487,7 @@ module _ {P : Type 0} (port_transition : P → PortCall → P → Type 0) (setti
       let heeded = heeding r.orders old.counters in
       let made_progress = any_progress r.admission || any_progress r.meeting || any_moved r.turned.places || any_progress r.removal
       || is_done new in
-      let last = wait_where made_progress new.hub.places in
+      let last = wait_where made_progress in
       let come = admitted all (may_accept heeded (length old.hub.places)) heeded r.admission r.came r.admits in
       let kept = heeded_turns r.orders.stops_accepting old.counters in
       let still_held : All (IsRested all) old.hub.places =
@@ -532,7 +526,7 @@ module _ {P : Type 0} (port_transition : P → PortCall → P → Type 0) (setti
             connected.gone) (all_turns (Gone all) r.beginnings (λ ports news. tt) (λ before after. tt) (λ ports. tt) only))
             (All-same (Gone all) r.removal (retirements r.turned.places) r.removes.0
             (all_parted all r.turned.places turned.0)))
-            (waited all made_progress new.hub.places)));
+            (waited all made_progress)));
         balance =
             let finishes = meeting_passes (r.came.connecting == 0) old.hub r.came r.meeting r.connected new.counters r.finishes in
             let leaves = removal_passes r.turned.places in
@@ -548,7 +542,7 @@ module _ {P : Type 0} (port_transition : P → PortCall → P → Type 0) (setti
             (admission_passes (may_accept heeded (length old.hub.places)) heeded r.admission r.came r.admits)) finishes.1)
             (turns_pass r.beginnings only))
             (passes_as r.removal (retirements r.turned.places) 0 leaves.0 r.removes.0 leaves.1))
-            (wait_passes made_progress new.hub.places)) in
+            (wait_passes made_progress)) in
             let came = passes.came in
             let went = passes.went in
             let held = finishes.2 in

@@ -6,20 +6,19 @@ use Rattle.std.specs.Result.{IsErrAnd}
 use Rattle.daide_protocol.specs.Wires.{SessionView}
 use Rattle.daide_io.specs.Ports.{PortCall}
 use Rattle.daide_event_loop.specs.QuotaPorts.{QuotaPortsView}
-use Rattle.daide_io.specs.System.{SystemCall, Shows, Watches, Waits, TransitsBy, status_of}
+use Rattle.daide_io.specs.System.{SystemCall, Shows, Waits, TransitsBy, status_of}
 use Rattle.daide_settings.specs.declared.settings.Settings.{Settings}
 use Rattle.daide_event_loop.specs.declared.serving.ServeFault.{ServeFault}
 use Rattle.daide_event_loop.specs.declared.serving.ServeFault.TheVariants as Faults
-use Rattle.daide_event_loop.specs.Serving.{ServiceView, shows, watches, wait_where, Round, Rounds, is_done, initial_service}
+use Rattle.daide_event_loop.specs.Serving.{ServiceView, shows, wait_where, Round, Rounds, is_done, initial_service}
 use Rattle.daide_event_loop.specs.Serving.{BreaksOff, GivesUp}
 use Rattle.daide_event_loop.proofs.TransitLemmas.{transits_then}
 
 -- ---- rounds
 
-pub waits_alike : {P : Type 0} (places : List (SessionView × QuotaPortsView P)) (a b c d e p q r s t : Bool) →
-    a ≡ p → b ≡ q → c ≡ r → d ≡ s → e ≡ t →
-    wait_where (a || b || c || d || e) places ≡ wait_where (p || q || r || s || t) places
-waits_alike places a b c d e p q r s t h i j k l = rw (h, i, j, k, l) refl
+pub waits_alike : {P : Type 0} (a b c d e p q r s t : Bool) → a ≡ p → b ≡ q → c ≡ r → d ≡ s → e ≡ t →
+    wait_where {P = P} (a || b || c || d || e) ≡ wait_where (p || q || r || s || t)
+waits_alike a b c d e p q r s t h i j k l = rw (h, i, j, k, l) refl
 
 -- one more session is shown
 pub show_more : {P : Type 0} (xs : List (SessionView × QuotaPortsView P)) (i : ℕ) (m : QuotaPortsView P)
@@ -32,21 +31,11 @@ show_more {P = P} (x ∷ xs) (suc i) m session lt h k =
     ap (λ (calls : List (SystemCall P)). Shows x.1.ports (status_of x.0 x.1.bytes) ∷ calls)
     (show_more xs i m session (omega (arith, lt)) h k)
 
--- one more session is watched
-pub watch_more : {P : Type 0} (xs : List (SessionView × QuotaPortsView P)) (i : ℕ) (m : QuotaPortsView P) → i < length xs →
-    IfSome (slice_get xs i) (λ place. m ≡ place.1) → watches (take (suc i) xs) ≡ watches (take i xs) ++ Watches m.ports ∷ []
-watch_more {P = P} [] i m lt h = absurd (omega (arith, lt))
-watch_more {P = P} (x ∷ xs) zero m lt h = ap (λ (own : QuotaPortsView P). Watches own.ports ∷ []) (sym h)
-watch_more {P = P} (x ∷ xs) (suc i) m lt h =
-    ap (λ (calls : List (SystemCall P)). Watches x.1.ports ∷ calls) (watch_more xs i m (omega (arith, lt)) h)
-
--- without progress the ports of each session are watched, and then the system waits
-pub rested : {P S : Type 0} (transition : S → SystemCall P → S → Type 0) (places : List (SessionView × QuotaPortsView P))
-    (made_progress : Bool) (s t u : S) → made_progress ≡ false → TransitsBy transition s (watches places) t →
-    transition t Waits u → TransitsBy transition s (wait_where made_progress places) u
-rested transition places false s t u e watched waited =
-    transits_then transition (watches places) (Waits ∷ []) s t u watched (u, waited, refl)
-rested transition places true s t u e watched waited = absurd (cc)
+-- without progress the system waits
+pub rested : {P S : Type 0} (transition : S → SystemCall P → S → Type 0) (made_progress : Bool) (s t : S) →
+    made_progress ≡ false → transition s Waits t → TransitsBy transition s (wait_where made_progress) t
+rested transition false s t e waited = (t, waited, refl)
+rested transition true s t e waited = absurd (cc)
 
 module _ {P S : Type 0} (port_transition : P → PortCall → P → Type 0) (transition : S → SystemCall P → S → Type 0) where
   -- the first n rounds, with their trace of system calls

@@ -14,7 +14,7 @@ use Rattle.daide_driver.specs.Hub.{HubView, with_places, IsBegun, IsTurned}
 use Rattle.daide_event_loop.specs.QuotaPorts.{QuotaPortsView, Meters, is_calm}
 use Rattle.daide_event_loop.specs.Serving.{TakesTurn, TakesTurns, has_moved_in, most_turns, IsDueBy, VisitsPlace}
 use Rattle.daide_event_loop.specs.Serving.{VisitsIfCalm, VisitsCalm, VisitsCalmIf, VisitsNext, TurnsBelow, TurnsAll}
-use Rattle.daide_event_loop.specs.Serving.{busy_turns_in, is_calm_in}
+use Rattle.daide_event_loop.specs.Serving.{busy_turns_in, is_calm_in, watch_after}
 use Rattle.daide_event_loop.specs.Attendance.{HadTurn, IsAttended, RoundsAttendAll}
 use Rattle.daide_event_loop.proofs.BeginningLemmas.{get_set}
 
@@ -318,6 +318,10 @@ module _ {P : Type 0} (port_transition : P → PortCall → P → Type 0) where
       (now : SessionView × QuotaPortsView P) × IsAttended port_transition round now × Gets mid i now new
   attended round mid i calls new within v = by v.due v.place.1.made_progress v.looks v.turns
     where
+      in_visit : (x : SystemCall P) → Contains (v.report ++ v.turn) x →
+          Contains (v.report ++ v.turn ++ watch_after v.due (slice_get new.places i)) x
+      in_visit x c = Contains-append_left (v.report ++ v.turn) (watch_after v.due (slice_get new.places i)) x c
+
       by : (due moved : Bool) → IsDueBy moved v.place.1.ports v.report due →
           TakesTurns port_transition due (most_turns (is_calm v.place.1)) mid i v.turn new →
           (now : SessionView × QuotaPortsView P) × IsAttended port_transition round now × Gets mid i now new
@@ -328,7 +332,8 @@ module _ {P : Type 0} (port_transition : P → PortCall → P → Type 0) where
             inl (
               last.before,
               wider port_transition v.turn round last.before last.place (λ x c.
-                  within x (subst (λ (l : List (SystemCall P)). Contains l x) (sym v.asked) (Contains-append_right v.report v.turn x c)))
+                  within x (subst (λ (l : List (SystemCall P)). Contains l x) (sym v.asked)
+                  (in_visit x (Contains-append_right v.report v.turn x c))))
                   last.turned,
             ),
             last.gets,
@@ -338,9 +343,10 @@ module _ {P : Type 0} (port_transition : P → PortCall → P → Type 0) where
         v.place,
         inr (within (ReportsNews v.place.1.ports false)
             (subst (λ (l : List (SystemCall P)). Contains l (ReportsNews v.place.1.ports false)) (sym v.asked)
+            (in_visit (ReportsNews v.place.1.ports false)
             (Contains-append_left v.report v.turn (ReportsNews v.place.1.ports false)
             (subst (λ (l : List (SystemCall P)). Contains l (ReportsNews v.place.1.ports false)) (sym looks)
-            (0, omega arith, refl))))),
+            (0, omega arith, refl)))))),
         gets_own i mid new v.place v.there stays.1,
       )
 

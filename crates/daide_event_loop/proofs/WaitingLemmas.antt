@@ -1,8 +1,8 @@
 -- The sessions of a run at a wait.
 use Rattle.std.proofs.Common.{◌≡◌, ℕ, zero, suc, ◌≤◌, ◌+◌, Bool, true, false, List, [], ◌∷◌, ◌++◌, length}
-use Rattle.std.proofs.Common.{refl, sym, ap, ◌∙◌, subst, arith, ◌⊎◌, inl, inr, ⊎_elim, Option, Some, None}
-use Rattle.std.specs.Prelude.{◌||◌, ◌==◌, Contains, All, is_none, not}
-use Rattle.std.proofs.lemmas.List.{append_assoc, append_cancel_right}
+use Rattle.std.proofs.Common.{refl, sym, ap, ◌∙◌, subst, arith, append-nil, ◌⊎◌, inl, inr, ⊎_elim, Option, Some, None}
+use Rattle.std.specs.Prelude.{◌||◌, ◌==◌, Contains, All, is_none, not, slice_get}
+use Rattle.std.proofs.lemmas.List.{append_cancel_right}
 use Rattle.std.proofs.lemmas.List.Elements.{All-nil, All-cons, All-push, All-weaker, All-contains, All-contains_itself, All-same}
 use Rattle.std.proofs.lemmas.List.Elements.{All-filter, filter_passes}
 use Rattle.std.proofs.lemmas.List.Elements.{Contains-append_left, Contains-append_right}
@@ -20,13 +20,13 @@ use Rattle.daide_settings.specs.declared.settings.Settings.{Settings}
 use Rattle.daide_event_loop.specs.declared.admission_counters.AdmissionCounters.{AdmissionCounters}
 use Rattle.daide_event_loop.specs.QuotaPorts.{QuotaPortsView, beginning_where, is_calm}
 use Rattle.daide_event_loop.specs.Serving.{ServiceView, fresh, initial_service, may_accept, AdmitsWhere, MeetsWhere, MeetsBy}
-use Rattle.daide_event_loop.specs.Serving.{IsDueBy, TakesTurns, most_turns, VisitsPlace, TurnsAll, any_moved}
+use Rattle.daide_event_loop.specs.Serving.{IsDueBy, TakesTurns, most_turns, VisitsPlace, TurnsAll, any_moved, watch_unless, watch_after}
 use Rattle.daide_event_loop.specs.Serving.{last_words, retirement_where, retirements, remaining, end_of, heeding, opening}
-use Rattle.daide_event_loop.specs.Serving.{retirement, come, is_progress, any_progress, watches, wait_where, Round, Rounds, is_done}
+use Rattle.daide_event_loop.specs.Serving.{retirement, come, is_progress, any_progress, wait_where, Round, Rounds, is_done}
 use Rattle.daide_event_loop.specs.Served.{run_limits, sum_over_calls}
-use Rattle.daide_event_loop.specs.Waiting.{IsIdleSession, IsIdleAtWait, IsIdleRun}
-use Rattle.daide_event_loop.proofs.BeginningLemmas.{none_counted, none_shown, turns_only, watches_only, below_count}
-use Rattle.daide_event_loop.proofs.VisitLemmas.{Turned, wider, Gets, gets_own, some_most, some_turns, all_visited}
+use Rattle.daide_event_loop.specs.Waiting.{IsIdleSession, IsIdleAtWait, IsVisitCall, IsIdleRun}
+use Rattle.daide_event_loop.proofs.BeginningLemmas.{none_counted, all_turns, none_shown, turns_only, below_count}
+use Rattle.daide_event_loop.proofs.VisitLemmas.{Turned, wider, Gets, got, gets_own, some_most, some_turns, all_visited}
 use Rattle.daide_event_loop.proofs.CountLemmas.{counted_append}
 use Rattle.daide_event_loop.proofs.TurnCounts.{turn_begins_none}
 use Rattle.daide_event_loop.proofs.ServedLemmas.{Served, rounds_serve, turn_moved}
@@ -48,16 +48,25 @@ module _ {P : Type 0} (port_transition : P → PortCall → P → Type 0) where
       ((events : List Event) × (effects : List Effect) × Runs (initial_state limits) events effects place.0.state) →
       (is_closed place.0 ≡ true) ⊎ IsIdleAtWait port_transition round place
 
+  -- after its turns a session is watched, if the last one made no progress
+  watched_there : (there : Option (SessionView × QuotaPortsView P)) (now : SessionView × QuotaPortsView P) → there ≡ Some now →
+      now.1.made_progress ≡ false → Contains (watch_after true there) (Watches now.1.ports)
+  watched_there there now is still =
+      subst (λ (o : Option (SessionView × QuotaPortsView P)). Contains (watch_after true o) (Watches now.1.ports)) (sym is)
+      (subst (λ (moved : Bool). Contains (watch_unless moved now.1.ports) (Watches now.1.ports)) (sym still)
+      (0, omega arith, refl))
+
   by_quota : (limits : Limits) (round : List (SystemCall P)) (old new : SessionView × QuotaPortsView P)
-      (t : Turned port_transition round old new) (left : Option ℕ) → t.begun.1.turns_left ≡ left → RestsOrCloses limits round new
-  by_quota limits round old new t None none = λ still run.
+      (t : Turned port_transition round old new) (left : Option ℕ) → t.begun.1.turns_left ≡ left →
+      (new.1.made_progress ≡ false → Contains round (Watches new.1.ports)) → RestsOrCloses limits round new
+  by_quota limits round old new t None none watched = λ still run.
       let quiet = turn_begins_none t.begun.0 t.turned.exchange.call new.0 t.turned.exchange.session.in_order in
       let moved = turn_moved port_transition old t.begun new t.begins t.turned in
       let calls = still_calls t.turned.exchange.call false quiet (sym moved ∙ still) in
       inl (spent_closed limits run.0 run.1 t.turned.exchange.call new.0 run.2
       (spent_calls port_transition t.turned.exchange.call t.begun.1 new.1 none quiet t.turned.exchange.ports)
       (turn_still t.begun.0 t.turned.exchange.call new.0 t.turned.exchange.session.in_order calls.1) calls.1)
-  by_quota limits round old new t (Some n) some = λ still run.
+  by_quota limits round old new t (Some n) some watched = λ still run.
       let call = t.turned.exchange.call in
       let quiet = turn_begins_none t.begun.0 call new.0 t.turned.exchange.session.in_order in
       let moved = turn_moved port_transition old t.begun new t.begins t.turned in
@@ -82,7 +91,7 @@ module _ {P : Type 0} (port_transition : P → PortCall → P → Type 0) where
       t.began (BeginsTurn old.1.ports t.begun.1.ports)
       (subst (λ (o : Option ℕ). Contains (beginning_where o old.1.ports t.begun.1.ports) (BeginsTurn old.1.ports t.begun.1.ports))
       (sym some) (0, omega arith, refl)) in
-      inr (record { idle = idle; asked = inl begins })
+      inr (record { idle = idle; asked = inl (begins, watched still) })
 
   -- a run of the machine leads to the state of a session
   abbrev HasRun : Limits → SessionView × QuotaPortsView P → Type 0
@@ -113,12 +122,16 @@ module _ {P : Type 0} (port_transition : P → PortCall → P → Type 0) where
       ((x : SystemCall P) → Contains calls x → Contains round x) → All (IdleOrClosed limits) mid.places →
       VisitsPlace port_transition mid i calls new →
       (now : SessionView × QuotaPortsView P) × RestsOrCloses limits round now × Gets mid i now new
-  visited limits round mid i calls new within each v = by v.due v.place.1.made_progress v.looks v.turns
+  visited limits round mid i calls new within each v = by v.due v.place.1.made_progress v.looks v.turns v.asked
     where
+      watch : List (SystemCall P)
+      watch = watch_after v.due (slice_get new.places i)
+
       in_round : (part : List (SystemCall P)) → ((x : SystemCall P) → Contains part x → Contains (v.report ++ v.turn) x) →
           (x : SystemCall P) → Contains part x → Contains round x
       in_round part inside x c =
-          within x (subst (λ (l : List (SystemCall P)). Contains l x) (sym v.asked) (inside x c))
+          within x (subst (λ (l : List (SystemCall P)). Contains l x) (sym v.asked)
+          (Contains-append_left (v.report ++ v.turn) watch x (inside x c)))
 
       own : IdleOrClosed limits v.place
       own =
@@ -127,15 +140,24 @@ module _ {P : Type 0} (port_transition : P → PortCall → P → Type 0) where
 
       by : (due moved : Bool) → IsDueBy moved v.place.1.ports v.report due →
           TakesTurns port_transition due (most_turns (is_calm v.place.1)) mid i v.turn new →
+          calls ≡ v.report ++ v.turn ++ watch_after due (slice_get new.places i) →
           (now : SessionView × QuotaPortsView P) × RestsOrCloses limits round now × Gets mid i now new
-      by true moved looks takes =
+      by true moved looks takes asked =
           let last = some_turns port_transition (λ now. Unit {0}) (λ old begun now b t k. tt) (most_turns (is_calm v.place.1))
           mid i v.turn new v.place (some_most port_transition (is_calm v.place.1)) v.there tt takes in
           let turned = wider port_transition v.turn round last.before last.place
           (in_round v.turn (λ x c. Contains-append_right v.report v.turn x c)) last.turned in
-          (last.place, by_quota limits round last.before last.place turned turned.begun.1.turns_left refl, last.gets)
-      by false true looks stays = let due = looks.1 in absurd (cc)
-      by false false looks stays = (
+          let is = got i mid new last.place (slice_get_within mid.places i v.place v.there) last.gets in (
+            last.place,
+            by_quota limits round last.before last.place turned turned.begun.1.turns_left refl (λ still.
+                within (Watches last.place.1.ports)
+                (subst (λ (l : List (SystemCall P)). Contains l (Watches last.place.1.ports)) (sym asked)
+                (Contains-append_right (v.report ++ v.turn) (watch_after true (slice_get new.places i)) (Watches last.place.1.ports)
+                (watched_there (slice_get new.places i) last.place is still)))),
+            last.gets,
+          )
+      by false true looks stays asked = let due = looks.1 in absurd (cc)
+      by false false looks stays asked = (
         v.place,
         passed_over limits round v.place own
             (in_round v.report (λ x c. Contains-append_left v.report v.turn x c) (ReportsNews v.place.1.ports false)
@@ -275,28 +297,21 @@ module _ {P : Type 0} where
   some_wait : (round : List (SystemCall P)) → sum_over_calls waits (round ++ Waits ∷ []) ≡ sum_over_calls waits round + 1
   some_wait round = let all = counted_append waits round (Waits ∷ []) in omega (arith, all)
 
-no_wait : {P : Type 0} (progressed : Bool) (places : List (SessionView × QuotaPortsView P)) →
-    sum_over_calls waits (wait_where progressed places) ≡ 1 → progressed ≡ false
-no_wait false places e = refl
-no_wait true places e = absurd (omega (arith, e))
+no_wait : (P : Type 0) (progressed : Bool) → sum_over_calls (waits {P = P}) (wait_where progressed) ≡ 1 → progressed ≡ false
+no_wait P false e = refl
+no_wait P true e = absurd (omega (arith, e))
 
-one_at_most : {P : Type 0} (progressed : Bool) (places : List (SessionView × QuotaPortsView P)) →
-    sum_over_calls waits (wait_where progressed places) ≤ 1
-one_at_most true places = omega arith
-one_at_most false places =
-    let none = none_counted waits (watches places) (λ ports news. refl) (λ before after. refl) (λ ports. refl)
-    (watches_only places) in
-    let all = some_wait (watches places) in
-    omega (arith, none, all)
+one_at_most : (P : Type 0) (progressed : Bool) → sum_over_calls (waits {P = P}) (wait_where progressed) ≤ 1
+one_at_most P true = omega arith
+one_at_most P false = omega arith
 
--- what comes before the one wait of a round that made no progress
-watched_before : {P : Type 0} (progressed : Bool) (places : List (SessionView × QuotaPortsView P))
-    (round early : List (SystemCall P)) → progressed ≡ false → round ++ Waits ∷ [] ≡ early ++ wait_where progressed places →
-    round ≡ early ++ watches places
-watched_before true places round early e same = absurd (cc)
-watched_before false places round early e same =
-    append_cancel_right round (early ++ watches places) (Waits ∷ [])
-    (same ∙ sym (append_assoc early (watches places) (Waits ∷ [])))
+-- what comes before the one wait of a round that made no progress, in which nothing was removed
+before_wait : {P : Type 0} (progressed : Bool) (round early removal : List (SystemCall P)) → progressed ≡ false →
+    removal ≡ [] → round ++ Waits ∷ [] ≡ early ++ removal ++ wait_where progressed → round ≡ early
+before_wait true round early removal e none same = absurd (cc)
+before_wait false round early removal e none same =
+    append_cancel_right round early (Waits ∷ [])
+    (same ∙ ap (λ (l : List _). early ++ l ++ Waits ∷ []) none ∙ ap (λ (l : List _). l ++ Waits ∷ []) (append-nil early))
 
 -- none of the four parts of a round made progress, and the run is not done
 record NoProgress (a b c d done : Bool) : Type 0 where
@@ -397,6 +412,23 @@ module _ {P : Type 0} where
           absurd (cc)
       by false c rest = rw c (ap (λ (l : List (SessionView × QuotaPortsView P)). place ∷ l) rest)
 
+  none_retired : (places : List (SessionView × QuotaPortsView P)) → any_progress (retirements places) ≡ false →
+      retirements places ≡ []
+  none_retired [] e = refl
+  none_retired (place ∷ places) e =
+      by (is_closed place.0) refl (none_retired places (left_still (retirements places) (retirement place) e))
+    where
+      parted : (told : Bool) → any_progress (last_words told ++ Retires place.1.ports (end_of place) ∷ []) ≡ true
+      parted true = refl
+      parted false = refl
+
+      by : (closed : Bool) → is_closed place.0 ≡ closed → retirements places ≡ [] → retirements (place ∷ places) ≡ []
+      by true c rest =
+          let own = right_still (retirements places) (retirement place) e in
+          let moved = ap (λ (b : Bool). any_progress (retirement_where b place)) c ∙ parted (is_none place.1.turns_left) in
+          absurd (cc)
+      by false c rest = rw (c, rest) refl
+
   module _ (port_transition : P → PortCall → P → Type 0) where
     -- a round that ends with a wait made no progress
     no_progress : (round : List (SystemCall P)) (old new : ServiceView P)
@@ -408,7 +440,7 @@ module _ {P : Type 0} where
         let heeded = heeding r.orders old.counters in
         let progressed = any_progress r.admission || any_progress r.meeting || any_moved r.turned.places || any_progress r.removal
         || is_done new in
-        let last = wait_where progressed new.hub.places in
+        let last = wait_where progressed in
         let all = ap (sum_over_calls waits) r.asked in
         let ends = some_wait round in
         let shown = none_shown waits r.orders.shows_sessions old.hub.places (λ ports status. refl) in
@@ -422,8 +454,8 @@ module _ {P : Type 0} where
         let three = counted_append waits (opens ++ r.admission ++ r.meeting) r.beginnings in
         let four = counted_append waits (opens ++ r.admission) r.meeting in
         let five = counted_append waits opens r.admission in
-        let most = one_at_most progressed new.hub.places in
-        let still = no_wait progressed new.hub.places (omega (arith, all, ends, shown, a, b, c, d, one, two, three, four, five, most)) in
+        let most = one_at_most P progressed in
+        let still = no_wait P progressed (omega (arith, all, ends, shown, a, b, c, d, one, two, three, four, five, most)) in
         all_false (any_progress r.admission) (any_progress r.meeting) (any_moved r.turned.places) (any_progress r.removal)
         (is_done new) still
 
@@ -437,26 +469,27 @@ module _ {P : Type 0} where
         (All-filter (λ place. not (is_closed place.0)) (λ (p : SessionView × QuotaPortsView P). p.1.made_progress ≡ false)
         r.turned.places (none_moved r.turned.places (no_progress round old new r).moved))
 
-    -- the calls of a round before those that have ports watched
+    -- the calls of a round before those of its visits
     abbrev pub early : (round : List (SystemCall P)) (old new : ServiceView P) → Round port_transition old round new →
         List (SystemCall P)
-    early round old new r = opening r.orders old.hub.places ++ r.admission ++ r.meeting ++ r.beginnings ++ r.removal
+    early round old new r = opening r.orders old.hub.places ++ r.admission ++ r.meeting
 
-    -- a round that ends with a wait watches the ports of each session that is left
-    pub all_watched : (round : List (SystemCall P)) (old new : ServiceView P)
+    -- the visits are the last calls before the wait of a round
+    pub visits_last : (round : List (SystemCall P)) (old new : ServiceView P)
         (r : Round port_transition old (round ++ Waits ∷ []) new) →
-        round ≡ early (round ++ Waits ∷ []) old new r ++ watches new.hub.places
-    all_watched round old new r =
+        round ≡ early (round ++ Waits ∷ []) old new r ++ r.beginnings
+    visits_last round old new r =
         let still = no_progress round old new r in
         let progressed = any_progress r.admission || any_progress r.meeting || any_moved r.turned.places || any_progress r.removal
         || is_done new in
         let none : progressed ≡ false = rw (still.came, still.met, still.moved, still.removed, still.ongoing) refl in
-        watched_before progressed new.hub.places round (early (round ++ Waits ∷ []) old new r) none r.asked
+        let kept = r.removes.0 ∙ none_retired r.turned.places (ap any_progress (sym r.removes.0) ∙ still.removed) in
+        before_wait progressed round (early (round ++ Waits ∷ []) old new r ++ r.beginnings) r.removal none kept r.asked
 
     sessions_idle : (settings : Settings) (n : ℕ) (before round : List (SystemCall P)) (mid run : ServiceView P) →
         Rounds port_transition n (initial_service settings) before mid → is_done mid ≡ false →
         (r : Round port_transition mid (round ++ Waits ∷ []) run) →
-        All (IsIdleAtWait port_transition (early (round ++ Waits ∷ []) mid run r)) run.hub.places
+        All (IsIdleAtWait port_transition r.beginnings) run.hub.places
     sessions_idle settings n before round mid run rounds ongoing r =
         let whole = round ++ Waits ∷ [] in
         let all : Rounds port_transition (suc n) (initial_service settings) (before ++ whole) run =
@@ -465,23 +498,10 @@ module _ {P : Type 0} where
         let rested = round_rests port_transition settings whole (before ++ whole) mid run
         (rounds_rest port_transition settings n before mid rounds) r served in
         let still = still_places round mid run r in
-        All-weaker (Contains run.hub.places) (IsIdleAtWait port_transition (early whole mid run r)) (λ place c.
-        let idle = All-contains (AtRest port_transition settings r.beginnings) run.hub.places place rested c
-        (All-contains (λ (p : SessionView × QuotaPortsView P). p.1.made_progress ≡ false) run.hub.places place still c) in
-        record {
-          idle = idle.idle;
-          asked = ⊎_elim
-              (λ (b : Contains r.beginnings (BeginsTurn idle.idle.ports idle.idle.begun)).
-              inl (within (BeginsTurn idle.idle.ports idle.idle.begun) b))
-              (λ (b : Contains r.beginnings (ReportsNews place.1.ports false)). inr (within (ReportsNews place.1.ports false) b))
-              idle.asked;
-        }) run.hub.places (All-contains_itself run.hub.places)
-      where
-        within : (x : SystemCall P) → Contains r.beginnings x → Contains (early (round ++ Waits ∷ []) mid run r) x
-        within x c =
-            let opens = opening r.orders mid.hub.places in
-            Contains-append_left (opens ++ r.admission ++ r.meeting ++ r.beginnings) r.removal x
-            (Contains-append_right (opens ++ r.admission ++ r.meeting) r.beginnings x c)
+        All-weaker (Contains run.hub.places) (IsIdleAtWait port_transition r.beginnings) (λ place c.
+        All-contains (AtRest port_transition settings r.beginnings) run.hub.places place rested c
+        (All-contains (λ (p : SessionView × QuotaPortsView P). p.1.made_progress ≡ false) run.hub.places place still c))
+        run.hub.places (All-contains_itself run.hub.places)
 
     -- the calls of the first parts of a round
     in_round : (round : List (SystemCall P)) (old new : ServiceView P)
@@ -489,10 +509,8 @@ module _ {P : Type 0} where
         Contains (opening r.orders old.hub.places ++ r.admission ++ r.meeting) x → Contains round x
     in_round round old new r x c =
         let opens = opening r.orders old.hub.places in
-        subst (λ (l : List (SystemCall P)). Contains l x) (sym (all_watched round old new r))
-        (Contains-append_left (opens ++ r.admission ++ r.meeting ++ r.beginnings ++ r.removal) (watches new.hub.places) x
-        (Contains-append_left (opens ++ r.admission ++ r.meeting ++ r.beginnings) r.removal x
-        (Contains-append_left (opens ++ r.admission ++ r.meeting) r.beginnings x c)))
+        subst (λ (l : List (SystemCall P)). Contains l x) (sym (visits_last round old new r))
+        (Contains-append_left (opens ++ r.admission ++ r.meeting) r.beginnings x c)
 
     -- nothing changed in the round but the ports that had a turn
     pub idle_run : (settings : Settings) (n : ℕ) (before round : List (SystemCall P)) (mid run : ServiceView P) →
@@ -517,8 +535,11 @@ module _ {P : Type 0} where
         ∙ ap (λ (m : ℕ). may_accept run.counters m) (sym count) in
         record {
           early = early (round ++ Waits ∷ []) mid run r;
+          visits = r.beginnings;
           ongoing = still.ongoing;
-          watched = all_watched round mid run r;
+          parts = visits_last round mid run r;
+          only = all_turns IsVisitCall r.beginnings (λ ports news. tt) (λ before after. tt) (λ ports. tt)
+              (turns_only port_transition (length r.connected.places) r.turns.0 r.connected r.beginnings r.turned r.turns.1);
           sessions = sessions_idle settings n before round mid run rounds ongoing r;
           bots = λ may. in_round round mid run r (Accepts false)
               (Contains-append_left (opens ++ r.admission) r.meeting (Accepts false)

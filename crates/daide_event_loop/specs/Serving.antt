@@ -199,7 +199,18 @@ TakesTurns {P} transition true (suc most) old i answers new =
     × (answers ≡ first ++ second) × TakesTurn transition old i first mid
     × TakesTurns transition (has_moved_in (slice_get mid.places i)) most mid i second new
 
--- the session at this place has turns if it is due one, and none otherwise
+-- the next wait is to watch the ports of a session, unless its last turn made progress: then no wait comes first
+abbrev pub watch_unless : {P : Type 0} → Bool → P → List (SystemCall P)
+watch_unless true ports = []
+watch_unless false ports = Watches ports ∷ []
+
+-- after its turns a session is watched, as these leave it; one without a turn is watched by the question for news
+abbrev pub watch_after : {P : Type 0} → Bool → Option (SessionView × QuotaPortsView P) → List (SystemCall P)
+watch_after false place = []
+watch_after true None = []
+watch_after true (Some place) = watch_unless place.1.made_progress place.1.ports
+
+-- The session at this place has turns if it is due one, and none otherwise. After its turns the next wait is to watch it.
 pub record VisitsPlace {P : Type 0} (transition : P → PortCall → P → Type 0) (old : HubView (QuotaPortsView P)) (i : ℕ)
     (answers : List (SystemCall P)) (new : HubView (QuotaPortsView P)) : Type 0 where
   pub place : SessionView × QuotaPortsView P
@@ -209,7 +220,7 @@ pub record VisitsPlace {P : Type 0} (transition : P → PortCall → P → Type 
   pub turn : List (SystemCall P)
   pub looks : IsDueBy place.1.made_progress place.1.ports report due
   pub turns : TakesTurns transition due (most_turns (is_calm place.1)) old i turn new
-  pub asked : answers ≡ report ++ turn
+  pub asked : answers ≡ report ++ turn ++ watch_after due (slice_get new.places i)
 
 -- the turns of busy sessions in a visit: one if the session is due a turn and busy
 abbrev pub busy_turns_in : {P : Type 0} → {transition : P → PortCall → P → Type 0} → {old : HubView (QuotaPortsView P)} → {i : ℕ} →
@@ -353,20 +364,15 @@ is_progress Waits = false
 abbrev pub any_progress : {P : Type 0} → List (SystemCall P) → Bool
 any_progress answers = list_any is_progress answers
 
--- the system is to watch the ports of each session, in order of place
-abbrev pub watches : {P : Type 0} → List (SessionView × QuotaPortsView P) → List (SystemCall P)
-watches [] = []
-watches (place ∷ places) = Watches place.1.ports ∷ watches places
-
--- one wait if no progress was made, which watches the ports of each session
-abbrev pub wait_where : {P : Type 0} → Bool → List (SessionView × QuotaPortsView P) → List (SystemCall P)
-wait_where true places = []
-wait_where false places = watches places ++ Waits ∷ []
+-- one wait if no progress was made
+abbrev pub wait_where : {P : Type 0} → Bool → List (SystemCall P)
+wait_where true = []
+wait_where false = Waits ∷ []
 
 -- The system begins a round with orders, by which the status of each session may be shown, and no bot may be accepted
 -- any more. At most one bot is accepted, and at most one connect completes or fails. Each session that is due a turn has
--- one, or more in a row, each of which the system begins. Closed sessions are removed. There is one wait, exactly if no progress was made and the
--- run is not done. It watches the ports of each session that is left.
+-- one, or more in a row, each of which the system begins. Closed sessions are removed. There is one wait, exactly if no
+-- progress was made and the run is not done. The visits of the round have it watch the ports of each session.
 pub record Round {P : Type 0} (transition : P → PortCall → P → Type 0) (old : ServiceView P)
     (answers : List (SystemCall P)) (new : ServiceView P) : Type 0 where
   pub orders : Orders
@@ -385,7 +391,6 @@ pub record Round {P : Type 0} (transition : P → PortCall → P → Type 0) (ol
   pub within : IsWithinQuotas new.hub new.counters
   pub asked : answers ≡ opening orders old.hub.places ++ admission ++ meeting ++ beginnings ++ removal ++ wait_where
       (any_progress admission || any_progress meeting || any_moved turned.places || any_progress removal || is_done new)
-      new.hub.places
 
 -- ---- a run
 

@@ -1,5 +1,6 @@
 -- What a run knows when it waits. The last turn of each session made no progress, no call was made on its ports since,
--- and there is no news for them. No bot came, and no connect has a result. The wait watches the ports of each session.
+-- and there is no news for them. No bot came, and no connect has a result. The wait watches the ports of each session, by
+-- a call of the round's visits.
 -- (own)
 use Rattle.std.specs.Prelude.{◌≡◌, ℕ, ◌<◌, ◌⊎◌, ◌++◌, ◌==◌, min, true, false, List, [], ◌∷◌, length, Contains, All}
 use Rattle.daide_frame.specs.declared.side.Side.{Side}
@@ -10,11 +11,12 @@ use Rattle.daide_io.specs.declared.ports.Pull.TheVariants.{Got, Idle}
 use Rattle.daide_io.specs.declared.ports.Put.TheVariants.{Took}
 use Rattle.daide_io.specs.Ports.{PortCall, TurnBegins, Clock, Pulled, Offered, EvolvesBy}
 use Rattle.daide_io.specs.declared.system.Connect.TheVariants.{Pending}
-use Rattle.daide_io.specs.System.{SystemCall, ReportsNews, BeginsTurn, Accepts, Connects, Waits}
+use Rattle.daide_io.specs.System.{SystemCall, Begins, Shows, ReportsNews, BeginsTurn, Watches, Accepts, Connects}
+use Rattle.daide_io.specs.System.{Retires, Notifies, Waits}
 use Rattle.daide_driver.specs.Turn.{Turn, most_pulled}
 use Rattle.daide_settings.specs.declared.settings.Settings.{Settings}
 use Rattle.daide_event_loop.specs.QuotaPorts.{QuotaPortsView}
-use Rattle.daide_event_loop.specs.Serving.{ServiceView, may_accept, watches, Round, Rounds, initial_service, is_done}
+use Rattle.daide_event_loop.specs.Serving.{ServiceView, may_accept, Round, Rounds, initial_service, is_done}
 
 -- ---- a turn without progress
 
@@ -63,22 +65,38 @@ pub record IsIdleSession {P : Type 0} (transition : P → PortCall → P → Typ
 
 -- ---- a wait
 
--- A session at a wait: it is idle. In the round that waits the system began its last turn, or it reported no news for
--- its ports.
-pub record IsIdleAtWait {P : Type 0} (transition : P → PortCall → P → Type 0) (round : List (SystemCall P))
+-- A session at a wait: it is idle. By the visits of the round that waits the system began its last turn, and then was to
+-- watch its ports as they are now; or it reported no news for its ports, and watches them for that.
+pub record IsIdleAtWait {P : Type 0} (transition : P → PortCall → P → Type 0) (visits : List (SystemCall P))
     (place : SessionView × QuotaPortsView P) : Type 0 where
   pub idle : IsIdleSession transition place
-  pub asked : Contains round (BeginsTurn idle.ports idle.begun) ⊎ Contains round (ReportsNews place.1.ports false)
+  pub asked : (Contains visits (BeginsTurn idle.ports idle.begun) × Contains visits (Watches place.1.ports))
+      ⊎ Contains visits (ReportsNews place.1.ports false)
+
+-- a call of visits: a question for news, the beginning of a turn, or ports that the next wait is to watch
+abbrev pub IsVisitCall : {P : Type 0} → SystemCall P → Type 0
+IsVisitCall (Begins orders) = ⊥
+IsVisitCall (Shows ports status) = ⊥
+IsVisitCall (ReportsNews ports news) = Unit {0}
+IsVisitCall (BeginsTurn before after) = Unit {0}
+IsVisitCall (Watches ports) = Unit {0}
+IsVisitCall (Accepts came) = ⊥
+IsVisitCall (Connects connect) = ⊥
+IsVisitCall (Retires ports end) = ⊥
+IsVisitCall (Notifies notice) = ⊥
+IsVisitCall Waits = ⊥
 
 -- A run at a wait, after this round: it is not done, and each session is idle. If one more bot may be accepted, the
 -- system was asked for one in the round, and none came. If connects are under way, it was asked for a result, and none
--- had one. The last calls of the round had the system watch the ports of each session.
+-- had one. The last calls of the round are those of its visits, which had the system watch the ports of each session.
 pub record IsIdleRun {P : Type 0} (transition : P → PortCall → P → Type 0) (round : List (SystemCall P))
     (run : ServiceView P) : Type 0 where
   pub early : List (SystemCall P)
+  pub visits : List (SystemCall P)
   pub ongoing : is_done run ≡ false
-  pub watched : round ≡ early ++ watches run.hub.places
-  pub sessions : All (IsIdleAtWait transition early) run.hub.places
+  pub parts : round ≡ early ++ visits
+  pub only : All IsVisitCall visits
+  pub sessions : All (IsIdleAtWait transition visits) run.hub.places
   pub bots : may_accept run.counters (length run.hub.places) ≡ true → Contains round (Accepts false)
   pub connects : (run.counters.connecting == 0) ≡ false → Contains round (Connects Pending)
 

@@ -58,9 +58,10 @@ pub fn sessions_are_independent<P: Ports, Q: Ports>()
 /// At each wait a run is idle, and not done (`IsIdleRun`). The last turn of each session made no progress: the clock reported
 /// nothing, each side for whose bytes it has room returned none, and each wire for which bytes are queued took none
 /// (`IsIdleSession`). By that turn its ports came to their present value. In the round that waits the system began the
-/// turn, or reported no news for these ports (`IsIdleAtWait`). If one more bot may be accepted, none came; if connects
-/// are under way, none has a result. Right before the wait the system was to watch the ports of each session. So if the
-/// system reports all news, and waits for the rest, no wake-up is lost.
+/// turn, and then was to watch these ports, or it reported no news for them (`IsIdleAtWait`). If one more bot may be
+/// accepted, none came; if connects are under way, none has a result. After its visits the round makes no call but the
+/// wait. So if the system reports all news, and waits for the rest of those that it watches or reported no news for, no
+/// wake-up is lost.
 ///
 /// Not said: that the system reports all news. Two sessions may have equal ports; then the clauses on calls speak of
 /// both.

@@ -1,10 +1,11 @@
 //! Ports with a quota of turns, which record whether their last turn made progress, and count their bytes.
 
-ghost use Rattle.std.specs.Prelude.{◌≡◌, false, true, Some, None, is_none};
+ghost use Rattle.std.specs.Prelude.{◌≡◌, false, true, Some, None, is_none, List};
 ghost use Rattle.daide_io.specs.ByteCounts.{no_bytes};
 ghost use Rattle.daide_io.specs.Ports.{TurnBegins};
 ghost use Rattle.daide_event_loop.specs.QuotaPorts.{load_at_turn};
-ghost use Rattle.daide_io.specs.System.{TransitsBy, ReportsNews, Watches};
+ghost use Rattle.daide_io.specs.System.{SystemCall, TransitsBy};
+ghost use Rattle.daide_event_loop.specs.Serving.{IsDueBy, watch_unless};
 
 use daide_frame::side::Side;
 use daide_io::byte_counts::ByteCounts;
@@ -34,7 +35,7 @@ pub struct QuotaPorts<P: Ports> {
 }
 
 impl<P: Ports> Model for QuotaPorts<P> {
-    ghost use Rattle.std.specs.Prelude.{IfSome};
+    ghost use Rattle.std.specs.Prelude.{◌≡◌, false, IfSome};
     ghost use Rattle.daide_event_loop.specs.QuotaPorts.{QuotaPortsView};
 
     ghost Value = { QuotaPortsView P };
@@ -48,8 +49,8 @@ impl<P: Ports> Model for QuotaPorts<P> {
       bytes = m.bytes;
     } };
 
-    // no call was made on the ports since the interest was asked
-    ghost invariant = { λ m. IfSome m.interest (λ interest. P.interest m.ports interest) };
+    // no call was made on the ports since the interest was asked, after a turn without progress
+    ghost invariant = { λ m. IfSome m.interest (λ interest. P.interest m.ports interest × (m.made_progress ≡ false)) };
 }
 
 /// The most load of a session.
@@ -147,35 +148,32 @@ impl<P: Ports> QuotaPorts<P> {
         self.bytes
     }
 
-    /// Keeps what the session waits for until the next call, if its last turn made no progress. So until then no round
-    /// asks the ports inside.
-    pub fn settle(&mut self)
-        ensures { self.new ≡ self.old }
+    /// Keeps what the session waits for until the next call, and has the next wait watch it, if its last turn made no
+    /// progress. So until then no round asks the ports inside.
+    #[inline(always)]
+    pub fn settle<S: System<P>>(&mut self, system: &mut S)
+        ensures same { self.new ≡ self.old }
+        ensures watches { TransitsBy S.transition system.old (watch_unless self.old.made_progress self.old.ports)
+            system.new }
     {
-        if !self.made_progress {
-            self.interest = Some(self.ports.interest());
+        if self.made_progress {
+            return;
         }
+        let interest = self.ports.interest();
+        system.watch(&interest);
+        self.interest = Some(interest);
     }
 
-    /// Returns whether the system has news for the ports inside.
+    /// Returns whether the session is due a turn: its last turn made progress, or the system has news for its ports.
     #[inline(always)]
-    pub fn has_news<S: System<P>>(&self, system: &mut S) -> bool
-        ensures { S.transition system.old (ReportsNews self.now.ports result) system.new }
+    pub fn is_due<S: System<P>>(&self, system: &mut S) -> bool
+        ensures { (report : List (SystemCall P)) × TransitsBy S.transition system.old report system.new
+            × IsDueBy self.now.made_progress self.now.ports report result }
     {
         match &self.interest {
+            // Most sessions of most rounds have one.
             Some(interest) => system.has_news(interest),
-            None => system.has_news(&self.ports.interest()),
-        }
-    }
-
-    /// Has the next wait watch the ports inside.
-    #[inline(always)]
-    pub fn watch<S: System<P>>(&self, system: &mut S)
-        ensures { S.transition system.old (Watches self.now.ports) system.new }
-    {
-        match &self.interest {
-            Some(interest) => system.watch(interest),
-            None => system.watch(&self.ports.interest()),
+            None => self.made_progress || system.has_news(&self.ports.interest()),
         }
     }
 

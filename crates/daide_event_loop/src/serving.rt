@@ -3,7 +3,7 @@
 //!
 //! It uses no socket. The system is a parameter, so that tests can drive whole runs in memory.
 
-ghost use Rattle.std.specs.Prelude.{◌≡◌, ℕ, ◌+◌, ◌<◌, ◌≤◌, ◌==◌, ◌||◌, nat_le, not, if◌then◌else◌, true, false, List, [], ◌∷◌, length, Some};
+ghost use Rattle.std.specs.Prelude.{◌≡◌, ℕ, ◌+◌, ◌++◌, ◌<◌, ◌≤◌, ◌==◌, ◌||◌, nat_le, not, if◌then◌else◌, true, false, List, [], ◌∷◌, length, Some};
 ghost use Rattle.std.specs.Prelude.{OnOk, OnErr, IfOk, IfErr, IfSome, Option, slice_get};
 ghost use Rattle.daide_io.specs.System.{SystemCall, Connects, TransitsBy};
 ghost use Rattle.daide_event_loop.specs.Serving.{shows, shows_where};
@@ -12,7 +12,7 @@ ghost use Rattle.daide_event_loop.specs.Serving.{TurnsAll, VisitsNext, VisitsCal
 ghost use Rattle.daide_event_loop.specs.Serving.{any_moved, has_moved_in, AreOpen, AreStill};
 ghost use Rattle.daide_event_loop.specs.Serving.{RemovesClosed, parting};
 ghost use Rattle.daide_event_loop.specs.Serving.{is_reported, cause_by, end_by};
-ghost use Rattle.daide_event_loop.specs.Serving.{watches, wait_where, any_progress, Round, is_done, initial_service};
+ghost use Rattle.daide_event_loop.specs.Serving.{watch_after, wait_where, any_progress, Round, is_done, initial_service};
 ghost use Rattle.daide_event_loop.specs.Served.{IsWholeRun};
 ghost use Rattle.daide_event_loop.specs.QuotaPorts.{QuotaPortsView};
 ghost use Rattle.daide_driver.specs.Hub.{Removes, IsReportedOf};
@@ -219,8 +219,7 @@ fn is_due<P: Ports, A: Allocator + Copy, S: System<P>>(
         × TransitsBy S.transition system.old report system.new
         × IsDueBy place.1.made_progress place.1.ports report result) }
 {
-    let ports = hub.ports(i);
-    ports.has_moved() || ports.has_news(system)
+    hub.ports(i).is_due(system)
 }
 
 /// Returns the most turns of a session in one visit, by whether it is calm. So a session with bytes without end has one
@@ -260,16 +259,22 @@ fn take_turns<P: Ports, A: Allocator + Copy, S: System<P>>(
     }
 }
 
-/// Keeps what the session at a place waits for, if its last turn made no progress.
+/// Keeps what the session at a place waits for, and has the next wait watch it, if its last turn made no progress.
 #[inline(always)]
-fn settle<P: Ports, A: Allocator + Copy>(hub: &mut Hub<QuotaPorts<P>, A>, i: usize)
+fn settle<P: Ports, A: Allocator + Copy, S: System<P>>(
+    hub: &mut Hub<QuotaPorts<P>, A>,
+    i: usize,
+    system: &mut S,
+)
     requires { i < length hub.old.places }
-    ensures { hub.new ≡ hub.old }
+    ensures same { hub.new ≡ hub.old }
+    ensures watches { TransitsBy S.transition system.old (watch_after true (slice_get hub.old.places i)) system.new }
 {
-    hub.ports_mut(i).settle();
+    hub.ports_mut(i).settle(system);
 }
 
-/// Makes turns of the session at a place as `take_turns` does, and then keeps what it waits for.
+/// Makes turns of the session at a place as `take_turns` does. Then it keeps what the session waits for, and has the next
+/// wait watch it.
 #[inline(always)]
 fn turn_and_settle<P: Ports, A: Allocator + Copy, S: System<P>>(
     hub: &mut Hub<QuotaPorts<P>, A>,
@@ -278,12 +283,13 @@ fn turn_and_settle<P: Ports, A: Allocator + Copy, S: System<P>>(
     system: &mut S,
 )
     requires { i < length hub.old.places }
-    ensures turns { (answers : List (SystemCall P)) × TransitsBy S.transition system.old answers system.new
-        × TakesTurns P.transition true most hub.old i answers hub.new }
+    ensures turns { (turn : List (SystemCall P))
+        × TransitsBy S.transition system.old (turn ++ watch_after true (slice_get hub.new.places i)) system.new
+        × TakesTurns P.transition true most hub.old i turn hub.new }
     ensures count { length hub.new.places ≡ length hub.old.places }
 {
     take_turns(hub, i, most, system);
-    settle(hub, i);
+    settle(hub, i, system);
 }
 
 /// What the visits of sessions found. So no other session is looked at again in a round.
@@ -594,28 +600,11 @@ fn remove_if_closed<P: Ports, A: Allocator + Copy, S: System<P>>(
     remove_closed(hub, system)
 }
 
-/// Has the system watch the ports of each session, in order of place.
-fn watch_all<P: Ports, A: Allocator + Copy, S: System<P>>(
-    hub: &Hub<QuotaPorts<P>, A>,
-    system: &mut S,
-)
-    ensures { TransitsBy S.transition system.old (watches hub.now.places) system.new }
-{
-    for i in 0..hub.count() {
-        hub.ports(i).watch(system);
-    }
-}
-
-/// Waits if no progress was made. The wait watches the ports of each session.
-fn rest<P: Ports, A: Allocator + Copy, S: System<P>>(
-    made_progress: bool,
-    hub: &Hub<QuotaPorts<P>, A>,
-    system: &mut S,
-)
-    ensures { TransitsBy S.transition system.old (wait_where made_progress hub.now.places) system.new }
+/// Waits if no progress was made.
+fn rest<P: Ports, S: System<P>>(made_progress: bool, system: &mut S)
+    ensures { TransitsBy S.transition system.old (wait_where made_progress) system.new }
 {
     if !made_progress {
-        watch_all(hub, system);
         system.wait();
     }
 }
@@ -662,7 +651,9 @@ impl<P: Ports, A: Memory + Copy> Service<P, A> {
     /// without end has one turn in a round, as all others like it. A session is calm if its last turn made no progress
     /// and few turns did before it (`is_calm`). If there is news for it, it waits in a round for at most 32 turns of busy
     /// sessions (`VisitsNext`). Exactly the sessions that are over and for which nothing waits are taken out.
-    /// It waits if and only if nothing moved and the run is not done. Then it watches the ports of each session (`watch`).
+    /// It waits if and only if nothing moved and the run is not done. The wait watches the ports of each session: the
+    /// system does so for those of which it reports no news (`has_news`), and the loop has it do so after the turns of any
+    /// other (`watch_after`).
     ///
     /// `refused`: its only fault is no memory for a session.
     ///
@@ -684,9 +675,8 @@ impl<P: Ports, A: Memory + Copy> Service<P, A> {
         let connected = finish_connect(&mut self.hub, &mut self.counters, system)?;
         let found = turn_all(&mut self.hub, system);
         let removed = remove_if_closed(found.has_closed, &mut self.hub, system);
-        rest(
+        rest::<P, S>(
             came | connected | found.has_moved | removed | self.is_done(),
-            &self.hub,
             system,
         );
         Ok(())

@@ -120,7 +120,8 @@ pub trait System<P: Ports> {
 
     /// Returns whether a turn of the session with this interest may do something: whether, since its last turn began, an
     /// event came for one of its wires, or one of its deadlines expired. It is called for sessions whose last turn made
-    /// no progress. If it returns false, the session has no turn in this round.
+    /// no progress. If it returns false, the session has no turn in this round, and the next wait watches it, as after
+    /// `watch`. So no session at rest is called for twice in a round.
     fn has_news(&mut self, interest: &Interest) -> bool
         ensures { (ports : P) → P.interest ports interest.now → transition self.old (ReportsNews ports result) self.new };
 
@@ -132,7 +133,8 @@ pub trait System<P: Ports> {
         ensures system { transition self.old (BeginsTurn ports.old ports.new) self.new };
 
     /// Has the next wait watch the ports of the session with this interest: the system notes what they need from it until
-    /// their next turn, such as their nearest deadline. It is called for each session right before a wait.
+    /// their next turn, such as their nearest deadline. It is called for a session after its turns in a round, if the last
+    /// one made no progress. What later calls of the round watch is watched beside it.
     fn watch(&mut self, interest: &Interest)
         ensures { (ports : P) → P.interest ports interest.now → transition self.old (Watches ports) self.new };
 

@@ -11,7 +11,6 @@ use Rattle.daide_io.specs.Network.{NetworkCall}
 use Rattle.daide_io.specs.Ports.{PortCall}
 use Rattle.daide_io.specs.System.{SystemCall, TransitsBy}
 use Rattle.daide_event_loop.specs.QuotaPorts.{QuotaPortsView}
-use Rattle.daide_event_loop.specs.Serving.{watches}
 use Rattle.daide_event_loop.specs.Waiting.{IsIdleAtWait}
 use Rattle.daide_event_loop.proofs.WaitingLemmas.{idle_run}
 use Rattle.daide_sockets.specs.declared.socket.Socket.{Socket}
@@ -109,14 +108,15 @@ no_wakeup_lost {P = P} port_transition view transition settles =
     let idle = idle_run port_transition settings n before round mid run rounds ongoing waits in
     let places = run.hub.places in
     let last = transits_split (Wakes transition view) before round first old trace in
-    let watched = transits_split (Wakes transition view) idle.early (watches places) last.0 old
-    (subst (λ (l : List (SystemCall P)). TransitsBy (Wakes transition view) last.0 l old) idle.watched last.2) in
+    let watched = transits_split (Wakes transition view) idle.early idle.visits last.0 old
+    (subst (λ (l : List (SystemCall P)). TransitsBy (Wakes transition view) last.0 l old) idle.parts last.2) in
     let time = rests.1.time in
     record {
       others = rests.0;
       rests = rests.1;
       asleep = ⊎_elim (λ (none : IsNoTime time). inl none)
           (λ (calm : All (λ (place : SessionView × QuotaPortsView P). IsCalm old.1 old.1.reading time (view place.1.ports)) places).
-          inr (all_sleep port_transition view settles idle.early places old.1 time idle.sessions calm))
-          (watched_calm transition view places watched.0 old rests.0 time watched.2 rests.1.lasts);
+          inr (all_sleep port_transition view settles idle.visits places old.1 time idle.sessions calm))
+          (watched_calm transition view port_transition idle.visits places watched.0 old rests.0 time idle.sessions idle.only watched.2
+          rests.1.lasts);
     }

@@ -21,7 +21,7 @@ use Rattle.daide_io.specs.System.{SystemCall, Waits, TransitsBy}
 use Rattle.daide_settings.specs.declared.settings.Settings.{Settings}
 use Rattle.daide_driver.specs.Hub.{HubView}
 use Rattle.daide_event_loop.specs.QuotaPorts.{QuotaPortsView}
-use Rattle.daide_event_loop.specs.Serving.{ServiceView, Round, remaining, fresh, watches}
+use Rattle.daide_event_loop.specs.Serving.{ServiceView, Round, remaining, fresh}
 use Rattle.daide_event_loop.specs.Served.{run_limits}
 use Rattle.daide_event_loop.specs.Waiting.{MakesNoProgress, IsOfTurn, IsIdleSession, IsIdleAtWait}
 use Rattle.daide_event_loop.proofs.WaitingLemmas.{idle_run}
@@ -189,8 +189,8 @@ module _ {P S : Type 0} (port_transition : P → PortCall → P → Type 0) (tim
       let idle = idle_run port_transition settings n before round mid run rounds ongoing waits in
       let places = run.hub.places in
       let last = transits_split (Wakes network view) before round first old trace in
-      let watched = transits_split (Wakes network view) idle.early (watches places) last.0 old
-      (subst (λ (l : List (SystemCall P)). TransitsBy (Wakes network view) last.0 l old) idle.watched last.2) in
+      let watched = transits_split (Wakes network view) idle.early idle.visits last.0 old
+      (subst (λ (l : List (SystemCall P)). TransitsBy (Wakes network view) last.0 l old) idle.parts last.2) in
       let going = all_open (round ++ Waits ∷ []) mid run waits in
       let time = rests.1.time in
       let one = set_time settings.idle_seconds begun.times.0 times.0 idles in
@@ -216,10 +216,11 @@ module _ {P S : Type 0} (port_transition : P → PortCall → P → Type 0) (tim
             inr (All-weaker (Contains places)
             (λ (place : SessionView × QuotaPortsView P). IsTimed port_transition timers settings answers one.0 other.0 place →
             HasDeadline one.0 other.0 old.1 time (timers place.1.ports))
-            (λ place there timed. one_deadline settings answers idle.early place old.1 time
-            (All-contains (IsIdleAtWait port_transition idle.early) places place idle.sessions there)
+            (λ place there timed. one_deadline settings answers idle.visits place old.1 time
+            (All-contains (IsIdleAtWait port_transition idle.visits) places place idle.sessions there)
             (All-contains calms places place calm there)
             (not_true (is_closed place.0) (All-contains (λ (p : SessionView × QuotaPortsView P). not (is_closed p.0) ≡ true) places place going there))
             one.0 other.0 timed (begins place timed)) places (All-contains_itself places)))
-            (watched_calm network view places watched.0 old rests.0 time watched.2 rests.1.lasts);
+            (watched_calm network view port_transition idle.visits places watched.0 old rests.0 time idle.sessions idle.only watched.2
+            rests.1.lasts);
       }

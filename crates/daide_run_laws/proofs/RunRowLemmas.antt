@@ -21,8 +21,8 @@ use Rattle.daide_event_loop.specs.Serving.{ServiceView, Round, Rounds, initial_s
 use Rattle.daide_event_loop.specs.Serving.{AdmitsWhere, MeetsWhere, MeetsBy, TakesTurns, most_turns, VisitsPlace, VisitsIfCalm}
 use Rattle.daide_event_loop.specs.Serving.{VisitsCalm, VisitsCalmIf, VisitsNext, TurnsBelow, TurnsAll, busy_turns_in, is_calm_in}
 use Rattle.daide_event_loop.specs.Serving.{opening, shows_where, last_words, parting, end_of, retirement_where, retirements}
-use Rattle.daide_event_loop.specs.Serving.{remaining, watches, wait_where, any_progress, any_moved}
-use Rattle.daide_event_loop.proofs.BeginningLemmas.{OnlyTurns, all_shown, all_turns, turns_only, watches_only}
+use Rattle.daide_event_loop.specs.Serving.{remaining, wait_where, any_progress, any_moved}
+use Rattle.daide_event_loop.proofs.BeginningLemmas.{OnlyTurns, all_shown, all_turns, turns_only}
 use Rattle.daide_event_loop.proofs.TransitLemmas.{transits_then}
 use Rattle.daide_event_loop.proofs.VisitLemmas.{Gets, gets_own, some_most, some_turns}
 use Rattle.daide_buffered_io.specs.Streams.{stream_of}
@@ -348,13 +348,9 @@ module _ {P S : Type 0} (port_transition : P → PortCall → P → Type 0) (por
           rest (none_tracked (pairs (remaining places) ++ own ∷ others) (own ∷ pairs (remaining places) ++ others)
           (λ key. sym (one_first (pairs (remaining places)) others own key)))
 
-  wait_tracked : (made_progress : Bool) (places : List (SessionView × QuotaPortsView P)) (a : List (Paired S)) →
-      Tracks a (wait_where made_progress places) a
-  wait_tracked true places a = none_tracked a a (λ key. refl)
-  wait_tracked false places a =
-      tracks_then (watches places) (Waits ∷ []) a a a
-      (rests_tracked (watches places) a a (only_rest (watches places) (watches_only places)) (λ key. refl))
-      (one_rests Waits a (λ sessions key. refl))
+  wait_tracked : (made_progress : Bool) (a : List (Paired S)) → Tracks a (wait_where made_progress) a
+  wait_tracked true a = none_tracked a a (λ key. refl)
+  wait_tracked false a = one_rests Waits a (λ sessions key. refl)
 
   -- ---- rounds
 
@@ -365,7 +361,7 @@ module _ {P S : Type 0} (port_transition : P → PortCall → P → Type 0) (por
       let heeded = heeding r.orders old.counters in
       let made_progress = any_progress r.admission || any_progress r.meeting || any_moved r.turned.places || any_progress r.removal
       || is_done new in
-      let last = wait_where made_progress new.hub.places in
+      let last : List (SystemCall P) = wait_where made_progress in
       let a = pairs old.hub.places in
       let b = pairs r.connected.places in
       let c = pairs r.turned.places in
@@ -387,7 +383,7 @@ module _ {P S : Type 0} (port_transition : P → PortCall → P → Type 0) (por
       (meeting_tracked (r.came.connecting == 0) old.hub r.came r.meeting r.connected new.counters r.finishes))
       (rests_tracked r.beginnings b c (only_rest r.beginnings only) turned))
       removed)
-      (wait_tracked made_progress new.hub.places d))
+      (wait_tracked made_progress d))
     where
       with_none : (l : List (Paired S)) → HaveSameRows (l ++ []) l
       with_none l key = let both = sessions_both key l [] in omega (arith, both)

@@ -10,11 +10,11 @@ use Rattle.daide_sockets.specs.Table.{IsWaitTimeIf}
 use Rattle.daide_sockets.specs.InTime.{IsAtMost, IsInTimeFor, watching_all, WaitsAreInTime}
 
 -- a moment that is no later than another
-abbrev IsBy : Option Instant → Instant → Type 0
+abbrev pub IsBy : Option Instant → Instant → Type 0
 IsBy None due = ⊥
 IsBy (Some moment) due = instant_nanos moment ≤ instant_nanos due
 
-earlier_left : (one other : Option Instant) (due : Instant) → IsBy one due → IsBy (earlier one other) due
+pub earlier_left : (one other : Option Instant) (due : Instant) → IsBy one due → IsBy (earlier one other) due
 earlier_left None other due h = absurd h
 earlier_left (Some a) None due h = h
 earlier_left (Some a) (Some b) due h = by (nat_le (instant_nanos a) (instant_nanos b)) refl
@@ -23,7 +23,7 @@ earlier_left (Some a) (Some b) due h = by (nat_le (instant_nanos a) (instant_nan
     by true e = h
     by false e = grind (arith, e, h)
 
-earlier_right : (one other : Option Instant) (due : Instant) → IsBy other due → IsBy (earlier one other) due
+pub earlier_right : (one other : Option Instant) (due : Instant) → IsBy other due → IsBy (earlier one other) due
 earlier_right None other due h = h
 earlier_right (Some a) None due h = absurd h
 earlier_right (Some a) (Some b) due h = by (nat_le (instant_nanos a) (instant_nanos b)) refl
@@ -64,19 +64,19 @@ same_reading table [] = refl
 same_reading table (session ∷ watched) = same_reading (watching table session.0 session.1) watched
 
 -- what a wait is to watch stays watched
-due_keeps : (table : Table) (watched : List (Bool × Option Instant)) (due : Instant) → IsBy table.watched_due due →
+pub due_keeps : (table : Table) (watched : List (Bool × Option Instant)) (due : Instant) → IsBy table.watched_due due →
     IsBy (watching_all table watched).watched_due due
 due_keeps table [] due h = h
 due_keeps table (session ∷ watched) due h =
     due_keeps (watching table session.0 session.1) watched due (earlier_left table.watched_due session.1 due h)
 
-work_stays : (table : Table) (watched : List (Bool × Option Instant)) → table.watched_work ≡ true →
+pub work_stays : (table : Table) (watched : List (Bool × Option Instant)) → table.watched_work ≡ true →
     (watching_all table watched).watched_work ≡ true
 work_stays table [] h = h
 work_stays table (session ∷ watched) h =
     work_stays (watching table session.0 session.1) watched (ap (λ (b : Bool). b || session.0) h)
 
-at_once : (table : Table) (time : Option Duration) → IsWaitTime table time → table.watched_work ≡ true → IsNoTime time
+pub at_once : (table : Table) (time : Option Duration) → IsWaitTime table time → table.watched_work ≡ true → IsNoTime time
 at_once table time lasts h = by (has_pending table) refl lasts
   where
     pending : has_pending table ≡ true
@@ -86,7 +86,24 @@ at_once table time lasts h = by (has_pending table) refl lasts
     by true e h = h
     by false e h = let both : true ≡ false = sym pending ∙ e in absurd (cc)
 
-by_due : (table : Table) (time : Option Duration) (now due : Instant) → table.reading ≡ Some now → IsWaitTime table time →
+-- after a poll that reported something since the last wait, a wait takes no time
+news_stays : (table : Table) (watched : List (Bool × Option Instant)) → (watching_all table watched).has_news ≡ table.has_news
+news_stays table [] = refl
+news_stays table (session ∷ watched) = news_stays (watching table session.0 session.1) watched
+
+pub at_once_for_news : (table : Table) (others : List (Bool × Option Instant)) (time : Option Duration) →
+    IsWaitTime (watching_all table others) time → table.has_news ≡ true → IsNoTime time
+at_once_for_news table others time lasts h = by (has_pending (watching_all table others)) refl lasts
+  where
+    pending : has_pending (watching_all table others) ≡ true
+    pending = ap (λ (b : Bool). b || (watching_all table others).watched_work) (news_stays table others ∙ h)
+
+    by : (now : Bool) → has_pending (watching_all table others) ≡ now →
+        IsWaitTimeIf now (watching_all table others) time → IsNoTime time
+    by true e h = h
+    by false e h = let both : true ≡ false = sym pending ∙ e in absurd (cc)
+
+pub by_due : (table : Table) (time : Option Duration) (now due : Instant) → table.reading ≡ Some now → IsWaitTime table time →
     IsBy table.watched_due due → IsAtMost time (instant_nanos due - instant_nanos now)
 by_due table time now due read lasts h = by (has_pending table) lasts
   where

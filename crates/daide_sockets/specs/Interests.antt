@@ -1,9 +1,9 @@
 -- What a session over two sockets waits for between its turns, and what the table of a run knows of it. (own)
-use Rattle.std.specs.Prelude.{Bool, ◌||◌}
+use Rattle.std.specs.Prelude.{Bool, true, false, ◌||◌}
 use Rattle.daide_io.specs.declared.interest.Interest.{Interest}
 use Rattle.daide_sockets.specs.declared.ports.SocketPorts.{SocketPorts}
 use Rattle.daide_sockets.specs.Sockets.{has_socket_work}
-use Rattle.daide_sockets.specs.Table.{Table, is_reported_at}
+use Rattle.daide_sockets.specs.Table.{Table, is_reported_at, watching}
 use Rattle.daide_sockets.specs.Timers.{timers_of}
 use Rattle.daide_sockets.specs.Times.{is_past}
 use Rattle.daide_sockets.specs.Wakeups.{session_due}
@@ -28,3 +28,8 @@ may_go_on_for table interest =
 -- There is news for a session: something may be done at once, or its nearest deadline is past.
 abbrev pub has_news_for : Table → Interest → Bool
 has_news_for table interest = may_go_on_for table interest || is_past table.reading interest.due
+
+-- a session for which the system is asked for news, and has none, is watched by the next wait
+abbrev pub after_question : Bool → Table → Interest → Table
+after_question true table interest = table
+after_question false table interest = watching table (may_go_on_for table interest) interest.due

@@ -105,19 +105,42 @@ pub record RestsOnce {N C : Type 0} (transition : N → NetworkCall C → N → 
   pub polls : PollsOnce transition time old (watching_all before others) new polled
   pub table : after ≡ unwatched (record polled { has_news = false })
 
+-- A call that watches nothing keeps all that the next wait watches. A poll that reported something since the last wait
+-- still keeps the next one from blocking. Unless some poll did, nothing is reported of a socket that was not reported
+-- before.
+pub record KeepsWatched (old new : Table) : Type 0 where
+  pub work : new.watched_work ≡ old.watched_work
+  pub due : new.watched_due ≡ old.watched_due
+  pub news : old.has_news ≡ true → new.has_news ≡ true
+  pub reports : new.has_news ≡ false → (key : ℕ) → is_reported_at old key ≡ false → is_reported_at new key ≡ false
+
+-- The next wait is also to watch a session: whether something may be done at once, by the ports or for another reason, and
+-- its nearest deadline.
+abbrev pub WatchesSession : {S : Type 0} → Table → SessionSockets S → Table → Type 0
+WatchesSession old session new =
+    (other : Bool) × (new ≡ watching old (may_session_go_on old session || other) (session_due session))
+
+-- a session for which there is no news is watched; one with news has a turn, and is watched after it
+abbrev pub WatchesUnless : {S : Type 0} → Bool → Table → SessionSockets S → Table → Type 0
+WatchesUnless true old session new = new ≡ old
+WatchesUnless false old session new = WatchesSession old session new
+
+-- a question for news: perhaps a poll, and then the session is watched if there is no news for it
+abbrev pub AsksForNews : {S : Type 0} → Bool → Table → SessionSockets S → Table → Type 0
+AsksForNews news old session new = (mid : Table) × KeepsWatched old mid × WatchesUnless news mid session new
+
 -- The effect of a system call on the network and the table, as far as a wait needs it; `view` is the content of ports.
--- A wait watches each session that it was to watch: whether something may be done at once, by the ports or for another
--- reason, and its nearest deadline. It watches others too, which the call itself names (`Beside`).
+-- A wait watches each session that it was to watch, and each that had no news when the system was asked for some. It
+-- watches others too, which the call itself names (`Beside`).
 abbrev pub Wakes : {P S N C : Type 0} → (N → NetworkCall C → N → Type 0) → (P → SessionSockets S) → N × Table →
     SystemCall P → N × Table → Type 0
-Wakes transition view old (Watches ports) new =
-    (other : Bool) × (new ≡ (old.0, watching old.1 (may_session_go_on old.1 (view ports) || other) (session_due (view ports))))
+Wakes transition view old (Watches ports) new = WatchesSession old.1 (view ports) new.1
 Wakes transition view old Waits new =
     (others : List (Bool × Option Instant)) × RestsOnce transition others old.0 old.1 new.0 new.1
 Wakes transition view old (Begins orders) new = Unit {0}
 Wakes transition view old (Shows ports status) new = Unit {0}
-Wakes transition view old (ReportsNews ports news) new = Unit {0}
-Wakes transition view old (BeginsTurn before after) new = Unit {0}
+Wakes transition view old (ReportsNews ports news) new = AsksForNews news old.1 (view ports) new.1
+Wakes transition view old (BeginsTurn before after) new = KeepsWatched old.1 new.1
 Wakes transition view old (Accepts came) new = Unit {0}
 Wakes transition view old (Connects connect) new = Unit {0}
 Wakes transition view old (Retires ports end) new = Unit {0}

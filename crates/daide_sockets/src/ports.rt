@@ -16,7 +16,7 @@ ghost use Rattle.daide_sockets.specs.Sockets.{read_if, due_after};
 ghost use Rattle.daide_sockets.specs.Table.{merged, report_at, without_report};
 ghost use Rattle.daide_sockets.specs.Timers.{BeginsAt, PullsInTime, PutsInTime, FlushesInTime, BeginsInTime, SetsTimers, clock_event, is_got, timers_of};
 ghost use Rattle.daide_sockets.specs.Times.{IsStallEnd, has_stalled, is_past};
-ghost use Rattle.daide_sockets.specs.Wakeups.{StaysUnread, IsPulled, IsOffered, Settles};
+ghost use Rattle.daide_sockets.specs.Wakeups.{StaysUnread, IsPulled, IsOffered, Settles, KeepsWatched};
 ghost use Rattle.daide_sockets.specs.Wakeups.{session_due};
 ghost use Rattle.daide_sockets.specs.Interests.{interest_of};
 
@@ -505,6 +505,7 @@ impl<S: Duplex + Drop> SocketPorts<'_, S> {
         ensures settles { Settles S.calls TurnBegins (self.old.bot, self.old.server) (self.new.bot, self.new.server) }
         ensures keys { (self.new.bot.key ≡ self.old.bot.key) × (self.new.server.key ≡ self.old.server.key) }
         ensures rows { KeepsRows table.old table.new }
+        ensures watched { KeepsWatched table.old table.new }
     {
         table.note_turn();
         self.count_turn(table.now());

@@ -17,15 +17,15 @@ ghost use Rattle.daide_sockets.specs.Capacity.{capacity_after};
 ghost use Rattle.daide_sockets.specs.Lines.{milliseconds_between};
 ghost use Rattle.daide_sockets.specs.Pairing.{ClosesBothAt};
 ghost use Rattle.daide_sockets.specs.Present.{position_of, time_in, without_at};
-ghost use Rattle.daide_sockets.specs.Rows.{AreRowsOf, HandsRows, control_keys, keys_of_run};
+ghost use Rattle.daide_sockets.specs.Rows.{AreRowsOf, HandsRows, KeepsRows, control_keys, keys_of_run};
 ghost use Rattle.daide_sockets.specs.Scheduling.{RunEvolves, run_state};
 ghost use Rattle.daide_sockets.specs.Sockets.{due_after};
 ghost use Rattle.daide_sockets.specs.Table.{Table, watching, IsNoTime, PollsOnce};
 ghost use Rattle.std.specs.declared.time.Duration.{Duration};
 ghost use Rattle.daide_sockets.specs.Timers.{SetsTimers, timers_of};
 ghost use Rattle.daide_sockets.specs.Times.{IsSeconds, IsIdleTime, is_past};
-ghost use Rattle.daide_sockets.specs.Wakeups.{Settles, RestsOnce, has_session_news};
-ghost use Rattle.daide_sockets.specs.Interests.{interest_of, may_go_on_for};
+ghost use Rattle.daide_sockets.specs.Wakeups.{Settles, RestsOnce, KeepsWatched, has_session_news};
+ghost use Rattle.daide_sockets.specs.Interests.{interest_of, may_go_on_for, has_news_for, after_question};
 
 mod arrivals;
 mod orders;
@@ -38,7 +38,7 @@ use crate::poller::Poller;
 use crate::ports::SocketPorts;
 use crate::present::Present;
 use crate::session_notice::{Lasted, SessionNotice};
-use crate::table::SocketTable;
+use crate::table::{SocketTable, either};
 use daide_buffered_io::pool::Pool;
 use daide_io::interest::Interest;
 use daide_io::network::Network;
@@ -82,7 +82,8 @@ fn idle_time_of(seconds: u32) -> Option<Duration>
 /// In `begin_round` the sockets that close make progress, by the table's reading of the clock (`tidy`: `closing`): all of
 /// them, or eight if there are more (`ClosingsGoOn`). They keep their order. If a turn begins, what was held for too long
 /// is written to that session's own sockets, and neither is read. There is news for a session exactly if something may be
-/// done at once for it, or its nearest deadline is past (`has_news`: `news`). A wait watches the sessions that it was to
+/// done at once for it, or its nearest deadline is past (`has_news`: `news`). If there is none, the next wait watches it
+/// (`looks`, `rests`: `after_question`). A wait watches the sessions that it was to
 /// watch (`Wakes`), the listener, each connect and each closing socket (`wait`: `polls`). It polls once, for the time
 /// until the nearest deadline, unless something is pending or may be done at once. Beside that, the network is polled for
 /// no time once 32 turns began since the last poll: before a session is asked for news (`has_news`: `looks`, `begin_turn`:
@@ -359,6 +360,35 @@ impl<'w, N: Network, E: Write + Drop> Sockets<'w, N, E> {
         self.closings.finish(&mut self.poller);
     }
 
+    /// Returns whether there is news for the session with this interest, after a poll if many turns began since the last
+    /// one. The next wait watches the session if there is none.
+    #[inline(never)]
+    fn look_for_news(&mut self, interest: &Interest) -> bool
+        ensures news { result ≡ (is_newly_stopped self.old.control.stops_now interest.now.is_stopped
+            || has_news_for self.new.poller.table interest.now) }
+        ensures looks { nat_le 32 self.old.poller.table.turns ≡ true → (time : Option Duration) × (polled : Table)
+            × IsNoTime time × PollsOnce N.transition time self.old.poller.network self.old.poller.table
+            self.new.poller.network polled × (self.new.poller.table ≡ after_question result polled interest.now) }
+        ensures rests { nat_le 32 self.old.poller.table.turns ≡ false →
+            (self.new.poller.network ≡ self.old.poller.network)
+            × (self.new.poller.table ≡ after_question result self.old.poller.table interest.now) }
+        ensures watched { (mid : Table) × KeepsWatched self.old.poller.table mid
+            × (self.new.poller.table ≡ after_question result mid interest.now) }
+        ensures rows { KeepsRows self.old.poller.table self.new.poller.table }
+        ensures same { self.new ≡ record self.old { poller = self.new.poller } }
+    {
+        self.poller.look_by_turns();
+        let has_news = either(
+            self.stops_newly(interest.is_stopped),
+            self.poller.table.has_news_for(interest),
+        );
+        if has_news {
+            return true;
+        }
+        self.poller.table.watch_for(interest);
+        false
+    }
+
     /// Waits, and watches the sessions that it was to watch, the listener, each connect and each closing socket
     /// (`others_watched`). It only polls if something may be done at once for one of them.
     fn rest(&mut self)
@@ -397,6 +427,8 @@ impl<'w, N: Network, E: Write + Drop> System<SocketPorts<'w, N::Connection>> for
         ensures now_kept { self.old.control.stops_now ≡ true → self.new.control.stops_now ≡ true }
         ensures watched { (before : Table) × (self.new.poller.table ≡ watching_control before self.new.control) }
     {
+        // Only what this round watches counts.
+        self.poller.table.unwatch();
         self.poller.look_by_turns();
         self.tidy();
         self.take_orders()
@@ -434,14 +466,19 @@ impl<'w, N: Network, E: Write + Drop> System<SocketPorts<'w, N::Connection>> for
         ensures news { (ports : PortsOf N.Connection) → interest.now ≡ interest_of ports →
             result ≡ (is_newly_stopped self.old.control.stops_now ports.is_stopped
             || has_session_news self.new.poller.table (timers_of ports).sockets) }
-        ensures looks { nat_le 32 self.old.poller.table.turns ≡ true → (time : Option Duration) × IsNoTime time
-            × PollsOnce N.transition time self.old.poller.network self.old.poller.table self.new.poller.network
-            self.new.poller.table }
-        ensures rests { nat_le 32 self.old.poller.table.turns ≡ false → self.new ≡ self.old }
+        ensures looks { nat_le 32 self.old.poller.table.turns ≡ true → (time : Option Duration) × (polled : Table)
+            × IsNoTime time × PollsOnce N.transition time self.old.poller.network self.old.poller.table
+            self.new.poller.network polled × (self.new.poller.table ≡ after_question result polled interest.now) }
+        ensures rests { nat_le 32 self.old.poller.table.turns ≡ false →
+            (self.new.poller.network ≡ self.old.poller.network)
+            × (self.new.poller.table ≡ after_question result self.old.poller.table interest.now) }
         ensures same { self.new ≡ record self.old { poller = self.new.poller } }
     {
-        self.poller.look_by_turns();
-        self.stops_newly(interest.is_stopped) || self.poller.table.has_news_for(interest)
+        // Most questions of most rounds end here.
+        if !self.control.stops_now() && self.poller.table.is_watched_at_rest(interest) {
+            return false;
+        }
+        self.look_for_news(interest)
     }
 
     fn begin_turn(&mut self, ports: &mut SocketPorts<'w, N::Connection>)
@@ -488,7 +525,7 @@ impl<'w, N: Network, E: Write + Drop> System<SocketPorts<'w, N::Connection>> for
         ensures network { self.new.poller.network ≡ self.old.poller.network }
         ensures same { self.new ≡ record self.old { poller = self.new.poller } }
     {
-        self.poller.table.watch_for(interest);
+        self.poller.table.watch_for(interest)
     }
 
     fn accept(&mut self) -> bool {

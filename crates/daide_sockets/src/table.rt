@@ -5,12 +5,12 @@
 //! each wait. So an idle session makes no system call.
 
 ghost use Rattle.std.specs.Duration.{as_nanos};
-ghost use Rattle.std.specs.Prelude.{◌≡◌, ◌+◌, ◌<◌, ◌≤◌, ◌||◌, if◌then◌else◌, nat_le, length, IsNone, IfSome, IfNone, IfOk, None, [], false};
+ghost use Rattle.std.specs.Prelude.{◌≡◌, ◌+◌, ◌<◌, ◌≤◌, ◌||◌, if◌then◌else◌, nat_le, length, IsNone, IfSome, IfNone, IfOk, None, [], true, false};
 ghost use Rattle.daide_sockets.specs.Table.{first_free, TakesRow};
 ghost use Rattle.daide_sockets.specs.Table.{row_at, merged, report_at, has_report, is_reported_at, has_pending};
 ghost use Rattle.daide_sockets.specs.Table.{changed, without_report, watching, unwatched, freed, with_event, with_news, latest};
 ghost use Rattle.daide_sockets.specs.Table.{earlier, IsUntil};
-ghost use Rattle.daide_sockets.specs.Interests.{may_go_on_for, has_news_for};
+ghost use Rattle.daide_sockets.specs.Interests.{may_go_on_for, has_news_for, after_question};
 ghost use Rattle.daide_sockets.specs.Times.{IsAfter, IsStallEnd, StallsNext, is_past, is_time_over};
 
 use daide_buffered_io::readiness::Readiness;
@@ -54,6 +54,9 @@ pub struct SocketTable {
     watched_work: bool,
     /// The nearest deadline of those that the next wait is to watch; `None` if there is none.
     watched_due: Option<Instant>,
+    /// Whether a question for news has to look closer: many turns began since the last poll, or the nearest deadline that is
+    /// watched is past. So a question for a session that is watched already is short.
+    needs_look: bool,
     /// The most rows.
     max_rows: usize,
     /// The rows that were ever taken.
@@ -61,7 +64,9 @@ pub struct SocketTable {
 }
 
 impl Model for SocketTable {
+    ghost use Rattle.std.specs.Prelude.{◌≡◌, nat_le, false};
     ghost use Rattle.daide_sockets.specs.Table.{Table};
+    ghost use Rattle.daide_sockets.specs.Times.{is_past};
 
     ghost Value = { Table };
 
@@ -74,6 +79,10 @@ impl Model for SocketTable {
       max_rows = t.max_rows;
       rows = t.rows.items;
     } };
+
+    // without a reason to look closer, few turns began, and no deadline that is watched is past
+    ghost invariant = { λ t. t.needs_look ≡ false →
+        (nat_le 32 t.turns ≡ false) × (is_past t.reading t.watched_due ≡ false) };
 }
 
 /// Returns true if a moment is past at the last reading of the clock; false without a moment.
@@ -212,6 +221,13 @@ fn first_free(rows: &[Row]) -> usize
     key
 }
 
+/// Returns whether the system is polled again after this many turns.
+fn are_many(turns: u64) -> bool
+    ensures { result ≡ nat_le MOST_TURNS turns }
+{
+    turns >= MOST_TURNS
+}
+
 /// Returns whether one of two things is so.
 pub(crate) fn either(one: bool, other: bool) -> bool
     ensures { result ≡ (one || other) }
@@ -230,6 +246,7 @@ impl SocketTable {
             has_news: false,
             watched_work: false,
             watched_due: None,
+            needs_look: false,
             max_rows: sockets,
             rows: Vec::with_capacity(alloc, sockets)?,
         })
@@ -355,6 +372,7 @@ impl SocketTable {
         // Most deadlines are later than one that is watched already.
         if is_nearer(due, self.watched_due) {
             self.watched_due = due;
+            self.needs_look = either(self.needs_look, is_past(self.reading, due));
         }
     }
 
@@ -378,6 +396,19 @@ impl SocketTable {
         self.may_go_on_for(interest) || is_past(self.reading, interest.due)
     }
 
+    /// Returns true only if there is no news for the session with this interest, and the next wait watches it already: no
+    /// deadline of its own is nearer than the nearest one that is watched, and that one is not past.
+    #[inline(always)]
+    pub fn is_watched_at_rest(&self, interest: &Interest) -> bool
+        ensures few { result ≡ true → nat_le 32 self.now.turns ≡ false }
+        ensures news { result ≡ true → has_news_for self.now interest.now ≡ false }
+        ensures watched { result ≡ true → after_question false self.now interest.now ≡ self.now }
+    {
+        !self.needs_look
+            && !self.may_go_on_for(interest)
+            && !is_nearer(interest.due, self.watched_due)
+    }
+
     /// Has the next wait watch the session with this interest: whether something may be done at once for it, and its nearest
     /// deadline. So no wait blocks beyond these.
     #[inline(always)]
@@ -399,6 +430,7 @@ impl SocketTable {
     pub fn unwatch(&mut self)
         ensures { self.new ≡ unwatched self.old }
     {
+        self.needs_look = self.has_many_turns();
         self.watched_work = false;
         self.watched_due = None;
     }
@@ -453,6 +485,7 @@ impl SocketTable {
         ensures { self.new ≡ record self.old { reading = latest self.old.reading now } }
     {
         if now.is_some() {
+            self.needs_look = either(self.has_many_turns(), is_past(now, self.watched_due));
             self.reading = now;
         }
     }
@@ -462,13 +495,15 @@ impl SocketTable {
         ensures same { self.new ≡ record self.old { turns = self.new.turns } }
         ensures counted { self.old.turns < u64.MAX → self.new.turns ≡ self.old.turns + 1 }
     {
-        self.turns = self.turns.saturating_add(1);
+        let turns = self.turns.saturating_add(1);
+        self.needs_look = either(self.needs_look, are_many(turns));
+        self.turns = turns;
     }
 
     /// Returns true if `MOST_TURNS` turns began since the last poll.
     pub(crate) fn has_many_turns(&self) -> bool
         ensures { result ≡ nat_le MOST_TURNS self.now.turns }
     {
-        self.turns >= MOST_TURNS
+        are_many(self.turns)
     }
 }

@@ -3,5 +3,4 @@ use Rattle.daide_event_loop.proofs.serving.rest.Goals as goal
 
 pub returns-then-not-made_progress : goal.returns-then-not-made_progress
 returns-then-not-made_progress g c =
-    rested g.S.System.transition c.args.hub.now.places c.args.made_progress _ _ _ c.if-not-made_progress.true
-    c.watch_all.ensures c.wait.ensures
+    rested g.S.System.transition c.args.made_progress _ _ c.if-not-made_progress.true c.wait.ensures

@@ -16,7 +16,7 @@ returns g c = λ ports h.
     ∙ (ap (λ b. watching old.table b interest.due) (goes_on_for old.table ports.ports interest h)
     ∙ ap (λ due. watching old.table (may_session_go_on old.table (timers_of ports.ports).sockets || h.1) due) (due_for ports.ports interest h)) in (
       e.0,
-      (h.1, ap (λ n. (n, c.watch.new.self.poller.table)) c.watch.ensures.network ∙ ap (λ t. (old.network, t)) table),
+      (h.1, table),
       e.2,
       e.3,
       e.4,

@@ -28,11 +28,10 @@ returns-clause-round g c =
     let removes = c.remove_if_closed-removed.ensures.removes in
     let progressed = c.admit-came.result || c.in_ok-connected.connected || c.turn_all-found.result.has_moved || c.remove_if_closed-removed.result
     || c.is_done.result in
-    let after = c.remove_if_closed-removed.new.hub.places in
-    let asleep = waits_alike {P = g.row.P.Denot} after _ _ _ _ _ _ _ _ _ _ admits.3 finishes.3 c.turn_all-found.ensures.moved
+    let asleep = waits_alike {P = g.row.P.Denot} _ _ _ _ _ _ _ _ _ _ admits.3 finishes.3 c.turn_all-found.ensures.moved
     removes.3 c.is_done.ensures in
     let step : Round g.P.Ports.transition (record { hub = old.hub; counters = old.counters })
-    (opens ++ admits.0 ++ finishes.0 ++ turns.0 ++ removes.0 ++ wait_where progressed after)
+    (opens ++ admits.0 ++ finishes.0 ++ turns.0 ++ removes.0 ++ wait_where progressed)
     (record { hub = c.remove_if_closed-removed.new.hub; counters = c.finish_connect.new.counters }) = record {
       orders = orders;
       admission = admits.0;
@@ -58,7 +57,7 @@ returns-clause-round g c =
       };
       asked = ap (λ w. opens ++ admits.0 ++ finishes.0 ++ turns.0 ++ removes.0 ++ w) asleep;
     } in (
-      opens ++ admits.0 ++ finishes.0 ++ turns.0 ++ removes.0 ++ wait_where progressed after,
+      opens ++ admits.0 ++ finishes.0 ++ turns.0 ++ removes.0 ++ wait_where progressed,
       transits_then go (opens ++ admits.0 ++ finishes.0 ++ turns.0 ++ removes.0) _ _ _ _
           (transits_then go (opens ++ admits.0 ++ finishes.0 ++ turns.0) removes.0 _ _ _
           (transits_then go (opens ++ admits.0 ++ finishes.0) turns.0 _ _ _
@@ -67,7 +66,7 @@ returns-clause-round g c =
           (c.begin_round-orders.new.self, c.begin_round-orders.ensures, c.show_sessions.ensures) admits.1) finishes.1) turns.1)
           removes.1) c.rest.ensures,
       subst (λ (a : ServiceView g.row.P.Denot). Round g.P.Ports.transition a
-          (opens ++ admits.0 ++ finishes.0 ++ turns.0 ++ removes.0 ++ wait_where progressed after)
+          (opens ++ admits.0 ++ finishes.0 ++ turns.0 ++ removes.0 ++ wait_where progressed)
           (record { hub = c.remove_if_closed-removed.new.hub; counters = c.finish_connect.new.counters })) c.self.view_is step,
     )
 

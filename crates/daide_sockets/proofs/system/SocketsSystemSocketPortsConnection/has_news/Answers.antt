@@ -1,4 +1,4 @@
-use Rattle.std.proofs.Common.{◌≡◌, Bool, sym, ap, ◌∙◌}
+use Rattle.std.proofs.Common.{◌≡◌, Bool, false, sym, ap, ◌∙◌, rules}
 use Rattle.std.specs.Prelude.{◌||◌}
 use Rattle.daide_io.specs.declared.interest.Interest.{Interest}
 use Rattle.daide_sockets.specs.ControlSlots.{is_newly_stopped}
@@ -6,15 +6,32 @@ use Rattle.daide_sockets.specs.Interests.{has_news_for}
 use Rattle.daide_sockets.specs.Timers.{timers_of}
 use Rattle.daide_sockets.specs.Wakeups.{has_session_news}
 use Rattle.daide_sockets.proofs.InterestLemmas.{news_alike}
+use Rattle.daide_sockets.proofs.WatchLemmas.{asked, not_true}
 use Rattle.daide_sockets.proofs.system.SocketsSystemSocketPortsConnection.has_news.Goals as goal
 
-pub returns-else-stops_newly-clause-news : goal.returns-else-stops_newly-clause-news
-returns-else-stops_newly-clause-news g c = λ ports own.
-    let table = c.look_by_turns.new.self.table in
-    let stops_now = c.args.self.now.control.stops_now in
-    let goes_on = ap (λ (i : Interest). is_newly_stopped stops_now i.is_stopped) (sym own)
-    ∙ (sym c.stops_newly.ensures ∙ c.if-stops_newly.false) in
-    c.has_news_for.ensures
-    ∙ (ap (λ (i : Interest). has_news_for table i) own
-    ∙ (news_alike table ports
-    ∙ ap (λ (b : Bool). b || has_session_news table (timers_of ports).sockets) (sym goes_on)))
+pub returns-then-is_watched_at_rest-clause-news : goal.returns-then-is_watched_at_rest-clause-news
+returns-then-is_watched_at_rest-clause-news g c = λ ports own.
+    let table = c.args.self.now.poller.table in
+    let none = sym (news_alike table ports)
+    ∙ (ap (λ (i : Interest). has_news_for table i) (sym own)
+    ∙ c.is_watched_at_rest.ensures.news c.if-is_watched_at_rest.true) in
+    sym (ap (λ (stops : Bool). is_newly_stopped stops ports.is_stopped || has_session_news table (timers_of ports).sockets)
+    (sym c.stops_now.ensures ∙ not_true _ c.if-not-stops_now.true) ∙ none)
+
+pub returns-clause-transition : goal.returns-clause-transition
+returns-clause-transition g c = λ ports own.
+    let watched = c.look_for_news.ensures.watched in (
+      search rules,
+      asked c.look_for_news.result _ _ _ ports c.args.interest.now own watched.1 watched.2,
+      search rules,
+      search rules,
+      search rules,
+    )
+
+pub returns-clause-news : goal.returns-clause-news
+returns-clause-news g c = λ ports own.
+    let table = c.look_for_news.new.self.poller.table in
+    let stops = c.args.self.now.control.stops_now in
+    c.look_for_news.ensures.news
+    ∙ (ap (λ (i : Interest). is_newly_stopped stops i.is_stopped || has_news_for table i) own
+    ∙ ap (λ (b : Bool). is_newly_stopped stops ports.is_stopped || b) (news_alike table ports))
