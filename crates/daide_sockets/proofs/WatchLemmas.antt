@@ -1,6 +1,6 @@
 -- What the next wait watches: it is kept by a poll and by the beginning of a turn, and a question for news adds to it.
 use Rattle.std.proofs.Common.{◌≡◌, ℕ, zero, suc, Bool, true, false, List, [], ◌∷◌, Option, Some, None, refl, sym, ap, ◌∙◌, subst, arith}
-use Rattle.std.specs.Prelude.{◌||◌, nat_le, not, if◌then◌else◌}
+use Rattle.std.specs.Prelude.{◌||◌, nat_le, if◌then◌else◌}
 use Rattle.std.specs.Time.{instant_nanos}
 use Rattle.std.specs.declared.time.Duration.{Duration}
 use Rattle.std.specs.declared.time.Instant.{Instant}
@@ -25,10 +25,6 @@ or_true false = refl
 or_false : (b : Bool) → (b || false) ≡ b
 or_false true = refl
 or_false false = refl
-
-pub not_true : (b : Bool) → not b ≡ true → b ≡ false
-not_true false e = refl
-not_true true e = absurd (cc)
 
 pub left_false : (a b : Bool) → (a || b) ≡ false → a ≡ false
 left_false false b e = refl
@@ -101,7 +97,7 @@ pub polled_keeps : {N C : Type 0} (transition : N → NetworkCall C → N → Ty
     (nat_le 32 old.table.turns ≡ true → (time : Option Duration) × IsNoTime time
     × PollsOnce transition time old.network old.table new.network new.table) →
     (nat_le 32 old.table.turns ≡ false → new ≡ old) → KeepsWatched old.table new.table
-polled_keeps transition old new looks rests = by (nat_le 32 old.table.turns) refl
+polled_keeps {N = N} transition old new looks rests = by (nat_le 32 old.table.turns) refl
   where
     by : (many : Bool) → nat_le 32 old.table.turns ≡ many → KeepsWatched old.table new.table
     by true e =

@@ -6,7 +6,7 @@ use Rattle.daide_sockets.specs.Interests.{has_news_for}
 use Rattle.daide_sockets.specs.Timers.{timers_of}
 use Rattle.daide_sockets.specs.Wakeups.{has_session_news}
 use Rattle.daide_sockets.proofs.InterestLemmas.{news_alike}
-use Rattle.daide_sockets.proofs.WatchLemmas.{asked, not_true}
+use Rattle.daide_sockets.proofs.WatchLemmas.{asked}
 use Rattle.daide_sockets.proofs.system.SocketsSystemSocketPortsConnection.has_news.Goals as goal
 
 pub returns-then-is_watched_at_rest-clause-news : goal.returns-then-is_watched_at_rest-clause-news
@@ -16,7 +16,7 @@ returns-then-is_watched_at_rest-clause-news g c = λ ports own.
     ∙ (ap (λ (i : Interest). has_news_for table i) (sym own)
     ∙ c.is_watched_at_rest.ensures.news c.if-is_watched_at_rest.true) in
     sym (ap (λ (stops : Bool). is_newly_stopped stops ports.is_stopped || has_session_news table (timers_of ports).sockets)
-    (sym c.stops_now.ensures ∙ not_true _ c.if-not-stops_now.true) ∙ none)
+    (sym c.stops_now.ensures ∙ c.if-not-stops_now.true) ∙ none)
 
 pub returns-clause-transition : goal.returns-clause-transition
 returns-clause-transition g c = λ ports own.
