@@ -7,7 +7,6 @@ use Rattle.std.specs.declared.time.Instant.{Instant}
 use Rattle.daide_io.specs.Network.{NetworkCall}
 use Rattle.daide_io.specs.declared.interest.Interest.{Interest}
 use Rattle.daide_io.specs.declared.network.SocketEvent.{SocketEvent}
-use Rattle.daide_sockets.specs.declared.poller.Poller.{Poller}
 use Rattle.daide_sockets.specs.declared.ports.SocketPorts.{SocketPorts}
 use Rattle.daide_sockets.specs.declared.table.Row.{Row}
 use Rattle.daide_sockets.specs.Interests.{interest_of, may_go_on_for, has_news_for, after_question}
@@ -93,17 +92,16 @@ keeps_polled transition time old before new after h =
     })
 
 -- the network is polled if many turns began, and else nothing happens
-pub polled_keeps : {N C : Type 0} (transition : N → NetworkCall C → N → Type 0) (old new : Poller N) →
-    (nat_le 32 old.table.turns ≡ true → (time : Option Duration) × IsNoTime time
-    × PollsOnce transition time old.network old.table new.network new.table) →
-    (nat_le 32 old.table.turns ≡ false → new ≡ old) → KeepsWatched old.table new.table
-polled_keeps {N = N} transition old new looks rests = by (nat_le 32 old.table.turns) refl
+pub polled_keeps : {N C : Type 0} (transition : N → NetworkCall C → N → Type 0) (old_network new_network : N)
+    (old new : Table) →
+    (nat_le 32 old.turns ≡ true → (time : Option Duration) × IsNoTime time
+    × PollsOnce transition time old_network old new_network new) →
+    (nat_le 32 old.turns ≡ false → new ≡ old) → KeepsWatched old new
+polled_keeps transition old_network new_network old new looks rests = by (nat_le 32 old.turns) refl
   where
-    by : (many : Bool) → nat_le 32 old.table.turns ≡ many → KeepsWatched old.table new.table
-    by true e =
-        let poll = looks e in
-        keeps_polled transition poll.0 old.network old.table new.network new.table poll.2
-    by false e = subst (λ (p : Poller N). KeepsWatched old.table p.table) (sym (rests e)) (keeps_itself old.table)
+    by : (many : Bool) → nat_le 32 old.turns ≡ many → KeepsWatched old new
+    by true e = let poll = looks e in keeps_polled transition poll.0 old_network old new_network new poll.2
+    by false e = subst (KeepsWatched old) (sym (rests e)) (keeps_itself old)
 
 -- ---- a question
 

@@ -1,4 +1,4 @@
-use Rattle.std.proofs.Common.{◌≡◌, Bool, false, sym, ap, ◌∙◌, rules}
+use Rattle.std.proofs.Common.{◌≡◌, Bool, false, refl, sym, ap, ◌∙◌}
 use Rattle.std.specs.Prelude.{◌||◌}
 use Rattle.daide_io.specs.declared.interest.Interest.{Interest}
 use Rattle.daide_sockets.specs.ControlSlots.{is_newly_stopped}
@@ -6,6 +6,7 @@ use Rattle.daide_sockets.specs.Interests.{has_news_for}
 use Rattle.daide_sockets.specs.Timers.{timers_of}
 use Rattle.daide_sockets.specs.Wakeups.{has_session_news}
 use Rattle.daide_sockets.proofs.InterestLemmas.{news_alike}
+use Rattle.daide_sockets.proofs.RunRowLemmas.{none_hands}
 use Rattle.daide_sockets.proofs.WatchLemmas.{asked}
 use Rattle.daide_sockets.proofs.system.SocketsSystemSocketPortsConnection.has_news.Goals as goal
 
@@ -20,12 +21,13 @@ returns-then-is_watched_at_rest-clause-news g c = λ ports own.
 
 pub returns-clause-transition : goal.returns-clause-transition
 returns-clause-transition g c = λ ports own.
-    let watched = c.look_for_news.ensures.watched in (
-      search rules,
+    let watched = c.look_for_news.ensures.watched in
+    rw c.look_for_news.ensures.same (
+      refl,
       asked c.look_for_news.result _ _ _ ports c.args.interest.now own watched.1 watched.2,
-      search rules,
-      search rules,
-      search rules,
+      ((refl, refl), refl),
+      refl,
+      none_hands _ _ c.args.self.now.acceptor c.args.self.now.acceptor _ _ _ refl c.look_for_news.ensures.rows,
     )
 
 pub returns-clause-news : goal.returns-clause-news
