@@ -1,22 +1,20 @@
 -- The wait of a round in which a bot may be accepted is for bots too.
 use Rattle.std.proofs.Common.{◌≡◌, ℕ, Bool, true, false, List, [], ◌∷◌, ◌++◌, length, refl, ap, ◌∙◌, subst}
-use Rattle.std.specs.Prelude.{All, is_none, ◌==◌}
-use Rattle.std.proofs.lemmas.List.Elements.{All-nil, All-cons, All-same, All-append}
-use Rattle.daide_protocol.specs.Wires.{SessionView, is_closed}
+use Rattle.std.specs.Prelude.{All, ◌==◌}
+use Rattle.std.proofs.lemmas.List.Elements.{All-nil, All-cons, All-same}
 use Rattle.daide_driver.specs.Hub.{HubView}
 use Rattle.daide_io.specs.Network.{NetworkCall}
 use Rattle.daide_io.specs.Ports.{PortCall}
-use Rattle.daide_io.specs.System.{SystemCall, Watches, Accepts, Connects, Retires, Notifies, Waits, TransitsBy}
+use Rattle.daide_io.specs.System.{SystemCall, Accepts, Connects, Notifies, Waits, TransitsBy}
 use Rattle.daide_io.specs.declared.system.Connect.{Connect}
 use Rattle.daide_io.specs.declared.system.Connect.TheVariants.{Ready, Failed, Pending}
-use Rattle.daide_io.specs.declared.system.Notice.TheVariants.{CannotReach, TurnsSpent}
+use Rattle.daide_io.specs.declared.system.Notice.TheVariants.{CannotReach}
 use Rattle.daide_event_loop.specs.declared.admission_counters.AdmissionCounters.{AdmissionCounters}
 use Rattle.daide_event_loop.specs.QuotaPorts.{QuotaPortsView}
 use Rattle.daide_event_loop.specs.Serving.{AdmitsWhere, MeetsWhere, MeetsBy, TurnsBelow}
-use Rattle.daide_event_loop.specs.Serving.{may_accept, heeding, opening, last_words, parting, end_of, retirement, retirement_where}
-use Rattle.daide_event_loop.specs.Serving.{retirements, watches}
+use Rattle.daide_event_loop.specs.Serving.{may_accept, heeding, opening}
 use Rattle.daide_event_loop.proofs.BeginningLemmas.{all_turns, turns_only}
-use Rattle.daide_event_loop.proofs.WaitingLemmas.{early, all_watched}
+use Rattle.daide_event_loop.proofs.WaitingLemmas.{visits_last}
 use Rattle.daide_sockets.specs.Scheduling.{RunState, Schedules}
 use Rattle.daide_sockets.specs.Timers.{SessionTimers}
 use Rattle.daide_sockets.proofs.SchedulingLemmas.{IsAfterAccept, same_acceptors, awaits_bots}
@@ -36,9 +34,6 @@ module _ {P : Type 0} where
   one : (calls : List (SystemCall P)) (call : SystemCall P) → calls ≡ call ∷ [] → IsAfterAccept call → AreAfter calls
   one calls call e h = All-same IsAfterAccept calls (call ∷ []) e (All-cons IsAfterAccept call [] h (All-nil IsAfterAccept))
 
-  both : (calls first second : List (SystemCall P)) → calls ≡ first ++ second → AreAfter first → AreAfter second → AreAfter calls
-  both calls first second e h k = All-same IsAfterAccept calls (first ++ second) e (All-append IsAfterAccept first second h k)
-
   told_after : (connect : Connect P) (hub : HubView (QuotaPortsView P)) (counters : AdmissionCounters) (told : List (SystemCall P))
       (new_hub : HubView (QuotaPortsView P)) (new_counters : AdmissionCounters) →
       MeetsBy connect hub counters told new_hub new_counters → AreAfter told
@@ -54,29 +49,8 @@ module _ {P : Type 0} where
       All-same IsAfterAccept calls (Connects h.0 ∷ h.1) h.2
       (All-cons IsAfterAccept (Connects h.0) h.1 tt (told_after h.0 hub counters h.1 new_hub new_counters h.3))
 
-  last_after : (spent : Bool) → AreAfter (last_words spent)
-  last_after true = one (last_words true) (Notifies TurnsSpent) refl tt
-  last_after false = All-nil IsAfterAccept
-
-  retirement_after : (closed : Bool) (place : SessionView × QuotaPortsView P) → AreAfter (retirement_where closed place)
-  retirement_after false place = All-nil IsAfterAccept
-  retirement_after true place =
-      both (parting place.1 (end_of place)) (last_words (is_none place.1.turns_left)) (Retires place.1.ports (end_of place) ∷ []) refl
-      (last_after (is_none place.1.turns_left)) (one (Retires place.1.ports (end_of place) ∷ []) (Retires place.1.ports (end_of place)) refl tt)
-
-  retirements_after : (places : List (SessionView × QuotaPortsView P)) → AreAfter (retirements places)
-  retirements_after [] = All-nil IsAfterAccept
-  retirements_after (place ∷ places) =
-      both (retirements (place ∷ places)) (retirements places) (retirement place) refl (retirements_after places)
-      (retirement_after (is_closed place.0) place)
-
-  watches_after : (places : List (SessionView × QuotaPortsView P)) → AreAfter (watches places)
-  watches_after [] = All-nil IsAfterAccept
-  watches_after (place ∷ places) =
-      All-cons IsAfterAccept (Watches place.1.ports) (watches places) tt (watches_after places)
-
 module _ {P : Type 0} (port_transition : P → PortCall → P → Type 0) where
-  -- the visits of a round only ask for news and begin turns
+  -- the visits of a round only ask for news, begin turns, and have ports watched
   turns_after : (n busy : ℕ) (old : HubView (QuotaPortsView P)) (calls : List (SystemCall P)) (new : HubView (QuotaPortsView P)) →
       TurnsBelow port_transition n busy old calls new → AreAfter calls
   turns_after n busy old calls new h =
@@ -111,20 +85,13 @@ module _ {P : Type 0} (port_transition : P → PortCall → P → Type 0) where
         let asked = accept_is (may_accept (heeding r.orders mid.counters) (length mid.hub.places)) (heeding r.orders mid.counters)
         r.admission r.came may r.admits in
         let own = transits_split Step before round first old trace in
-        let all = early port_transition (round ++ Waits ∷ []) mid run r in
-        let parts = transits_split Step all (watches run.hub.places) own.0 old
-        (subst (λ (l : List (SystemCall P)). TransitsBy Step own.0 l old) (all_watched port_transition round mid run r) own.2) in
-        let removed = transits_split Step (opens ++ r.admission ++ r.meeting ++ r.beginnings) r.removal own.0 parts.0 parts.1 in
-        let begun = transits_split Step (opens ++ r.admission ++ r.meeting) r.beginnings own.0 removed.0 removed.1 in
-        let met = transits_split Step (opens ++ r.admission) r.meeting own.0 begun.0 begun.1 in
-        let came = transits_split Step opens r.admission own.0 met.0 met.1 in
-        let at_accept = accepted asked.0 r.admission came.0 met.0 asked.1 came.2 in
-        let at_meeting = later r.meeting met.0 begun.0
-        (meeting_after (r.came.connecting == 0) mid.hub r.came r.meeting r.connected run.counters r.finishes) met.2 at_accept in
-        let at_turns = later r.beginnings begun.0 removed.0
-        (turns_after (length r.connected.places) r.turns.0 r.connected r.beginnings r.turned r.turns.1) begun.2 at_meeting in
-        let at_removal = later r.removal removed.0 parts.0
-        (All-same IsAfterAccept r.removal (retirements r.turned.places) r.removes.0 (retirements_after r.turned.places))
-        removed.2 at_turns in
+        let met = transits_split Step (opens ++ r.admission ++ r.meeting) r.beginnings own.0 old
+        (subst (λ (l : List (SystemCall P)). TransitsBy Step own.0 l old) (visits_last port_transition round mid run r) own.2) in
+        let begun = transits_split Step (opens ++ r.admission) r.meeting own.0 met.0 met.1 in
+        let came = transits_split Step opens r.admission own.0 begun.0 begun.1 in
+        let at_accept = accepted asked.0 r.admission came.0 begun.0 asked.1 came.2 in
+        let at_meeting = later r.meeting begun.0 met.0
+        (meeting_after (r.came.connecting == 0) mid.hub r.came r.meeting r.connected run.counters r.finishes) begun.2 at_accept in
         awaits_bots transition timers old new
-        (later (watches run.hub.places) parts.0 old (watches_after run.hub.places) parts.2 at_removal) wait
+        (later r.beginnings met.0 old
+        (turns_after (length r.connected.places) r.turns.0 r.connected r.beginnings r.turned r.turns.1) met.2 at_meeting) wait
