@@ -201,6 +201,19 @@ def status_is_a_table(program):
         settled(match, "table", lambda text: "; bots may wait for a place\n" in text)
 
 
+def status_counts_what_is_over(program):
+    """A session that is over counts as served, and a bot for which nobody listens as unreached alone."""
+    with Match(program, "sessions = 5") as match:
+        bot, server = match.opens()
+        bot.sendall(FM)
+        same(received(server, len(FM)), FM, "received by the server")
+        for stream in (server, match.listener, bot):
+            stream.close()
+        match.bots.append(socket.create_connection((HOST, match.port), SECONDS))
+        text = settled(match, "table", lambda text: text.startswith("0 open, 0 connecting") and " 1 unreached, " in text)
+        same(re.sub(r"up \d+ s", "up", text.splitlines()[0]), "0 open, 0 connecting, 1 served, 1 unreached, up", "the first line")
+
+
 def status_is_a_document(program):
     """Python's reader of JSON reads the status, and finds the values of the sessions."""
     with Match(program, "max_sessions = 3\nsessions = 5") as match:
@@ -558,6 +571,7 @@ def script_stops_a_run_by_the_protocol(program):
 
 TESTS = [
     status_is_a_table,
+    status_counts_what_is_over,
     status_is_a_document,
     status_has_metrics,
     status_has_names,

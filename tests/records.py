@@ -388,6 +388,7 @@ SCENES = [
     Scene("verbose_run_tells_both_ends_of_a_session", GETS_PRN, told=TELLS_BOTH, verbose=True),
     Scene("verbose_run_is_recorded", GETS_PRN, told=TELLS_BOTH, verbose=True, recorded=1),
     Scene("records_follow_those_of_an_earlier_run", GETS_PRN, recorded=2, there=1),
+    Scene("records_follow_the_millionth", GETS_PRN, recorded=2, there=1, first=1_000_000),
     Left("record_that_appears_is_left_as_it_is", [Appears(), *GETS_PRN], told=IS_THERE, recorded=1),
     Scene("folder_of_records_is_made", GETS_PRN, recorded=1, folder="records/of-today"),
     Recorded("record_is_read_beside_its_session", IS_READ_BESIDE, recorded=1, kept=((IM + OBS + UNCLOSED + FM, RM + YES),)),

@@ -298,9 +298,9 @@ def free_port():
         return taken.getsockname()[1]
 
 
-def record_names(count):
-    """Returns the names of this many records, from the first session on."""
-    return [f"session-{number:06}.log" for number in range(1, count + 1)]
+def record_names(count, first=1):
+    """Returns the names of this many records, from the first one on."""
+    return [f"session-{number:06}.log" for number in range(first, first + count)]
 
 
 def open_listener():
@@ -362,9 +362,11 @@ class Scene:
     # Whether the run logs its beginning, and the beginning and the end of sessions. Whether its first line is taken.
     verbose: bool = False
     begins: bool = True
-    # The number of recorded sessions, or none if the run is not recorded. The number of empty records before the run.
+    # The number of records after the run, or none if the run is not recorded; of these the number before the run, which
+    # are empty, and the number in the name of the first.
     recorded: int | None = None
     there: int = 0
+    first: int = 1
     # The folder of the records, below that of the run.
     folder: str = "."
 
@@ -377,7 +379,7 @@ class Scene:
         """Returns the conditions of the run, with the words of a watcher."""
         return Conditions(
             self.settings, self.server, self.address, self.words(), tuple(watcher), self.folder,
-            tuple(record_names(self.there)), self.errors,
+            tuple(record_names(self.there, self.first)), self.errors,
         )
 
     def play(self, program):
@@ -395,7 +397,8 @@ class Scene:
         same(run.printed, b"listening\n", "printed")
         beginning = BEGINNING.format(run.port, run.address) if self.verbose and self.begins else ""
         same_but_counts(without_reached(run.told()), beginning + self.told.format(*stage.ports), "told")
-        same(run.records(), record_names(self.recorded or 0), "records")
-        same([run.size(name) for name in record_names(self.there)], [0] * self.there, "records that were there")
+        same(run.records(), record_names(self.recorded or 0, self.first), "records")
+        there = [run.size(name) for name in record_names(self.there, self.first)]
+        same(there, [0] * self.there, "records that were there")
         if self.waits and run.seconds >= WAITING:
             raise Wrong(f"saw {run.seconds:.2f} s of a processor, wanted less than {WAITING} s")

@@ -102,6 +102,7 @@ const LINES: &[Row] = &[
     ("allow = []", "allow out of range"),
     ("allow = [ \"127.0.0.0/33\" ]", "allow out of range"),
     ("allow = [ \"::1/129\" ]", "allow out of range"),
+    ("allow = [ \"127.0.0.0/08\" ]", "allow out of range"),
     ("allow = [ \"::ffff:127.0.0.1\" ]", "allow out of range"),
     ("allow = [ \"localhost\" ]", "allow out of range"),
     ("allow = [ \"127.0.0.1\", \"\" ]", "allow out of range"),

@@ -27,6 +27,8 @@ mod session_lines;
 #[cfg(test)]
 mod settings;
 #[cfg(test)]
+mod stalls;
+#[cfg(test)]
 mod streams;
 #[cfg(test)]
 mod waits;

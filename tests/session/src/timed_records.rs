@@ -106,15 +106,16 @@ const OPENS_ALONE: Script<'static> = Script {
 /// When the record begins.
 const BEGAN: u64 = 1_795_665_662_345;
 
-/// How many milliseconds after that each byte is pulled: at first less than 10, and in the end the clock was set back.
-const AFTER: [u64; 8] = [9, 10, 19, 20, 0, 0, 3, 9];
+/// How many milliseconds after that each byte is pulled: at first less than 10, and in the end the clock was set back by
+/// 10, by 9 more, and by 1 more.
+const AFTER: [u64; 8] = [9, 10, 19, 20, 10, 1, 0, 0];
 
 /// The record. Of the address nothing breaks its line.
 const RECORD: &str =
-    "daide-log 2\nconfig 60 1024 16 1 0\n# session 3, bot at 127.0.0.1:50000??, 2026-11-26T04:01:02.345Z\n1 bot 00\n# 2026-11-26T04:01:02.355Z\n1 bot 00\n1 bot 00\n# 2026-11-26T04:01:02.365Z\n1 bot 04\n# 2026-11-26T04:01:02.345Z\n1 bot 00\n1 bot 01\n1 bot DA\n1 bot 10\n";
+    "daide-log 2\nconfig 60 1024 16 1 0\n# session 3, bot at 127.0.0.1:50000??, 2026-11-26T04:01:02.345Z\n1 bot 00\n# 2026-11-26T04:01:02.355Z\n1 bot 00\n1 bot 00\n# 2026-11-26T04:01:02.365Z\n1 bot 04\n# 2026-11-26T04:01:02.355Z\n1 bot 00\n1 bot 01\n# 2026-11-26T04:01:02.345Z\n1 bot DA\n1 bot 10\n";
 
 /// Its report, under the numbers of its lines.
-const REPORT: &str = "14 1 bot IM 4 relay\nrelayed 1 prn 0 huh 0 faults 0\n";
+const REPORT: &str = "15 1 bot IM 4 relay\nrelayed 1 prn 0 huh 0 faults 0\n";
 
 /// Returns the record of a bot's IM, whose bytes are pulled one by one.
 fn timed(alloc: Global) -> Result<Vec<u8>, Fail> {
