@@ -299,6 +299,9 @@ impl Ports for ObservedPorts<'_, '_> {
         if is_stop_due != (event == ClockEvent::StopIsRequested) {
             fail(self.world, "a stop is not told once", self.bot);
         }
+        // The timer expires once, also in the turn of a stop, which is reported in its place.
+        let is_due = !self.has_expired && self.im_at <= reading_of(self.world);
+        self.has_expired = self.has_expired || is_due;
         if is_stop_due {
             self.is_stopped = true;
             self.machine.stop();
@@ -309,11 +312,9 @@ impl Ports for ObservedPorts<'_, '_> {
             return event;
         }
         let is_expired = event == ClockEvent::ImTimeIsOver;
-        let is_due = !self.has_expired && self.im_at <= reading_of(self.world);
         if is_expired != is_due {
             fail(self.world, "the IM timer is not on time", self.bot);
         }
-        self.has_expired = self.has_expired || is_due;
         if is_expired {
             self.note_timers();
             self.machine.im_timeout();
