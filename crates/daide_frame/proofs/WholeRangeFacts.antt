@@ -57,6 +57,15 @@ middle_lengths : (lengths 0 0x04 ≡ Err WrongEndian ∷ wrong 255)
 unfolding parse_head
 middle_lengths = (refl, refl, refl, refl, refl)
 
+-- each high byte beside one low byte: only the 1,024 of an IM is the other byte order, and no length of an FM or EM is
+high_bytes : (map (λ high. at_length 0 high 0x00) (range_with_len 0 256) ≡ wrong 4 ++ Err WrongEndian ∷ wrong 251)
+    × (map (λ high. at_length 0 high 0x04) (range_with_len 0 256) ≡ whole Im 4 ++ wrong 255)
+    × (map (λ high. at_length 3 high 0x00) (range_with_len 0 256) ≡ whole Fm 0 ++ wrong 255)
+    × (map (λ high. at_length 4 high 0x00) (range_with_len 0 256) ≡ wrong 256)
+    × (map (λ high. at_length 4 high 0x02) (range_with_len 0 256) ≡ whole Em 2 ++ wrong 255)
+unfolding parse_head
+high_bytes = (refl, refl, refl, refl, refl)
+
 -- from 65,280 on: 65,526 is the longest body; a longer one with a right length is unknown
 long_lengths : (lengths 0 0xFF ≡ wrong 256)
     × (lengths 1 0xFF ≡ every 5 Rm 65280 41 ++ whole Rm 65526 ++ wrong 5 ++ unknown 1 ++ wrong 3)
