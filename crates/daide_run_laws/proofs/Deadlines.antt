@@ -185,7 +185,8 @@ module _ {S : Type 0} where
           inr (subst (λ (t : Option Duration). IsStallEnd new.sockets.reading t (own new side).stalls_at) (sym times.kept.stall_time)
           (subst (λ (r : Option Instant). IsStallEnd r (own old side).stall_time (own new side).stalls_at) (sym clock.reading) end)))
           (stalling_next (own old side).stall_time old.sockets.reading (own old side).stalls_at (own new side).stalls_at
-          (nat_lt (length (own new side).stream.write_buffer) (length (own old side).stream.write_buffer)) (times.waits refl some))
+          (nat_lt (length (own new side).stream.write_buffer) (length (own old side).stream.write_buffer + 0))
+          (times.stall.0 (inl some)))
 
       by : (tries : Bool) → (own new side).tries_again ≡ tries → IsHeld side new
       by true e = inl e

@@ -1,5 +1,5 @@
 -- While no byte moves, the timeouts of a peer stay.
-use Rattle.std.proofs.Common.{◌≡◌, ◌⊎◌, ℕ, ◌<◌, Bool, true, false, List, [], ◌∷◌, length, refl, ap, ◌∙◌, arith, inl, inr, ⊎_elim}
+use Rattle.std.proofs.Common.{◌≡◌, ◌⊎◌, ℕ, ◌<◌, Bool, true, false, List, [], ◌∷◌, ◌+◌, length, refl, ap, ◌∙◌, subst, arith, inl, inr, ⊎_elim}
 use Rattle.std.proofs.Common.{Option, Some, None}
 use Rattle.std.specs.Prelude.{nat_lt}
 use Rattle.std.proofs.lemmas.Bool.{le-ltb}
@@ -13,7 +13,7 @@ use Rattle.daide_io.specs.declared.ports.Put.TheVariants.{Took}
 use Rattle.daide_io.specs.Ports.{PortCall, TurnBegins, Clock, Pulled, Offered, EvolvesBy}
 use Rattle.daide_event_loop.specs.QuotaPorts.{QuotaPortsView, Meters, EvolvesWhile}
 use Rattle.daide_sockets.specs.declared.socket.Socket.{Socket}
-use Rattle.daide_sockets.specs.Timers.{SessionTimers, StallGoesOn, FlushesInTime, BeginsInTime, PullsInTime, PutsInTime, SetsTimers, is_got}
+use Rattle.daide_sockets.specs.Timers.{SessionTimers, StallGoesOn, FlushesInTime, BeginsInTime, PullsInTime, PutsInTime, StallsAfterPut, SetsTimers, is_got}
 use Rattle.daide_sockets.specs.Times.{StallsNext}
 use Rattle.daide_run_laws.specs.FreedPlaces.{held_len, MovesNoByte, KeepsTimeouts, IsQuietFor, TimeoutsStay}
 use Rattle.daide_run_laws.proofs.TimedSessions.{PortsSetTimers, own, step_stall}
@@ -65,8 +65,9 @@ module _ {S : Type 0} where
   put_stays reading bytes put old new h none some same = record {
     silence = h.kept.silent_from;
     stall = λ moment is. inl (next_stays old.stall_time reading old.stalls_at new.stalls_at
-        (nat_lt (length new.stream.write_buffer) (length old.stream.write_buffer))
-        (le-ltb (length new.stream.write_buffer) (length old.stream.write_buffer) (omega (arith, same))) (h.waits none some) moment is);
+        (nat_lt (length new.stream.write_buffer) (length old.stream.write_buffer + 0))
+        (le-ltb (length new.stream.write_buffer) (length old.stream.write_buffer + 0) (omega (arith, same)))
+        ((subst (λ (p : Put). StallsAfterPut reading (length bytes) p old new) none h.stall).0 (inl some)) moment is);
   }
 
   call_stays : (side : Side) (call : PortCall) (old new : SessionTimers S) → SetsTimers call old new → MovesNoByte side call →

@@ -1,5 +1,5 @@
 -- The timers of a session: when its timeouts start and expire, by the calls of its ports. (own)
-use Rattle.std.specs.Prelude.{◌≡◌, ◌≢◌, ◌⊎◌, ℕ, ◌<◌, nat_lt, Bool, true, false, List, length, Option, Some, None}
+use Rattle.std.specs.Prelude.{◌≡◌, ◌≢◌, ◌⊎◌, ℕ, ◌+◌, ◌<◌, nat_lt, Bool, true, false, List, length, Option, Some, None}
 use Rattle.std.specs.declared.time.Duration.{Duration}
 use Rattle.std.specs.declared.time.Instant.{Instant}
 use Rattle.daide_io.specs.declared.ports.ClockEvent.{ClockEvent}
@@ -7,11 +7,12 @@ use Rattle.daide_io.specs.declared.ports.ClockEvent.TheVariants.{NoEvent, ImTime
 use Rattle.daide_io.specs.declared.ports.Pull.{Pull}
 use Rattle.daide_io.specs.declared.ports.Pull.TheVariants.{Got, Idle, Ended}
 use Rattle.daide_io.specs.declared.ports.Put.{Put}
-use Rattle.daide_io.specs.declared.ports.Put.TheVariants.{Took}
+use Rattle.daide_io.specs.declared.ports.Put.TheVariants.{Took, Failed}
 use Rattle.daide_io.specs.Ports.{PortCall, TurnBegins, Clock, Pulled, Offered}
 use Rattle.daide_buffered_io.specs.Streams.{stream_of}
 use Rattle.daide_sockets.specs.declared.socket.Socket.{Socket}
 use Rattle.daide_sockets.specs.declared.ports.SocketPorts.{SocketPorts}
+use Rattle.daide_sockets.specs.Lingering.{IsWriting, IsWritingOver}
 use Rattle.daide_sockets.specs.Sockets.{due_after}
 use Rattle.daide_sockets.specs.Times.{IsStallEnd, StallsNext, has_stalled, is_past}
 use Rattle.daide_sockets.specs.Wakeups.{SessionSockets}
@@ -58,37 +59,54 @@ is_got Ended = false
 abbrev pub StallGoesOn : {S : Type 0} → Socket S → Socket S → Type 0
 StallGoesOn old new = (moment : Instant) → old.stalls_at ≡ Some moment → new.stalls_at ≡ Some moment
 
+-- a stall timeout with this time is unchanged, or over, or starts at this reading of the clock
+abbrev pub IsStallKept : Option Instant → Option Duration → Option Instant → Option Instant → Type 0
+IsStallKept reading time old new = (new ≡ old) ⊎ ((new ≡ None) ⊎ IsStallEnd reading time new)
+
 -- The timeouts of a socket after a call at this reading of the clock that may write to it. Their times stay, and so does
 -- the idle timeout. The stall timeout stays, ends, or starts at the reading. A write that failed stays failed, and then no
 -- stall timeout starts.
 pub record KeepsTimers {S : Type 0} (reading : Option Instant) (old new : Socket S) : Type 0 where
   pub stall_time : new.stall_time ≡ old.stall_time
   pub silent_from : new.silent_from ≡ old.silent_from
-  pub stall : (new.stalls_at ≡ old.stalls_at) ⊎ ((new.stalls_at ≡ None) ⊎ IsStallEnd reading old.stall_time new.stalls_at)
+  pub stall : IsStallKept reading old.stall_time old.stalls_at new.stalls_at
   pub failed : old.stream.has_failed ≡ true →
       (new.stream.has_failed ≡ true) × ((new.stalls_at ≡ old.stalls_at) ⊎ (new.stalls_at ≡ None))
 
--- What is held for a peer was written, or stays held. While its peer takes no byte, the stall timeout goes on.
+-- What is held for a peer was written, or stays held. While its peer takes no byte, the stall timeout goes on. Once
+-- nothing is held that may be written, it is over.
 pub record FlushesInTime {S : Type 0} (reading : Option Instant) (old new : Socket S) : Type 0 where
   pub kept : KeepsTimers reading old new
+  pub ends : IsWriting old.stream → IsWritingOver new.stream → new.stalls_at ≡ None
   pub goes_on : new.stream.has_failed ≡ false → length new.stream.write_buffer ≡ length old.stream.write_buffer →
       StallGoesOn old new
   pub full : old.readiness.may_write ≡ false → StallGoesOn old new
 
--- A turn begins at this reading of the clock. A peer whose stall timeout is over is given up: its writes fail.
+-- A turn begins at this reading of the clock. A peer whose stall timeout is over is given up: its writes fail. Once
+-- nothing is held that may be written, the timeout is over.
 pub record BeginsInTime {S : Type 0} (reading : Option Instant) (old new : Socket S) : Type 0 where
   pub kept : KeepsTimers reading old new
+  pub ends : IsWriting old.stream → IsWritingOver new.stream → new.stalls_at ≡ None
   pub gives_up : has_stalled old.stall_time reading old.stalls_at ≡ true →
       (new.stream.has_failed ≡ true) × (new.stalls_at ≡ None)
   pub goes_on : new.stream.has_failed ≡ false → length new.stream.write_buffer ≡ length old.stream.write_buffer →
       StallGoesOn old new
 
--- Bytes were put. If none were taken of some, the stall timeout runs from then on, or goes on if the peer took no byte.
+-- The stall timeout after a put of this many bytes. If some of them were not accepted, or bytes are held for the peer, it
+-- runs from then on. It goes on if the peer took no byte: then all that was held, and all that was accepted, is held. Once
+-- all were accepted and nothing is held that may be written, or a write failed, it is over.
+abbrev pub StallsAfterPut : {S : Type 0} → Option Instant → ℕ → Put → Socket S → Socket S → Type 0
+StallsAfterPut reading len (Took count) old new =
+    ((count < len) ⊎ IsWriting new.stream → StallsNext old.stall_time reading old.stalls_at
+    (nat_lt (length new.stream.write_buffer) (length old.stream.write_buffer + count)) new.stalls_at)
+    × (count ≡ len → IsWritingOver new.stream → new.stalls_at ≡ None)
+StallsAfterPut reading len Failed old new = new.stalls_at ≡ None
+
+-- bytes were put
 pub record PutsInTime {S : Type 0} (reading : Option Instant) (bytes : List ℕ) (put : Put) (old new : Socket S) :
     Type 0 where
   pub kept : KeepsTimers reading old new
-  pub waits : put ≡ Took 0 → 0 < length bytes → StallsNext old.stall_time reading old.stalls_at
-      (nat_lt (length new.stream.write_buffer) (length old.stream.write_buffer)) new.stalls_at
+  pub stall : StallsAfterPut reading (length bytes) put old new
 
 -- A side was pulled, with this idle timeout. Its silence starts again with what it sends, and only then. Once the timeout
 -- is over, a pull that finds nothing is the side's end.

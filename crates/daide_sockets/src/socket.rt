@@ -4,7 +4,7 @@
 //! session, and at most `MOST_HELD` bytes each way of each socket. It works over any stream, and its contracts state the
 //! bytes that this returned and accepted.
 
-ghost use Rattle.std.specs.Prelude.{◌≡◌, ◌<◌, ◌||◌, ◌&&◌, nat_lt, IsNone, IfSome, None, [], option_map, min, length, take, true, false};
+ghost use Rattle.std.specs.Prelude.{◌≡◌, ◌⊎◌, ◌+◌, ◌<◌, ◌||◌, ◌&&◌, nat_lt, IsNone, IfSome, None, [], option_map, min, length, take, true, false};
 ghost use Rattle.daide_io.specs.Ports.{IsPullWithin, IsPutWithin, pulled_len};
 ghost use Rattle.daide_buffered_io.specs.Buffers.{Passes, ReadsNothing, IsBufferedPull, IsFlushed};
 ghost use Rattle.daide_buffered_io.specs.Calls.{OnlyPuts};
@@ -14,7 +14,7 @@ ghost use Rattle.daide_sockets.specs.Pairing.{IsFresh};
 ghost use Rattle.daide_sockets.specs.Rows.{HandsRows, key_in};
 ghost use Rattle.daide_sockets.specs.Sockets.{has_socket_work, next_deadline};
 ghost use Rattle.daide_sockets.specs.Table.{earlier, merged, report_at, without_report};
-ghost use Rattle.daide_sockets.specs.Timers.{FlushesInTime, BeginsInTime, PutsInTime};
+ghost use Rattle.daide_sockets.specs.Timers.{IsStallKept, FlushesInTime, BeginsInTime, PutsInTime};
 ghost use Rattle.daide_sockets.specs.Times.{StallsNext, has_stalled, is_past};
 ghost use Rattle.daide_sockets.specs.Wakeups.{StaysUnread, IsNothing, IsPulled, IsOffered};
 
@@ -190,6 +190,7 @@ impl<S: Duplex + Drop> Socket<'_, S> {
     fn note_written(&mut self, now: Option<Instant>, took: bool, is_waiting: bool)
         ensures time { is_waiting ≡ true → StallsNext self.old.stall_time now self.old.stalls_at took self.new.stalls_at }
         ensures none { is_waiting ≡ false → self.new.stalls_at ≡ None }
+        ensures kept { IsStallKept now self.old.stall_time self.old.stalls_at self.new.stalls_at }
         ensures stream { self.new.stream ≡ self.old.stream }
         ensures readiness { self.new.readiness ≡ self.old.readiness }
         ensures rest { self.new ≡ record self.old { stalls_at = self.new.stalls_at } }
@@ -199,6 +200,25 @@ impl<S: Duplex + Drop> Socket<'_, S> {
         } else {
             None
         };
+    }
+
+    /// Records a put of `len` bytes at this reading of the clock, of which `count` were accepted, by how many bytes were
+    /// held before it.
+    fn note_put(&mut self, now: Option<Instant>, held: usize, len: usize, count: usize)
+        ensures waits { (count < len) ⊎ IsWriting self.new.stream → StallsNext self.old.stall_time now self.old.stalls_at
+            (nat_lt (length self.new.stream.write_buffer) (held + count)) self.new.stalls_at }
+        ensures ends { count ≡ len → IsWritingOver self.new.stream → self.new.stalls_at ≡ None }
+        ensures kept { IsStallKept now self.old.stall_time self.old.stalls_at self.new.stalls_at }
+        ensures gathers { 0 < count → self.new.is_gathering ≡ true }
+        ensures gathering { count ≡ 0 → self.new.is_gathering ≡ self.old.is_gathering }
+        ensures rest { self.new ≡ record self.old { stalls_at = self.new.stalls_at; is_gathering = self.new.is_gathering } }
+    {
+        if count > 0 {
+            self.is_gathering = true;
+        }
+        let took = took_some(held, count, self.stream.behind_len());
+        let is_waiting = count < len || self.stream.is_behind();
+        self.note_written(now, took, is_waiting);
     }
 
     /// Gives up writing to a peer whose stall timeout is over at this reading of the clock, and leaves the socket as it
@@ -296,12 +316,7 @@ impl<S: Duplex + Drop> Socket<'_, S> {
         let put = self.stream.put(self.pool, &mut self.readiness, bytes);
         match put {
             Put::Took(count) => {
-                if count > 0 {
-                    self.is_gathering = true;
-                }
-                let took = self.stream.behind_len() < held.saturating_add(count);
-                let is_waiting = count < bytes.len() || self.stream.is_behind();
-                self.note_written(now, took, is_waiting);
+                self.note_put(now, held, bytes.len(), count);
                 if count == 0 && !bytes.is_empty() && self.readiness.may_write {
                     self.tries_again = true;
                 }
@@ -359,6 +374,14 @@ impl<S: Duplex + Drop> Socket<'_, S> {
         }
         self.flush_at(now);
     }
+}
+
+/// Returns whether a peer took a byte in a put that accepted `count` of them: fewer bytes are held after it than were held
+/// before it and were accepted.
+fn took_some(before: usize, count: usize, after: usize) -> bool
+    ensures { result ≡ nat_lt after (before + count) }
+{
+    after < before || after - before < count
 }
 
 /// Returns whether a pull returned neither a byte nor the end.
