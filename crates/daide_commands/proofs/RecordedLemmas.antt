@@ -1,11 +1,10 @@
 -- What a recorded session waits for: what its ports wait for, and a turn at once if its record has just ended.
-use Rattle.std.proofs.Common.{◌≡◌, Bool, true, false, refl, sym, ap, ◌∙◌}
+use Rattle.std.proofs.Common.{◌≡◌, Bool, true, false, refl, ap, ◌∙◌}
 use Rattle.std.specs.Prelude.{◌||◌}
 use Rattle.daide_io.specs.Interest.{MayAddWork}
 use Rattle.daide_io.specs.declared.interest.Interest.{Interest}
 use Rattle.daide_sockets.specs.declared.ports.SocketPorts.{SocketPorts}
 use Rattle.daide_sockets.specs.Interests.{interest_of, may_go_on_for}
-use Rattle.daide_sockets.specs.Sockets.{has_socket_work}
 use Rattle.daide_sockets.specs.Table.{Table, is_reported_at, watching}
 use Rattle.daide_sockets.specs.Timers.{timers_of}
 use Rattle.daide_sockets.specs.Wakeups.{AsksForNews, WatchesUnless, may_session_go_on, session_due}

@@ -13,7 +13,7 @@ use std::io::{ErrorKind, Write};
 use thiserror::Error;
 
 /// What a fault of a run is about.
-#[derive(Clone, Copy, Debug, PartialEq, Eq)]
+#[derive(Clone, Copy)]
 pub(crate) enum FaultSubject {
     /// The file of the settings, with the system's error.
     File(ErrorKind),

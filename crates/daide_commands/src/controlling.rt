@@ -31,7 +31,7 @@ const ANSWER_SECONDS: u64 = 5;
 const UNKNOWN: &[u8] = b"unknown request\n";
 
 /// Why a request was not carried out.
-#[derive(Clone, Copy, Debug, PartialEq, Eq)]
+#[derive(Clone, Copy)]
 enum RequestFault {
     /// Nobody can be reached at the path.
     Unreached(ErrorKind),

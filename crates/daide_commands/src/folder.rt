@@ -24,7 +24,7 @@ use std::{fs, io};
 use thiserror::Error;
 
 /// Why a session has no complete record, with its number. The session goes on.
-#[derive(Clone, Copy, Debug, PartialEq, Eq, Error)]
+#[derive(Clone, Copy, Debug, Error)]
 pub enum RecordNotice {
     /// A file with its name exists already, and is not overwritten.
     #[error("session {0} is not recorded: its file is there already")]

@@ -6,7 +6,7 @@ use std::io::Write;
 use thiserror::Error;
 
 /// The command that the user may have meant.
-#[derive(Clone, Copy, Debug, PartialEq, Eq, Error)]
+#[derive(Clone, Copy, Debug, Error)]
 pub(crate) enum Hint {
     /// The arguments are the text of a message.
     #[error("'daide-gate frame' writes the frame of a message that is given as text")]

@@ -26,7 +26,7 @@ const OWN_DESCRIPTORS: usize = 4;
 const CONTROL_DESCRIPTORS: usize = 5;
 
 /// Why settings were not judged.
-#[derive(Clone, Copy, Debug, PartialEq, Eq, Error)]
+#[derive(Clone, Copy, Debug, Error)]
 pub(crate) enum SettingsFault {
     /// The file cannot be read, is too long or is not UTF-8, or the allocator refused its text.
     #[error("{0}")]

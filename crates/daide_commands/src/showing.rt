@@ -100,7 +100,7 @@ fn show_words<A: Allocator + Copy, O: Write, E: Write>(
     let status = show_read(alloc, request, &mut input, output, errors)?;
     if status == FAULT {
         let hint = words.first().and_then(|word| hint_of(word));
-        suggest(hint.filter(|hint| *hint != Hint::Show), errors);
+        suggest(hint.filter(|hint| !matches!(hint, Hint::Show)), errors);
     }
     Ok(status)
 }

@@ -9,7 +9,7 @@ use Rattle.daide_io.specs.declared.system.Connect.TheVariants.{Ready, Failed, Pe
 use Rattle.daide_io.specs.declared.system.Notice.TheVariants.{CannotReach}
 use Rattle.daide_event_loop.specs.declared.admission_counters.AdmissionCounters.{AdmissionCounters}
 use Rattle.daide_event_loop.specs.QuotaPorts.{QuotaPortsView}
-use Rattle.daide_io.specs.System.{SystemCall, Watches, Accepts, Connects, Retires, Notifies, Waits}
+use Rattle.daide_io.specs.System.{SystemCall, Accepts, Connects, Retires, Notifies}
 use Rattle.daide_io.specs.declared.system.Orders.{Orders}
 use Rattle.daide_event_loop.specs.Serving.{arrived, come, closed, heeding, opening, AdmitsWhere, MeetsWhere, MeetsBy, last_words, retirement_where}
 use Rattle.daide_event_loop.specs.Serving.{end_of, retirement, retirements, wait_where}

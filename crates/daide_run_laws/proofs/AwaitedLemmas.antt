@@ -1,11 +1,11 @@
 -- The wait of a round in which a bot may be accepted is for bots too.
-use Rattle.std.proofs.Common.{◌≡◌, ℕ, Bool, true, false, List, [], ◌∷◌, ◌++◌, length, refl, ap, ◌∙◌, subst}
+use Rattle.std.proofs.Common.{◌≡◌, ℕ, Bool, true, false, List, [], ◌∷◌, ◌++◌, length, ap, ◌∙◌, subst}
 use Rattle.std.specs.Prelude.{All, ◌==◌}
 use Rattle.std.proofs.lemmas.List.Elements.{All-nil, All-cons, All-same}
 use Rattle.daide_driver.specs.Hub.{HubView}
 use Rattle.daide_io.specs.Network.{NetworkCall}
 use Rattle.daide_io.specs.Ports.{PortCall}
-use Rattle.daide_io.specs.System.{SystemCall, Accepts, Connects, Notifies, Waits, TransitsBy}
+use Rattle.daide_io.specs.System.{SystemCall, Accepts, Connects, Notifies, TransitsBy}
 use Rattle.daide_io.specs.declared.system.Connect.{Connect}
 use Rattle.daide_io.specs.declared.system.Connect.TheVariants.{Ready, Failed, Pending}
 use Rattle.daide_io.specs.declared.system.Notice.TheVariants.{CannotReach}

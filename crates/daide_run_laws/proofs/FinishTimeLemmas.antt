@@ -6,13 +6,10 @@ use Rattle.std.specs.declared.time.Duration.{Duration}
 use Rattle.std.specs.declared.time.Instant.{Instant}
 use Rattle.daide_io.specs.Network.{NetworkCall}
 use Rattle.daide_io.specs.Streams.{StreamCall}
-use Rattle.daide_io.specs.System.{SystemCall, TransitsBy}
 use Rattle.daide_sockets.specs.ClosingTime.{IsClosingInTime, readings_of}
 use Rattle.daide_run_laws.specs.FinishTime.{FinishingSocketsLeave, readings_of_rounds}
 use Rattle.daide_sockets.specs.Finishing.{Finish, FinishesFor}
-use Rattle.daide_sockets.specs.Lingering.{ClosingList, LooksAround, in_pass}
-use Rattle.daide_sockets.specs.Pairing.{Paired}
-use Rattle.daide_sockets.specs.Scheduling.{RunState, ClosesByClock}
+use Rattle.daide_sockets.specs.Scheduling.{ClosesByClock}
 use Rattle.daide_sockets.proofs.ClosingTimeLemmas.{AllSince, Since, calls_since, in_time, later_contains, round_since, same_since}
 
 module _ {N C S : Type 0} (transition : N → NetworkCall C → N → Type 0) (to_give taken : S → Option (List ℕ))

@@ -1,14 +1,14 @@
 -- Whose the rows of the table are between two rounds: the sessions of the loop, call by call.
 use Rattle.std.proofs.Common.{◌≡◌, ℕ, zero, suc, ◌+◌, Bool, true, false, List, [], ◌∷◌, ◌++◌, length, set, Option, Some, None}
 use Rattle.std.proofs.Common.{refl, ap, sym, ◌∙◌, subst, arith}
-use Rattle.std.specs.Prelude.{All, slice_get, nat_le, is_none, not, ◌&&◌, ◌||◌, ◌==◌}
+use Rattle.std.specs.Prelude.{All, slice_get, nat_le, is_none, ◌||◌, ◌==◌}
 use Rattle.std.proofs.lemmas.List.Elements.{All-head, All-tail, All-cons, All-nil}
 use Rattle.daide_frame.specs.declared.side.Side.TheVariants.{Bot, Server}
 use Rattle.daide_protocol.specs.Wires.{SessionView, is_closed}
 use Rattle.daide_io.specs.Network.{NetworkCall}
 use Rattle.daide_io.specs.Ports.{PortCall, TurnBegins, Clock, Pulled, Offered, EvolvesBy}
 use Rattle.daide_io.specs.Streams.{StreamCall}
-use Rattle.daide_io.specs.System.{SystemCall, Begins, Shows, ReportsNews, BeginsTurn, Watches, Accepts, Connects}
+use Rattle.daide_io.specs.System.{SystemCall, Begins, Accepts, Connects}
 use Rattle.daide_io.specs.System.{Retires, Notifies, Waits, TransitsBy}
 use Rattle.daide_io.specs.declared.system.Connect.{Connect}
 use Rattle.daide_io.specs.declared.system.Connect.TheVariants.{Ready, Failed, Pending}
@@ -19,18 +19,17 @@ use Rattle.daide_event_loop.specs.declared.admission_counters.AdmissionCounters.
 use Rattle.daide_event_loop.specs.QuotaPorts.{QuotaPortsView, Meters, EvolvesWhile, is_calm}
 use Rattle.daide_event_loop.specs.Serving.{ServiceView, Round, Rounds, initial_service, is_done, fresh, may_accept, heeding}
 use Rattle.daide_event_loop.specs.Serving.{AdmitsWhere, MeetsWhere, MeetsBy, TakesTurns, most_turns, VisitsPlace, VisitsIfCalm}
-use Rattle.daide_event_loop.specs.Serving.{VisitsCalm, VisitsCalmIf, VisitsNext, TurnsBelow, TurnsAll, busy_turns_in, is_calm_in}
+use Rattle.daide_event_loop.specs.Serving.{VisitsCalm, VisitsCalmIf, VisitsNext, TurnsBelow, busy_turns_in, is_calm_in}
 use Rattle.daide_event_loop.specs.Serving.{opening, shows_where, last_words, parting, end_of, retirement_where, retirements}
 use Rattle.daide_event_loop.specs.Serving.{remaining, wait_where, any_progress, any_moved}
 use Rattle.daide_event_loop.proofs.BeginningLemmas.{OnlyTurns, all_shown, all_turns, turns_only}
 use Rattle.daide_event_loop.proofs.TransitLemmas.{transits_then}
 use Rattle.daide_event_loop.proofs.VisitLemmas.{Gets, gets_own, some_most, some_turns}
-use Rattle.daide_buffered_io.specs.Streams.{stream_of}
 use Rattle.daide_sockets.specs.declared.ports.SocketPorts.{SocketPorts}
 use Rattle.daide_sockets.specs.declared.socket.Socket.{Socket}
 use Rattle.daide_sockets.specs.Pairing.{Paired}
-use Rattle.daide_sockets.specs.Rows.{AreRowsOf, occurrences_of, pair_keys}
-use Rattle.daide_sockets.specs.RowsOfRun.{HaveSameRows, SessionsGoOn, keys_of_all, keys_of_sessions}
+use Rattle.daide_sockets.specs.Rows.{occurrences_of, pair_keys}
+use Rattle.daide_sockets.specs.RowsOfRun.{HaveSameRows, SessionsGoOn, keys_of_sessions}
 use Rattle.daide_sockets.specs.Scheduling.{RunState, RunEvolves, HandsAlong, keys_in, pair_of}
 use Rattle.daide_sockets.specs.Wakeups.{Settles}
 use Rattle.daide_sockets.proofs.RowLemmas.{occurrences_of_both}

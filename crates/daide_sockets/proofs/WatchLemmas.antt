@@ -1,18 +1,15 @@
 -- What the next wait watches: it is kept by a poll and by the beginning of a turn, and a question for news adds to it.
-use Rattle.std.proofs.Common.{◌≡◌, ℕ, zero, suc, Bool, true, false, List, [], ◌∷◌, Option, Some, None, refl, sym, ap, ◌∙◌, subst, arith}
-use Rattle.std.specs.Prelude.{◌||◌, nat_le, if◌then◌else◌}
-use Rattle.std.specs.Time.{instant_nanos}
+use Rattle.std.proofs.Common.{◌≡◌, ℕ, zero, suc, Bool, true, false, List, [], ◌∷◌, Option, refl, sym, ap, ◌∙◌, subst}
+use Rattle.std.specs.Prelude.{◌||◌, nat_le}
 use Rattle.std.specs.declared.time.Duration.{Duration}
-use Rattle.std.specs.declared.time.Instant.{Instant}
 use Rattle.daide_io.specs.Network.{NetworkCall}
 use Rattle.daide_io.specs.declared.interest.Interest.{Interest}
 use Rattle.daide_io.specs.declared.network.SocketEvent.{SocketEvent}
 use Rattle.daide_sockets.specs.declared.ports.SocketPorts.{SocketPorts}
 use Rattle.daide_sockets.specs.declared.table.Row.{Row}
-use Rattle.daide_sockets.specs.Interests.{interest_of, may_go_on_for, has_news_for, after_question}
-use Rattle.daide_sockets.specs.Table.{Table, earlier, row_at, changed, no_report, has_report, is_reported_at, without_report}
-use Rattle.daide_sockets.specs.Table.{watching, with_news, with_events, is_some_news, IsNoTime, PollsOnce}
-use Rattle.daide_sockets.specs.Times.{is_past}
+use Rattle.daide_sockets.specs.Interests.{interest_of, after_question}
+use Rattle.daide_sockets.specs.Table.{Table, row_at, changed, no_report, has_report, is_reported_at, without_report}
+use Rattle.daide_sockets.specs.Table.{watching, with_events, is_some_news, IsNoTime, PollsOnce}
 use Rattle.daide_sockets.specs.Timers.{timers_of}
 use Rattle.daide_sockets.specs.Wakeups.{KeepsWatched, WatchesUnless, AsksForNews, may_session_go_on, session_due}
 use Rattle.daide_sockets.proofs.InterestLemmas.{waits_alike}
@@ -105,12 +102,6 @@ polled_keeps transition old_network new_network old new looks rests = by (nat_le
 
 -- ---- a question
 
--- what is watched is no news
-pub news_after : (news : Bool) (table : Table) (interest : Interest) →
-    has_news_for (after_question news table interest) interest ≡ has_news_for table interest
-news_after true table interest = refl
-news_after false table interest = refl
-
 pub asked : {S : Type 0} (news : Bool) (old mid new : Table) (ports : SocketPorts S) (interest : Interest) →
     interest ≡ interest_of ports → KeepsWatched old mid → new ≡ after_question news mid interest →
     AsksForNews news old (timers_of ports).sockets new
@@ -125,37 +116,3 @@ asked news old mid new ports interest own keeps e =
       f ∙ ap (λ (b : Bool). watching mid b (session_due (timers_of ports).sockets))
           (waits_alike mid ports ∙ sym (or_false (may_session_go_on mid (timers_of ports).sockets))),
     )
-
--- ---- a session at rest that is watched already
-
-past_by : (reading nearest due : Option Instant) → earlier nearest due ≡ nearest → is_past reading nearest ≡ false →
-    is_past reading due ≡ false
-past_by None nearest due e h = refl
-past_by (Some now) nearest None e h = refl
-past_by (Some now) None (Some due) e h = absurd (cc)
-past_by (Some now) (Some near) (Some due) e h = by (nat_le (instant_nanos near) (instant_nanos due)) refl e
-  where
-    by : (t : Bool) → nat_le (instant_nanos near) (instant_nanos due) ≡ t → (if t then Some near else Some due) ≡ Some near →
-        is_past (Some now) (Some due) ≡ false
-    by true f same = grind (arith, f, h)
-    by false f same = subst (λ (o : Option Instant). is_past (Some now) o ≡ false) (sym same) h
-
-pub rest_is_no_news : (table : Table) (interest : Interest) → may_go_on_for table interest ≡ false →
-    earlier table.watched_due interest.due ≡ table.watched_due → is_past table.reading table.watched_due ≡ false →
-    has_news_for table interest ≡ false
-rest_is_no_news table interest still later calm =
-    ap (λ (b : Bool). b || is_past table.reading interest.due) still
-    ∙ past_by table.reading table.watched_due interest.due later calm
-
-pub rest_is_watched : (table : Table) (interest : Interest) → may_go_on_for table interest ≡ false →
-    earlier table.watched_due interest.due ≡ table.watched_due → after_question false table interest ≡ table
-rest_is_watched table interest still later =
-    ap (λ (b : Bool). watching table b interest.due) still
-    ∙ ap (λ (b : Bool). record table { watched_work = b; watched_due = earlier table.watched_due interest.due })
-    (or_false table.watched_work)
-    ∙ ap (λ (o : Option Instant). record table { watched_due = o }) later
-
--- nothing that is watched is past
-pub none_past : (reading : Option Instant) → is_past reading None ≡ false
-none_past None = refl
-none_past (Some now) = refl

@@ -1,6 +1,6 @@
 use Rattle.std.proofs.Common.{Bool}
 use Rattle.daide_commands.specs.CommandLine.{show_app, check_app, frame_app, settings_app, run_app, status_app, stop_app}
-use Rattle.daide_commands.proofs.Listed.{AreListed, none_listed, one_listed}
+use Rattle.daide_commands.proofs.Listed.{none_listed, one_listed}
 use Rattle.daide_commands.proofs.arguments.subcommands.Goals as goal
 
 pub returns : goal.returns

@@ -1,9 +1,6 @@
-use Rattle.std.proofs.Common.{◌≡◌, ◌∙◌, ◌++◌, ap, sym, subst, arith, true, List, length}
+use Rattle.std.proofs.Common.{arith, true}
 use Rattle.std.specs.Prelude.{slice_get}
-use Rattle.daide_driver.specs.Hub.{HubView}
-use Rattle.daide_io.specs.System.{SystemCall, TransitsBy}
-use Rattle.daide_event_loop.specs.QuotaPorts.{QuotaPortsView}
-use Rattle.daide_event_loop.specs.Serving.{TakesTurns, watch_after}
+use Rattle.daide_event_loop.specs.Serving.{watch_after}
 use Rattle.daide_event_loop.proofs.TransitLemmas.{transits_then}
 use Rattle.daide_event_loop.proofs.serving.turn_and_settle.Goals as goal
 

@@ -1,4 +1,4 @@
-use Rattle.std.proofs.Common.{◌≡◌, ℕ, ◌+◌, ◌++◌, Bool, true, false, [], refl, sym, ◌∙◌, subst, append-nil}
+use Rattle.std.proofs.Common.{◌≡◌, ℕ, ◌+◌, ◌++◌, Bool, true, [], refl, sym, ◌∙◌, subst, append-nil}
 use Rattle.std.specs.Prelude.{nat_le}
 use Rattle.daide_event_loop.specs.Serving.{VisitsCalmIf, turns_left_over}
 use Rattle.daide_event_loop.proofs.BeginningLemmas.{visited_count}
