@@ -271,6 +271,14 @@ def longest_input_is_read(program):
         check_ran(folder.run([], digits + b" "), ("", "input is too long", "1"), "200,001 bytes")
 
 
+def most_lines_are_framed(program):
+    """The messages of 1,000,000 lines are framed; a further line is one too many."""
+    with Folder(program) as folder:
+        printed, told, status = folder.run(["frame"], b"\n" * 1_000_001)
+        same(printed, b"02 00 00 00\n" * 1_000_000, "printed of 1,000,001 lines")
+        same((told, status), (b"daide-gate: too many lines\n", 1), "told of them, and the status")
+
+
 def one_bracket_too_deep_gets_huh(program):
     """254 brackets may be open, and no more."""
     with Folder(program) as folder:
@@ -329,6 +337,7 @@ TESTS = [
     examples_of_the_help_work,
     longest_frame_is_shown,
     longest_input_is_read,
+    most_lines_are_framed,
     one_bracket_too_deep_gets_huh,
     shown_with_the_words_of_settings,
     settings_are_judged,
