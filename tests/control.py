@@ -16,7 +16,7 @@ import subprocess
 import tempfile
 import time
 
-from frames import FM, IAM_ENG, IM, IM_FM, ITS_PRN, NAMED, OBS, RM, UNCLOSED, WILD_NAME, YES
+from frames import FM, HUH_OF_GOF, IAM_ENG, IM, IM_FM, ITS_PRN, NAMED, OBS, RM, UNCLOSED, WILD_NAME, YES
 from held import NotPlayed, Wrong, same
 from runs import TOP
 from stage import HOST, free_port
@@ -293,6 +293,37 @@ def status_has_names(program):
         labels = [',name="' + name.replace("\\", r"\\").replace('"', r'\"') + '"' if name else "" for name in names]
         same(levels, [f'daide_gate_session_level{{session="{number}",bot="{bot}",phase="open"{label}}} 0'
                       for number, (bot, label) in enumerate(zip(bots, labels), 1)], "the metric")
+
+
+def fills(stream):
+    """Sends frames until none is taken for a second."""
+    stream.settimeout(1)
+    with contextlib.suppress(TimeoutError):
+        while True:
+            stream.sendall(HUH_OF_GOF * 64)
+
+
+def status_shows_what_waits(program):
+    """Bytes that one side does not read wait for that side alone, and all others were sent. A side that has sent nothing
+    has no silence, and the other one has."""
+    waits = ("bot", "server", RM), ("server", "bot", IM)
+    with Match(program, "max_sessions = 3\nsessions = 3") as match:
+        for side, other, _ in waits:
+            ends = dict(zip(("bot", "server"), match.opens(), strict=True))
+            fills(ends[other])
+        bot, server = match.comes()
+        bot.sendall(IM)
+        same(received(server, len(IM)), IM, "received by the server")
+        found = settled(match, "json", lambda text: all(
+            row["queued"][side] for row, (side, _, _) in zip(json.loads(text)["sessions"], waits)))
+        *rows, last = json.loads(found)["sessions"]
+        for row, (side, other, first) in zip(rows, waits, strict=True):
+            relayed = len(first) + len(HUH_OF_GOF) * (row["relayed"][other] - 1)
+            same(row["sent"][side] + row["queued"][side], relayed, f"bytes sent to the {side}, and queued")
+            same(row["held"][side] > 0, True, f"the socket of the {side} holds some of them")
+            same((row["queued"][other], row["held"][other]), (0, 0), f"bytes that wait for the {other}")
+        same({side: silence is None for side, silence in last["idle_seconds"].items()}, {"bot": False, "server": True},
+             "no silence")
 
 
 def status_shows_twenty_sessions(program):
@@ -575,6 +606,7 @@ TESTS = [
     status_is_a_document,
     status_has_metrics,
     status_has_names,
+    status_shows_what_waits,
     status_shows_twenty_sessions,
     stop_waits_for_the_sessions,
     stop_gives_up_after_its_timeout,

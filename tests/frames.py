@@ -46,6 +46,9 @@ WILD_NAME = bytes.fromhex("02 00 019a 480c 4000 4b4f 4b27 4b42 4b22 4b5c 4b0a 4b
     "4001 4000 4001"
 )
 
+# `HUH ( GOF .. )`, which either side may send, with `GOF` 497 times: 1,004 bytes.
+HUH_OF_GOF = b"\x02\x00\x03\xe8\x48\x06\x40\x00" + b"\x48\x03" * 497 + b"\x40\x01"
+
 # `NME ( 'a..' ) ( 'a' )`, with a name of 480 letters: 976 bytes.
 LONG_NAME = b"\x02\x00\x03\xcc\x48\x0c\x40\x00" + b"Ka" * 480 + b"\x40\x01\x40\x00Ka\x40\x01"
 
