@@ -153,3 +153,22 @@ fn times_are_comments(rt: HostRuntime) -> Result<(), Fail> {
     )?;
     holds(report.as_slice() == REPORT.as_bytes(), "the report")
 }
+
+/// An address of 70 bytes, and the comment with its first 64.
+const LONG_ADDRESS: &str = "0123456789012345678901234567890123456789012345678901234567890123456789";
+
+const LONG_BEGUN: &str =
+    "# session 7, bot at 0123456789012345678901234567890123456789012345678901234567890123, 1970-01-01T00:00:00.000Z\n";
+
+/// Of an address the first 64 bytes are written.
+#[test]
+fn long_address_is_cut(rt: HostRuntime) -> Result<(), Fail> {
+    let mut record = Record::new(Vec::new(rt.alloc()), LIMITS, Words::new());
+    record.comment(Comment::Begun(7, LONG_ADDRESS, moment(0)?.utc()));
+    let (written, ending) = record.finish();
+    same(&ending, &RecordEnd::Whole, &"the record")?;
+    match written.as_slice().strip_prefix(HEAD) {
+        Some(comment) => holds(comment == LONG_BEGUN.as_bytes(), LONG_BEGUN),
+        None => Err(Fail::new("no head")),
+    }
+}
