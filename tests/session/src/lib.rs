@@ -8,6 +8,8 @@ mod breaks;
 #[cfg(test)]
 mod broken_neighbours;
 #[cfg(test)]
+mod calm;
+#[cfg(test)]
 mod chains;
 #[cfg(test)]
 mod cut_frames;
