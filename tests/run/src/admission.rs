@@ -31,8 +31,8 @@ fn network_of(
     OsNetwork::new(rt.alloc(), rt, listener, EVENTS)
 }
 
-/// Checks that after a failed accept no accept is tried for a while, and that the bot is then accepted and no deadline
-/// is left.
+/// Checks that after a failed accept no accept is tried for 100 milliseconds, and that the bot is then accepted and no
+/// deadline is left.
 fn check_acceptor<'w>(
     poller: &mut Poller<OsNetwork<'w, HostRuntime>>,
     acceptor: &mut Acceptor,
@@ -41,6 +41,8 @@ fn check_acceptor<'w>(
     acceptor.pause(poller.table.after(Duration::ZERO), ErrorKind::Other);
     holds(acceptor.accept(poller).is_none(), "none is made")?;
     acceptor.watch(&mut poller.table);
+    let end = poller.table.after(Duration::from_millis(100));
+    same(&poller.table.watched(), &(false, end), &"a pause of 100 ms")?;
     poller.wait();
     holds(acceptor.accept(poller).is_some(), "the bot that came")?;
     poller.table.unwatch();

@@ -346,6 +346,15 @@ const ASKED: &[Asked] = &[
         false,
         1,
     ),
+    // Seconds that are not over are not counted.
+    (
+        &[(&[Bytes(b"status json\n")], 9_999)],
+        200,
+        6,
+        NOBODY,
+        false,
+        1,
+    ),
     // Two seconds after it was accepted, a connection is closed.
     (&[SILENT], 500, 5, b"", false, 0),
     (&[SILENT], 500, 8, b"", false, 1),
