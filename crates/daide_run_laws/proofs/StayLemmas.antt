@@ -46,11 +46,11 @@ module _ {S : Type 0} where
 
   flushed_stays : (reading : Option Instant) (old new : Socket S) → FlushesInTime reading old new →
       held_len new ≡ held_len old → KeepsTimeouts old new
-  flushed_stays reading old new h same = unless_failed old new h.kept.silent_from (λ fine. h.goes_on fine same)
+  flushed_stays reading old new h same = unless_failed old new h.kept.silent_from (λ fine. h.stall.goes_on fine same)
 
   begun_stays : (reading : Option Instant) (old new : Socket S) → BeginsInTime reading old new →
       held_len new ≡ held_len old → KeepsTimeouts old new
-  begun_stays reading old new h same = unless_failed old new h.kept.silent_from (λ fine. h.goes_on fine same)
+  begun_stays reading old new h same = unless_failed old new h.kept.silent_from (λ fine. h.stall.goes_on fine same)
 
   pulled_stays : (reading : Option Instant) (time : Option Duration) (pull : Pull) (old new : Socket S) →
       PullsInTime reading time pull old new → is_got pull ≡ false → KeepsTimeouts old new

@@ -73,24 +73,29 @@ pub record KeepsTimers {S : Type 0} (reading : Option Instant) (old new : Socket
   pub failed : old.stream.has_failed ≡ true →
       (new.stream.has_failed ≡ true) × ((new.stalls_at ≡ old.stalls_at) ⊎ (new.stalls_at ≡ None))
 
--- What is held for a peer was written, or stays held. While its peer takes no byte, the stall timeout goes on. Once
--- nothing is held that may be written, it is over.
+-- The stall timeout after a write of what is held for a peer. It starts again if the peer took a byte and more is held,
+-- goes on while the peer takes none, and is over once nothing is held that may be written. With nothing held none starts.
+pub record StallsAfterFlush {S : Type 0} (reading : Option Instant) (old new : Socket S) : Type 0 where
+  pub restarts : IsWriting new.stream → length new.stream.write_buffer < length old.stream.write_buffer →
+      IsStallEnd reading old.stall_time new.stalls_at
+  pub goes_on : new.stream.has_failed ≡ false → length new.stream.write_buffer ≡ length old.stream.write_buffer →
+      StallGoesOn old new
+  pub ends : IsWriting old.stream → IsWritingOver new.stream → new.stalls_at ≡ None
+  pub rests : IsWritingOver old.stream → (new.stalls_at ≡ old.stalls_at) ⊎ (new.stalls_at ≡ None)
+
+-- what is held for a peer was written, or stays held
 pub record FlushesInTime {S : Type 0} (reading : Option Instant) (old new : Socket S) : Type 0 where
   pub kept : KeepsTimers reading old new
-  pub ends : IsWriting old.stream → IsWritingOver new.stream → new.stalls_at ≡ None
-  pub goes_on : new.stream.has_failed ≡ false → length new.stream.write_buffer ≡ length old.stream.write_buffer →
-      StallGoesOn old new
+  pub stall : StallsAfterFlush reading old new
   pub full : old.readiness.may_write ≡ false → StallGoesOn old new
 
--- A turn begins at this reading of the clock. A peer whose stall timeout is over is given up: its writes fail. Once
--- nothing is held that may be written, the timeout is over.
+-- A turn begins at this reading of the clock. A peer whose stall timeout is over is given up: its writes fail. For any
+-- other, what is held was written, or stays held.
 pub record BeginsInTime {S : Type 0} (reading : Option Instant) (old new : Socket S) : Type 0 where
   pub kept : KeepsTimers reading old new
-  pub ends : IsWriting old.stream → IsWritingOver new.stream → new.stalls_at ≡ None
+  pub stall : StallsAfterFlush reading old new
   pub gives_up : has_stalled old.stall_time reading old.stalls_at ≡ true →
       (new.stream.has_failed ≡ true) × (new.stalls_at ≡ None)
-  pub goes_on : new.stream.has_failed ≡ false → length new.stream.write_buffer ≡ length old.stream.write_buffer →
-      StallGoesOn old new
 
 -- The stall timeout after a put of this many bytes. If some of them were not accepted, or bytes are held for the peer, it
 -- runs from then on. It goes on if the peer took no byte: then all that was held, and all that was accepted, is held. Once
