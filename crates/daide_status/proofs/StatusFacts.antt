@@ -13,7 +13,7 @@ use Rattle.daide_protocol.specs.declared.phase.Phase.TheVariants.{WaitIm, WaitRm
 use Rattle.daide_status.specs.declared.request.Format.TheVariants.{Table, Json, Prometheus}
 use Rattle.daide_status.specs.declared.snapshot.RunStatus.{RunStatus}
 use Rattle.daide_status.specs.declared.snapshot.SessionRow.{SessionRow}
-use Rattle.daide_status.specs.Columns.{phase_cell}
+use Rattle.daide_status.specs.Columns.{phase_cell, side_cells}
 use Rattle.daide_status.specs.Pieces.{phase_name}
 use Rattle.daide_status.specs.StatusTexts.{status_text}
 
@@ -253,3 +253,9 @@ metrics_of_two : status_text Prometheus busy_run (first ∷ second ∷ [])
     ++ level_head ++ first_level ++ codes "daide_gate_session_level{session=\"12\",bot=\"10.0.0.7:6\",phase=\"wait RM\"} 0\n"
 unfolding digits text_with name_of names
 metrics_of_two = refl
+
+-- ---- a number that is wider than its column
+
+wide_numbers : side_cells (record { relayed = 123456789; prn = 12345; huh = 10000 }) ≡ codes " 123456789 12345 10000"
+unfolding digits
+wide_numbers = refl

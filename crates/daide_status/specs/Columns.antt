@@ -12,7 +12,7 @@ use Rattle.daide_protocol.specs.declared.phase.Phase.{Phase}
 use Rattle.daide_protocol.specs.declared.phase.Phase.TheVariants.{WaitIm, WaitRm, Open, Over}
 use Rattle.daide_status.specs.declared.snapshot.RunStatus.{RunStatus}
 use Rattle.daide_status.specs.declared.snapshot.SessionRow.{SessionRow}
-use Rattle.daide_status.specs.Pieces.{number_or_dash, right_aligned, text_if}
+use Rattle.daide_status.specs.Pieces.{cell, number_or_dash, text_if}
 
 -- the phase of an open session with its level, in a column of seven bytes
 abbrev pub open_cell : Level → List ℕ
@@ -53,7 +53,7 @@ table_head run =
 -- the counts of a side
 abbrev pub side_cells : SideCounts → List ℕ
 side_cells c =
-    right_aligned 8 (decimal c.relayed) ++ right_aligned 5 (decimal c.prn) ++ right_aligned 5 (decimal c.huh)
+    cell 7 (decimal c.relayed) ++ cell 4 (decimal c.prn) ++ cell 4 (decimal c.huh)
 
 -- the name of a bot after its address; nothing if the bot has said none
 abbrev pub name_cell : BotName → List ℕ
@@ -68,19 +68,19 @@ bot_cells row = codes " " ++ socket_text row.bot ++ name_cell row.account.name +
 -- the bytes received from each side, and those sent to each
 abbrev pub byte_cells : SessionRow → List ℕ
 byte_cells row =
-    right_aligned 12 (decimal row.received_from_bot) ++ right_aligned 12 (decimal row.received_from_server)
-    ++ right_aligned 12 (decimal row.sent_to_bot) ++ right_aligned 12 (decimal row.sent_to_server)
+    cell 11 (decimal row.received_from_bot) ++ cell 11 (decimal row.received_from_server)
+    ++ cell 11 (decimal row.sent_to_bot) ++ cell 11 (decimal row.sent_to_server)
 
 -- the columns of a session before its bot; the bytes for a side are those of the session's queue and those that the
 -- side's socket holds
 abbrev pub number_cells : SessionRow → List ℕ
 number_cells row =
-    right_aligned 7 (decimal row.number) ++ codes "  " ++ phase_cell row.phase row.level
+    cell 6 (decimal row.number) ++ codes "  " ++ phase_cell row.phase row.level
     ++ side_cells row.account.bot ++ side_cells row.account.server
-    ++ right_aligned 8 (decimal (row.queued_to_bot + row.held_to_bot))
-    ++ right_aligned 10 (decimal (row.queued_to_server + row.held_to_server))
-    ++ byte_cells row ++ number_or_dash 10 row.bot_idle ++ number_or_dash 12 row.server_idle
-    ++ number_or_dash 7 row.port_to_server
+    ++ cell 7 (decimal (row.queued_to_bot + row.held_to_bot))
+    ++ cell 9 (decimal (row.queued_to_server + row.held_to_server))
+    ++ byte_cells row ++ number_or_dash 9 row.bot_idle ++ number_or_dash 11 row.server_idle
+    ++ number_or_dash 6 row.port_to_server
 
 -- the line of a session
 abbrev pub table_row : SessionRow → List ℕ

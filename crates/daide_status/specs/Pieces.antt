@@ -19,10 +19,14 @@ phase_name WaitRm = codes "wait RM"
 phase_name Open = codes "open"
 phase_name Over = codes "over"
 
+-- a text in a column: a space, however long the text is, and the text to the right of this width
+abbrev pub cell : ℕ → List ℕ → List ℕ
+cell width text = codes " " ++ right_aligned width text
+
 -- a number in a column, or a dash if there is none
 abbrev pub number_or_dash : ℕ → Option ℕ → List ℕ
-number_or_dash width (Some number) = right_aligned width (decimal number)
-number_or_dash width None = right_aligned width (codes "-")
+number_or_dash width (Some number) = cell width (decimal number)
+number_or_dash width None = cell width (codes "-")
 
 -- a number in a document, or `null` if there is none
 abbrev pub number_or_null : Option ℕ → List ℕ

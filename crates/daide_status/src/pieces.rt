@@ -1,9 +1,9 @@
 //! The pieces of which the texts are made.
 
-ghost use Rattle.std.specs.Prelude.{◌≡◌, ◌+◌, ◌++◌, OnOk};
+ghost use Rattle.std.specs.Prelude.{◌≡◌, ◌+◌, ◌++◌, OnOk, codes};
 ghost use Rattle.std.specs.List.{flat_map};
 ghost use Rattle.std.specs.Fmt.{decimal};
-ghost use Rattle.daide_status.specs.Pieces.{phase_name, right_aligned, number_or_dash, number_or_null, text_if};
+ghost use Rattle.daide_status.specs.Pieces.{phase_name, right_aligned, cell, number_or_dash, number_or_null, text_if};
 ghost use Rattle.daide_status.specs.Pieces.{escaped_byte, quoted, quoted_name};
 
 use daide_protocol::bot_name::TEXT_ROOM;
@@ -31,10 +31,25 @@ pub(crate) fn sum(one: usize, other: usize) -> u128
 }
 
 /// Appends a number, after as many spaces as its digits are fewer than a width.
-pub(crate) fn put_right(width: usize, number: u128, out: &mut Vec<u8>) -> io::Result<()>
+fn put_right(width: usize, number: u128, out: &mut Vec<u8>) -> io::Result<()>
     ensures { OnOk result (out.new.items ≡ out.old.items ++ right_aligned width (decimal number)) }
 {
     write!(out, "{number:>width$}")
+}
+
+/// Appends a dash, after one space less than a width.
+fn put_dash(width: usize, out: &mut Vec<u8>) -> io::Result<()>
+    ensures { OnOk result (out.new.items ≡ out.old.items ++ right_aligned width (codes "-")) }
+{
+    write!(out, "{dash:>width$}", dash = "-")
+}
+
+/// Appends a number in a column of a width, after a space, so that a wider number is apart from the one before it too.
+pub(crate) fn put_cell(width: usize, number: u128, out: &mut Vec<u8>) -> io::Result<()>
+    ensures { OnOk result (out.new.items ≡ out.old.items ++ cell width (decimal number)) }
+{
+    out.write_all(b" ")?;
+    put_right(width, number, out)
 }
 
 /// Appends a number in a column, or a dash if there is none.
@@ -42,8 +57,11 @@ pub(crate) fn put_or_dash(width: usize, number: Option<u64>, out: &mut Vec<u8>) 
     ensures { OnOk result (out.new.items ≡ out.old.items ++ number_or_dash width number) }
 {
     match number {
-        Some(number) => put_right(width, number as u128, out),
-        None => write!(out, "{dash:>width$}", dash = "-"),
+        Some(number) => put_cell(width, number as u128, out),
+        None => {
+            out.write_all(b" ")?;
+            put_dash(width, out)
+        }
     }
 }
 

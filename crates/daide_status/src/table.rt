@@ -4,7 +4,7 @@
 ghost use Rattle.std.specs.Prelude.{◌≡◌, ◌++◌, OnOk};
 ghost use Rattle.daide_status.specs.Columns.{bot_cells, byte_cells, name_cell, number_cells, open_cell, phase_cell, run_line, side_cells, table_head, table_row, totals};
 
-use crate::pieces::{port_number, put_if, put_or_dash, put_right, sum};
+use crate::pieces::{port_number, put_cell, put_if, put_or_dash, sum};
 use crate::snapshot::{RunStatus, SessionRow};
 use daide_grammar::Level;
 use daide_protocol::{BotName, Phase, SideCounts};
@@ -80,9 +80,9 @@ pub(crate) fn put_table_head(run: &RunStatus, out: &mut Vec<u8>) -> io::Result<(
 fn put_side(counts: &SideCounts, out: &mut Vec<u8>) -> io::Result<()>
     ensures { OnOk result (out.new.items ≡ out.old.items ++ side_cells counts.now) }
 {
-    put_right(8, counts.relayed as u128, out)?;
-    put_right(5, counts.prn as u128, out)?;
-    put_right(5, counts.huh as u128, out)
+    put_cell(7, counts.relayed as u128, out)?;
+    put_cell(4, counts.prn as u128, out)?;
+    put_cell(4, counts.huh as u128, out)
 }
 
 /// Appends the name of a bot after its address.
@@ -110,27 +110,27 @@ fn put_bot(row: &SessionRow, out: &mut Vec<u8>) -> io::Result<()>
 fn put_byte_cells(row: &SessionRow, out: &mut Vec<u8>) -> io::Result<()>
     ensures { OnOk result (out.new.items ≡ out.old.items ++ byte_cells row.now) }
 {
-    put_right(12, row.received_from_bot as u128, out)?;
-    put_right(12, row.received_from_server as u128, out)?;
-    put_right(12, row.sent_to_bot as u128, out)?;
-    put_right(12, row.sent_to_server as u128, out)
+    put_cell(11, row.received_from_bot as u128, out)?;
+    put_cell(11, row.received_from_server as u128, out)?;
+    put_cell(11, row.sent_to_bot as u128, out)?;
+    put_cell(11, row.sent_to_server as u128, out)
 }
 
 /// Appends the columns of a session before its bot.
 fn put_number_cells(row: &SessionRow, out: &mut Vec<u8>) -> io::Result<()>
     ensures { OnOk result (out.new.items ≡ out.old.items ++ number_cells row.now) }
 {
-    put_right(7, row.number as u128, out)?;
+    put_cell(6, row.number as u128, out)?;
     out.write_all(b"  ")?;
     out.write_all(phase_cell(row.phase, row.level).as_bytes())?;
     put_side(&row.account.bot, out)?;
     put_side(&row.account.server, out)?;
-    put_right(8, sum(row.queued_to_bot, row.held_to_bot), out)?;
-    put_right(10, sum(row.queued_to_server, row.held_to_server), out)?;
+    put_cell(7, sum(row.queued_to_bot, row.held_to_bot), out)?;
+    put_cell(9, sum(row.queued_to_server, row.held_to_server), out)?;
     put_byte_cells(row, out)?;
-    put_or_dash(10, row.bot_idle, out)?;
-    put_or_dash(12, row.server_idle, out)?;
-    put_or_dash(7, port_number(row.port_to_server), out)
+    put_or_dash(9, row.bot_idle, out)?;
+    put_or_dash(11, row.server_idle, out)?;
+    put_or_dash(6, port_number(row.port_to_server), out)
 }
 
 /// Appends the line of a session.
