@@ -103,7 +103,10 @@ impl<P: Ports> QuotaPorts<P> {
         ensures begins { Meters P.transition self.old TurnBegins self.new }
         ensures asked { TransitsBy S.transition system.old (beginning self.old self.new) system.new }
     {
-        self.interest = None;
+        // Most calls of a turn have none to forget, and to write it takes longer than to look.
+        if self.interest.is_some() {
+            self.interest = None;
+        }
         self.turns_left = self.turns_left.and_then(|turns| turns.checked_sub(1));
         self.load = load_at_turn(self.made_progress, self.load);
         self.made_progress = false;
@@ -209,7 +212,9 @@ impl<P: Ports> Ports for QuotaPorts<P> {
     ghost interest = { λ ports interest. P.interest ports.ports interest };
 
     fn pull(&mut self, side: Side, buffer: &mut [u8]) -> Pull {
-        self.interest = None;
+        if self.interest.is_some() {
+            self.interest = None;
+        }
         let pull = match self.turns_left {
             Some(_turns) => self.ports.pull(side, buffer),
             None => {
@@ -228,7 +233,9 @@ impl<P: Ports> Ports for QuotaPorts<P> {
     }
 
     fn put(&mut self, side: Side, bytes: &[u8]) -> Put {
-        self.interest = None;
+        if self.interest.is_some() {
+            self.interest = None;
+        }
         let put = match self.turns_left {
             Some(_turns) => self.ports.put(side, bytes),
             None => {
@@ -246,7 +253,9 @@ impl<P: Ports> Ports for QuotaPorts<P> {
     }
 
     fn clock(&mut self) -> ClockEvent {
-        self.interest = None;
+        if self.interest.is_some() {
+            self.interest = None;
+        }
         let event = match self.turns_left {
             Some(_turns) => self.ports.clock(),
             None => ClockEvent::NoEvent,

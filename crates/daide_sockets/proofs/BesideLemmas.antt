@@ -5,7 +5,7 @@ use Rattle.std.proofs.Math.Seq.{drop-cons}
 use Rattle.std.proofs.lemmas.List.Elements.{All-nil, All-cons, All-head, All-tail}
 use Rattle.std.specs.declared.time.Duration.{Duration}
 use Rattle.std.specs.declared.time.Instant.{Instant}
-use Rattle.daide_sockets.specs.declared.table.Row.{Row}
+use Rattle.daide_sockets.specs.Table.{Row}
 use Rattle.daide_io.specs.Network.{NetworkCall}
 use Rattle.daide_sockets.specs.Table.{Table, watching, unwatched, IsWaitTime, PollsOnce, WaitsOnce}
 use Rattle.daide_sockets.specs.InTime.{IsInTimeFor, watching_all}

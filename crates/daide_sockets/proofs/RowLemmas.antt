@@ -11,7 +11,7 @@ use Rattle.daide_io.specs.declared.network.SocketEvent.{SocketEvent}
 use Rattle.daide_sockets.specs.declared.socket.Socket.{Socket}
 use Rattle.daide_sockets.specs.InTime.{watching_all}
 use Rattle.daide_sockets.specs.Wakeups.{RestsOnce}
-use Rattle.daide_sockets.specs.declared.table.Row.{Row}
+use Rattle.daide_sockets.specs.Table.{Row}
 use Rattle.daide_sockets.specs.Table.{Table, row_at, free_row, taken_row, changed, with_taken, first_free, with_event, with_events}
 use Rattle.daide_sockets.specs.Table.{TakesRow, PollsOnce, freed, without_report, no_report}
 use Rattle.daide_sockets.specs.Lingering.{ClosingStream}

@@ -10,7 +10,7 @@ use Rattle.daide_sockets.specs.declared.admission.Acceptor.{Acceptor}
 use Rattle.daide_sockets.specs.declared.control.Control.{Control}
 use Rattle.daide_sockets.specs.declared.control.ControlListener.{ControlListener}
 use Rattle.daide_sockets.specs.declared.control_connection.ControlConnection.{ControlConnection}
-use Rattle.daide_sockets.specs.declared.table.Row.{Row}
+use Rattle.daide_sockets.specs.Table.{Row}
 use Rattle.daide_sockets.specs.ControlSlots.{places}
 use Rattle.daide_sockets.specs.Lingering.{ClosingStream}
 use Rattle.daide_sockets.specs.Pairing.{Arriving, ConnectRow, Paired}

@@ -6,7 +6,7 @@ use Rattle.std.proofs.Math.Seq.{drop-cons}
 use Rattle.std.specs.Prelude.{◌||◌}
 use Rattle.daide_buffered_io.specs.declared.readiness.Readiness.{Readiness}
 use Rattle.daide_io.specs.declared.network.SocketEvent.{SocketEvent}
-use Rattle.daide_sockets.specs.declared.table.Row.{Row}
+use Rattle.daide_sockets.specs.Table.{Row}
 use Rattle.daide_sockets.specs.Table.{with_events, with_event}
 use Rattle.daide_sockets.specs.Table.{Table, taken_row, row_at, first_free, with_taken, changed, no_report, report_at, TakesRow}
 use Rattle.daide_sockets.specs.Table.{has_report, is_reported_at, merged, without_report}

@@ -6,7 +6,7 @@ use Rattle.daide_io.specs.Network.{NetworkCall}
 use Rattle.daide_io.specs.declared.interest.Interest.{Interest}
 use Rattle.daide_io.specs.declared.network.SocketEvent.{SocketEvent}
 use Rattle.daide_sockets.specs.declared.ports.SocketPorts.{SocketPorts}
-use Rattle.daide_sockets.specs.declared.table.Row.{Row}
+use Rattle.daide_sockets.specs.Table.{Row}
 use Rattle.daide_sockets.specs.Interests.{interest_of, after_question}
 use Rattle.daide_sockets.specs.Table.{Table, row_at, changed, no_report, has_report, is_reported_at, without_report}
 use Rattle.daide_sockets.specs.Table.{watching, with_events, is_some_news, IsNoTime, PollsOnce}

@@ -1,5 +1,5 @@
 -- The table of a run: what polls reported of its sockets, what the next wait watches, and its time. (own)
-use Rattle.std.specs.Prelude.{◌≡◌, ℕ, ◌+◌, ◌-◌, nat_le, if◌then◌else◌, Bool, true, false, ◌||◌, List, [], ◌∷◌}
+use Rattle.std.specs.Prelude.{◌≡◌, ℕ, ◌+◌, ◌-◌, ◌≤◌, nat_le, if◌then◌else◌, Bool, true, false, ◌||◌, List, [], ◌∷◌}
 use Rattle.std.specs.Prelude.{Option, Some, None, slice_get, slice_set}
 use Rattle.std.specs.Duration.{as_nanos}
 use Rattle.std.specs.Time.{instant_nanos}
@@ -8,7 +8,11 @@ use Rattle.std.specs.declared.time.Instant.{Instant}
 use Rattle.daide_buffered_io.specs.declared.readiness.Readiness.{Readiness}
 use Rattle.daide_io.specs.declared.network.SocketEvent.{SocketEvent}
 use Rattle.daide_io.specs.Network.{NetworkCall, Polls, ReadsClock}
-use Rattle.daide_sockets.specs.declared.table.Row.{Row}
+
+-- One row: whether a socket has it, and what polls reported of the socket since it last took the report.
+pub record Row : Type 0 where
+  pub is_taken : Bool
+  pub report : Readiness
 
 -- The last reading of the clock; the turns since the last poll; whether a poll since the last wait reported something. Of
 -- the sessions that the next wait is to watch, whether something may be done at once for one, and their nearest deadline.
@@ -86,6 +90,10 @@ taken_row = record free_row { is_taken = true }
 abbrev pub first_free : List Row → ℕ
 first_free [] = 0
 first_free (row ∷ rows) = if row.is_taken then 1 + first_free rows else 0
+
+-- no row is free
+abbrev pub IsFull : Table → Type 0
+IsFull table = table.max_rows ≤ first_free table.rows
 
 -- the rows after the first free one is taken
 abbrev pub with_taken : List Row → List Row

@@ -12,6 +12,7 @@ ghost use Rattle.daide_sockets.specs.ControlSlots.{at_place, has_free, with_one,
 ghost use Rattle.daide_sockets.specs.ControlSlots.{MakesControlAccept, AcceptsOne, watching_control, BeginsRound};
 ghost use Rattle.daide_sockets.specs.ControlSlots.{is_listener_due};
 ghost use Rattle.daide_sockets.specs.Rows.{HandsRows, control_keys, control_listener_keys, key_in, place_keys};
+ghost use Rattle.daide_sockets.specs.Table.{Table};
 
 use crate::admission::ACCEPT_PAUSE;
 use crate::control_connection::ControlConnection;
@@ -242,6 +243,16 @@ impl ControlListener {
         }
     }
 
+    /// Returns true only if no accept is due, and a wait has nothing to watch for one.
+    fn rests(&self, table: &SocketTable) -> bool
+        ensures not_due { result ≡ true →
+            is_accept_due table.now self.now.key self.now.readiness self.now.resumes_at ≡ false }
+        ensures unready { result ≡ true → self.now.readiness.may_read ≡ false }
+        ensures no_pause { result ≡ true → self.now.resumes_at ≡ None }
+    {
+        self.resumes_at.is_none() && !self.readiness.may_read && !table.report(self.key).may_read
+    }
+
     /// Records an accept that failed for this reason: the listener counts as not ready, and a pause begins unless the
     /// accept would have blocked.
     fn pause(&mut self, now: Option<Instant>, why: ErrorKind)
@@ -395,23 +406,26 @@ impl<S: Duplex + Drop> Control<S> {
         self.slots.watch(table);
     }
 
-    /// Returns whether a round has nothing to do for the control socket: there is no connection, and no accept is due.
+    /// Returns true only if a round has nothing to do for the control socket: there is no connection, no accept is due,
+    /// and the next wait has nothing to watch for it.
     pub(crate) fn is_at_rest(&self, table: &SocketTable) -> bool
         ensures free { result ≡ true → places self.now.slots ≡ None ∷ None ∷ None ∷ None ∷ [] }
         ensures not_due { result ≡ true → is_listener_due table.now self.now.listener ≡ false }
+        ensures watched { result ≡ true → (any : Table) → any ≡ watching_control any self.now }
     {
-        let is_due = match &self.listener {
-            Some(listener) => listener.is_due(table),
-            None => false,
+        let rests = match &self.listener {
+            Some(listener) => listener.rests(table),
+            None => true,
         };
-        !is_due && self.slots.are_free()
+        rests && self.slots.are_free()
     }
 
     /// Returns the orders of a round in which there is no connection, and none is accepted. They need no status of the run.
     pub(crate) fn orders_at_rest(&self) -> Orders
         requires { places self.now.slots ≡ None ∷ None ∷ None ∷ None ∷ [] }
-        ensures { (run : RunStatus) (reading : Option Instant) →
+        ensures control { (run : RunStatus) (reading : Option Instant) →
             BeginsRound S.to_give S.taken S.calls run reading self.now result self.now }
+        ensures stops { result.stops_accepting ≡ self.now.stops_accepting }
     {
         Orders {
             stops_accepting: self.stops_accepting,

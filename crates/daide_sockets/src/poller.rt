@@ -1,10 +1,10 @@
 //! The network of a run, polled into its table.
 
-ghost use Rattle.std.specs.Prelude.{◌≡◌, nat_le, Option, IfSome, IfOk, [], true, false};
+ghost use Rattle.std.specs.Prelude.{◌≡◌, ◌⊎◌, ℕ, nat_le, Option, IfSome, IfNone, IfOk, [], true, false};
 ghost use Rattle.std.specs.declared.time.Duration.{Duration};
 ghost use Rattle.daide_io.specs.Network.{Listens, Follows};
 ghost use Rattle.daide_sockets.specs.Rows.{HandsRows, KeepsRows, key_in};
-ghost use Rattle.daide_sockets.specs.Table.{PollsOnce, IsNoTime, WaitsOnce, TakesRow};
+ghost use Rattle.daide_sockets.specs.Table.{PollsOnce, IsFull, IsNoTime, WaitsOnce, TakesRow};
 
 use crate::table::SocketTable;
 use daide_io::network::{Network, SocketEvent};
@@ -41,9 +41,11 @@ impl<N: Network> Poller<N> {
     }
 
     /// Returns the key of a row under which the network follows its listener. Returns `None` if the table has no free
-    /// row, or the system refuses.
+    /// row, or the system refuses (`refused`).
     pub(crate) fn listen(&mut self) -> Option<usize>
         ensures followed { IfSome result (λ key. N.transition self.old.network (Listens key true) self.new.network) }
+        ensures refused { IfNone result (IsFull self.old.table
+            ⊎ (key : ℕ) × N.transition self.old.network (Listens key false) self.new.network) }
         ensures row { IfSome result (λ key. TakesRow self.old.table key self.new.table) }
         ensures rows { HandsRows self.old.table [] self.new.table (key_in result) }
     {
@@ -56,10 +58,12 @@ impl<N: Network> Poller<N> {
     }
 
     /// Returns the key of a row under which the network follows a connection. Returns `None` if the table has no free
-    /// row, or the system refuses.
+    /// row, or the system refuses (`refused`).
     pub(crate) fn follow(&mut self, connection: &mut N::Connection) -> Option<usize>
         ensures followed { IfSome result (λ key.
             N.transition self.old.network (Follows connection.old key true connection.new) self.new.network) }
+        ensures refused { IfNone result (IsFull self.old.table ⊎ (key : ℕ)
+            × N.transition self.old.network (Follows connection.old key false connection.new) self.new.network) }
         ensures row { IfSome result (λ key. TakesRow self.old.table key self.new.table) }
         ensures rows { HandsRows self.old.table [] self.new.table (key_in result) }
         ensures clock { self.new.table.reading ≡ self.old.table.reading }

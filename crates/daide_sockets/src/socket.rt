@@ -4,7 +4,8 @@
 //! session, and at most `MOST_HELD` bytes each way of each socket. It works over any stream, and its contracts state the
 //! bytes that this returned and accepted.
 
-ghost use Rattle.std.specs.Prelude.{◌≡◌, ◌⊎◌, ◌+◌, ◌<◌, ◌||◌, ◌&&◌, nat_lt, IsNone, IfSome, None, [], option_map, min, length, take, true, false};
+ghost use Rattle.std.specs.Prelude.{◌≡◌, ◌⊎◌, ℕ, ◌+◌, ◌<◌, ◌||◌, ◌&&◌, nat_lt, IsNone, IfSome, IfNone, None, [], option_map, min, length, take, true, false};
+ghost use Rattle.daide_io.specs.Network.{Follows};
 ghost use Rattle.daide_io.specs.Ports.{IsPullWithin, IsPutWithin, pulled_len};
 ghost use Rattle.daide_buffered_io.specs.Buffers.{Passes, ReadsNothing, IsBufferedPull, IsFlushed};
 ghost use Rattle.daide_buffered_io.specs.Calls.{OnlyPuts};
@@ -13,7 +14,7 @@ ghost use Rattle.daide_sockets.specs.Lingering.{IsWriting, IsWritingOver};
 ghost use Rattle.daide_sockets.specs.Pairing.{IsFresh};
 ghost use Rattle.daide_sockets.specs.Rows.{HandsRows, key_in};
 ghost use Rattle.daide_sockets.specs.Sockets.{has_socket_work, next_deadline};
-ghost use Rattle.daide_sockets.specs.Table.{earlier, merged, report_at, without_report};
+ghost use Rattle.daide_sockets.specs.Table.{IsFull, earlier, merged, report_at, without_report};
 ghost use Rattle.daide_sockets.specs.Timers.{IsStallKept, FlushesInTime, BeginsInTime, PutsInTime};
 ghost use Rattle.daide_sockets.specs.Times.{StallsNext, has_stalled, is_past};
 ghost use Rattle.daide_sockets.specs.Wakeups.{StaysUnread, IsNothing, IsPulled, IsOffered};
@@ -65,13 +66,15 @@ pub struct Socket<'w, S: Drop> {
 }
 
 impl<'w, S: Duplex + Drop> Socket<'w, S> {
-    /// Has a connection followed. Returns `None` if the table has no free row, or the system refuses.
+    /// Has a connection followed. Returns `None` if the table has no free row, or the system refuses (`refused`).
     pub fn new<N: Network<Connection = S>>(
         poller: &mut Poller<N>,
         pool: &'w Pool,
         stream: S,
     ) -> Option<Socket<'w, S>>
         ensures fresh { IfSome result (λ socket. IsFresh socket.stream) }
+        ensures refused { IfNone result (IsFull poller.old.table ⊎ (key : ℕ) × (after : S)
+            × N.transition poller.old.network (Follows stream key false after) poller.new.network) }
         ensures clock { poller.new.table.reading ≡ poller.old.table.reading }
         ensures rows { HandsRows poller.old.table [] poller.new.table (key_in (option_map (λ socket. socket.key) result)) }
     {

@@ -6,9 +6,9 @@
 
 ghost use Rattle.std.specs.Duration.{as_nanos};
 ghost use Rattle.std.specs.Prelude.{◌≡◌, ◌+◌, ◌<◌, ◌≤◌, ◌||◌, if◌then◌else◌, nat_le, length, IsNone, IfSome, IfNone, IfOk, None, [], true, false};
-ghost use Rattle.daide_sockets.specs.Table.{first_free, TakesRow};
-ghost use Rattle.daide_sockets.specs.Table.{row_at, merged, report_at, has_report, is_reported_at, has_pending};
-ghost use Rattle.daide_sockets.specs.Table.{changed, without_report, watching, unwatched, freed, with_event, with_news, latest};
+ghost use Rattle.daide_sockets.specs.Table.{first_free, IsFull, TakesRow};
+ghost use Rattle.daide_sockets.specs.Table.{merged, no_report, report_at, has_report, is_reported_at, has_pending};
+ghost use Rattle.daide_sockets.specs.Table.{without_report, watching, unwatched, freed, with_event, with_news, latest};
 ghost use Rattle.daide_sockets.specs.Table.{earlier, IsUntil};
 ghost use Rattle.daide_sockets.specs.Interests.{may_go_on_for, has_news_for, after_question};
 ghost use Rattle.daide_sockets.specs.Times.{IsAfter, IsStallEnd, StallsNext, is_past, is_time_over};
@@ -25,20 +25,53 @@ use std::time::{Duration, Instant};
 const MOST_TURNS: u64 = 32;
 
 /// The row of one socket.
-#[derive(Clone, Copy, Debug, PartialEq, Eq)]
-pub struct Row {
+#[derive(Drop)]
+struct Row {
     /// Whether a socket has it.
-    pub is_taken: bool,
+    is_taken: bool,
+    /// Whether the report has something. In most rounds this is all that is read of a row.
+    is_reported: bool,
     /// What polls reported of the socket since it last took the report.
-    pub report: Readiness,
+    report: Readiness,
+}
+
+impl Model for Row {
+    ghost use Rattle.std.specs.Prelude.{◌≡◌};
+    ghost use Rattle.daide_sockets.specs.Table.{Row, has_report};
+
+    ghost Value = { Row };
+
+    ghost view = { λ row. record { is_taken = row.is_taken; report = row.report } };
+
+    ghost invariant = { λ row. row.is_reported ≡ has_report row.report };
 }
 
 impl Row {
     /// A row without a socket.
     const FREE: Row = Row {
         is_taken: false,
+        is_reported: false,
         report: Readiness::UNKNOWN,
     };
+
+    /// Adds a report.
+    fn add_report(&mut self, report: Readiness)
+        ensures { self.new ≡ record self.old { report = merged self.old.report report } }
+    {
+        self.report = merged(self.report, report);
+        self.is_reported = has_report(self.report);
+    }
+
+    /// Returns the report, and takes it out.
+    fn take_report(&mut self) -> Readiness
+        ensures report { result ≡ self.old.report }
+        ensures row { self.new ≡ record self.old { report = no_report } }
+    {
+        let report = self.report;
+        self.report = Readiness::UNKNOWN;
+        self.is_reported = false;
+        report
+    }
 }
 
 /// The table of a run, with the time of the last poll.
@@ -64,7 +97,7 @@ pub struct SocketTable {
 }
 
 impl Model for SocketTable {
-    ghost use Rattle.std.specs.Prelude.{◌≡◌, nat_le, false};
+    ghost use Rattle.std.specs.Prelude.{◌≡◌, ◌≤◌, nat_le, false, vec_capacity};
     ghost use Rattle.daide_sockets.specs.Table.{Table};
     ghost use Rattle.daide_sockets.specs.Times.{is_past};
 
@@ -80,9 +113,10 @@ impl Model for SocketTable {
       rows = t.rows.items;
     } };
 
-    // without a reason to look closer, few turns began, and no deadline that is watched is past
-    ghost invariant = { λ t. t.needs_look ≡ false →
-        (nat_le 32 t.turns ≡ false) × (is_past t.reading t.watched_due ≡ false) };
+    // without a reason to look closer, few turns began, and no deadline that is watched is past; there is room for the most
+    // rows
+    ghost invariant = { λ t. (t.needs_look ≡ false →
+        (nat_le 32 t.turns ≡ false) × (is_past t.reading t.watched_due ≡ false)) × (t.max_rows ≤ vec_capacity t.rows) };
 }
 
 /// Returns true if a moment is past at the last reading of the clock; false without a moment.
@@ -280,11 +314,12 @@ impl SocketTable {
     }
 
     /// Takes the first free row, for a socket of which nothing is known, and returns its key, by which a poll names it.
-    /// Returns `None` if there is none.
+    /// Returns `None` if there is none (`full`).
     pub fn take_row(&mut self) -> Option<usize>
         ensures row { IfSome result (λ key. TakesRow self.old key self.new) }
         ensures few { IfSome result (λ key. key < self.old.max_rows) }
         ensures none { IfNone result (self.new ≡ self.old) }
+        ensures full { IfNone result (IsFull self.old) }
         ensures clock { self.new.reading ≡ self.old.reading }
     {
         let row = Row {
@@ -299,43 +334,27 @@ impl SocketTable {
             self.rows[key] = row;
             return Some(key);
         }
-        if self.rows.push(row).is_err() {
-            return None;
-        }
+        self.rows.push_reserved(row);
         Some(key)
-    }
-
-    /// Replaces the row with a key, if there is one.
-    fn set_row(&mut self, key: usize, row: Row)
-        ensures { self.new ≡ record self.old { rows = changed self.old.rows key row } }
-    {
-        if key < self.rows.len() {
-            self.rows[key] = row;
-        }
-    }
-
-    /// Returns the row with a key; a free one if there is none.
-    fn row(&self, key: usize) -> Row
-        ensures { result ≡ row_at self.now.rows key }
-    {
-        match self.rows.get(key) {
-            Some(row) => *row,
-            None => Row::FREE,
-        }
     }
 
     /// Frees the row with a key.
     pub fn release(&mut self, key: usize)
         ensures { self.new ≡ freed self.old key }
     {
-        self.set_row(key, Row::FREE);
+        if key < self.rows.len() {
+            self.rows[key] = Row::FREE;
+        }
     }
 
     /// Returns what polls reported of a socket since it last took the report.
     pub fn report(&self, key: usize) -> Readiness
         ensures { result ≡ report_at self.now key }
     {
-        self.row(key).report
+        match self.rows.get(key) {
+            Some(row) => row.report,
+            None => Readiness::UNKNOWN,
+        }
     }
 
     /// Returns the report of a socket, and takes it out of its row.
@@ -346,9 +365,7 @@ impl SocketTable {
         if key >= self.rows.len() {
             return Readiness::UNKNOWN;
         }
-        let report = self.rows[key].report;
-        self.rows[key].report = Readiness::UNKNOWN;
-        report
+        self.rows[key].take_report()
     }
 
     /// Returns whether polls reported something of a socket since it last took the report.
@@ -356,7 +373,7 @@ impl SocketTable {
         ensures { result ≡ is_reported_at self.now key }
     {
         match self.rows.get(key) {
-            Some(row) => has_report(row.report),
+            Some(row) => row.is_reported,
             None => false,
         }
     }
@@ -457,9 +474,9 @@ impl SocketTable {
     fn note_event(&mut self, event: SocketEvent)
         ensures { self.new ≡ record self.old { rows = with_event self.old.rows event } }
     {
-        let row = self.row(event.key);
-        let report = merged(row.report, report_of(event));
-        self.set_row(event.key, Row { report, ..row });
+        if event.key < self.rows.len() {
+            self.rows[event.key].add_report(report_of(event));
+        }
     }
 
     /// Adds what a poll reported to the rows, and records that no turn began since.

@@ -1,10 +1,10 @@
 //! What an operator requests of a run: its status, and its stop.
 
-ghost use Rattle.std.specs.Prelude.{◌≡◌, ◌+◌, ◌<◌, ◌≤◌, ◌||◌, ◌&&◌, nat_le, true, false, length, not};
+ghost use Rattle.std.specs.Prelude.{◌≡◌, ◌+◌, ◌<◌, ◌≤◌, ◌||◌, ◌&&◌, ◌∷◌, [], None, nat_le, true, false, length, not};
 ghost use Rattle.daide_io.specs.Network.{StopsListening};
 ghost use Rattle.daide_status.specs.declared.snapshot.RunStatus.{RunStatus};
 ghost use Rattle.daide_sockets.specs.Accepting.{is_accept_due};
-ghost use Rattle.daide_sockets.specs.ControlSlots.{BeginsRound, is_newly_stopped, watching_control};
+ghost use Rattle.daide_sockets.specs.ControlSlots.{BeginsRound, is_newly_stopped, places, watching_control};
 ghost use Rattle.daide_sockets.specs.Snapshot.{counted, seconds_between, or_zero, IsRunStatus};
 ghost use Rattle.daide_sockets.specs.Rows.{HandsRows, control_keys, keys_of_run};
 ghost use Rattle.daide_sockets.specs.Table.{Table};
@@ -69,8 +69,18 @@ impl<'w, N: Network, E: Write + Drop> Sockets<'w, N, E> {
         self.acceptor.came() >= self.bots_in_all
     }
 
-    /// Advances the control socket, with the status of the run, and returns the operator's orders. Most rounds have nothing to
-    /// do for it, and then no status is made.
+    /// Returns true only if a round has no order to take: the control socket is at rest, and the listener for bots need not
+    /// be closed, since it is closed or further bots may come.
+    fn has_no_orders(&self) -> bool
+        ensures open { result ≡ true → self.now.bots_in_all ≤ self.now.acceptor.came → self.now.acceptor.is_closed ≡ true }
+        ensures free { result ≡ true → places self.now.control.slots ≡ None ∷ None ∷ None ∷ None ∷ [] }
+        ensures watched { result ≡ true → (any : Table) → any ≡ watching_control any self.now.control }
+    {
+        (self.acceptor.is_closed() || !self.has_all_bots())
+            && self.control.is_at_rest(&self.poller.table)
+    }
+
+    /// Advances the control socket, with the status of the run, and returns the operator's orders.
     fn begin_control(&mut self) -> Orders
         ensures control { (run : RunStatus) × IsRunStatus self.old.acceptor.came
             (length self.old.present.numbers.items) (length self.old.arrivals.items) self.old.unreached
@@ -88,9 +98,6 @@ impl<'w, N: Network, E: Write + Drop> Sockets<'w, N, E> {
         ensures rows { HandsRows self.old.poller.table (control_keys self.old.control) self.new.poller.table
             (control_keys self.new.control) }
     {
-        if self.control.is_at_rest(&self.poller.table) {
-            return self.control.orders_at_rest();
-        }
         let run = self.run_status();
         self.control.begin_round(&mut self.poller, &run)
     }
@@ -134,6 +141,10 @@ impl<'w, N: Network, E: Write + Drop> Sockets<'w, N, E> {
           control = self.new.control;
         } }
     {
+        // Most rounds end here.
+        if self.has_no_orders() {
+            return self.control.orders_at_rest();
+        }
         let was_stopped = self.control.stops_accepting();
         let orders = self.begin_control();
         let is_stopped_now = orders.stops_accepting && !was_stopped;

@@ -1,12 +1,26 @@
 use Rattle.std.proofs.Common.{◌≡◌, refl, ap, ◌∙◌}
 use Rattle.daide_sockets.specs.Rows.{HandsRows, control_keys, keys_of_run}
 use Rattle.daide_sockets.specs.Table.{Table}
+use Rattle.daide_sockets.proofs.AtRestLemmas.{some_status}
 use Rattle.daide_sockets.proofs.ControlInTimeLemmas.{control_clock}
 use Rattle.daide_sockets.proofs.ControlRowLemmas.{watched_keeps}
 use Rattle.daide_sockets.proofs.RowLemmas.{handed_both}
 use Rattle.daide_sockets.proofs.RunRowLemmas.{control_hands, listener_hands, none_hands}
 use Rattle.daide_sockets.proofs.system.Sockets.take_orders.Goals as goal
 use Rattle.daide_sockets.proofs.system.Sockets.take_orders.Goals.{then-is_stopped_now, else-is_stopped_now+else-not-is_closed}
+
+pub returns-then-has_no_orders-clause-control : goal.returns-then-has_no_orders-clause-control
+returns-then-has_no_orders-clause-control g c =
+    let some = some_status _ _ _ _ _ _ _ in
+    (some.0, some.1, c.orders_at_rest.ensures.control some.0 c.args.self.now.poller.table.reading)
+
+pub returns-then-has_no_orders-clause-watched : goal.returns-then-has_no_orders-clause-watched
+returns-then-has_no_orders-clause-watched g c =
+    (c.args.self.now.poller.table, c.has_no_orders.ensures.watched c.if-has_no_orders.true c.args.self.now.poller.table)
+
+pub returns-then-has_no_orders-clause-rows : goal.returns-then-has_no_orders-clause-rows
+returns-then-has_no_orders-clause-rows g c =
+    none_hands _ _ c.args.self.now.acceptor c.args.self.now.acceptor _ _ _ refl (λ key. refl)
 
 pub returns-clause-clock : goal.returns-clause-clock
 returns-clause-clock g c =

@@ -5,8 +5,11 @@ use Rattle.daide_sockets.proofs.WatchLemmas.{left_false, right_false}
 use Rattle.daide_sockets.proofs.table.SocketTable.note_now.Goals as goal
 
 pub invariant_of-self : goal.invariant_of-self
-invariant_of-self c = λ e.
-    let both = sym c.either-self-inside.ensures ∙ e in (
-      ap (λ (t : Table). nat_le 32 t.turns) c.self.view_is ∙ (sym c.has_many_turns.ensures ∙ left_false _ _ both),
-      sym c.is_past.ensures.past ∙ right_false _ _ both,
-    )
+invariant_of-self c = (
+  λ e.
+      let both = sym c.either-self-inside.ensures ∙ e in (
+        ap (λ (t : Table). nat_le 32 t.turns) c.self.view_is ∙ (sym c.has_many_turns.ensures ∙ left_false _ _ both),
+        sym c.is_past.ensures.past ∙ right_false _ _ both,
+      ),
+  c.self.invariant.1,
+)

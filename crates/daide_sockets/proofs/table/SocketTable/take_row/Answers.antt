@@ -1,5 +1,5 @@
 use Rattle.std.proofs.Common.{rules, List, length, ap, ◌∙◌, subst, ◌≤◌}
-use Rattle.daide_sockets.specs.declared.table.Row.{Row}
+use Rattle.daide_sockets.specs.Table.{Row}
 use Rattle.daide_sockets.specs.Table.{Table, first_free}
 use Rattle.daide_sockets.proofs.TableLemmas.{took, took_inside, took_behind}
 use Rattle.daide_sockets.proofs.table.SocketTable.take_row.Goals as goal
