@@ -18,7 +18,7 @@ use std::alloc::{AllocError, Global};
 use std::convert::AsStr;
 
 /// The version of the program.
-pub(crate) const VERSION: &str = "1.0.0";
+pub(crate) const VERSION: &str = "1.1.0";
 
 /// The order that the arguments give. The slices of arguments are borrowed for `'m`, their texts for `'a`.
 #[derive(Clone, Copy)]
