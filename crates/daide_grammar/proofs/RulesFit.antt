@@ -1,13 +1,13 @@
 -- The row of each rule has its rest, the last symbol first.
 use Rattle.std.proofs.Common.{◌≡◌, ℕ, zero, suc, ◌<◌, ◌≤◌, ◌+◌, ◌-◌, ◌%◌, ◌^◌, Bool, true, false, nat_eq, nat_le}
 use Rattle.std.proofs.Common.{nat_lt, leb-true}
-use Rattle.std.proofs.Common.{ltb-true, List, [], ◌∷◌, length, map, take, reverse, refl, arith}
+use Rattle.std.proofs.Common.{ltb-true, List, [], ◌∷◌, length, map, take, drop, reverse, refl, sym, ◌∙◌, arith}
 use Rattle.std.proofs.lemmas.Bool.Decides.{nat_tests}
-use Rattle.std.specs.Prelude.{slice_index_or}
+use Rattle.std.specs.Prelude.{slice_index_or, if◌then◌else◌}
 use Rattle.std.specs.List.{list_all, range_with_len}
 use Rattle.daide_grammar.specs.declared.symbol.Sym.{Sym}
 use Rattle.daide_grammar.specs.declared.table.rows.TheConstants.{TABLE}
-use Rattle.daide_grammar.specs.Table.Cells.{cell_at, growth_at, length_at}
+use Rattle.daide_grammar.specs.Table.Cells.{cell_at, first_at, growth_at, length_at}
 use Rattle.daide_grammar.specs.Table.Numbers.{all_symbols, symbol_at}
 use Rattle.daide_grammar.specs.Table.ParseActions.{all_rules, action, rest_of_action, rest_of, is_take, is_stop}
 use Rattle.daide_grammar.proofs.Alike.{alike, passes_at}
@@ -65,6 +65,37 @@ unfolding cell_at
 cell_small n place =
     let row = passes_at (list_all (λ n. nat_lt n all_symbols)) TABLE.rests n [] few refl in
     ltb-true (cell_at n place) all_symbols (passes_at (λ n. nat_lt n all_symbols) (slice_index_or TABLE.rests n []) place 0 row refl)
+
+-- rules 0 to 2 leave nothing, and each other one its first symbol and more
+with_first : ℕ → List Sym
+with_first n = if nat_le n 2 then [] else symbol_at (first_at n) ∷ drop 1 (rest_of (action n))
+
+rest_at : ℕ → List Sym
+rest_at n = rest_of (action n)
+
+firsts : map with_first (range_with_len 0 all_rules) ≡ map rest_at (range_with_len 0 all_rules)
+unfolding with_first rest_at action rest_of_action first_at
+firsts = refl
+
+pub first_fits : (n : ℕ) → n < all_rules → nat_le n 2 ≡ false
+    → rest_of (action n) ≡ symbol_at (first_at n) ∷ drop 1 (rest_of (action n))
+unfolding with_first rest_at
+first_fits n less some =
+    let whole : with_first n ≡ rest_at n = alike with_first rest_at all_rules firsts n less in
+    sym whole ∙ rw some refl
+
+pub no_rest : (n : ℕ) → n < all_rules → nat_le n 2 ≡ true → rest_of (action n) ≡ []
+unfolding with_first rest_at
+no_rest n less none =
+    let whole : with_first n ≡ rest_at n = alike with_first rest_at all_rules firsts n less in
+    sym whole ∙ rw none refl
+
+few_firsts : list_all (λ n. nat_lt n all_symbols) TABLE.firsts ≡ true
+few_firsts = refl
+
+pub first_small : (n : ℕ) → first_at n < all_symbols
+unfolding first_at
+first_small n = ltb-true (first_at n) all_symbols (passes_at (λ n. nat_lt n all_symbols) TABLE.firsts n 0 few_firsts refl)
 
 pub take_told : (n : ℕ) → nat_le 2 n ≡ is_take (action n)
 unfolding action

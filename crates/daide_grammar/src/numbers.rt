@@ -31,6 +31,9 @@ pub const STOP: u8 = 0;
 /// The rule by which the symbol is empty here.
 pub const SKIP: u8 = 1;
 
+/// The rule by which the symbol is the token alone. Each later one leaves at least one symbol.
+pub const TAKE: usize = 2;
+
 /// The rule that leaves `power_group` alone.
 pub const LEAVES_POWER_GROUP: u8 = 70;
 

@@ -4,7 +4,7 @@
 //! say that its results fit together, and a reader needs nothing else. `words` is what an operator added to the
 //! grammar. No call changes it, and every other clause depends on it.
 
-ghost use Rattle.std.specs.Prelude.{◌≡◌, ℕ, ◌+◌, ◌%◌, ◌^◌, ◌≤◌, ◌<◌, List, [], ◌∷◌, Bool, false, length, reverse, take};
+ghost use Rattle.std.specs.Prelude.{◌≡◌, ℕ, ◌+◌, ◌%◌, ◌^◌, ◌≤◌, ◌<◌, List, [], ◌∷◌, Bool, false, IfNone, IfSome, drop, length, reverse, take};
 ghost use Rattle.daide_token.specs.declared.class.Class.{Class};
 ghost use Rattle.daide_token.specs.Class.{class_of as known_class};
 ghost use Rattle.daide_grammar.specs.declared.level.Level.{Level};
@@ -14,11 +14,12 @@ ghost use Rattle.daide_grammar.specs.Table.Answers.{TableEntry};
 ghost use Rattle.daide_grammar.specs.Words.{Words};
 ghost use Rattle.daide_grammar.specs.Table.Laws.{IsCorrectPrediction};
 ghost use Rattle.daide_grammar.specs.Table.ParseActions.{all_rules, action, is_stop, is_take, rest_of};
-ghost use Rattle.daide_grammar.specs.Table.Cells.{cell_at, growth_at, length_at};
+ghost use Rattle.daide_grammar.specs.Table.Cells.{cell_at, first_at, growth_at, length_at};
 ghost use Rattle.daide_grammar.specs.Table.Numbers.{symbol_at};
 
 use crate::column::Column;
 use crate::level::Level;
+use crate::numbers::TAKE;
 use crate::side::Side2;
 use crate::symbol::Symbol;
 use crate::table::whole;
@@ -80,6 +81,18 @@ impl Move {
         length_at(self.rule) as usize
     }
 
+    /// Returns the first symbol that must follow, or `None` if none must.
+    #[inline(always)]
+    pub fn first(&self) -> Option<Symbol>
+        ensures none { IfNone result (rest_of self.now ≡ []) }
+        ensures first { IfSome result (λ s. rest_of self.now ≡ s ∷ drop 1 (rest_of self.now)) }
+    {
+        if self.rule <= TAKE {
+            return None;
+        }
+        Some(first_of(self.rule))
+    }
+
     /// Returns the height of a stack after its top, at this index, took the token.
     #[inline(always)]
     pub fn height_after(&self, top: usize) -> usize
@@ -134,6 +147,24 @@ fn length_at(rule: usize) -> u8
     ensures { result ≡ length_at rule }
 {
     whole().lengths[rule]
+}
+
+#[inline(always)]
+fn first_of(rule: usize) -> Symbol
+    requires { rule < all_rules }
+    ensures { result ≡ symbol_at (first_at rule) }
+{
+    Symbol::of(first_at(rule))
+}
+
+/// Returns the number of the first symbol that a rule leaves.
+#[inline(always)]
+#[tactic(auto, unfolding(crate::specs::Table::Cells::first_at))]
+fn first_at(rule: usize) -> u8
+    requires { rule < all_rules }
+    ensures { result ≡ first_at rule }
+{
+    whole().firsts[rule]
 }
 
 /// Returns what a rule adds to the index of a stack's top, modulo 2^64.

@@ -20,6 +20,8 @@ pub(crate) struct Table {
     pub(crate) rests: [[u8; 8]; RULE_COUNT],
     /// How many symbols each rule leaves.
     pub(crate) lengths: [u8; RULE_COUNT],
+    /// The first symbol that each rule leaves, or 0 if it leaves none.
+    pub(crate) firsts: [u8; RULE_COUNT],
     /// What each rule adds to the index of a stack's top, modulo 2^64.
     pub(crate) growths: [usize; RULE_COUNT],
     /// What a token of each class adds to the open brackets, modulo 2^16.
@@ -34,6 +36,7 @@ pub(crate) struct Linked {
     pub(crate) rows: [&'static [u8; SYMBOL_COUNT]; CLASS_COUNT],
     pub(crate) rests: [[u8; 8]; RULE_COUNT],
     pub(crate) lengths: [u8; RULE_COUNT],
+    pub(crate) firsts: [u8; RULE_COUNT],
     pub(crate) growths: [usize; RULE_COUNT],
     pub(crate) brackets: [u16; CLASS_COUNT],
     pub(crate) classes: [[u8; 256]; 256],
@@ -45,6 +48,7 @@ pub(crate) fn whole() -> &'static Linked
     ensures rows { map (λ row. row.now) result.now.rows ≡ TABLE.rows }
     ensures rests { result.now.rests ≡ TABLE.rests }
     ensures lengths { result.now.lengths ≡ TABLE.lengths }
+    ensures firsts { result.now.firsts ≡ TABLE.firsts }
     ensures growths { result.now.growths ≡ TABLE.growths }
     ensures brackets { result.now.brackets ≡ TABLE.brackets }
     ensures classes { flat_map (λ row. row) result.now.classes ≡ TABLE.classes }

@@ -1,5 +1,5 @@
 -- One symbol of a stack in cells, and a rest pushed on it.
-use Rattle.std.proofs.Common.{◌≡◌, ℕ, zero, suc, ◌+◌, ◌-◌, ◌%◌, ◌^◌, ◌<◌, ◌≤◌, Bool, true, false, Option, Some, None}
+use Rattle.std.proofs.Common.{◌≡◌, ◌≢◌, ℕ, zero, suc, ◌+◌, ◌-◌, ◌%◌, ◌^◌, ◌<◌, ◌≤◌, Bool, true, false, Option, Some, None}
 use Rattle.std.proofs.Common.{IfSome}
 use Rattle.std.proofs.Common.{List, [], ◌∷◌, ◌++◌, length, get_or, take, reverse, refl, sym, ap, ◌∙◌, subst, arith}
 use Rattle.std.proofs.lemmas.List.{take-take, reverse-append, reverse-reverse, length-append, length-reverse}
@@ -43,6 +43,16 @@ on_top cells (suc top) blank some inside =
     rw less (ap reverse (take-suc cells top blank (omega arith))
     ∙ reverse-append (take top cells) (get_or cells top blank ∷ []))
 
+-- the first symbol of a stack is in the last of its cells
+pub known_on_top : (cells : List Sym) (left : ℕ) (s : Sym) (more : List Sym) → left ≤ length cells
+    → reverse (take left cells) ≡ s ∷ more
+    → (left ≢ 0) × (reverse (take left cells) ≡ s ∷ reverse (take (left - 1) cells))
+known_on_top cells zero s more inside is = absurd cc
+known_on_top cells (suc top) s more inside is =
+    let whole = on_top cells (suc top) s (omega arith) inside in
+    let same : get_or cells (suc top - 1) s ≡ s = cc in
+    (λ none. omega (arith, none), whole ∙ ap (λ (x : Sym). x ∷ reverse (take (suc top - 1) cells)) same)
+
 -- the stack with a rest pushed on it
 pub put_on_top : (new old rest : List Sym) (cells : List Sym) (top n k : ℕ)
     → take (top + n) new ≡ take top old ++ take n cells → n ≡ length rest → k ≡ length rest
@@ -68,6 +78,15 @@ few_in_cells rest cells eight is =
     let short = take_short (length rest) cells in
     omega (arith, eight, same, short)
 
+-- all eight cells were written, so there are that many
+pub written_cells : (top : ℕ) (new old cells : List Sym) → length cells ≡ 8 → top ≤ length old
+    → take (top + 8) new ≡ take top old ++ cells → top + 8 ≤ length new
+written_cells top new old cells eight inside put =
+    let upto = take_short (top + 8) new in
+    let both = ap length put ∙ length-append (take top old) cells in
+    let below = length-take-le top old inside in
+    omega (arith, eight, upto, both, below)
+
 -- all eight cells were written, and the rest is on the stack
 pub rest_on_top : (top : ℕ) (new old rest cells : List Sym) (k : ℕ) → length cells ≡ 8 → top ≤ length old
     → take (top + 8) new ≡ take top old ++ cells → take (length rest) cells ≡ reverse rest → k ≡ top + length rest
@@ -86,6 +105,12 @@ on_place cells top blank inside =
     let less : top + 1 - 1 ≡ top = omega arith in
     subst (λ (k : ℕ). reverse (take (top + 1) cells) ≡ get_or cells k blank ∷ reverse (take k cells)) less
     (on_top cells (top + 1) blank (omega arith) (omega arith))
+
+-- an entry that leaves a symbol takes the token
+pub leaves_by_taking : (a : TableEntry) (s : Sym) (more : List Sym) → rest_of a ≡ s ∷ more → is_take a ≡ true
+leaves_by_taking (Take rest) s more is = refl
+leaves_by_taking Skip s more is = absurd cc
+leaves_by_taking Stop s more is = absurd cc
 
 -- the stack after an entry for its top, and the number of look-ups
 module _ (moves : Sym → Class → TableEntry) (class : Class) (s : Sym) (below : List Sym) where

@@ -33,6 +33,7 @@ pub(crate) fn put<const N: usize>(cells: &mut [Symbol; N], top: usize, answer: &
     requires room { top + 8 ≤ N }
     ensures stack { reverse (take result cells.new) ≡ rest_of answer.now ++ reverse (take top cells.old) }
     ensures inside { result ≤ N }
+    ensures written { result ≤ length cells.new }
 {
     put_rest(cells, top, answer.cells());
     answer.height_after(top)

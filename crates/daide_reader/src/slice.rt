@@ -121,7 +121,8 @@ fn run_end(tokens: usize, opened: u16, count: usize) -> RunEnd
 
 /// Reads tokens of a body, at most as many as brackets may still be opened. So no token can open a bracket too many, and
 /// the loop checks neither the depth nor the room on the stack. A symbol that is skipped leaves the token and its class
-/// as they are, and whether the stack is empty is tested where its height changes.
+/// as they are, and whether the stack is empty is tested where it may have become so. The symbol on top is in a local:
+/// after a token that leaves symbols it comes from the table, so no look-up waits for a cell that was just written.
 #[inline(always)]
 fn run_below_depth_limit<T: Predict, const N: usize>(
     table: &mut T,
@@ -153,10 +154,11 @@ fn run_below_depth_limit<T: Predict, const N: usize>(
     let mut held = LoadedToken::at(body, next);
     let mut known = Column::known(held.token());
     if left != 0 {
+        let mut symbol = cells[left - 1];
         loop {
             let top = left - 1;
-            let answer = table.predict_token(cells[top], held.token(), known);
-            if answer.is_take() {
+            let answer = table.predict_token(symbol, held.token(), known);
+            if let Some(first) = answer.first() {
                 opened = opened.wrapping_add(known.bracket_step());
                 next += 1;
                 if next == end {
@@ -165,12 +167,19 @@ fn run_below_depth_limit<T: Predict, const N: usize>(
                 held = LoadedToken::at(body, next);
                 known = Column::known(held.token());
                 left = put(cells, top, &answer);
-                if left != 0 {
-                    continue;
-                }
-                break;
+                symbol = first;
+                continue;
             }
-            if answer.is_stop() {
+            if answer.is_take() {
+                opened = opened.wrapping_add(known.bracket_step());
+                next += 1;
+                if next == end {
+                    return run_end(end, opened, top);
+                }
+                held = LoadedToken::at(body, next);
+                known = Column::known(held.token());
+                left = top;
+            } else if answer.is_stop() {
                 opened = opened.wrapping_add(known.bracket_step());
                 let Some(now) = follow_word(table, cells, top, held.token(), known) else {
                     return reject_at(opened, next);
@@ -188,6 +197,7 @@ fn run_below_depth_limit<T: Predict, const N: usize>(
             if left == 0 {
                 break;
             }
+            symbol = cells[left - 1];
         }
     }
     reject_at(opened.wrapping_add(known.bracket_step()), next)

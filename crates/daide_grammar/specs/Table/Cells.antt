@@ -22,6 +22,10 @@ cell_at rule place = slice_index (slice_index_or TABLE.rests rule []) place
 unfoldable pub length_at : ℕ → ℕ
 length_at rule = slice_index TABLE.lengths rule
 
+-- the number of the first symbol that a rule leaves, or 0 if it leaves none
+unfoldable pub first_at : ℕ → ℕ
+first_at rule = slice_index TABLE.firsts rule
+
 -- what a rule adds to the index of a stack's top, modulo 2^64
 unfoldable pub growth_at : ℕ → ℕ
 growth_at rule = slice_index TABLE.growths rule

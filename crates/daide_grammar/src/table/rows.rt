@@ -8,7 +8,7 @@
 use crate::table::classes::{
     BRACKETS, by_code, class, class_4a, class_40, class_42, class_43, class_48, class_49, classes,
 };
-use crate::table::rules::{GROWTHS, LENGTHS, RESTS};
+use crate::table::rules::{FIRSTS, GROWTHS, LENGTHS, RESTS};
 use crate::table::{Linked, Table};
 
 macro_rules! closing {
@@ -775,6 +775,7 @@ macro_rules! columns {
 pub(crate) static TABLE: Table = Table {
     rests: RESTS,
     lengths: LENGTHS,
+    firsts: FIRSTS,
     growths: GROWTHS,
     classes: classes!(in_one),
     brackets: BRACKETS,
@@ -784,6 +785,7 @@ pub(crate) static TABLE: Table = Table {
 pub(crate) static LINKED: Linked = Linked {
     rests: RESTS,
     lengths: LENGTHS,
+    firsts: FIRSTS,
     growths: GROWTHS,
     classes: classes!(in_rows),
     brackets: BRACKETS,

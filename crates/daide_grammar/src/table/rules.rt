@@ -210,6 +210,12 @@ macro_rules! rest {
     (length $a:expr, $b:expr, $c:expr) => { 3 };
     (length $a:expr, $b:expr, $c:expr, $d:expr) => { 4 };
     (length $a:expr, $b:expr, $c:expr, $d:expr, $e:expr) => { 5 };
+    (first) => { 0 };
+    (first $a:expr) => { $a };
+    (first $a:expr, $b:expr) => { $a };
+    (first $a:expr, $b:expr, $c:expr) => { $a };
+    (first $a:expr, $b:expr, $c:expr, $d:expr) => { $a };
+    (first $a:expr, $b:expr, $c:expr, $d:expr, $e:expr) => { $a };
     (growth) => { usize::MAX };
     (growth $a:expr) => { 0 };
     (growth $a:expr, $b:expr) => { 1 };
@@ -241,7 +247,7 @@ macro_rules! by_level {
     (223 $of:ident $place:literal) => { rest!($of POWER_GROUP, POWERS_GROUP, PRESS_GROUP + $place) };
 }
 
-/// The cells, lengths or growths of all rules.
+/// The cells, lengths, first symbols or growths of all rules.
 macro_rules! rules {
     ($of:ident) => {
         [
@@ -381,11 +387,13 @@ macro_rules! rules {
             by_level!(216 $of 4), by_level!(216 $of 5), by_level!(216 $of 6),
             by_level!(223 $of 0), by_level!(223 $of 1), by_level!(223 $of 2), by_level!(223 $of 3),
             by_level!(223 $of 4), by_level!(223 $of 5), by_level!(223 $of 6),
-            // no rules
-            rest!($of), rest!($of), rest!($of), rest!($of), rest!($of), rest!($of), rest!($of), rest!($of),
-            rest!($of), rest!($of), rest!($of), rest!($of), rest!($of), rest!($of), rest!($of), rest!($of),
-            rest!($of), rest!($of), rest!($of), rest!($of), rest!($of), rest!($of), rest!($of), rest!($of),
-            rest!($of), rest!($of),
+            // no rules: no symbol has one
+            rest!($of CLOSING), rest!($of CLOSING), rest!($of CLOSING), rest!($of CLOSING), rest!($of CLOSING),
+            rest!($of CLOSING), rest!($of CLOSING), rest!($of CLOSING), rest!($of CLOSING), rest!($of CLOSING),
+            rest!($of CLOSING), rest!($of CLOSING), rest!($of CLOSING), rest!($of CLOSING), rest!($of CLOSING),
+            rest!($of CLOSING), rest!($of CLOSING), rest!($of CLOSING), rest!($of CLOSING), rest!($of CLOSING),
+            rest!($of CLOSING), rest!($of CLOSING), rest!($of CLOSING), rest!($of CLOSING), rest!($of CLOSING),
+            rest!($of CLOSING),
         ]
     };
 }
@@ -395,6 +403,9 @@ pub(crate) const RESTS: [[u8; 8]; RULE_COUNT] = rules!(cells);
 
 /// How many symbols each rule leaves.
 pub(crate) const LENGTHS: [u8; RULE_COUNT] = rules!(length);
+
+/// The first symbol that each rule leaves, or 0 if it leaves none.
+pub(crate) const FIRSTS: [u8; RULE_COUNT] = rules!(first);
 
 /// What each rule adds to the place of a stack's top, wrapping: the symbols that it leaves, less the one that it takes.
 pub(crate) const GROWTHS: [usize; RULE_COUNT] = rules!(growth);

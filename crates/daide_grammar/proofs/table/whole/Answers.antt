@@ -10,6 +10,9 @@ returns-clause-rests c = refl
 pub returns-clause-lengths : goal.returns-clause-lengths
 returns-clause-lengths c = refl
 
+pub returns-clause-firsts : goal.returns-clause-firsts
+returns-clause-firsts c = refl
+
 pub returns-clause-growths : goal.returns-clause-growths
 returns-clause-growths c = refl
 

@@ -1,5 +1,5 @@
 use Rattle.std.proofs.Common.{◌≡◌, ◌≤◌, ◌<◌, ◌+◌, ◌-◌, ◌%◌, [], ◌∷◌, ◌++◌, List, ℕ, Option, Some}
-use Rattle.std.proofs.Common.{IfSome, take, drop, length, get_or, reverse, sym, ap, ◌∙◌, subst, rules, arith}
+use Rattle.std.proofs.Common.{IfSome, take, drop, length, refl, reverse, sym, ap, ◌∙◌, subst, rules, arith}
 use Rattle.daide_token.specs.Class.{class_of as known_class}
 use Rattle.daide_token.specs.Token.{tokens_of}
 use Rattle.daide_grammar.specs.declared.symbol.Sym.{Sym}
@@ -8,23 +8,24 @@ use Rattle.daide_reader.specs.Slice.{SliceState}
 use Rattle.daide_reader.specs.Stack.{open_count}
 use Rattle.daide_reader.proofs.Counts.{before_end, count_low, end_moves, from_next, less_deep, less_within}
 use Rattle.daide_reader.proofs.Counts.{not_last, once_more, rest_inside, shallow_next, some_left}
-use Rattle.daide_reader.proofs.Counts.{start_shallow, token_inside, top_inside, top_some, top_whole}
+use Rattle.daide_reader.proofs.Counts.{start_shallow, token_inside, top_inside, top_whole}
 use Rattle.daide_reader.proofs.BodyLemmas.{tokens_of-length}
-use Rattle.daide_reader.proofs.CellLemmas.{on_top}
+use Rattle.daide_reader.proofs.CellLemmas.{known_on_top, leaves_by_taking, on_top}
 use Rattle.daide_reader.proofs.StretchLemmas.{at_start, begun, counted_by_step, due_same, goes_on, room_for, run_whole}
 use Rattle.daide_reader.proofs.StretchLemmas.{rejects_next, said_same, skipped, stops_here, took}
-use Rattle.daide_reader.proofs.slice.run_below_depth_limit.Goals.{then-is_stop+in-Some+else-next-end-2, else-is_stop}
-use Rattle.daide_reader.proofs.slice.run_below_depth_limit.Goals.{then-left-ne0+then-is_take+else-next-end+else-left-ne0-2}
-use Rattle.daide_reader.proofs.slice.run_below_depth_limit.Goals.{then-left-ne0+else-is_take+then-left-eq0, else-left-ne0}
+use Rattle.daide_reader.proofs.slice.run_below_depth_limit.Goals.{else-is_take+else-is_stop, else-left-ne0}
+use Rattle.daide_reader.proofs.slice.run_below_depth_limit.Goals.{else-is_take+then-is_stop+in-Some-follow_word+else-next-end-3}
+use Rattle.daide_reader.proofs.slice.run_below_depth_limit.Goals.{then-is_take+else-next-end-2, then-left-ne0+in_default+then-left-eq0}
 use Rattle.daide_reader.proofs.slice.run_below_depth_limit.Goals as goal
 
-pub loop-held-init : goal.loop-held-init
-loop-held-init g c =
+pub loop-first-init : goal.loop-first-init
+loop-first-init g c =
     let old : SliceState g.row.T.Denot =
     record { table = c.args.table.now; stack = reverse (take c.args.start.count c.args.cells.now) } in
     record {
       inside = c.requires.count;
       some = c.if-left-ne0.true;
+      top = on_top c.args.cells.now c.args.start.count c.index-cells-left.result (omega (arith, c.if-left-ne0.true)) (omega (arith, c.requires.count));
       from = omega arith;
       more = end_moves (length c.args.body.now) c.args.start.read (c.args.max_depth - c.args.start.unclosed)
           c.min-end.result c.min-end.ensures c.requires.read (some_left _ _ c.requires.deep);
@@ -38,41 +39,39 @@ loop-held-init g c =
           (less_within _ _ c.requires.deep) c.requires.lawful);
     }
 
--- the symbol on top takes the last token of the run
+-- the symbol on top takes the last token of the run, and leaves symbols
 pub returns-then-next-end-clause-reads : goal.returns-then-next-end-clause-reads
 returns-then-next-end-clause-reads g c =
     let old : SliceState g.row.T.Denot =
     record { table = c.args.table.now; stack = reverse (take c.args.start.count c.args.cells.now) } in
     let now : SliceState g.row.T.Denot =
-    record { table = c.loop-held.table; stack = reverse (take c.loop-held.left c.loop-held.cells) } in
-    let inv = c.loop-held.invariant in
-    let i = c.loop-held.next in
-    let opened = c.loop-held.opened in
+    record { table = c.loop-first.table; stack = reverse (take c.loop-first.left c.loop-first.cells) } in
+    let inv = c.loop-first.invariant in
+    let i = c.loop-first.next in
+    let opened = c.loop-first.opened in
     let end = c.min-end.result in
     let toks = tokens_of c.args.body.now in
     let less = less_deep opened end i c.args.max_depth inv.shallow inv.more in
     let low = count_low opened c.args.max_depth g.row.N (less_within _ _ less) c.requires.size c.requires.at_depth_limit in
-    let t = c.token-in-loop-held.result in
-    let same = c.token-in-loop-held.ensures in
+    let t = c.token-in-loop-first.result in
+    let same = c.token-in-loop-first.ensures in
     let front : take (i + 1) toks ≡ take i toks ++ t ∷ [] = inv.front ∙ ap (λ (k : ℕ). take i toks ++ k ∷ []) (sym same) in
     let rest : drop i toks ≡ t ∷ drop (i + 1) toks = inv.rest ∙ ap (λ (k : ℕ). k ∷ drop (i + 1) toks) (sym same) in
     let class = inv.class ∙ ap known_class (sym same) in
     let counted : count_one (is_bra t) (is_ket t) (Some opened) ≡ open_count ((opened + c.bracket_step-opened.result) % 65536) =
-    counted_by_step opened t c.loop-held.known class low
+    counted_by_step opened t c.loop-first.known class low
     ∙ ap (λ (k : ℕ). open_count ((opened + k) % 65536)) (sym c.bracket_step-opened.ensures) in
-    let cells = c.loop-held.cells in
-    let s = get_or cells (c.loop-held.left - 1) c.index-cells-top.result in
-    let below = reverse (take (c.loop-held.left - 1) cells) in
+    let cells = c.loop-first.cells in
+    let s = c.loop-first.symbol in
+    let below = reverse (take (c.loop-first.left - 1) cells) in
     let a = c.predict_token-answer.result in
-    let top : now.stack ≡ s ∷ below =
-    on_top cells c.loop-held.left c.index-cells-top.result
-    (top_some c.loop-held.left g.row.N inv.some inv.inside) (omega arith) in
+    let top : now.stack ≡ s ∷ below = inv.top in
     let new : SliceState g.row.T.Denot =
     record { table = c.predict_token-answer.new.self; stack = reverse (take c.put.result c.put.new.cells) } in
     let next = took g.T.Predict g.met.T.Predict.laws c.args.max_depth c.args.body.now c.args.start.read c.args.start.unclosed old
     i opened end t ((opened + c.bracket_step-opened.result) % 65536) now new s below a inv.mid
     front rest top c.predict_token-answer.ensures.answer
-    (sym c.is_take.ensures ∙ c.if-is_take.true) c.put.ensures.stack c.predict_token-answer.ensures.words_stay
+    (leaves_by_taking a c.in-Some.first _ c.in-Some.ensures.first) c.put.ensures.stack c.predict_token-answer.ensures.words_stay
     c.predict_token-answer.ensures.counts_each_answer less counted in
     run_whole g.T.Predict g.met.T.Predict.laws c.args.max_depth c.args.body.now c.args.start.read c.args.start.unclosed old
     (i + 1) ((opened + c.bracket_step-opened.result) % 65536) end c.run_end.result.tokens c.run_end.result.unclosed
@@ -81,51 +80,94 @@ returns-then-next-end-clause-reads g c =
     (ap (λ (k : ℕ). record { table = c.predict_token-answer.new.self; stack = reverse (take k c.put.new.cells) })
     c.run_end.ensures.count)
 
--- the symbol on top takes a token that is not the last one
-pub loop-held-preserved-then-left-ne0-2 : goal.loop-held-preserved-then-left-ne0-2
-loop-held-preserved-then-left-ne0-2 g c =
+-- it leaves nothing
+pub returns-then-next-end-2-clause-reads : goal.returns-then-next-end-2-clause-reads
+returns-then-next-end-2-clause-reads g c =
     let old : SliceState g.row.T.Denot =
     record { table = c.args.table.now; stack = reverse (take c.args.start.count c.args.cells.now) } in
     let now : SliceState g.row.T.Denot =
-    record { table = c.loop-held.table; stack = reverse (take c.loop-held.left c.loop-held.cells) } in
-    let inv = c.loop-held.invariant in
-    let i = c.loop-held.next in
-    let opened = c.loop-held.opened in
+    record { table = c.loop-first.table; stack = reverse (take c.loop-first.left c.loop-first.cells) } in
+    let inv = c.loop-first.invariant in
+    let i = c.loop-first.next in
+    let opened = c.loop-first.opened in
     let end = c.min-end.result in
     let toks = tokens_of c.args.body.now in
     let less = less_deep opened end i c.args.max_depth inv.shallow inv.more in
     let low = count_low opened c.args.max_depth g.row.N (less_within _ _ less) c.requires.size c.requires.at_depth_limit in
-    let t = c.token-in-loop-held.result in
-    let same = c.token-in-loop-held.ensures in
+    let t = c.token-in-loop-first.result in
+    let same = c.token-in-loop-first.ensures in
+    let front : take (i + 1) toks ≡ take i toks ++ t ∷ [] = inv.front ∙ ap (λ (k : ℕ). take i toks ++ k ∷ []) (sym same) in
+    let rest : drop i toks ≡ t ∷ drop (i + 1) toks = inv.rest ∙ ap (λ (k : ℕ). k ∷ drop (i + 1) toks) (sym same) in
+    let class = inv.class ∙ ap known_class (sym same) in
+    let counted : count_one (is_bra t) (is_ket t) (Some opened) ≡ open_count ((opened + c.bracket_step-opened-then-is_take.result) % 65536) =
+    counted_by_step opened t c.loop-first.known class low
+    ∙ ap (λ (k : ℕ). open_count ((opened + k) % 65536)) (sym c.bracket_step-opened-then-is_take.ensures) in
+    let cells = c.loop-first.cells in
+    let s = c.loop-first.symbol in
+    let below = reverse (take (c.loop-first.left - 1) cells) in
+    let a = c.predict_token-answer.result in
+    let top : now.stack ≡ s ∷ below = inv.top in
+    let new : SliceState g.row.T.Denot =
+    record { table = c.predict_token-answer.new.self; stack = below } in
+    let next = took g.T.Predict g.met.T.Predict.laws c.args.max_depth c.args.body.now c.args.start.read c.args.start.unclosed old
+    i opened end t ((opened + c.bracket_step-opened-then-is_take.result) % 65536) now new s below a inv.mid
+    front rest top c.predict_token-answer.ensures.answer
+    (sym c.is_take.ensures ∙ c.if-is_take.true) (rw c.in_default.ensures.none refl) c.predict_token-answer.ensures.words_stay
+    c.predict_token-answer.ensures.counts_each_answer less counted in
+    run_whole g.T.Predict g.met.T.Predict.laws c.args.max_depth c.args.body.now c.args.start.read c.args.start.unclosed old
+    (i + 1) ((opened + c.bracket_step-opened-then-is_take.result) % 65536) end c.run_end-then-next-end-2.result.tokens c.run_end-then-next-end-2.result.unclosed
+    c.run_end-then-next-end-2.result.place new _ next.0 c.if-next-end-2.true c.run_end-then-next-end-2.ensures.tokens c.run_end-then-next-end-2.ensures.unclosed
+    c.run_end-then-next-end-2.ensures.place
+    (ap (λ (k : ℕ). record { table = c.predict_token-answer.new.self; stack = reverse (take k c.loop-first.cells) })
+    c.run_end-then-next-end-2.ensures.count)
+
+-- the symbol on top takes a token that is not the last one, and leaves a symbol
+pub loop-first-preserved-in-Some : goal.loop-first-preserved-in-Some
+loop-first-preserved-in-Some g c =
+    let old : SliceState g.row.T.Denot =
+    record { table = c.args.table.now; stack = reverse (take c.args.start.count c.args.cells.now) } in
+    let now : SliceState g.row.T.Denot =
+    record { table = c.loop-first.table; stack = reverse (take c.loop-first.left c.loop-first.cells) } in
+    let inv = c.loop-first.invariant in
+    let i = c.loop-first.next in
+    let opened = c.loop-first.opened in
+    let end = c.min-end.result in
+    let toks = tokens_of c.args.body.now in
+    let less = less_deep opened end i c.args.max_depth inv.shallow inv.more in
+    let low = count_low opened c.args.max_depth g.row.N (less_within _ _ less) c.requires.size c.requires.at_depth_limit in
+    let t = c.token-in-loop-first.result in
+    let same = c.token-in-loop-first.ensures in
     let front : take (i + 1) toks ≡ take i toks ++ t ∷ [] = inv.front ∙ ap (λ (k : ℕ). take i toks ++ k ∷ []) (sym same) in
     let rest : drop i toks ≡ t ∷ drop (i + 1) toks = inv.rest ∙ ap (λ (k : ℕ). k ∷ drop (i + 1) toks) (sym same) in
     let class = inv.class ∙ ap known_class (sym same) in
     let counted : count_one (is_bra t) (is_ket t) (Some opened) ≡ open_count ((opened + c.bracket_step-opened.result) % 65536) =
-    counted_by_step opened t c.loop-held.known class low
+    counted_by_step opened t c.loop-first.known class low
     ∙ ap (λ (k : ℕ). open_count ((opened + k) % 65536)) (sym c.bracket_step-opened.ensures) in
-    let cells = c.loop-held.cells in
-    let s = get_or cells (c.loop-held.left - 1) c.index-cells-top.result in
-    let below = reverse (take (c.loop-held.left - 1) cells) in
+    let cells = c.loop-first.cells in
+    let s = c.loop-first.symbol in
+    let below = reverse (take (c.loop-first.left - 1) cells) in
     let a = c.predict_token-answer.result in
-    let top : now.stack ≡ s ∷ below =
-    on_top cells c.loop-held.left c.index-cells-top.result
-    (top_some c.loop-held.left g.row.N inv.some inv.inside) (omega arith) in
+    let top : now.stack ≡ s ∷ below = inv.top in
     let new : SliceState g.row.T.Denot =
     record { table = c.predict_token-answer.new.self; stack = reverse (take c.put-left.result c.put-left.new.cells) } in
     let next = took g.T.Predict g.met.T.Predict.laws c.args.max_depth c.args.body.now c.args.start.read c.args.start.unclosed old
     i opened end t ((opened + c.bracket_step-opened.result) % 65536) now new s below a inv.mid
     front rest top c.predict_token-answer.ensures.answer
-    (sym c.is_take.ensures ∙ c.if-is_take.true) c.put-left.ensures.stack c.predict_token-answer.ensures.words_stay
+    (leaves_by_taking a c.in-Some.first _ c.in-Some.ensures.first) c.put-left.ensures.stack c.predict_token-answer.ensures.words_stay
     c.predict_token-answer.ensures.counts_each_answer less counted in
+    let follows = known_on_top c.put-left.new.cells c.put-left.result c.in-Some.first _
+    c.put-left.ensures.written
+    (c.put-left.ensures.stack ∙ ap (λ (xs : List Sym). xs ++ below) c.in-Some.ensures.first) in
     record {
       inside = c.put-left.ensures.inside;
-      some = c.if-left-ne0-2.true;
+      some = follows.0;
+      top = follows.1;
       from = from_next c.args.start.read i inv.from;
       more = not_last i end inv.more c.if-next-end.false;
       shallow = shallow_next opened end i c.args.max_depth inv.shallow inv.more _ next.1;
-      front = c.at-held-then-is_take.ensures.front;
-      rest = c.at-held-then-is_take.ensures.rest;
-      class = c.known-known-then-is_take.ensures ∙ ap known_class c.token-then-is_take.ensures;
+      front = c.at-held-in-Some.ensures.front;
+      rest = c.at-held-in-Some.ensures.rest;
+      class = c.known-known-in-Some.ensures ∙ ap known_class c.token-in-Some.ensures;
       mid = next.0;
     }
 
@@ -135,10 +177,10 @@ follow_word-requires g c =
     let old : SliceState g.row.T.Denot =
     record { table = c.args.table.now; stack = reverse (take c.args.start.count c.args.cells.now) } in
     let now : SliceState g.row.T.Denot =
-    record { table = c.loop-held.table; stack = reverse (take c.loop-held.left c.loop-held.cells) } in
-    let inv = c.loop-held.invariant in
-    let i = c.loop-held.next in
-    let opened = c.loop-held.opened in
+    record { table = c.loop-first.table; stack = reverse (take c.loop-first.left c.loop-first.cells) } in
+    let inv = c.loop-first.invariant in
+    let i = c.loop-first.next in
+    let opened = c.loop-first.opened in
     let end = c.min-end.result in
     let toks = tokens_of c.args.body.now in
     let less = less_deep opened end i c.args.max_depth inv.shallow inv.more in
@@ -148,13 +190,13 @@ follow_word-requires g c =
     let front : take (i + 1) toks ≡ take i toks ++ t ∷ [] = inv.front ∙ ap (λ (k : ℕ). take i toks ++ k ∷ []) (sym same) in
     let rest : drop i toks ≡ t ∷ drop (i + 1) toks = inv.rest ∙ ap (λ (k : ℕ). k ∷ drop (i + 1) toks) (sym same) in
     let class = inv.class ∙ ap known_class (sym same) in
-    let whole = top_whole c.loop-held.left g.row.N inv.some inv.inside in
-    let stack : reverse (take (c.loop-held.left - 1 + 1) c.loop-held.cells) ≡ now.stack =
-    ap (λ (k : ℕ). reverse (take k c.loop-held.cells)) whole in
+    let whole = top_whole c.loop-first.left g.row.N inv.some inv.inside in
+    let stack : reverse (take (c.loop-first.left - 1 + 1) c.loop-first.cells) ≡ now.stack =
+    ap (λ (k : ℕ). reverse (take k c.loop-first.cells)) whole in
     let asked = c.predict_token-answer.new.self in
     let said = said_same g.T.Predict g.met.T.Predict.laws c.args.max_depth c.args.body.now c.args.start.read c.args.start.unclosed old
     t now asked _ c.predict_token-answer.ensures.words_stay stack in
-    let below = top_inside c.loop-held.left g.row.N inv.some inv.inside in
+    let below = top_inside c.loop-first.left g.row.N inv.some inv.inside in
     let room = room_for g.T.Predict g.met.T.Predict.laws c.args.max_depth c.args.body.now c.args.start.read c.args.start.unclosed old
     i opened end g.row.N t now inv.mid less c.requires.at_depth_limit rest in (
       search rules,
@@ -170,15 +212,15 @@ follow_word-requires g c =
       ),
     )
 
-pub returns-in_default-clause-reads : goal.returns-in_default-clause-reads
-returns-in_default-clause-reads g c =
+pub returns-in_default-follow_word-clause-reads : goal.returns-in_default-follow_word-clause-reads
+returns-in_default-follow_word-clause-reads g c =
     let old : SliceState g.row.T.Denot =
     record { table = c.args.table.now; stack = reverse (take c.args.start.count c.args.cells.now) } in
     let now : SliceState g.row.T.Denot =
-    record { table = c.loop-held.table; stack = reverse (take c.loop-held.left c.loop-held.cells) } in
-    let inv = c.loop-held.invariant in
-    let i = c.loop-held.next in
-    let opened = c.loop-held.opened in
+    record { table = c.loop-first.table; stack = reverse (take c.loop-first.left c.loop-first.cells) } in
+    let inv = c.loop-first.invariant in
+    let i = c.loop-first.next in
+    let opened = c.loop-first.opened in
     let end = c.min-end.result in
     let toks = tokens_of c.args.body.now in
     let less = less_deep opened end i c.args.max_depth inv.shallow inv.more in
@@ -189,11 +231,11 @@ returns-in_default-clause-reads g c =
     let rest : drop i toks ≡ t ∷ drop (i + 1) toks = inv.rest ∙ ap (λ (k : ℕ). k ∷ drop (i + 1) toks) (sym same) in
     let class = inv.class ∙ ap known_class (sym same) in
     let counted : count_one (is_bra t) (is_ket t) (Some opened) ≡ open_count ((opened + c.bracket_step-opened-then-is_stop.result) % 65536) =
-    counted_by_step opened t c.loop-held.known class low
+    counted_by_step opened t c.loop-first.known class low
     ∙ ap (λ (k : ℕ). open_count ((opened + k) % 65536)) (sym c.bracket_step-opened-then-is_stop.ensures) in
-    let whole = top_whole c.loop-held.left g.row.N inv.some inv.inside in
-    let stack : reverse (take (c.loop-held.left - 1 + 1) c.loop-held.cells) ≡ now.stack =
-    ap (λ (k : ℕ). reverse (take k c.loop-held.cells)) whole in
+    let whole = top_whole c.loop-first.left g.row.N inv.some inv.inside in
+    let stack : reverse (take (c.loop-first.left - 1 + 1) c.loop-first.cells) ≡ now.stack =
+    ap (λ (k : ℕ). reverse (take k c.loop-first.cells)) whole in
     let asked = c.predict_token-answer.new.self in
     let said = said_same g.T.Predict g.met.T.Predict.laws c.args.max_depth c.args.body.now c.args.start.read c.args.start.unclosed old
     t now asked _ c.predict_token-answer.ensures.words_stay stack in
@@ -212,22 +254,22 @@ returns-in_default-clause-reads g c =
     (before_end _ c.args.start.read (c.args.max_depth - c.args.start.unclosed) end c.min-end.ensures i inv.more) _
     (tokens_of-length c.args.body.now))
     front rest
-    (said ∙ c.in_default.ensures.reject_at)
+    (said ∙ c.in_default-follow_word.ensures.reject_at)
     (c.follow_word.ensures.words ∙ c.predict_token-answer.ensures.words_stay) (1, omega arith, once_more _ _ _ _ _ due once steps)
     (c.reject_at.ensures.unclosed ∙ sym counted)
     (ap (λ (k : ℕ). reverse (take k c.follow_word.new.cells)) c.reject_at.ensures.count)
     c.reject_at.ensures.tokens c.reject_at.ensures.place
 
 -- the last token of the run is a word
-pub returns-then-next-end-2-clause-reads : goal.returns-then-next-end-2-clause-reads
-returns-then-next-end-2-clause-reads g c =
+pub returns-then-next-end-3-clause-reads : goal.returns-then-next-end-3-clause-reads
+returns-then-next-end-3-clause-reads g c =
     let old : SliceState g.row.T.Denot =
     record { table = c.args.table.now; stack = reverse (take c.args.start.count c.args.cells.now) } in
     let now : SliceState g.row.T.Denot =
-    record { table = c.loop-held.table; stack = reverse (take c.loop-held.left c.loop-held.cells) } in
-    let inv = c.loop-held.invariant in
-    let i = c.loop-held.next in
-    let opened = c.loop-held.opened in
+    record { table = c.loop-first.table; stack = reverse (take c.loop-first.left c.loop-first.cells) } in
+    let inv = c.loop-first.invariant in
+    let i = c.loop-first.next in
+    let opened = c.loop-first.opened in
     let end = c.min-end.result in
     let toks = tokens_of c.args.body.now in
     let less = less_deep opened end i c.args.max_depth inv.shallow inv.more in
@@ -238,11 +280,11 @@ returns-then-next-end-2-clause-reads g c =
     let rest : drop i toks ≡ t ∷ drop (i + 1) toks = inv.rest ∙ ap (λ (k : ℕ). k ∷ drop (i + 1) toks) (sym same) in
     let class = inv.class ∙ ap known_class (sym same) in
     let counted : count_one (is_bra t) (is_ket t) (Some opened) ≡ open_count ((opened + c.bracket_step-opened-then-is_stop.result) % 65536) =
-    counted_by_step opened t c.loop-held.known class low
+    counted_by_step opened t c.loop-first.known class low
     ∙ ap (λ (k : ℕ). open_count ((opened + k) % 65536)) (sym c.bracket_step-opened-then-is_stop.ensures) in
-    let whole = top_whole c.loop-held.left g.row.N inv.some inv.inside in
-    let stack : reverse (take (c.loop-held.left - 1 + 1) c.loop-held.cells) ≡ now.stack =
-    ap (λ (k : ℕ). reverse (take k c.loop-held.cells)) whole in
+    let whole = top_whole c.loop-first.left g.row.N inv.some inv.inside in
+    let stack : reverse (take (c.loop-first.left - 1 + 1) c.loop-first.cells) ≡ now.stack =
+    ap (λ (k : ℕ). reverse (take k c.loop-first.cells)) whole in
     let asked = c.predict_token-answer.new.self in
     let said = said_same g.T.Predict g.met.T.Predict.laws c.args.max_depth c.args.body.now c.args.start.read c.args.start.unclosed old
     t now asked _ c.predict_token-answer.ensures.words_stay stack in
@@ -251,47 +293,85 @@ returns-then-next-end-2-clause-reads g c =
     let steps = c.follow_word.ensures.steps in
     let once = c.predict_token-answer.ensures.counts_each_answer in
     let new : SliceState g.row.T.Denot =
-    record { table = c.follow_word.new.table; stack = reverse (take c.in-Some.now c.follow_word.new.cells) } in
+    record { table = c.follow_word.new.table; stack = reverse (take c.in-Some-follow_word.now c.follow_word.new.cells) } in
     let next = goes_on g.T.Predict g.met.T.Predict.laws c.args.max_depth c.args.body.now c.args.start.read c.args.start.unclosed old
     i opened end t ((opened + c.bracket_step-opened-then-is_stop.result) % 65536) now new inv.mid
-    front rest (said ∙ c.in-Some.ensures.taken)
+    front rest (said ∙ c.in-Some-follow_word.ensures.taken)
     (c.follow_word.ensures.words ∙ c.predict_token-answer.ensures.words_stay) (1, omega arith, once_more _ _ _ _ _ due once steps) less
     counted in
     run_whole g.T.Predict g.met.T.Predict.laws c.args.max_depth c.args.body.now c.args.start.read c.args.start.unclosed old
-    (i + 1) ((opened + c.bracket_step-opened-then-is_stop.result) % 65536) end c.run_end-then-next-end-2.result.tokens
-    c.run_end-then-next-end-2.result.unclosed c.run_end-then-next-end-2.result.place new _ next.0 c.if-next-end-2.true
-    c.run_end-then-next-end-2.ensures.tokens c.run_end-then-next-end-2.ensures.unclosed
-    c.run_end-then-next-end-2.ensures.place
+    (i + 1) ((opened + c.bracket_step-opened-then-is_stop.result) % 65536) end c.run_end-then-next-end-3.result.tokens
+    c.run_end-then-next-end-3.result.unclosed c.run_end-then-next-end-3.result.place new _ next.0 c.if-next-end-3.true
+    c.run_end-then-next-end-3.ensures.tokens c.run_end-then-next-end-3.ensures.unclosed
+    c.run_end-then-next-end-3.ensures.place
     (ap (λ (k : ℕ). record { table = c.follow_word.new.table; stack = reverse (take k c.follow_word.new.cells) })
-    c.run_end-then-next-end-2.ensures.count)
+    c.run_end-then-next-end-3.ensures.count)
 
--- a word is taken, or the symbol on top is skipped
-pub loop-held-preserved : goal.loop-held-preserved
-loop-held-preserved g c =
+-- the symbol on top takes the token and leaves nothing, a word is taken, or the symbol on top is skipped
+pub loop-first-preserved : goal.loop-first-preserved
+loop-first-preserved g c =
     let old : SliceState g.row.T.Denot =
     record { table = c.args.table.now; stack = reverse (take c.args.start.count c.args.cells.now) } in
     let now : SliceState g.row.T.Denot =
-    record { table = c.loop-held.table; stack = reverse (take c.loop-held.left c.loop-held.cells) } in
-    let inv = c.loop-held.invariant in
-    let i = c.loop-held.next in
-    let opened = c.loop-held.opened in
+    record { table = c.loop-first.table; stack = reverse (take c.loop-first.left c.loop-first.cells) } in
+    let inv = c.loop-first.invariant in
+    let i = c.loop-first.next in
+    let opened = c.loop-first.opened in
     let end = c.min-end.result in
     let toks = tokens_of c.args.body.now in
     let less = less_deep opened end i c.args.max_depth inv.shallow inv.more in
     let low = count_low opened c.args.max_depth g.row.N (less_within _ _ less) c.requires.size c.requires.at_depth_limit in
-    elim c.if-is_stop.branch [
-      | then-is_stop+in-Some+else-next-end-2 w ↦
+    let long : length c.if-is_take.cells ≡ g.row.N = search rules in
+    let top_left = λ (inside : c.if-is_take.left ≤ g.row.N).
+    on_top c.if-is_take.cells c.if-is_take.left c.index-cells-left-in-loop-first.result
+    (omega (arith, c.if-left-eq0.false)) (rw long inside) in
+    elim c.if-is_take.branch [
+      | then-is_take+else-next-end-2 w ↦
+          let t = c.token-in-loop-first.result in
+          let same = c.token-in-loop-first.ensures in
+          let front : take (i + 1) toks ≡ take i toks ++ t ∷ [] = inv.front ∙ ap (λ (k : ℕ). take i toks ++ k ∷ []) (sym same) in
+          let rest : drop i toks ≡ t ∷ drop (i + 1) toks = inv.rest ∙ ap (λ (k : ℕ). k ∷ drop (i + 1) toks) (sym same) in
+          let class = inv.class ∙ ap known_class (sym same) in
+          let counted : count_one (is_bra t) (is_ket t) (Some opened) ≡ open_count ((opened + w.bracket_step-opened-then-is_take.result) % 65536) =
+          counted_by_step opened t c.loop-first.known class low
+          ∙ ap (λ (k : ℕ). open_count ((opened + k) % 65536)) (sym w.bracket_step-opened-then-is_take.ensures) in
+          let cells = c.loop-first.cells in
+          let s = c.loop-first.symbol in
+          let below = reverse (take (c.loop-first.left - 1) cells) in
+          let a = c.predict_token-answer.result in
+          let top : now.stack ≡ s ∷ below = inv.top in
+          let new : SliceState g.row.T.Denot =
+          record { table = c.predict_token-answer.new.self; stack = below } in
+          let next = took g.T.Predict g.met.T.Predict.laws c.args.max_depth c.args.body.now c.args.start.read c.args.start.unclosed old
+          i opened end t ((opened + w.bracket_step-opened-then-is_take.result) % 65536) now new s below a inv.mid
+          front rest top c.predict_token-answer.ensures.answer
+          (sym c.is_take.ensures ∙ w.if-is_take.true) (rw c.in_default.ensures.none refl) c.predict_token-answer.ensures.words_stay
+          c.predict_token-answer.ensures.counts_each_answer less counted in
+          record {
+            inside = rw w.left-is (rest_inside c.loop-first.left g.row.N inv.some inv.inside);
+            some = c.if-left-eq0.false;
+            top = top_left (rw w.left-is (rest_inside c.loop-first.left g.row.N inv.some inv.inside));
+            from = rw w.next-is (from_next c.args.start.read i inv.from);
+            more = rw w.next-is (not_last i end inv.more w.if-next-end-2.false);
+            shallow = rw (w.opened-is, w.next-is) (shallow_next opened end i c.args.max_depth inv.shallow inv.more _ next.1);
+            front = rw (w.next-is, w.held-is) w.at-held-then-is_take.ensures.front;
+            rest = rw (w.next-is, w.held-is) w.at-held-then-is_take.ensures.rest;
+            class = rw (w.known-is, w.held-is)
+                (w.known-known-then-is_take.ensures ∙ ap known_class w.token-then-is_take.ensures);
+            mid = rw (w.next-is, w.opened-is, w.table-is, w.left-is, w.cells-is) next.0;
+          }
+      | else-is_take+then-is_stop+in-Some-follow_word+else-next-end-3 w ↦
           let t = w.token-then-is_stop.result in
           let same = w.token-then-is_stop.ensures in
           let front : take (i + 1) toks ≡ take i toks ++ t ∷ [] = inv.front ∙ ap (λ (k : ℕ). take i toks ++ k ∷ []) (sym same) in
           let rest : drop i toks ≡ t ∷ drop (i + 1) toks = inv.rest ∙ ap (λ (k : ℕ). k ∷ drop (i + 1) toks) (sym same) in
           let class = inv.class ∙ ap known_class (sym same) in
           let counted : count_one (is_bra t) (is_ket t) (Some opened) ≡ open_count ((opened + w.bracket_step-opened-then-is_stop.result) % 65536) =
-          counted_by_step opened t c.loop-held.known class low
+          counted_by_step opened t c.loop-first.known class low
           ∙ ap (λ (k : ℕ). open_count ((opened + k) % 65536)) (sym w.bracket_step-opened-then-is_stop.ensures) in
-          let whole = top_whole c.loop-held.left g.row.N inv.some inv.inside in
-          let stack : reverse (take (c.loop-held.left - 1 + 1) c.loop-held.cells) ≡ now.stack =
-          ap (λ (k : ℕ). reverse (take k c.loop-held.cells)) whole in
+          let whole = top_whole c.loop-first.left g.row.N inv.some inv.inside in
+          let stack : reverse (take (c.loop-first.left - 1 + 1) c.loop-first.cells) ≡ now.stack =
+          ap (λ (k : ℕ). reverse (take k c.loop-first.cells)) whole in
           let asked = c.predict_token-answer.new.self in
           let said = said_same g.T.Predict g.met.T.Predict.laws c.args.max_depth c.args.body.now c.args.start.read c.args.start.unclosed old
           t now asked _ c.predict_token-answer.ensures.words_stay stack in
@@ -300,17 +380,18 @@ loop-held-preserved g c =
           let steps = w.follow_word.ensures.steps in
           let once = c.predict_token-answer.ensures.counts_each_answer in
           let new : SliceState g.row.T.Denot =
-          record { table = w.follow_word.new.table; stack = reverse (take w.in-Some.now w.follow_word.new.cells) } in
+          record { table = w.follow_word.new.table; stack = reverse (take w.in-Some-follow_word.now w.follow_word.new.cells) } in
           let next = goes_on g.T.Predict g.met.T.Predict.laws c.args.max_depth c.args.body.now c.args.start.read c.args.start.unclosed old
           i opened end t ((opened + w.bracket_step-opened-then-is_stop.result) % 65536) now new inv.mid
-          front rest (said ∙ w.in-Some.ensures.taken)
+          front rest (said ∙ w.in-Some-follow_word.ensures.taken)
           (w.follow_word.ensures.words ∙ c.predict_token-answer.ensures.words_stay) (1, omega arith, once_more _ _ _ _ _ due once steps) less
           counted in
           record {
-            inside = rw w.left-is w.in-Some.ensures.inside;
+            inside = rw w.left-is w.in-Some-follow_word.ensures.inside;
             some = c.if-left-eq0.false;
+            top = top_left (rw w.left-is w.in-Some-follow_word.ensures.inside);
             from = rw w.next-is (from_next c.args.start.read i inv.from);
-            more = rw w.next-is (not_last i end inv.more w.if-next-end-2.false);
+            more = rw w.next-is (not_last i end inv.more w.if-next-end-3.false);
             shallow = rw (w.opened-is, w.next-is) (shallow_next opened end i c.args.max_depth inv.shallow inv.more _ next.1);
             front = rw (w.next-is, w.held-is) w.at-held-then-is_stop.ensures.front;
             rest = rw (w.next-is, w.held-is) w.at-held-then-is_stop.ensures.rest;
@@ -318,30 +399,28 @@ loop-held-preserved g c =
                 (w.known-known-then-is_stop.ensures ∙ ap known_class w.token-then-is_stop-2.ensures);
             mid = rw (w.next-is, w.opened-is, w.table-is, w.left-is, w.cells-is) next.0;
           }
-      | else-is_stop w ↦
-          let t = c.token-in-loop-held.result in
-          let same = c.token-in-loop-held.ensures in
+      | else-is_take+else-is_stop w ↦
+          let t = c.token-in-loop-first.result in
+          let same = c.token-in-loop-first.ensures in
           let front : take (i + 1) toks ≡ take i toks ++ t ∷ [] = inv.front ∙ ap (λ (k : ℕ). take i toks ++ k ∷ []) (sym same) in
           let rest : drop i toks ≡ t ∷ drop (i + 1) toks = inv.rest ∙ ap (λ (k : ℕ). k ∷ drop (i + 1) toks) (sym same) in
           let class = inv.class ∙ ap known_class (sym same) in
-          let cells = c.loop-held.cells in
-          let s = get_or cells (c.loop-held.left - 1) c.index-cells-top.result in
-          let below = reverse (take (c.loop-held.left - 1) cells) in
+          let cells = c.loop-first.cells in
+          let s = c.loop-first.symbol in
+          let below = reverse (take (c.loop-first.left - 1) cells) in
           let a = c.predict_token-answer.result in
-          let top : now.stack ≡ s ∷ below =
-          on_top cells c.loop-held.left c.index-cells-top.result
-          (top_some c.loop-held.left g.row.N inv.some inv.inside)
-          (omega arith) in
-          let takes = sym c.is_take.ensures ∙ c.if-is_take.false in
-          let stops = sym c.is_stop.ensures ∙ w.if-is_stop.false in
+          let top : now.stack ≡ s ∷ below = inv.top in
+          let takes = sym c.is_take.ensures ∙ w.if-is_take.false in
+          let stops = sym w.is_stop.ensures ∙ w.if-is_stop.false in
           let new : SliceState g.row.T.Denot = record { table = c.predict_token-answer.new.self; stack = below } in
           let mid = skipped g.T.Predict g.met.T.Predict.laws c.args.max_depth c.args.body.now c.args.start.read c.args.start.unclosed old
           i opened end t now new s a inv.mid inv.more rest top
           (c.predict_token-answer.ensures.answer stops) takes stops c.predict_token-answer.ensures.words_stay
           c.predict_token-answer.ensures.counts_each_answer in
           record {
-            inside = rw w.left-is (rest_inside c.loop-held.left g.row.N inv.some inv.inside);
+            inside = rw w.left-is (rest_inside c.loop-first.left g.row.N inv.some inv.inside);
             some = c.if-left-eq0.false;
+            top = top_left (rw w.left-is (rest_inside c.loop-first.left g.row.N inv.some inv.inside));
             from = rw w.next-is inv.from;
             more = rw w.next-is inv.more;
             shallow = rw (w.opened-is, w.next-is) inv.shallow;
@@ -363,72 +442,63 @@ returns-clause-reads g c =
     let known = c.if-left-ne0.known in
     let shut = c.reject_at-2 in
     elim c.if-left-ne0.branch [
-      | then-left-ne0+then-is_take+else-next-end+else-left-ne0-2 w ↦
+      | then-left-ne0+in_default+then-left-eq0 w ↦
           let now : SliceState g.row.T.Denot =
-          record { table = w.loop-held.table; stack = reverse (take w.loop-held.left w.loop-held.cells) } in
-          let inv = w.loop-held.invariant in
-          let i = w.loop-held.next in
-          let opened = w.loop-held.opened in
+          record { table = w.loop-first.table; stack = reverse (take w.loop-first.left w.loop-first.cells) } in
+          let inv = w.loop-first.invariant in
+          let i = w.loop-first.next in
+          let opened = w.loop-first.opened in
           let less = less_deep opened end i c.args.max_depth inv.shallow inv.more in
           let low = count_low opened c.args.max_depth g.row.N (less_within _ _ less) c.requires.size c.requires.at_depth_limit in
-          let t = w.token-in-loop-held.result in
-          let same = w.token-in-loop-held.ensures in
-          let front : take (i + 1) toks ≡ take i toks ++ t ∷ [] = inv.front ∙ ap (λ (k : ℕ). take i toks ++ k ∷ []) (sym same) in
-          let rest : drop i toks ≡ t ∷ drop (i + 1) toks = inv.rest ∙ ap (λ (k : ℕ). k ∷ drop (i + 1) toks) (sym same) in
-          let class = inv.class ∙ ap known_class (sym same) in
-          let counted : count_one (is_bra t) (is_ket t) (Some opened) ≡ open_count ((opened + w.bracket_step-opened.result) % 65536) =
-          counted_by_step opened t w.loop-held.known class low
-          ∙ ap (λ (k : ℕ). open_count ((opened + k) % 65536)) (sym w.bracket_step-opened.ensures) in
-          let cells = w.loop-held.cells in
-          let s = get_or cells (w.loop-held.left - 1) w.index-cells-top.result in
-          let below = reverse (take (w.loop-held.left - 1) cells) in
-          let a = w.predict_token-answer.result in
-          let top : now.stack ≡ s ∷ below =
-          on_top cells w.loop-held.left w.index-cells-top.result
-          (top_some w.loop-held.left g.row.N inv.some inv.inside) (omega arith) in
-          let new : SliceState g.row.T.Denot =
-          record { table = w.predict_token-answer.new.self; stack = reverse (take w.put-left.result w.put-left.new.cells) } in
-          let next = took g.T.Predict g.met.T.Predict.laws c.args.max_depth c.args.body.now c.args.start.read c.args.start.unclosed old
-          i opened end t ((opened + w.bracket_step-opened.result) % 65536) now new s below a inv.mid
-          front rest top w.predict_token-answer.ensures.answer
-          (sym w.is_take.ensures ∙ w.if-is_take.true) w.put-left.ensures.stack w.predict_token-answer.ensures.words_stay
-          w.predict_token-answer.ensures.counts_each_answer less counted in
-          let here = i + 1 in
-          let more : here < end = not_last i end inv.more w.if-next-end.false in
-          let inside = token_inside size here
-          (before_end _ c.args.start.read (c.args.max_depth - c.args.start.unclosed) end c.min-end.ensures here more) _
-          (tokens_of-length c.args.body.now) in
-          let shallow = shallow_next opened end i c.args.max_depth inv.shallow inv.more _ next.1 in
-          let few = count_low _ c.args.max_depth g.row.N (less_within _ _ (less_deep _ end here c.args.max_depth shallow more))
-          c.requires.size c.requires.at_depth_limit in
-          rejects_next g.T.Predict g.met.T.Predict.laws c.args.max_depth c.args.body.now c.args.start.read c.args.start.unclosed old
-          c.if-left-ne0.next c.if-left-ne0.opened end w.at-held-then-is_take.result c.if-left-ne0.left c.bracket_step.result shut.result.tokens
-          shut.result.count known shut.result.unclosed shut.result.place c.if-left-ne0.table c.if-left-ne0.cells
-          (rw (w.next-is, w.opened-is, w.table-is, w.left-is, w.cells-is) next.0)
-          (w.left-is ∙ w.if-left-ne0-2.false) (rw (w.next-is) inside) (rw (w.next-is) w.at-held-then-is_take.ensures.front) (rw (w.next-is) w.at-held-then-is_take.ensures.rest)
-          (w.known-is ∙ w.known-known-then-is_take.ensures ∙ ap known_class w.token-then-is_take.ensures) (rw (w.opened-is) few) c.bracket_step.ensures
-          shut.ensures.tokens shut.ensures.unclosed shut.ensures.place shut.ensures.count
-      | then-left-ne0+else-is_take+then-left-eq0 w ↦
-          let now : SliceState g.row.T.Denot =
-          record { table = w.loop-held.table; stack = reverse (take w.loop-held.left w.loop-held.cells) } in
-          let inv = w.loop-held.invariant in
-          let i = w.loop-held.next in
-          let opened = w.loop-held.opened in
-          let less = less_deep opened end i c.args.max_depth inv.shallow inv.more in
-          let low = count_low opened c.args.max_depth g.row.N (less_within _ _ less) c.requires.size c.requires.at_depth_limit in
-          elim w.if-is_stop.branch [
-            | then-is_stop+in-Some+else-next-end-2 v ↦
+          elim w.if-is_take.branch [
+            | then-is_take+else-next-end-2 v ↦
+                let t = w.token-in-loop-first.result in
+                let same = w.token-in-loop-first.ensures in
+                let front : take (i + 1) toks ≡ take i toks ++ t ∷ [] = inv.front ∙ ap (λ (k : ℕ). take i toks ++ k ∷ []) (sym same) in
+                let rest : drop i toks ≡ t ∷ drop (i + 1) toks = inv.rest ∙ ap (λ (k : ℕ). k ∷ drop (i + 1) toks) (sym same) in
+                let class = inv.class ∙ ap known_class (sym same) in
+                let counted : count_one (is_bra t) (is_ket t) (Some opened) ≡ open_count ((opened + v.bracket_step-opened-then-is_take.result) % 65536) =
+                counted_by_step opened t w.loop-first.known class low
+                ∙ ap (λ (k : ℕ). open_count ((opened + k) % 65536)) (sym v.bracket_step-opened-then-is_take.ensures) in
+                let cells = w.loop-first.cells in
+                let s = w.loop-first.symbol in
+                let below = reverse (take (w.loop-first.left - 1) cells) in
+                let a = w.predict_token-answer.result in
+                let top : now.stack ≡ s ∷ below = inv.top in
+                let new : SliceState g.row.T.Denot =
+                record { table = w.predict_token-answer.new.self; stack = below } in
+                let next = took g.T.Predict g.met.T.Predict.laws c.args.max_depth c.args.body.now c.args.start.read c.args.start.unclosed old
+                i opened end t ((opened + v.bracket_step-opened-then-is_take.result) % 65536) now new s below a inv.mid
+                front rest top w.predict_token-answer.ensures.answer
+                (sym w.is_take.ensures ∙ v.if-is_take.true) (rw w.in_default.ensures.none refl) w.predict_token-answer.ensures.words_stay
+                w.predict_token-answer.ensures.counts_each_answer less counted in
+                let here = i + 1 in
+                let more : here < end = not_last i end inv.more v.if-next-end-2.false in
+                let inside = token_inside size here
+                (before_end _ c.args.start.read (c.args.max_depth - c.args.start.unclosed) end c.min-end.ensures here more) _
+                (tokens_of-length c.args.body.now) in
+                let shallow = shallow_next opened end i c.args.max_depth inv.shallow inv.more _ next.1 in
+                let few = count_low _ c.args.max_depth g.row.N (less_within _ _ (less_deep _ end here c.args.max_depth shallow more))
+                c.requires.size c.requires.at_depth_limit in
+                rejects_next g.T.Predict g.met.T.Predict.laws c.args.max_depth c.args.body.now c.args.start.read c.args.start.unclosed old
+                c.if-left-ne0.next c.if-left-ne0.opened end v.at-held-then-is_take.result c.if-left-ne0.left c.bracket_step.result shut.result.tokens
+                shut.result.count known shut.result.unclosed shut.result.place c.if-left-ne0.table c.if-left-ne0.cells
+                (rw (w.next-is ∙ v.next-is, w.opened-is ∙ v.opened-is, w.table-is ∙ v.table-is, w.left-is ∙ v.left-is, w.cells-is ∙ v.cells-is) next.0)
+                (w.left-is ∙ w.if-left-eq0.true) (rw (w.next-is ∙ v.next-is) inside) (rw (w.next-is ∙ v.next-is) v.at-held-then-is_take.ensures.front) (rw (w.next-is ∙ v.next-is) v.at-held-then-is_take.ensures.rest)
+                (w.known-is ∙ v.known-is ∙ v.known-known-then-is_take.ensures ∙ ap known_class v.token-then-is_take.ensures) (rw (w.opened-is ∙ v.opened-is) few) c.bracket_step.ensures
+                shut.ensures.tokens shut.ensures.unclosed shut.ensures.place shut.ensures.count
+            | else-is_take+then-is_stop+in-Some-follow_word+else-next-end-3 v ↦
                 let t = v.token-then-is_stop.result in
                 let same = v.token-then-is_stop.ensures in
                 let front : take (i + 1) toks ≡ take i toks ++ t ∷ [] = inv.front ∙ ap (λ (k : ℕ). take i toks ++ k ∷ []) (sym same) in
                 let rest : drop i toks ≡ t ∷ drop (i + 1) toks = inv.rest ∙ ap (λ (k : ℕ). k ∷ drop (i + 1) toks) (sym same) in
                 let class = inv.class ∙ ap known_class (sym same) in
                 let counted : count_one (is_bra t) (is_ket t) (Some opened) ≡ open_count ((opened + v.bracket_step-opened-then-is_stop.result) % 65536) =
-                counted_by_step opened t w.loop-held.known class low
+                counted_by_step opened t w.loop-first.known class low
                 ∙ ap (λ (k : ℕ). open_count ((opened + k) % 65536)) (sym v.bracket_step-opened-then-is_stop.ensures) in
-                let whole = top_whole w.loop-held.left g.row.N inv.some inv.inside in
-                let stack : reverse (take (w.loop-held.left - 1 + 1) w.loop-held.cells) ≡ now.stack =
-                ap (λ (k : ℕ). reverse (take k w.loop-held.cells)) whole in
+                let whole = top_whole w.loop-first.left g.row.N inv.some inv.inside in
+                let stack : reverse (take (w.loop-first.left - 1 + 1) w.loop-first.cells) ≡ now.stack =
+                ap (λ (k : ℕ). reverse (take k w.loop-first.cells)) whole in
                 let asked = w.predict_token-answer.new.self in
                 let said = said_same g.T.Predict g.met.T.Predict.laws c.args.max_depth c.args.body.now c.args.start.read c.args.start.unclosed old
                 t now asked _ w.predict_token-answer.ensures.words_stay stack in
@@ -437,14 +507,14 @@ returns-clause-reads g c =
                 let steps = v.follow_word.ensures.steps in
                 let once = w.predict_token-answer.ensures.counts_each_answer in
                 let new : SliceState g.row.T.Denot =
-                record { table = v.follow_word.new.table; stack = reverse (take v.in-Some.now v.follow_word.new.cells) } in
+                record { table = v.follow_word.new.table; stack = reverse (take v.in-Some-follow_word.now v.follow_word.new.cells) } in
                 let next = goes_on g.T.Predict g.met.T.Predict.laws c.args.max_depth c.args.body.now c.args.start.read c.args.start.unclosed old
                 i opened end t ((opened + v.bracket_step-opened-then-is_stop.result) % 65536) now new inv.mid
-                front rest (said ∙ v.in-Some.ensures.taken)
+                front rest (said ∙ v.in-Some-follow_word.ensures.taken)
                 (v.follow_word.ensures.words ∙ w.predict_token-answer.ensures.words_stay) (1, omega arith, once_more _ _ _ _ _ due once steps) less
                 counted in
                 let here = i + 1 in
-                let more : here < end = not_last i end inv.more v.if-next-end-2.false in
+                let more : here < end = not_last i end inv.more v.if-next-end-3.false in
                 let inside = token_inside size here
                 (before_end _ c.args.start.read (c.args.max_depth - c.args.start.unclosed) end c.min-end.ensures here more) _
                 (tokens_of-length c.args.body.now) in
@@ -458,21 +528,19 @@ returns-clause-reads g c =
                 (w.left-is ∙ w.if-left-eq0.true) (rw (w.next-is ∙ v.next-is) inside) (rw (w.next-is ∙ v.next-is) v.at-held-then-is_stop.ensures.front) (rw (w.next-is ∙ v.next-is) v.at-held-then-is_stop.ensures.rest)
                 (w.known-is ∙ v.known-is ∙ v.known-known-then-is_stop.ensures ∙ ap known_class v.token-then-is_stop-2.ensures) (rw (w.opened-is ∙ v.opened-is) few) c.bracket_step.ensures
                 shut.ensures.tokens shut.ensures.unclosed shut.ensures.place shut.ensures.count
-            | else-is_stop v ↦
-                let t = w.token-in-loop-held.result in
-                let same = w.token-in-loop-held.ensures in
+            | else-is_take+else-is_stop v ↦
+                let t = w.token-in-loop-first.result in
+                let same = w.token-in-loop-first.ensures in
                 let front : take (i + 1) toks ≡ take i toks ++ t ∷ [] = inv.front ∙ ap (λ (k : ℕ). take i toks ++ k ∷ []) (sym same) in
                 let rest : drop i toks ≡ t ∷ drop (i + 1) toks = inv.rest ∙ ap (λ (k : ℕ). k ∷ drop (i + 1) toks) (sym same) in
                 let class = inv.class ∙ ap known_class (sym same) in
-                let cells = w.loop-held.cells in
-                let s = get_or cells (w.loop-held.left - 1) w.index-cells-top.result in
-                let below = reverse (take (w.loop-held.left - 1) cells) in
+                let cells = w.loop-first.cells in
+                let s = w.loop-first.symbol in
+                let below = reverse (take (w.loop-first.left - 1) cells) in
                 let a = w.predict_token-answer.result in
-                let top : now.stack ≡ s ∷ below =
-                on_top cells w.loop-held.left w.index-cells-top.result
-                (top_some w.loop-held.left g.row.N inv.some inv.inside) (omega arith) in
-                let takes = sym w.is_take.ensures ∙ w.if-is_take.false in
-                let stops = sym w.is_stop.ensures ∙ v.if-is_stop.false in
+                let top : now.stack ≡ s ∷ below = inv.top in
+                let takes = sym w.is_take.ensures ∙ v.if-is_take.false in
+                let stops = sym v.is_stop.ensures ∙ v.if-is_stop.false in
                 let new : SliceState g.row.T.Denot = record { table = w.predict_token-answer.new.self; stack = below } in
                 let mid = skipped g.T.Predict g.met.T.Predict.laws c.args.max_depth c.args.body.now c.args.start.read c.args.start.unclosed old
                 i opened end t now new s a inv.mid inv.more rest top
@@ -487,7 +555,7 @@ returns-clause-reads g c =
                 let few = count_low _ c.args.max_depth g.row.N (less_within _ _ (less_deep _ end here c.args.max_depth shallow more))
                 c.requires.size c.requires.at_depth_limit in
                 rejects_next g.T.Predict g.met.T.Predict.laws c.args.max_depth c.args.body.now c.args.start.read c.args.start.unclosed old
-                c.if-left-ne0.next c.if-left-ne0.opened end w.loop-held.held c.if-left-ne0.left c.bracket_step.result shut.result.tokens
+                c.if-left-ne0.next c.if-left-ne0.opened end w.loop-first.held c.if-left-ne0.left c.bracket_step.result shut.result.tokens
                 shut.result.count known shut.result.unclosed shut.result.place c.if-left-ne0.table c.if-left-ne0.cells
                 (rw (w.next-is ∙ v.next-is, w.opened-is ∙ v.opened-is, w.table-is ∙ v.table-is, w.left-is ∙ v.left-is, w.cells-is ∙ v.cells-is) mid)
                 (w.left-is ∙ w.if-left-eq0.true) (rw (w.next-is ∙ v.next-is) inside) (rw (w.next-is ∙ v.next-is) inv.front) (rw (w.next-is ∙ v.next-is) inv.rest)

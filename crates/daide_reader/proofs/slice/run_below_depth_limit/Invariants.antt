@@ -5,10 +5,11 @@ use Rattle.daide_reader.proofs.StretchLemmas.{MidToken}
 use Rattle.daide_reader.proofs.slice.run_below_depth_limit.Given as goal
 
 -- the locals are a reader that has read the tokens before `held`, or is inside it, and its stack is not empty
-abbrev pub invariant-loop-held : goal.invariant-loop-held
-invariant-loop-held g l = record {
+abbrev pub invariant-loop-first : goal.invariant-loop-first
+invariant-loop-first g l = record {
   inside : l.left ≤ g.row.N;
   some : l.left ≢ 0;
+  top : reverse (take l.left l.cells) ≡ l.symbol ∷ reverse (take (l.left - 1) l.cells);
   from : l.fn.start.read ≤ l.next;
   more : l.next < l.end;
   shallow : l.opened + (l.end - l.next) ≤ l.max_depth;
@@ -21,5 +22,5 @@ invariant-loop-held g l = record {
 }
 
 -- after a token that is taken the stack may be higher; inside a token it is lower
-abbrev pub decreases-loop-held : goal.decreases-loop-held
-decreases-loop-held g l = (l.end - l.next) * 4097 + l.left
+abbrev pub decreases-loop-first : goal.decreases-loop-first
+decreases-loop-first g l = (l.end - l.next) * 4097 + l.left

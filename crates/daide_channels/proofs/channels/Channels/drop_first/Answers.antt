@@ -7,9 +7,9 @@ use Rattle.daide_channels.proofs.channels.Channels.drop_first.Given.{Over}
 use Rattle.daide_channels.proofs.channels.Channels.drop_first.Goals.{After-release}
 use Rattle.daide_channels.proofs.channels.Channels.drop_first.Goals as goal
 
-left : (g : Over) (c : After-release g) → IsLeft c.args.self.now
+lets_go : (g : Over) (c : After-release g) → IsLeft c.args.self.now
     (fields c.release.new.receivers (put c.self.inside.wires c.args.to c.drop_first-gone.new.self)) c.args.to
-left g c =
+lets_go g c =
     let d = c.self.inside in
     let own = c.at_mut.ensures.value in
     dropped_first (fields d.receivers d.wires) _ c.args.self.now c.args.to c.drop_first-gone.result c.self.view_is
@@ -18,16 +18,16 @@ left g c =
     ∙ ap (λ (q : Queue). record { written = 0; items = tail_of q.items }) own)) c.release.ensures
 
 pub invariant_of-self : goal.invariant_of-self
-invariant_of-self g c = (left g (goal.at.invariant_of-self g c).After-release).sound
+invariant_of-self g c = (lets_go g (goal.at.invariant_of-self g c).After-release).sound
 
 pub returns-clause-lets_go : goal.returns-clause-lets_go
-returns-clause-lets_go g c = (left g (goal.at.returns-clause-lets_go g c).After-release).goes
+returns-clause-lets_go g c = (lets_go g (goal.at.returns-clause-lets_go g c).After-release).goes
 
 pub returns-clause-queued : goal.returns-clause-queued
-returns-clause-queued g c = (left g (goal.at.returns-clause-queued g c).After-release).queued
+returns-clause-queued g c = (lets_go g (goal.at.returns-clause-queued g c).After-release).queued
 
 pub returns-clause-other_front : goal.returns-clause-other_front
-returns-clause-other_front g c = (left g (goal.at.returns-clause-other_front g c).After-release).other_front
+returns-clause-other_front g c = (lets_go g (goal.at.returns-clause-other_front g c).After-release).other_front
 
 pub returns-clause-own_front : goal.returns-clause-own_front
-returns-clause-own_front g c = (left g (goal.at.returns-clause-own_front g c).After-release).own_front
+returns-clause-own_front g c = (lets_go g (goal.at.returns-clause-own_front g c).After-release).own_front

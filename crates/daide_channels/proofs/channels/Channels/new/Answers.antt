@@ -6,10 +6,10 @@ use Rattle.daide_channels.proofs.NewLemmas.{AreNew, are_new, new_sound, quiet_of
 use Rattle.daide_channels.proofs.channels.Channels.new.Given as given
 use Rattle.daide_channels.proofs.channels.Channels.new.Goals as goal
 
-made : (g : given.Over) (c : goal.After-new-6 g) → AreNew c.args.cap
+quiet : (g : given.Over) (c : goal.After-new-6 g) → AreNew c.args.cap
     (record { max_depth = c.args.max_depth; words = grammar_words (words_of c.args.words) })
     (fields c.new-3.result c.new-6.result)
-made g c =
+quiet g c =
     let bot = c.in_ok-new.ensures in
     let server = c.in_ok-new-2.ensures in
     let new = are_new (fields (both c.in_ok-new.field-0 c.in_ok-new-2.field-0) (both c.new-4.result c.new-5.result))
@@ -36,7 +36,7 @@ made g c =
     rw (c.new-3.ensures, c.new-6.ensures) new
 
 pub invariant_of-result : goal.invariant_of-result
-invariant_of-result g c = new_sound (made g c)
+invariant_of-result g c = new_sound (quiet g c)
 
 pub returns-clause-quiet : goal.returns-clause-quiet
-returns-clause-quiet g c = quiet_of (made g c)
+returns-clause-quiet g c = quiet_of (quiet g c)

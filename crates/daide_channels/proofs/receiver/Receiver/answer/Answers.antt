@@ -33,11 +33,11 @@ answer_head-requires g c =
     omega arith
 
 -- the verdict, and the tokens read
-judged : (g : given.Over) (c : goal.After-self-2-1 g) →
+answers : (g : given.Over) (c : goal.After-self-2-1 g) →
     IsJudged ghosts words_in extended_look_ups c.args.self.now c.if-is_message.self-inside.side
     c.if-is_message.self-inside.level c.if-is_message.self-inside.cutter c.if-is_message.self-inside.reader
     c.if-is_message.self-inside.hlo c.args.head c.if-is_message.verdict
-judged g c = elim c.if-is_message.branch [
+answers g c = elim c.if-is_message.branch [
   | then-is_message w ↦ rw (w.self-inside-is, w.verdict-is) (
       let i = c.self.inside in
       let dm : is_dm c.args.head.kind ≡ true = sym c.is_message.ensures ∙ w.if-is_message.true in
@@ -112,7 +112,7 @@ judged g c = elim c.if-is_message.branch [
 pub invariant_of-self : goal.invariant_of-self
 unfolding head_bytes
 invariant_of-self g c =
-    let j = judged g c in
+    let j = answers g c in
     record {
       four = ap length c.write_head-self-inside.ensures;
       place = j.place;
@@ -124,11 +124,11 @@ invariant_of-self g c =
     }
 
 pub returns-clause-right : goal.returns-clause-right
-returns-clause-right g c = (judged g c).right
+returns-clause-right g c = (answers g c).right
 
 pub returns-clause-answers : goal.returns-clause-answers
 returns-clause-answers g c =
-    let j = judged g c in
+    let j = answers g c in
     record {
       side = j.same_side;
       cap = j.same_cap;
@@ -142,7 +142,7 @@ returns-clause-answers g c =
     }
 
 pub returns-clause-raised : goal.returns-clause-raised
-returns-clause-raised g c = (judged g c).raised
+returns-clause-raised g c = (answers g c).raised
 
 pub returns-clause-no_message : goal.returns-clause-no_message
-returns-clause-no_message g c = (judged g c).no_message
+returns-clause-no_message g c = (answers g c).no_message

@@ -6,16 +6,16 @@ use Rattle.daide_session.proofs.SessionLemmas.{standing_dropped}
 use Rattle.daide_session.proofs.session.Session.drop_waiting.Given.{Over}
 use Rattle.daide_session.proofs.session.Session.drop_waiting.Goals as goal
 
-done : (g : Over) (c : goal.After-lose g) →
+returns_dropped : (g : Over) (c : goal.After-lose g) →
     Dropped (view_of c.self.inside.channels c.self.inside.protocol) c.args.to
     (view_of c.lose.new.self c.self.inside.protocol)
-done g c = dropped_of c.self.inside.channels c.lose.new.self c.self.inside.protocol c.args.to c.lose.ensures.lets_go
+returns_dropped g c = dropped_of c.self.inside.channels c.lose.new.self c.self.inside.protocol c.args.to c.lose.ensures.lets_go
     c.lose.ensures.queued c.lose.ensures.other_front
 
 pub invariant_of-self : goal.invariant_of-self
-invariant_of-self g c = standing_dropped _ _ c.args.to (done g c) c.self.invariant
+invariant_of-self g c = standing_dropped _ _ c.args.to (returns_dropped g c) c.self.invariant
 
 pub returns : goal.returns
 returns g c =
     subst (λ (v : SessionView). Dropped v c.args.to (view_of c.lose.new.self c.self.inside.protocol)) c.self.view_is
-    (done g c)
+    (returns_dropped g c)

@@ -16,20 +16,20 @@ fail-requires g c = λ wire.
     let t = c.self.inside.channels in
     ap has_final_frame (sym (waiting_at t c.self.inside.protocol wire)) ∙ c.self.invariant.no_end (ap is_over c.in-WaitIm.is) wire
 
-went : (g : Over) (c : goal.After-fail g) →
+goes : (g : Over) (c : goal.After-fail g) →
     Refines (view_of c.self.inside.channels c.self.inside.protocol) (ImTimerExpired ∷ []) c.fail.result
     (view_of c.fail.new.channels c.fail.new.protocol)
-went g c = goes_im_timer_expired (view_of c.self.inside.channels c.self.inside.protocol)
+goes g c = goes_im_timer_expired (view_of c.self.inside.channels c.self.inside.protocol)
     (view_of c.fail.new.channels c.fail.new.protocol) c.fail.result c.in-WaitIm.is c.fail.ensures.moves
     c.fail.ensures.note
 
 pub invariant_of-self : goal.invariant_of-self
-invariant_of-self g c = standing_on _ _ _ _ (went g c) c.self.invariant
+invariant_of-self g c = standing_on _ _ _ _ (goes g c) c.self.invariant
 
 pub returns-in-WaitIm-clause-goes : goal.returns-in-WaitIm-clause-goes
 returns-in-WaitIm-clause-goes g c =
     subst (λ (v : SessionView). Refines v (ImTimerExpired ∷ []) c.fail.result (view_of c.fail.new.channels c.fail.new.protocol))
-    c.self.view_is (went g c)
+    c.self.view_is (goes g c)
 
 pub returns-in-WaitIm-clause-fronts : goal.returns-in-WaitIm-clause-fronts
 returns-in-WaitIm-clause-fronts g c = λ side.

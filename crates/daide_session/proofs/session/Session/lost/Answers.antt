@@ -13,20 +13,18 @@ use Rattle.daide_session.proofs.session.Session.lost.Given.{Over}
 use Rattle.daide_session.proofs.session.Session.lost.Goals as goal
 use Rattle.daide_session.proofs.FrameEventsLemmas.{holding_at}
 
-done : (g : Over) (c : goal.After-lose g) →
+lost : (g : Over) (c : goal.After-lose g) →
     Lost (view_of c.self.inside.channels c.self.inside.protocol) c.args.side
     (view_of c.lose.new.self c.on_peer_closed.new.protocol)
-done g c = lost_of c.self.inside.channels c.on_peer_closed.new.channels c.lose.new.self c.self.inside.protocol c.on_peer_closed.new.protocol
+lost g c = lost_of c.self.inside.channels c.on_peer_closed.new.channels c.lose.new.self c.self.inside.protocol c.on_peer_closed.new.protocol
     c.args.side c.on_peer_closed.ensures.moves c.on_peer_closed.ensures.keeps c.lose.ensures.lets_go c.lose.ensures.queued
 
 pub invariant_of-self : goal.invariant_of-self
-invariant_of-self g c =
-    let lost = done g c in
-    standing_over _ lost.over
+invariant_of-self g c = standing_over _ (lost g c).over
 
 pub returns-clause-lost : goal.returns-clause-lost
 returns-clause-lost g c =
-    subst (λ (v : SessionView). Lost v c.args.side (view_of c.lose.new.self c.on_peer_closed.new.protocol)) c.self.view_is (done g c)
+    subst (λ (v : SessionView). Lost v c.args.side (view_of c.lose.new.self c.on_peer_closed.new.protocol)) c.self.view_is (lost g c)
 
 pub returns-clause-other_front : goal.returns-clause-other_front
 returns-clause-other_front g c =

@@ -1,0 +1,26 @@
+use Rattle.std.proofs.Common.{◌≡◌, ◌<◌, [], ◌∷◌, true, false, nat_le, drop, subst, arith}
+use Rattle.std.proofs.lemmas.Bool.Decides.{nat_tests}
+use Rattle.daide_grammar.specs.Table.Answers.{TableEntry}
+use Rattle.daide_grammar.specs.Table.Cells.{first_at}
+use Rattle.daide_grammar.specs.Table.Numbers.{symbol_at}
+use Rattle.daide_grammar.specs.Table.ParseActions.{rest_of}
+use Rattle.daide_grammar.proofs.RulesFit.{first_fits, no_rest}
+use Rattle.daide_grammar.proofs.predict.Move.first.Goals as goal
+
+pub returns-clause-first : goal.returns-clause-first
+returns-clause-first c =
+    let n = c.self.inside.rule in
+    let less : n < 256 = omega arith in
+    let many = c.if-self-le-TAKE.false in
+    let some : nat_le n 2 ≡ false = grind (arith, nat_tests) in
+    rw c.first_of.ensures
+    (subst (λ (a : TableEntry). rest_of a ≡ symbol_at (first_at n) ∷ drop 1 (rest_of a)) c.self.view_is
+    (first_fits n less some))
+
+pub returns-then-self-le-TAKE-clause-none : goal.returns-then-self-le-TAKE-clause-none
+returns-then-self-le-TAKE-clause-none c =
+    let n = c.self.inside.rule in
+    let less : n < 256 = omega arith in
+    let few = c.if-self-le-TAKE.true in
+    let none : nat_le n 2 ≡ true = grind (arith, nat_tests) in
+    subst (λ (a : TableEntry). rest_of a ≡ []) c.self.view_is (no_rest n less none)
