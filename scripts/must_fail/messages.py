@@ -9,6 +9,11 @@ from .sources import Function, all_functions
 
 MESSAGE = re.compile(r"(note: )?(?:\./)?((?:src|proofs|specs)/[\w/+]+\.\w+):(\d+):\d+: (error: )?(.*)")
 
+# A goal that neither a search nor an answer proves, of a function without a message of its own.
+UNPROVED = re.compile(
+    r"fn \S+: no proof: expected answers in (?:\./)?(proofs/[\w/+]+\.\w+); `\w+` did not prove (`[^`]+`)"
+)
+
 # What is owed of a loop: its invariant before and after each turn, and its measure.
 LOOP = re.compile(r"-(init|preserved|decreases)(-|$)")
 
@@ -73,6 +78,7 @@ def refusal_of(sources, message):
 
 def refusals_in(sources, lines):
     """What the messages of a whole check refuse, in their order; those that only miss a name last."""
+    lines = [UNPROVED.sub(r"\1:1:1: error: \2", line) for line in lines]
     found = [line for line in lines if (at := MESSAGE.match(line)) and (at[4] or at[1] and "not proved" in at[5])]
     return sorted((refusal_of(sources, line) for line in found), key=lambda each: each.is_lost)
 
