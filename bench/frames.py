@@ -41,12 +41,16 @@ def write_frames(path):
         sys.stdout.buffer.write(frame(body))
 
 
+def log_lines(side, body):
+    """Returns the lines of a log with the frame of a message."""
+    digits, name = frame(body).hex().upper(), ("bot", "server")[side]
+    return [f"{name} {digits[at : at + DIGITS]}" for at in range(0, len(digits), DIGITS)]
+
+
 def write_log(path):
     print("\n".join(OPENING))
     for side, body in messages(path):
-        digits, name = frame(body).hex().upper(), ("bot", "server")[side]
-        for at in range(0, len(digits), DIGITS):
-            print(name, digits[at : at + DIGITS])
+        print("\n".join(log_lines(side, body)))
 
 
 def orders(source, most):

@@ -9,7 +9,7 @@ from .sources import Function, all_functions
 
 MESSAGE = re.compile(r"(note: )?(?:\./)?((?:src|proofs|specs)/[\w/+]+\.\w+):(\d+):\d+: (error: )?(.*)")
 
-# A goal that neither a search nor an answer proves, of a function without a message of its own.
+# A goal that a tactic did not prove, and for which the file of answers has none: such a function has no other message.
 UNPROVED = re.compile(
     r"fn \S+: no proof: expected answers in (?:\./)?(proofs/[\w/+]+\.\w+); `\w+` did not prove (`[^`]+`)"
 )
