@@ -1,12 +1,12 @@
 -- The condition for an accept. (own)
-use Rattle.std.specs.Prelude.{◌≡◌, ℕ, ◌||◌, Bool, Option, Some, None, Result, Ok, Err}
+use Rattle.std.specs.Prelude.{◌≡◌, ◌⊎◌, ℕ, ◌||◌, Bool, Option, Some, None, Result, Ok, Err}
 use Rattle.std.specs.IoError.{error_kind}
 use Rattle.std.specs.declared.io.Error.{Error}
 use Rattle.std.specs.declared.io.ErrorKind.{ErrorKind}
 use Rattle.std.specs.declared.net.socket_addr.SocketAddr.{SocketAddr}
 use Rattle.std.specs.declared.io.ErrorKind.TheVariants as Kinds
 use Rattle.std.specs.declared.time.Instant.{Instant}
-use Rattle.daide_io.specs.Network.{NetworkCall, AcceptsConnection}
+use Rattle.daide_io.specs.Network.{NetworkCall, AcceptsConnection, Follows}
 use Rattle.daide_buffered_io.specs.declared.readiness.Readiness.{Readiness}
 use Rattle.daide_sockets.specs.declared.admission.Declined.{Declined}
 use Rattle.daide_sockets.specs.declared.admission.Declined.TheVariants as Declines
@@ -44,6 +44,31 @@ pub record ReportsAccept {N C : Type 0} (transition : N → NetworkCall C → N 
   pub accepted : Result (C × SocketAddr) Error
   pub call : transition old (AcceptsConnection accepted) new
   pub reported : IsReportedAs accepted result
+
+-- the connection that an accept gave, with its peer's address, if it gave one
+abbrev pub connection_given : {C : Type 0} → Result (C × SocketAddr) Error → Option (C × SocketAddr)
+connection_given (Ok came) = Some came
+connection_given (Err error) = None
+
+-- exactly one call was made, an accept, and what it gave is returned
+pub record AcceptsOnce {N C : Type 0} (transition : N → NetworkCall C → N → Type 0) (old new : N)
+    (result : Option (C × SocketAddr)) : Type 0 where
+  pub accepted : Result (C × SocketAddr) Error
+  pub call : transition old (AcceptsConnection accepted) new
+  pub given : result ≡ connection_given accepted
+
+-- no call was made, or one by which a connection is followed
+abbrev pub FollowsAtMostOne : {N C : Type 0} → (N → NetworkCall C → N → Type 0) → N → N → Type 0
+FollowsAtMostOne {C = C} transition old new =
+    (new ≡ old) ⊎ (before : C) × (key : ℕ) × (is_followed : Bool) × (after : C)
+    × transition old (Follows before key is_followed after) new
+
+-- One accept was made, and then no call but one by which a connection is followed. So no other bot was accepted.
+pub record AcceptsOneBot {N C : Type 0} (transition : N → NetworkCall C → N → Type 0) (old new : N) : Type 0 where
+  pub accepted : Result (C × SocketAddr) Error
+  pub mid : N
+  pub call : transition old (AcceptsConnection accepted) mid
+  pub rest : FollowsAtMostOne transition mid new
 
 -- an accept was made
 pub record MakesAccept {N C : Type 0} (transition : N → NetworkCall C → N → Type 0) (old : N) : Type 0 where

@@ -12,7 +12,7 @@ ghost use Rattle.daide_sockets.specs.InTime.{watching_all};
 ghost use Rattle.daide_sockets.specs.Pairing.{ConnectsTo};
 ghost use Rattle.daide_sockets.specs.Rows.{HandsRows, KeepsRows, arrival_keys, connect_key, key_in, result_key, listener_keys};
 ghost use Rattle.daide_sockets.specs.Table.{watching, no_report, report_at};
-ghost use Rattle.daide_sockets.specs.Accepting.{is_accept_made, is_accept_due, accept_pause, ReportsAccept, MakesAccept, GivesConnection, Pauses};
+ghost use Rattle.daide_sockets.specs.Accepting.{is_accept_made, is_accept_due, accept_pause, ReportsAccept, AcceptsOnce, AcceptsOneBot, MakesAccept, GivesConnection, Pauses};
 ghost use Rattle.std.specs.Duration.{as_nanos};
 ghost use Rattle.daide_sockets.specs.Timers.{BeginsAt, timers_of};
 ghost use Rattle.daide_sockets.specs.Times.{IsAfter, IsStallEnd, is_past};
@@ -186,6 +186,8 @@ impl Acceptor {
     /// Accepts a connection, and returns it with its address. Returns `None` if there is none. Makes no system call
     /// during the pause after a failed accept.
     ///
+    /// `once`: if an accept is due, exactly one is made, and what it gave is returned. So no connection is dropped.
+    ///
     /// `left`: if it returns none, no accept is due any more at this reading of the clock.
     ///
     /// `given`: it returns only what the network gave.
@@ -198,6 +200,8 @@ impl Acceptor {
         ensures clock { poller.new.table.reading ≡ poller.old.table.reading }
         ensures made { is_accept_due poller.old.table self.old.key self.old.readiness self.old.resumes_at ≡ true →
             MakesAccept N.transition poller.old.network }
+        ensures once { is_accept_due poller.old.table self.old.key self.old.readiness self.old.resumes_at ≡ true →
+            AcceptsOnce N.transition poller.old.network poller.new.network result }
         ensures not_made { is_accept_due poller.old.table self.old.key self.old.readiness self.old.resumes_at ≡ false →
             (result ≡ None) × (poller.new.network ≡ poller.old.network) }
         ensures left { result ≡ None →
@@ -303,6 +307,8 @@ impl Acceptor {
     ///
     /// `none`: no bot is counted.
     ///
+    /// `once`: if an accept is due, exactly one is made, and then the network at most follows its connection.
+    ///
     /// `awaited`: the wait of this round is for bots if it was.
     ///
     /// `left`: an accept is still due only if one was made that gave a connection: of a bot that may not come, or of one that
@@ -321,6 +327,8 @@ impl Acceptor {
         ensures none { IfErr result (λ _. self.new.came ≡ self.old.came) }
         ensures made { is_accept_due poller.old.table self.old.key self.old.readiness self.old.resumes_at ≡ true →
             self.old.came < u32.MAX → MakesAccept N.transition poller.old.network }
+        ensures once { is_accept_due poller.old.table self.old.key self.old.readiness self.old.resumes_at ≡ true →
+            self.old.came < u32.MAX → AcceptsOneBot N.transition poller.old.network poller.new.network }
         ensures clock { poller.new.table.reading ≡ poller.old.table.reading }
         ensures allowed { IfOk result (λ bot. may_come rules.entry.0.now rules.entry.1 present.old.hosts.items
             (host_of (socket_ip bot.2)) ≡ true) }
