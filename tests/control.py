@@ -376,11 +376,13 @@ def stop_gives_up_after_its_timeout(program):
 
 
 def stop_now_ends_each_session(program):
-    """Each bot and the server receive an FM for each session, the reports of the records have the stop, and both commands
-    have status 0 within two seconds."""
+    """The status of a recorded run has each session. Each bot and the server receive an FM for each session, the reports of
+    the records have the stop, and both commands have status 0 within two seconds."""
     words = ("--verbose", "--record", "records")
     with Match(program, f"max_sessions = {SESSIONS}\nsessions = {SESSIONS}\nendless = true", words) as match:
         ends = [match.opens() for _ in range(SESSIONS)]
+        shown = [line.split()[0] for line in match.status().splitlines()[-SESSIONS:]]
+        same(shown, [str(number + 1) for number in range(SESSIONS)], "the sessions of the status")
         begun = time.monotonic()
         stopping = subprocess.Popen([*match.program, "stop", "--now", str(match.settings)], stdout=subprocess.PIPE,
                                     stderr=subprocess.PIPE)
