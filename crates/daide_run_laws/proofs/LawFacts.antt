@@ -3,6 +3,7 @@ use Rattle.std.proofs.Common.{◌≡◌, ℕ, ◌<◌, ◌+◌, ◌-◌, ◌≤�
 use Rattle.std.specs.Prelude.{All, Contains}
 use Rattle.std.specs.Duration.{as_nanos}
 use Rattle.std.specs.Time.{instant_nanos}
+use Rattle.std.specs.declared.net.socket_addr.SocketAddr.{SocketAddr}
 use Rattle.std.specs.declared.time.Duration.{Duration}
 use Rattle.std.specs.declared.time.Instant.{Instant}
 use Rattle.std.proofs.lemmas.List.Elements.{All-contains}
@@ -18,7 +19,7 @@ use Rattle.daide_settings.specs.declared.settings.Settings.{Settings}
 use Rattle.daide_event_loop.specs.QuotaPorts.{QuotaPortsView}
 use Rattle.daide_event_loop.specs.Serving.{ServiceView, Round, Rounds, initial_service, is_done, may_accept, heeding, opening, fresh}
 use Rattle.daide_event_loop.specs.Served.{IsServed}
-use Rattle.daide_sockets.specs.Accepting.{is_accept_due, MakesAccept}
+use Rattle.daide_sockets.specs.Accepting.{is_accept_due, AcceptsThenConnects}
 use Rattle.daide_sockets.specs.declared.ports.SocketPorts.{SocketPorts}
 use Rattle.daide_sockets.specs.InTime.{IsAtMost}
 use Rattle.daide_sockets.specs.Table.{Table, IsNoTime}
@@ -159,7 +160,8 @@ module _ {P S N C : Type 0} (port_transition : P → PortCall → P → Type 0) 
     (trace : TransitsBy (RunEvolves transition to_give taken calls ports_in) first (before ++ opening orders run.hub.places) old)
     (accept : RunEvolves transition to_give taken calls ports_in old (Accepts came) new) where
   has_room : HasRoomForNext settings run old × (is_accept_due old.table old.acceptor.key old.acceptor.readiness
-      old.acceptor.resumes_at ≡ true → MakesAccept transition old.network)
+      old.acceptor.resumes_at ≡ true → (servers : List SocketAddr)
+      × AcceptsThenConnects transition servers old.network new.network)
   has_room = law settings 9 before orders run first old new came (omega (arith, bots)) (omega (arith, three, room)) none no_arrivals
       no_closing rounds may trace accept
 
@@ -167,6 +169,7 @@ module _ {P S N C : Type 0} (port_transition : P → PortCall → P → Type 0) 
   beside_two : length old.closing.streams ≡ 256 → length run.hub.places + length old.arrivals ≤ 2
   beside_two closing = let rows = has_room.0.rows in omega (arith, rows, closing, three)
 
-  -- while the listener is ready and no pause is under way, an accept is made
-  ready_accept : old.acceptor.resumes_at ≡ None → old.acceptor.readiness.may_read ≡ true → MakesAccept transition old.network
+  -- while the listener is ready and no pause is under way, exactly one accept is made
+  ready_accept : old.acceptor.resumes_at ≡ None → old.acceptor.readiness.may_read ≡ true →
+      (servers : List SocketAddr) × AcceptsThenConnects transition servers old.network new.network
   ready_accept goes_on ready = has_room.1 (rw (goes_on, ready) refl)

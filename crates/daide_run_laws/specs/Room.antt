@@ -1,5 +1,6 @@
 -- Room for each bot that a run may accept: the loop's counts of bots and connects, against the sockets'. (own)
 use Rattle.std.specs.Prelude.{◌≡◌, ◌≤◌, ℕ, ◌+◌, ◌*◌, ◌++◌, Bool, true, List, [], length, Option}
+use Rattle.std.specs.declared.net.socket_addr.SocketAddr.{SocketAddr}
 use Rattle.daide_io.specs.Network.{NetworkCall}
 use Rattle.daide_io.specs.Ports.{PortCall}
 use Rattle.daide_io.specs.Streams.{StreamCall}
@@ -8,7 +9,7 @@ use Rattle.daide_io.specs.declared.system.Orders.{Orders}
 use Rattle.daide_settings.specs.BotsInAll.{bots_in_all}
 use Rattle.daide_settings.specs.declared.settings.Settings.{Settings}
 use Rattle.daide_event_loop.specs.Serving.{ServiceView, Rounds, initial_service, may_accept, heeding, opening}
-use Rattle.daide_sockets.specs.Accepting.{is_accept_due, MakesAccept}
+use Rattle.daide_sockets.specs.Accepting.{is_accept_due, AcceptsThenConnects}
 use Rattle.daide_sockets.specs.Scheduling.{RunState, RunEvolves}
 use Rattle.daide_sockets.specs.declared.ports.SocketPorts.{SocketPorts}
 
@@ -26,7 +27,7 @@ pub record HasRoomForNext {P N S : Type 0} (settings : Settings) (run : ServiceV
       ≤ 2 * settings.max_sessions + (256 + other_sockets)
 
 -- Take a run over sockets whose list of connects has room for all sessions, after some rounds, and an accept of its loop. The
--- sockets have room for the bot. So an accept is made if it is due. `ports_in` is the content of ports.
+-- sockets have room for the bot. So exactly one accept is made if it is due. `ports_in` is the content of ports.
 abbrev pub EachBotHasRoom : {P S N C : Type 0} → (P → PortCall → P → Type 0) → (N → NetworkCall C → N → Type 0) →
     (S → Option (List ℕ)) → (S → Option (List ℕ)) → (S → Option (List StreamCall)) → (P → SocketPorts S) → Type 0
 EachBotHasRoom {P} {S} {N} port_transition transition to_give taken calls ports_in = (settings : Settings) (n : ℕ)
@@ -38,4 +39,4 @@ EachBotHasRoom {P} {S} {N} port_transition transition to_give taken calls ports_
     RunEvolves transition to_give taken calls ports_in old (Accepts came) new →
     HasRoomForNext settings run old
     × (is_accept_due old.table old.acceptor.key old.acceptor.readiness old.acceptor.resumes_at ≡ true →
-    MakesAccept transition old.network)
+    (servers : List SocketAddr) × AcceptsThenConnects transition servers old.network new.network)

@@ -45,7 +45,7 @@ pub fn no_wakeup_is_lost_beside_records<S: Duplex + Drop, N: Network, W: Sink + 
 
 /// No bot waits. Take a round of a run over sockets that ends with a wait, and in which one more bot may be accepted. The wait
 /// takes no time while an accept is due: while the listener is ready and no pause of accepts is under way, or the pause is
-/// over. In the round an accept was made, if one was due and the sockets had room for a bot (`AsksListener`).
+/// over. In the round exactly one accept was made, if one was due and the sockets had room for a bot (`AsksListener`).
 pub fn no_bot_waits<S: Duplex + Drop, N: Network>()
     ensures { NoBotWaits ⟦<SocketPorts<'static, S> as Ports>⟧.transition timers_of N.transition }
 {}
@@ -60,7 +60,7 @@ pub fn no_bot_waits_beside_records<S: Duplex + Drop, N: Network, W: Sink + Drop>
 /// and an accept of its loop. The bots and the connects under way are as many as the loop counts. Two sockets for each
 /// session, two for each connect, those that close, the two listeners, four control connections, and two for one bot more are
 /// at most as many as the table of the run has rows (`HasRoomForNext`; `bind_sockets`: `rows`). The list of connects has room
-/// too, so an accept is made whenever it is due.
+/// too, so exactly one accept is made whenever it is due, and then only connects for its bot (`AcceptsThenConnects`).
 ///
 /// The list keeps the room with which it was created: for all sessions (`Sockets::new`: `room`). A run has at most 2^32 - 1
 /// bots.

@@ -1,10 +1,15 @@
--- After an accept that failed none is due at the same reading of the clock.
-use Rattle.std.proofs.Common.{◌≡◌, ◌⊎◌, ℕ, true, false, Bool, Option, Some, None, refl, sym, ap, ◌∙◌, inl, inr, arith}
-use Rattle.std.specs.Prelude.{◌||◌}
+-- After an accept that failed none is due at the same reading of the clock; and what was accepted is at most followed.
+use Rattle.std.proofs.Common.{◌≡◌, ◌⊎◌, ℕ, ◌+◌, suc, true, false, Bool, Option, Some, None, Result, Ok, Err, List, refl, sym, ap, ◌∙◌, inl, inr, arith}
+use Rattle.std.specs.declared.io.Error.{Error}
+use Rattle.std.specs.declared.net.socket_addr.SocketAddr.{SocketAddr}
+use Rattle.daide_io.specs.Network.{NetworkCall, AcceptsConnection, Follows}
+use Rattle.std.specs.Prelude.{◌||◌, slice_get}
 use Rattle.std.specs.declared.time.Instant.{Instant}
 use Rattle.daide_buffered_io.specs.declared.readiness.Readiness.{Readiness}
-use Rattle.daide_sockets.specs.Accepting.{is_accept_made, is_accept_due, accept_pause}
-use Rattle.daide_sockets.specs.Table.{Table, report_at, without_report}
+use Rattle.daide_sockets.specs.Accepting.{is_accept_made, is_accept_due, accept_pause, connection_given}
+use Rattle.daide_sockets.specs.Accepting.{AcceptsOnce, AcceptsOneBot, BringsNoBot, FollowsAtMostOnce, FollowsAccepted, ConnectsOnce, ConnectsFrom}
+use Rattle.daide_sockets.specs.Accepting.{Fails, MayNotCome, HasNoRow, IsRefused}
+use Rattle.daide_sockets.specs.Table.{Table, IsFull, report_at, without_report}
 use Rattle.daide_sockets.specs.Times.{IsAfter, is_past}
 use Rattle.daide_sockets.proofs.TableLemmas.{report_taken}
 
@@ -35,3 +40,62 @@ taken_not_due old new key same known resumes_at now taken is reading none =
     ap (λ (r : Option Instant). is_accept_made r (known.may_read || (report_at new same).may_read) resumes_at) (sym reading)
     ∙ ap (λ (r : Readiness). is_accept_made now (known.may_read || r.may_read) resumes_at) report
     ∙ ap (λ (b : Bool). is_accept_made now b resumes_at) (or_false known.may_read) ∙ none
+
+module _ {N C : Type 0} (transition : N → NetworkCall C → N → Type 0) where
+  -- no call was made but one by which the given connection is followed
+  abbrev pub FollowsGiven : Option (C × SocketAddr) → N → N → Type 0
+  FollowsGiven None old new = new ≡ old
+  FollowsGiven (Some came) old new = FollowsAtMostOnce transition came.0 old new
+
+  given_accepted : (accepted : Result (C × SocketAddr) Error) (old new : N) → FollowsGiven (connection_given accepted) old new →
+      FollowsAccepted transition accepted old new
+  given_accepted (Ok came) old new h = h
+  given_accepted (Err error) old new h = h
+
+  -- one bot was accepted if the one accept is followed by no call but that by which its connection is followed
+  pub accepts_one : (given : Option (C × SocketAddr)) (old mid new : N) → AcceptsOnce transition old mid given →
+      FollowsGiven given mid new → AcceptsOneBot transition old new
+  accepts_one given old mid new once rest = record {
+    accepted = once.accepted;
+    mid = mid;
+    call = once.call;
+    rest = given_accepted once.accepted mid new (rw once.given at rest);
+  }
+
+  -- one more connect, to the next address
+  pub connects_on : (addresses : List SocketAddr) (place tried count : ℕ) (address : SocketAddr) (old mid new : N) →
+      tried ≡ place + count → slice_get addresses tried ≡ Some address →
+      ConnectsFrom transition addresses place count old mid → ConnectsOnce transition address mid new →
+      (more : ℕ) × (tried + 1 ≡ place + more) × ConnectsFrom transition addresses place more old new
+  connects_on addresses place tried count address old mid new at listed before once =
+      (suc count, omega (arith, at), (mid, address, before, rw at at listed, once))
+
+  -- ---- an accept that brings no bot
+
+  accepted_is : (accepted : Result (C × SocketAddr) Error) (came : C × SocketAddr) → Some came ≡ connection_given accepted →
+      accepted ≡ Ok came
+  accepted_is (Ok other) came h = cc
+  accepted_is (Err error) came h = absurd (cc)
+
+  accepts : (came : C × SocketAddr) (old mid : N) → AcceptsOnce transition old mid (Some came) →
+      transition old (AcceptsConnection (Ok came)) mid
+  accepts came old mid once = rw (accepted_is once.accepted came once.given) at once.call
+
+  module _ (may_come : SocketAddr → Bool) (old mid : N) (table : Table) where
+    failed : (accepted : Result (C × SocketAddr) Error) → transition old (AcceptsConnection accepted) mid →
+        None ≡ connection_given accepted → BringsNoBot transition may_come old table mid
+    failed (Ok came) call h = absurd (cc)
+    failed (Err error) call h = Fails error call
+
+    pub brings_none : AcceptsOnce transition old mid None → BringsNoBot transition may_come old table mid
+    brings_none once = failed once.accepted once.call once.given
+
+    pub brings_declined : (came : C × SocketAddr) → AcceptsOnce transition old mid (Some came) → may_come came.1 ≡ false →
+        BringsNoBot transition may_come old table mid
+    brings_declined came once declined = MayNotCome came (accepts came old mid once) declined
+
+    pub brings_refused : (came : C × SocketAddr) (new : N) → AcceptsOnce transition old mid (Some came) →
+        IsFull table ⊎ (key : ℕ) × (after : C) × transition mid (Follows came.0 key false after) new →
+        BringsNoBot transition may_come old table new
+    brings_refused came new once (inl full) = HasNoRow full
+    brings_refused came new once (inr h) = IsRefused came mid h.0 h.1 (accepts came old mid once) h.2

@@ -3,7 +3,6 @@ use Rattle.std.proofs.Common.{◌≡◌, Bool, true, false, refl, ap}
 use Rattle.std.specs.Prelude.{◌||◌}
 use Rattle.daide_sockets.specs.declared.ports.SocketPorts.{SocketPorts}
 use Rattle.daide_sockets.specs.Interests.{interest_of, may_go_on_for, has_news_for}
-use Rattle.daide_sockets.specs.Sockets.{has_socket_work}
 use Rattle.daide_sockets.specs.Table.{Table, is_reported_at}
 use Rattle.daide_sockets.specs.Timers.{timers_of}
 use Rattle.daide_sockets.specs.Times.{is_past}

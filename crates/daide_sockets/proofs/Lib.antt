@@ -15,6 +15,7 @@ pub mod AccountedLemmas
 pub mod ClosingTimeLemmas
 pub mod SchedulingLemmas
 mod AcceptLemmas
+mod AcceptFacts
 pub mod ControlInTimeLemmas
 mod CapacityFacts
 mod LawFacts

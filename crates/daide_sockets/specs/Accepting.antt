@@ -1,16 +1,16 @@
--- The condition for an accept. (own)
-use Rattle.std.specs.Prelude.{◌≡◌, ◌⊎◌, ℕ, ◌||◌, Bool, Option, Some, None, Result, Ok, Err}
+-- The condition for an accept, and the calls on the network of which it is one. (own)
+use Rattle.std.specs.Prelude.{◌≡◌, ◌⊎◌, ℕ, zero, suc, ◌+◌, ◌||◌, Bool, false, List, Option, Some, None, Result, Ok, Err, slice_get}
 use Rattle.std.specs.IoError.{error_kind}
 use Rattle.std.specs.declared.io.Error.{Error}
 use Rattle.std.specs.declared.io.ErrorKind.{ErrorKind}
 use Rattle.std.specs.declared.net.socket_addr.SocketAddr.{SocketAddr}
 use Rattle.std.specs.declared.io.ErrorKind.TheVariants as Kinds
 use Rattle.std.specs.declared.time.Instant.{Instant}
-use Rattle.daide_io.specs.Network.{NetworkCall, AcceptsConnection, Follows}
+use Rattle.daide_io.specs.Network.{NetworkCall, AcceptsConnection, BeginsConnect, Follows}
 use Rattle.daide_buffered_io.specs.declared.readiness.Readiness.{Readiness}
 use Rattle.daide_sockets.specs.declared.admission.Declined.{Declined}
 use Rattle.daide_sockets.specs.declared.admission.Declined.TheVariants as Declines
-use Rattle.daide_sockets.specs.Table.{Table, report_at}
+use Rattle.daide_sockets.specs.Table.{Table, IsFull, report_at}
 use Rattle.daide_sockets.specs.Times.{IsAfter, is_past}
 
 -- no bot is accepted for this many nanoseconds after a failed accept
@@ -57,24 +57,63 @@ pub record AcceptsOnce {N C : Type 0} (transition : N → NetworkCall C → N �
   pub call : transition old (AcceptsConnection accepted) new
   pub given : result ≡ connection_given accepted
 
--- no call was made, or one by which a connection is followed
-abbrev pub FollowsAtMostOne : {N C : Type 0} → (N → NetworkCall C → N → Type 0) → N → N → Type 0
-FollowsAtMostOne {C = C} transition old new =
-    (new ≡ old) ⊎ (before : C) × (key : ℕ) × (is_followed : Bool) × (after : C)
-    × transition old (Follows before key is_followed after) new
+-- no call was made, or one by which this connection is followed
+abbrev pub FollowsAtMostOnce : {N C : Type 0} → (N → NetworkCall C → N → Type 0) → C → N → N → Type 0
+FollowsAtMostOnce {C = C} transition connection old new =
+    (new ≡ old) ⊎ (key : ℕ) × (is_followed : Bool) × (after : C)
+    × transition old (Follows connection key is_followed after) new
 
--- One accept was made, and then no call but one by which a connection is followed. So no other bot was accepted.
+-- no call was made but one by which the accepted connection is followed
+abbrev pub FollowsAccepted : {N C : Type 0} → (N → NetworkCall C → N → Type 0) → Result (C × SocketAddr) Error → N → N → Type 0
+FollowsAccepted transition (Ok came) old new = FollowsAtMostOnce transition came.0 old new
+FollowsAccepted transition (Err error) old new = new ≡ old
+
+-- One accept was made, and then no call but one by which its connection is followed. So no other bot was accepted.
 pub record AcceptsOneBot {N C : Type 0} (transition : N → NetworkCall C → N → Type 0) (old new : N) : Type 0 where
   pub accepted : Result (C × SocketAddr) Error
   pub mid : N
   pub call : transition old (AcceptsConnection accepted) mid
-  pub rest : FollowsAtMostOne transition mid new
+  pub rest : FollowsAccepted transition accepted mid new
 
--- an accept was made
-pub record MakesAccept {N C : Type 0} (transition : N → NetworkCall C → N → Type 0) (old : N) : Type 0 where
-  pub accepted : Result (C × SocketAddr) Error
+-- no call was made but one by which the connection is followed that a connect began
+abbrev pub FollowsBegun : {N C : Type 0} → (N → NetworkCall C → N → Type 0) → Result C Error → N → N → Type 0
+FollowsBegun transition (Ok connection) old new = FollowsAtMostOnce transition connection old new
+FollowsBegun transition (Err error) old new = new ≡ old
+
+-- one connect was made to this address, and then no call but one by which its connection is followed
+pub record ConnectsOnce {N C : Type 0} (transition : N → NetworkCall C → N → Type 0) (address : SocketAddr) (old new : N) :
+    Type 0 where
+  pub begun : Result C Error
   pub mid : N
-  pub call : transition old (AcceptsConnection accepted) mid
+  pub call : transition old (BeginsConnect address begun) mid
+  pub rest : FollowsBegun transition begun mid new
+
+-- one connect was made to each of the first `count` addresses from this place on, in their order, and nothing else
+abbrev pub ConnectsFrom : {N C : Type 0} → (N → NetworkCall C → N → Type 0) → List SocketAddr → ℕ → ℕ → N → N → Type 0
+ConnectsFrom transition addresses place zero old new = new ≡ old
+ConnectsFrom {N = N} transition addresses place (suc count) old new = (mid : N) × (address : SocketAddr)
+    × ConnectsFrom transition addresses place count old mid
+    × (slice_get addresses (place + count) ≡ Some address) × ConnectsOnce transition address mid new
+
+-- One accept was made, its connection was followed, and then connects were made to some of these addresses, from the first
+-- on. So no other bot was accepted, by whichever call.
+pub record AcceptsThenConnects {N C : Type 0} (transition : N → NetworkCall C → N → Type 0) (addresses : List SocketAddr)
+    (old new : N) : Type 0 where
+  pub mid : N
+  pub accepts : AcceptsOneBot transition old mid
+  pub count : ℕ
+  pub connects : ConnectsFrom transition addresses 0 count mid new
+
+-- Why a due accept brings no bot: it failed; or its bot may not come, by its address; or the table has no free row; or the
+-- system refused to follow its connection.
+pub data BringsNoBot {N C : Type 0} (transition : N → NetworkCall C → N → Type 0) (may_come : SocketAddr → Bool) (old : N)
+    (table : Table) (new : N) : Type 0 where
+  Fails : (error : Error) → transition old (AcceptsConnection (Err error)) new → BringsNoBot transition may_come old table new
+  MayNotCome : (came : C × SocketAddr) → transition old (AcceptsConnection (Ok came)) new → may_come came.1 ≡ false →
+      BringsNoBot transition may_come old table new
+  HasNoRow : IsFull table → BringsNoBot transition may_come old table new
+  IsRefused : (came : C × SocketAddr) (mid : N) (key : ℕ) (after : C) → transition old (AcceptsConnection (Ok came)) mid →
+      transition mid (Follows came.0 key false after) new → BringsNoBot transition may_come old table new
 
 -- an accept was made, and gave a connection
 pub record GivesConnection {N C : Type 0} (transition : N → NetworkCall C → N → Type 0) (old : N) : Type 0 where

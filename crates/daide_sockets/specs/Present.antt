@@ -1,5 +1,5 @@
 -- The hosts of the bots of a run that are there: those with a connect under way, and those of sessions. (own)
-use Rattle.std.specs.Prelude.{◌≡◌, ℕ, ◌+◌, ◌==◌, nat_lt, true, List, [], ◌∷◌, ◌++◌, length, remove, slice_get, Option, Some, None, if◌then◌else◌}
+use Rattle.std.specs.Prelude.{◌≡◌, ℕ, ◌+◌, ◌<◌, ◌==◌, nat_lt, true, List, [], ◌∷◌, ◌++◌, length, remove, slice_get, Option, Some, None, if◌then◌else◌, vec_capacity}
 use Rattle.std.specs.Net.Socket.{socket_ip}
 use Rattle.std.specs.declared.time.Instant.{Instant}
 use Rattle.daide_settings.specs.Ranges.{host_of, may_come}
@@ -25,6 +25,13 @@ or_none (Some time) = time
 
 abbrev pub time_in : List (Option Instant) → ℕ → Option Instant
 time_in times at = or_none (slice_get times at)
+
+-- The lists have room for one more bot.
+abbrev pub HasRoomForOne : Present → Type 0
+HasRoomForOne present = (length present.numbers.items < vec_capacity present.numbers)
+    × (length present.hosts.items < vec_capacity present.hosts)
+    × (length present.addresses.items < vec_capacity present.addresses)
+    × (length present.times.items < vec_capacity present.times)
 
 -- The bot of a session that began may come, beside these hosts.
 abbrev pub IsAllowed : List AddressRange → ℕ → List Host → SessionNotice → Type 0

@@ -1,5 +1,6 @@
 -- What the sockets of a run schedule: the timeouts with which sessions begin, accepts, and what a wait watches. (own)
-use Rattle.std.specs.Prelude.{◌≡◌, ℕ, ◌<◌, ◌++◌, true, List, length, Option}
+use Rattle.std.specs.Prelude.{◌≡◌, ℕ, ◌<◌, ◌++◌, true, false, List, length, Option}
+use Rattle.std.specs.declared.net.socket_addr.SocketAddr.{SocketAddr}
 use Rattle.std.specs.declared.time.Duration.{Duration}
 use Rattle.daide_io.specs.Network.{NetworkCall}
 use Rattle.daide_io.specs.Streams.{StreamCall}
@@ -10,7 +11,7 @@ use Rattle.daide_io.specs.declared.system.Connect.TheVariants.{Ready, Failed, Pe
 use Rattle.daide_sockets.specs.declared.admission.Acceptor.{Acceptor}
 use Rattle.daide_sockets.specs.declared.control.Control.{Control}
 use Rattle.daide_sockets.specs.declared.ports.SocketPorts.{SocketPorts}
-use Rattle.daide_sockets.specs.Accepting.{is_accept_due, MakesAccept}
+use Rattle.daide_sockets.specs.Accepting.{is_accept_due, AcceptsThenConnects}
 use Rattle.daide_sockets.specs.Beside.{listener_watched, others_watched}
 use Rattle.daide_buffered_io.specs.Buffers.{Buffer}
 use Rattle.daide_sockets.specs.Lingering.{ClosingList, LooksAround, in_pass}
@@ -66,13 +67,16 @@ pair_of ports = record {
 abbrev pub HasRoomForBot : {N S : Type 0} → RunState N S → Type 0
 HasRoomForBot state = (length state.arrivals < state.room) × (state.acceptor.came < 4294967295)
 
--- The listener is asked for a bot: with room for one an accept is made if it is due. From then on the wait of the round is
--- for bots too.
+-- The listener is asked for a bot: with room for one exactly one accept is made if it is due, and then only connects for its
+-- bot. Otherwise no call is made. From then on the wait of the round is for bots too.
 pub record AsksListener {N C S : Type 0} (transition : N → NetworkCall C → N → Type 0) (old new : RunState N S) :
     Type 0 where
   pub made : HasRoomForBot old →
       is_accept_due old.table old.acceptor.key old.acceptor.readiness old.acceptor.resumes_at ≡ true →
-      MakesAccept transition old.network
+      (servers : List SocketAddr) × AcceptsThenConnects transition servers old.network new.network
+  pub not_made : (HasRoomForBot old →
+      is_accept_due old.table old.acceptor.key old.acceptor.readiness old.acceptor.resumes_at ≡ false) →
+      new.network ≡ old.network
   pub awaited : new.acceptor.awaits_bots ≡ true
 
 -- ---- sessions

@@ -3,7 +3,7 @@
 //! Neither an accept nor a connect blocks. The server's name is resolved at the start. If it has several addresses,
 //! they are tried one after the other, within one deadline for all.
 
-ghost use Rattle.std.specs.Prelude.{◌≡◌, ◌≢◌, ◌⊎◌, ◌+◌, ◌<◌, ◌++◌, ◌∷◌, [], Some, None, Err, true, false, IfOk, IfErr, IfSome, IsSome, MatchResult, option_map};
+ghost use Rattle.std.specs.Prelude.{◌≡◌, ◌≢◌, ◌⊎◌, ℕ, ◌+◌, ◌<◌, ◌++◌, ◌∷◌, [], Some, None, Err, true, false, IfOk, IfErr, IfSome, IsSome, MatchResult, option_map};
 ghost use Rattle.std.specs.Option.{is_some};
 ghost use Rattle.daide_buffered_io.specs.Buffers.{Buffer};
 ghost use Rattle.daide_io.specs.Network.{AsksConnect, StopsListening};
@@ -12,7 +12,8 @@ ghost use Rattle.daide_sockets.specs.InTime.{watching_all};
 ghost use Rattle.daide_sockets.specs.Pairing.{ConnectsTo};
 ghost use Rattle.daide_sockets.specs.Rows.{HandsRows, KeepsRows, arrival_keys, connect_key, key_in, result_key, listener_keys};
 ghost use Rattle.daide_sockets.specs.Table.{watching, no_report, report_at};
-ghost use Rattle.daide_sockets.specs.Accepting.{is_accept_made, is_accept_due, accept_pause, ReportsAccept, AcceptsOnce, AcceptsOneBot, MakesAccept, GivesConnection, Pauses};
+ghost use Rattle.daide_sockets.specs.Accepting.{is_accept_made, is_accept_due, accept_pause, ReportsAccept, AcceptsOnce, AcceptsOneBot, BringsNoBot, ConnectsFrom, GivesConnection, Pauses};
+ghost use Rattle.daide_sockets.specs.Present.{HasRoomForOne};
 ghost use Rattle.std.specs.Duration.{as_nanos};
 ghost use Rattle.daide_sockets.specs.Timers.{BeginsAt, timers_of};
 ghost use Rattle.daide_sockets.specs.Times.{IsAfter, IsStallEnd, is_past};
@@ -190,7 +191,7 @@ impl Acceptor {
     ///
     /// `left`: if it returns none, no accept is due any more at this reading of the clock.
     ///
-    /// `given`: it returns only what the network gave.
+    /// `given`, `due`: it returns only what the network gave, in a call that was due.
     pub fn accept<N: Network>(
         &mut self,
         poller: &mut Poller<N>,
@@ -198,14 +199,14 @@ impl Acceptor {
         ensures came { self.new.came ≡ self.old.came }
         ensures awaited { self.new.awaits_bots ≡ self.old.awaits_bots }
         ensures clock { poller.new.table.reading ≡ poller.old.table.reading }
-        ensures made { is_accept_due poller.old.table self.old.key self.old.readiness self.old.resumes_at ≡ true →
-            MakesAccept N.transition poller.old.network }
         ensures once { is_accept_due poller.old.table self.old.key self.old.readiness self.old.resumes_at ≡ true →
             AcceptsOnce N.transition poller.old.network poller.new.network result }
         ensures not_made { is_accept_due poller.old.table self.old.key self.old.readiness self.old.resumes_at ≡ false →
             (result ≡ None) × (poller.new.network ≡ poller.old.network) }
         ensures left { result ≡ None →
             is_accept_due poller.new.table self.new.key self.new.readiness self.new.resumes_at ≡ false }
+        ensures due { IfSome result (λ _.
+            is_accept_due poller.old.table self.old.key self.old.readiness self.old.resumes_at ≡ true) }
         ensures given { IfSome result (λ _. GivesConnection N.transition poller.old.network) }
         ensures rows { KeepsRows poller.old.table poller.new.table }
         ensures key { self.new.key ≡ self.old.key }
@@ -309,12 +310,15 @@ impl Acceptor {
     ///
     /// `once`: if an accept is due, exactly one is made, and then the network at most follows its connection.
     ///
+    /// `not_made`, `due`: if none is due, or if all numbers are given, no call is made, and no bot is returned.
+    ///
+    /// `kept`: a connection that was accepted is closed only if its bot may not come, if no row or no place is left for it, or
+    /// if the system refuses to follow it.
+    ///
     /// `awaited`: the wait of this round is for bots if it was.
     ///
     /// `left`: an accept is still due only if one was made that gave a connection: of a bot that may not come, or of one that
     /// was refused. After a refusal it is due only if no pause could begin, without a clock (`refused`).
-    ///
-    /// Not said: that the system refused to follow a connection that was accepted and closed.
     pub(crate) fn next_bot<'w, N: Network>(
         &mut self,
         poller: &mut Poller<N>,
@@ -325,10 +329,18 @@ impl Acceptor {
         ensures one { IfOk result (λ bot. (self.new.came ≡ self.old.came + 1) × (bot.0 ≡ self.new.came)
             × IsFresh bot.1.stream) }
         ensures none { IfErr result (λ _. self.new.came ≡ self.old.came) }
-        ensures made { is_accept_due poller.old.table self.old.key self.old.readiness self.old.resumes_at ≡ true →
-            self.old.came < u32.MAX → MakesAccept N.transition poller.old.network }
         ensures once { is_accept_due poller.old.table self.old.key self.old.readiness self.old.resumes_at ≡ true →
             self.old.came < u32.MAX → AcceptsOneBot N.transition poller.old.network poller.new.network }
+        ensures not_made { (self.old.came < u32.MAX →
+            is_accept_due poller.old.table self.old.key self.old.readiness self.old.resumes_at ≡ false) →
+            poller.new.network ≡ poller.old.network }
+        ensures due { IfOk result (λ _. (self.old.came < u32.MAX)
+            × (is_accept_due poller.old.table self.old.key self.old.readiness self.old.resumes_at ≡ true)) }
+        ensures kept { IfErr result (λ _. self.old.came < u32.MAX →
+            is_accept_due poller.old.table self.old.key self.old.readiness self.old.resumes_at ≡ true →
+            HasRoomForOne present.old → BringsNoBot N.transition
+            (λ address. may_come rules.entry.0.now rules.entry.1 present.old.hosts.items (host_of (socket_ip address)))
+            poller.old.network poller.new.table poller.new.network) }
         ensures clock { poller.new.table.reading ≡ poller.old.table.reading }
         ensures allowed { IfOk result (λ bot. may_come rules.entry.0.now rules.entry.1 present.old.hosts.items
             (host_of (socket_ip bot.2)) ≡ true) }
@@ -422,12 +434,16 @@ pub(crate) struct Unreached<'w, S: Drop> {
 ///
 /// `connects`: the last calls on the network began the connect, to one of the server's addresses, and followed its
 /// connection under this key.
+///
+/// `calls`: one connect was made to each address tried, in their order. No other call was made but to follow them.
 fn begun<N: Network>(
     poller: &mut Poller<N>,
     servers: &[SocketAddr],
     tried: &mut usize,
 ) -> Option<(N::Connection, usize)>
     ensures connects { IfSome result (λ begun. ConnectsTo N.transition servers.now begun.0 begun.1 poller.new.network) }
+    ensures calls { (count : ℕ) × (tried.new ≡ tried.old + count)
+        × ConnectsFrom N.transition servers.now tried.old count poller.old.network poller.new.network }
     ensures unknown { IfSome result (λ begun. report_at poller.new.table begun.1 ≡ no_report) }
     ensures clock { poller.new.table.reading ≡ poller.old.table.reading }
     ensures rows { HandsRows poller.old.table [] poller.new.table (key_in (option_map (λ begun. begun.1) result)) }
@@ -473,6 +489,8 @@ fn release_connect<S: Drop>(server: Option<Socket<'_, S>>, table: &mut SocketTab
 
 impl<'w, S: Duplex + Drop> PendingConnection<'w, S> {
     /// Starts the connect of a newly accepted bot.
+    ///
+    /// `calls`: connects are made to the first addresses of the server, until one begins, and no other call.
     pub(crate) fn new<N: Network<Connection = S>>(
         poller: &mut Poller<N>,
         servers: &[SocketAddr],
@@ -482,6 +500,7 @@ impl<'w, S: Duplex + Drop> PendingConnection<'w, S> {
         ensures number { result.number ≡ came.entry.0 }
         ensures bot { result.bot ≡ came.entry.1.stream }
         ensures server { IsFreshConnect result.server }
+        ensures calls { (count : ℕ) × ConnectsFrom N.transition servers.now 0 count poller.old.network poller.new.network }
         ensures rows { HandsRows poller.old.table (came.entry.1.key ∷ []) poller.new.table (arrival_keys result) }
         ensures im_due { IsAfter poller.old.table.reading (as_nanos times.0) result.im_due }
         ensures gives_up { IsAfter poller.old.table.reading (as_nanos times.1) result.gives_up }

@@ -3,7 +3,7 @@
 ghost use Rattle.std.specs.Prelude.{◌≡◌, ◌⊎◌, ℕ, nat_le, Option, IfSome, IfNone, IfOk, [], true, false};
 ghost use Rattle.std.specs.declared.time.Duration.{Duration};
 ghost use Rattle.daide_io.specs.Network.{Listens, Follows};
-ghost use Rattle.daide_sockets.specs.Accepting.{FollowsAtMostOne};
+ghost use Rattle.daide_sockets.specs.Accepting.{FollowsAtMostOnce};
 ghost use Rattle.daide_sockets.specs.Rows.{HandsRows, KeepsRows, key_in};
 ghost use Rattle.daide_sockets.specs.Table.{PollsOnce, IsFull, IsNoTime, WaitsOnce, TakesRow};
 
@@ -63,9 +63,9 @@ impl<N: Network> Poller<N> {
     pub(crate) fn follow(&mut self, connection: &mut N::Connection) -> Option<usize>
         ensures followed { IfSome result (λ key.
             N.transition self.old.network (Follows connection.old key true connection.new) self.new.network) }
-        ensures refused { IfNone result (IsFull self.old.table ⊎ (key : ℕ)
+        ensures refused { IfNone result (IsFull self.new.table ⊎ (key : ℕ)
             × N.transition self.old.network (Follows connection.old key false connection.new) self.new.network) }
-        ensures calls { FollowsAtMostOne N.transition self.old.network self.new.network }
+        ensures calls { FollowsAtMostOnce N.transition connection.old self.old.network self.new.network }
         ensures row { IfSome result (λ key. TakesRow self.old.table key self.new.table) }
         ensures rows { HandsRows self.old.table [] self.new.table (key_in result) }
         ensures clock { self.new.table.reading ≡ self.old.table.reading }

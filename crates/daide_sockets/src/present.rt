@@ -1,7 +1,7 @@
 //! The bots that are there, by whose hosts a further one is let in.
 
-ghost use Rattle.std.specs.Prelude.{◌≡◌, ◌++◌, ◌∷◌, [], true, false, ◌<◌, IfSome, length, slice_get, vec_capacity};
-ghost use Rattle.daide_sockets.specs.Present.{position_of, time_in, without_at};
+ghost use Rattle.std.specs.Prelude.{◌≡◌, ◌++◌, ◌∷◌, [], true, false, IfSome, length, slice_get, vec_capacity};
+ghost use Rattle.daide_sockets.specs.Present.{HasRoomForOne, position_of, time_in, without_at};
 
 use daide_settings::Host;
 use std::alloc::Global;
@@ -108,10 +108,7 @@ impl Present {
         ensures addresses { result ≡ true → self.new.addresses.items ≡ self.old.addresses.items ++ address ∷ [] }
         ensures times { result ≡ true → self.new.times.items ≡ self.old.times.items ++ now ∷ [] }
         ensures full { result ≡ false → self.new ≡ self.old }
-        ensures room { length self.old.numbers.items < vec_capacity self.old.numbers →
-            length self.old.hosts.items < vec_capacity self.old.hosts →
-            length self.old.addresses.items < vec_capacity self.old.addresses →
-            length self.old.times.items < vec_capacity self.old.times → result ≡ true }
+        ensures room { HasRoomForOne self.old → result ≡ true }
     {
         if self.numbers.len() >= self.numbers.capacity()
             || self.hosts.len() >= self.hosts.capacity()

@@ -6,7 +6,7 @@
 
 ghost use Rattle.std.specs.Prelude.{◌≡◌, ◌⊎◌, ℕ, ◌+◌, ◌<◌, ◌||◌, ◌&&◌, nat_lt, IsNone, IfSome, IfNone, None, [], option_map, min, length, take, true, false};
 ghost use Rattle.daide_io.specs.Network.{Follows};
-ghost use Rattle.daide_sockets.specs.Accepting.{FollowsAtMostOne};
+ghost use Rattle.daide_sockets.specs.Accepting.{FollowsAtMostOnce};
 ghost use Rattle.daide_io.specs.Ports.{IsPullWithin, IsPutWithin, pulled_len};
 ghost use Rattle.daide_buffered_io.specs.Buffers.{Passes, ReadsNothing, IsBufferedPull, IsFlushed};
 ghost use Rattle.daide_buffered_io.specs.Calls.{OnlyPuts};
@@ -74,9 +74,9 @@ impl<'w, S: Duplex + Drop> Socket<'w, S> {
         stream: S,
     ) -> Option<Socket<'w, S>>
         ensures fresh { IfSome result (λ socket. IsFresh socket.stream) }
-        ensures refused { IfNone result (IsFull poller.old.table ⊎ (key : ℕ) × (after : S)
+        ensures refused { IfNone result (IsFull poller.new.table ⊎ (key : ℕ) × (after : S)
             × N.transition poller.old.network (Follows stream key false after) poller.new.network) }
-        ensures calls { FollowsAtMostOne N.transition poller.old.network poller.new.network }
+        ensures calls { FollowsAtMostOnce N.transition stream poller.old.network poller.new.network }
         ensures clock { poller.new.table.reading ≡ poller.old.table.reading }
         ensures rows { HandsRows poller.old.table [] poller.new.table (key_in (option_map (λ socket. socket.key) result)) }
     {

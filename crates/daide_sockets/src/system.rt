@@ -87,10 +87,11 @@ fn idle_time_of(seconds: u32) -> Option<Duration>
 /// watch (`Wakes`), the listener, each connect and each closing socket (`wait`: `polls`). It polls once, for the time
 /// until the nearest deadline, unless something is pending or may be done at once. Beside that, the network is polled for
 /// no time once 32 turns began since the last poll: before a session is asked for news (`has_news`: `looks`, `begin_turn`:
-/// `counted`), and when a round begins. With room for one more, a bot is
-/// accepted if the listener is ready (`accept_next`: `made`). From then on the wait of the round is for bots too
-/// (`awaited`), so it does not block while an accept is due. A bot is accepted only if it may come by the settings, beside
-/// the hosts of those that are there (`allowed`). A bot that comes is added to those, and the end of its session removes it
+/// `counted`), and when a round begins. With room for one more, exactly one
+/// accept is made if the listener is ready (`accept_next`: `made`), and no other call but connects for its bot. If it brings
+/// no bot, it failed, or its bot may not come, or the system refused to follow it (`kept`). From then on the wait of the
+/// round is for bots too (`awaited`), so it does not block while an accept is due. A bot is accepted only if it may come by
+/// the settings, beside the hosts of those that are there (`allowed`). A bot that comes is added to those, and the end of its session removes it
 /// (`retire` and `let_go`: `hosts`).
 ///
 /// Each call says which rows of the table it takes and frees, by the keys of the sockets that have one (`HandsAlong`). An

@@ -1,13 +1,15 @@
 //! The bots that come to a run: accepts, connects to the server, and those that are given up.
 
 ghost use Rattle.std.specs.Duration.{as_nanos};
-ghost use Rattle.std.specs.Prelude.{◌≡◌, ℕ, ◌+◌, ◌<◌, ◌++◌, [], ◌∷◌, IfSome, IfNone, None, Some, true, length, not, vec_capacity};
+ghost use Rattle.std.specs.Net.Socket.{socket_ip};
+ghost use Rattle.daide_settings.specs.Ranges.{host_of, may_come};
+ghost use Rattle.std.specs.Prelude.{◌≡◌, ℕ, ◌+◌, ◌<◌, ◌++◌, [], ◌∷◌, IfSome, IfNone, None, Some, true, false, length, not, vec_capacity};
 ghost use Rattle.daide_io.specs.System.{Accepts};
 ghost use Rattle.daide_buffered_io.specs.Buffers.{Buffer};
-ghost use Rattle.daide_sockets.specs.Accepting.{is_accept_due, MakesAccept, GivesConnection};
+ghost use Rattle.daide_sockets.specs.Accepting.{is_accept_due, AcceptsThenConnects, BringsNoBot, GivesConnection};
 ghost use Rattle.daide_sockets.specs.declared.ports.SocketPorts.{SocketPorts as PortsOf};
 ghost use Rattle.daide_sockets.specs.Pairing.{FirstArrivalEvolves, ClosesAt, Comes, ComesWith};
-ghost use Rattle.daide_sockets.specs.Present.{IsAllowed, IsPresentWith, position_of, without_at};
+ghost use Rattle.daide_sockets.specs.Present.{HasRoomForOne, IsAllowed, IsPresentWith, position_of, without_at};
 ghost use Rattle.daide_sockets.specs.Rows.{HandsRows, closing_keys, connected_keys, control_keys, keys_of_run};
 ghost use Rattle.daide_sockets.specs.Scheduling.{RunEvolves, run_state};
 ghost use Rattle.daide_sockets.specs.Timers.{BeginsAt, timers_of};
@@ -140,7 +142,13 @@ impl<'w, N: Network, E: Write + Drop> Sockets<'w, N, E> {
     /// Accepts the next bot, if there is one, and begins its connect. Returns the line of its session; `None` if no bot
     /// came. Closes the connection of one that may not come, and logs its address if sessions are logged.
     ///
-    /// `made`: with room for one more, an accept is made if the listener is ready by the table, and no pause is under way.
+    /// `made`: with room for one more, exactly one accept is made if the listener is ready by the table, and no pause is
+    /// under way. Then only connects for its bot begin, so no other bot is accepted and dropped.
+    ///
+    /// `not_made`: otherwise no call is made.
+    ///
+    /// `kept`: if a due accept brings no bot, it failed, or its bot may not come, or no row is left, or the system refused to
+    /// follow its connection. So a bot that may come is not dropped.
     ///
     /// `awaited`: the wait of this round is for bots too, so it does not block while an accept is due.
     ///
@@ -161,7 +169,17 @@ impl<'w, N: Network, E: Write + Drop> Sockets<'w, N, E> {
         ensures made { length self.old.arrivals.items < vec_capacity self.old.arrivals →
             self.old.acceptor.came < u32.MAX → is_accept_due self.old.poller.table self.old.acceptor.key
             self.old.acceptor.readiness self.old.acceptor.resumes_at ≡ true →
-            MakesAccept N.transition self.old.poller.network }
+            AcceptsThenConnects N.transition self.old.servers.now self.old.poller.network self.new.poller.network }
+        ensures not_made { (length self.old.arrivals.items < vec_capacity self.old.arrivals →
+            self.old.acceptor.came < u32.MAX → is_accept_due self.old.poller.table self.old.acceptor.key
+            self.old.acceptor.readiness self.old.acceptor.resumes_at ≡ false) →
+            self.new.poller.network ≡ self.old.poller.network }
+        ensures kept { IfNone result (length self.old.arrivals.items < vec_capacity self.old.arrivals →
+            self.old.acceptor.came < u32.MAX → is_accept_due self.old.poller.table self.old.acceptor.key
+            self.old.acceptor.readiness self.old.acceptor.resumes_at ≡ true → HasRoomForOne self.old.present →
+            BringsNoBot N.transition (λ address. may_come self.old.allow.now self.old.max_per_address
+            self.old.present.hosts.items (host_of (socket_ip address))) self.old.poller.network self.new.poller.table
+            self.new.poller.network) }
         ensures awaited { self.new.acceptor.awaits_bots ≡ true }
         ensures left { IfNone result (length self.old.arrivals.items < vec_capacity self.old.arrivals →
             self.old.acceptor.came < u32.MAX → is_accept_due self.new.poller.table self.new.acceptor.key

@@ -1,4 +1,4 @@
-use Rattle.std.proofs.Common.{[], ◌∷◌, ◌∙◌, ap, rules}
+use Rattle.std.proofs.Common.{[], ◌∷◌, ◌∙◌, ap, refl, rules}
 use Rattle.daide_sockets.specs.declared.admission.Acceptor.{Acceptor}
 use Rattle.daide_sockets.specs.Rows.{listener_keys}
 use Rattle.daide_sockets.proofs.RowLemmas.{handed_both}
@@ -35,6 +35,25 @@ returns-clause-rows g c =
     (c.next_bot-next.ensures.row ∙ ap (λ (a : Acceptor). listener_keys a) c.await_bots.ensures) (search rules)
     (handed_both _ _ _ [] (c.in-Ok.next.1.key ∷ []) _ (rw c.in-Ok.is at c.next_bot-next.ensures.rows) c.new-arrival.ensures.rows)
 
+pub returns-in-Err-clause-made : goal.returns-in-Err-clause-made
+returns-in-Err-clause-made g c =
+    rw c.tell_of_declined.ensures
+    (λ room few due. record {
+      mid = c.next_bot-next.new.poller.network;
+      accepts = c.next_bot-next.ensures.once (rw c.await_bots.ensures due) (rw c.await_bots.ensures few);
+      count = 0;
+      connects = refl;
+    })
+
 pub returns-clause-made : goal.returns-clause-made
-returns-clause-made g c = λ room few due.
-    c.next_bot-next.ensures.made (rw c.await_bots.ensures due) (rw c.await_bots.ensures few)
+returns-clause-made g c = λ room few due. record {
+  mid = c.next_bot-next.new.poller.network;
+  accepts = c.next_bot-next.ensures.once (rw c.await_bots.ensures due) (rw c.await_bots.ensures few);
+  count = c.new-arrival.ensures.calls.0;
+  connects = c.new-arrival.ensures.calls.1;
+}
+
+pub returns-in-Err-clause-kept : goal.returns-in-Err-clause-kept
+returns-in-Err-clause-kept g c =
+    rw c.tell_of_declined.ensures
+    (λ room few due places. c.in-Err.ensures.kept (rw c.await_bots.ensures few) (rw c.await_bots.ensures due) places)

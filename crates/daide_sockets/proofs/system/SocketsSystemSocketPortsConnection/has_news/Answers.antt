@@ -1,4 +1,4 @@
-use Rattle.std.proofs.Common.{◌≡◌, Bool, false, refl, sym, ap, ◌∙◌}
+use Rattle.std.proofs.Common.{Bool, refl, sym, ap, ◌∙◌}
 use Rattle.std.specs.Prelude.{◌||◌}
 use Rattle.daide_io.specs.declared.interest.Interest.{Interest}
 use Rattle.daide_sockets.specs.ControlSlots.{is_newly_stopped}

@@ -1,0 +1,75 @@
+-- Over a network that is the list of its calls: those of a due accept have exactly one accept, and the first connect is to the
+-- first address.
+use Rattle.std.proofs.Common.{◌≡◌, ℕ, zero, suc, ◌+◌, List, [], ◌∷◌, ◌++◌, Some, Result, Ok, Err, ap, ◌∙◌, inl, inr, arith}
+use Rattle.std.specs.declared.io.Error.{Error}
+use Rattle.std.specs.declared.net.socket_addr.SocketAddr.{SocketAddr}
+use Rattle.daide_io.specs.Network.{NetworkCall, AcceptsConnection, BeginsConnect}
+use Rattle.daide_sockets.specs.Accepting.{FollowsAtMostOnce, FollowsAccepted, FollowsBegun, ConnectsFrom, AcceptsThenConnects}
+
+module _ {C : Type 0} where
+  -- one more call was made
+  abbrev Called : List (NetworkCall C) → NetworkCall C → List (NetworkCall C) → Type 0
+  Called old call new = new ≡ old ++ call ∷ []
+
+  abbrev is_accept : NetworkCall C → ℕ
+  is_accept (AcceptsConnection accepted) = 1
+  is_accept _ = 0
+
+  -- the number of accepts
+  abbrev accepts_in : List (NetworkCall C) → ℕ
+  accepts_in [] = 0
+  accepts_in (call ∷ calls) = is_accept call + accepts_in calls
+
+  accepts_in_both : (xs ys : List (NetworkCall C)) → accepts_in (xs ++ ys) ≡ accepts_in xs + accepts_in ys
+  accepts_in_both [] ys = omega arith
+  accepts_in_both (call ∷ xs) ys = let rest = accepts_in_both xs ys in omega (arith, rest)
+
+  after_call : (old new : List (NetworkCall C)) (call : NetworkCall C) → Called old call new →
+      accepts_in new ≡ accepts_in old + is_accept call
+  after_call old new call h =
+      let whole = ap accepts_in h ∙ accepts_in_both old (call ∷ []) in
+      omega (arith, whole)
+
+  after_follow : (connection : C) (old new : List (NetworkCall C)) → FollowsAtMostOnce Called connection old new →
+      accepts_in new ≡ accepts_in old
+  after_follow connection old new (inl same) = ap accepts_in same
+  after_follow connection old new (inr h) = let call = after_call old new _ h.3 in omega (arith, call)
+
+  after_begun : (begun : Result C Error) (old new : List (NetworkCall C)) → FollowsBegun Called begun old new →
+      accepts_in new ≡ accepts_in old
+  after_begun (Ok connection) old new h = after_follow connection old new h
+  after_begun (Err error) old new h = ap accepts_in h
+
+  after_accepted : (accepted : Result (C × SocketAddr) Error) (old new : List (NetworkCall C)) →
+      FollowsAccepted Called accepted old new → accepts_in new ≡ accepts_in old
+  after_accepted (Ok came) old new h = after_follow came.0 old new h
+  after_accepted (Err error) old new h = ap accepts_in h
+
+  after_connects : (addresses : List SocketAddr) (place count : ℕ) (old new : List (NetworkCall C)) →
+      ConnectsFrom Called addresses place count old new → accepts_in new ≡ accepts_in old
+  after_connects addresses place zero old new h = ap accepts_in h
+  after_connects addresses place (suc count) old new h =
+      let before = after_connects addresses place count old h.0 h.2 in
+      let call = after_call h.0 h.4.mid _ h.4.call in
+      let rest = after_begun h.4.begun h.4.mid new h.4.rest in
+      omega (arith, before, call, rest)
+
+  one_is_accepted : (servers : List SocketAddr) (calls : List (NetworkCall C)) → AcceptsThenConnects Called servers [] calls →
+      accepts_in calls ≡ 1
+  one_is_accepted servers calls h =
+      let call = after_call [] h.accepts.mid _ h.accepts.call in
+      let rest = after_accepted h.accepts.accepted h.accepts.mid h.mid h.accepts.rest in
+      let connects = after_connects servers 0 h.count h.mid calls h.connects in
+      omega (arith, call, rest, connects)
+
+  first_address_is_first : (one two : SocketAddr) (calls : List (NetworkCall C)) →
+      ConnectsFrom Called (one ∷ two ∷ []) 0 1 [] calls →
+      (begun : Result C Error) × (mid : List (NetworkCall C)) × (mid ≡ BeginsConnect one begun ∷ []) × FollowsBegun Called begun mid calls
+  first_address_is_first one two calls h = (h.4.begun, h.4.mid, first, h.4.rest)
+    where
+      address : h.1 ≡ one
+      address = let listed : Some one ≡ Some h.1 = h.3 in cc
+
+      first : h.4.mid ≡ BeginsConnect one h.4.begun ∷ []
+      first = h.4.call ∙ ap (λ (calls : List (NetworkCall C)). calls ++ BeginsConnect h.1 h.4.begun ∷ []) h.2
+          ∙ ap (λ (a : SocketAddr). BeginsConnect a h.4.begun ∷ []) address
