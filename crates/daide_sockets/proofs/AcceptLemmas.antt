@@ -1,5 +1,5 @@
 -- After an accept that failed none is due at the same reading of the clock; and what was accepted is at most followed.
-use Rattle.std.proofs.Common.{◌≡◌, ◌⊎◌, ℕ, ◌+◌, suc, true, false, Bool, Option, Some, None, Result, Ok, Err, List, refl, sym, ap, ◌∙◌, inl, inr, arith}
+use Rattle.std.proofs.Common.{◌≡◌, ◌≤◌, ◌⊎◌, ℕ, ◌+◌, suc, length, true, false, Bool, Option, Some, None, Result, Ok, Err, List, refl, sym, ap, ◌∙◌, inl, inr, arith}
 use Rattle.std.specs.declared.io.Error.{Error}
 use Rattle.std.specs.declared.net.socket_addr.SocketAddr.{SocketAddr}
 use Rattle.daide_io.specs.Network.{NetworkCall, AcceptsConnection, Follows}
@@ -8,7 +8,7 @@ use Rattle.std.specs.declared.time.Instant.{Instant}
 use Rattle.daide_buffered_io.specs.declared.readiness.Readiness.{Readiness}
 use Rattle.daide_sockets.specs.Accepting.{is_accept_made, is_accept_due, accept_pause, connection_given}
 use Rattle.daide_sockets.specs.Accepting.{AcceptsOnce, AcceptsOneBot, BringsNoBot, FollowsAtMostOnce, FollowsAccepted, ConnectsOnce, ConnectsFrom}
-use Rattle.daide_sockets.specs.Accepting.{Fails, MayNotCome, HasNoRow, IsRefused}
+use Rattle.daide_sockets.specs.Accepting.{Fails, MayNotCome, HasNoRow, IsRefused, TriesOn, IsUnreached, IsLate, TriedAll}
 use Rattle.daide_sockets.specs.Table.{Table, IsFull, report_at, without_report}
 use Rattle.daide_sockets.specs.Times.{IsAfter, is_past}
 use Rattle.daide_sockets.proofs.TableLemmas.{report_taken}
@@ -99,3 +99,14 @@ module _ {N C : Type 0} (transition : N → NetworkCall C → N → Type 0) wher
         BringsNoBot transition may_come old table new
     brings_refused came new once (inl full) = HasNoRow full
     brings_refused came new once (inr h) = IsRefused came mid h.0 h.1 (accepts came old mid once) h.2
+
+  -- ---- a connect that is given up
+
+  pub unreached : (addresses : List SocketAddr) (reading due : Option Instant) (before after : ℕ) (old new : N) →
+      (is_past reading due ≡ false → length addresses ≤ after) → TriesOn transition addresses before after old new →
+      IsUnreached transition addresses reading due before old new
+  unreached addresses reading due before after old new all tries = by (is_past reading due) refl
+    where
+      by : (late : Bool) → is_past reading due ≡ late → IsUnreached transition addresses reading due before old new
+      by true late = IsLate late
+      by false early = TriedAll after (all early) tries

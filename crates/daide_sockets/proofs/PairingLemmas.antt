@@ -9,7 +9,7 @@ use Rattle.daide_sockets.specs.Pairing.{Arriving, IsFreshConnect, StaysPending, 
 module _ {S : Type 0} where
   -- a bot stays pending, by one call and then another
   pub same_pending : (arrival : Arriving S) → StaysPending arrival arrival
-  same_pending arrival = record { number = refl; bot = refl; bot_key = refl; server = inl refl; gives_up = refl; im_due = refl }
+  same_pending arrival = record { number = refl; bot = refl; bot_key = refl; server = inl refl; tried = omega arith; gives_up = refl; im_due = refl }
 
   pub stays_both : (old mid new : Arriving S) → StaysPending old mid → StaysPending mid new → StaysPending old new
   stays_both old mid new h k = record {
@@ -17,6 +17,7 @@ module _ {S : Type 0} where
     bot = k.bot ∙ h.bot;
     bot_key = k.bot_key ∙ h.bot_key;
     server = by h.server k.server;
+    tried = let first = h.tried in let second = k.tried in omega (arith, first, second);
     gives_up = k.gives_up ∙ h.gives_up;
     im_due = k.im_due ∙ h.im_due;
   }

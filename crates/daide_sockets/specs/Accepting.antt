@@ -1,12 +1,13 @@
 -- The condition for an accept, and the calls on the network of which it is one. (own)
-use Rattle.std.specs.Prelude.{◌≡◌, ◌⊎◌, ℕ, zero, suc, ◌+◌, ◌||◌, Bool, false, List, Option, Some, None, Result, Ok, Err, slice_get}
+use Rattle.std.specs.Prelude.{◌≡◌, ◌≤◌, ◌⊎◌, ℕ, zero, suc, ◌+◌, ◌||◌, Bool, true, false, List, length, Option, Some, None, Result, Ok, Err, slice_get}
 use Rattle.std.specs.IoError.{error_kind}
 use Rattle.std.specs.declared.io.Error.{Error}
 use Rattle.std.specs.declared.io.ErrorKind.{ErrorKind}
 use Rattle.std.specs.declared.net.socket_addr.SocketAddr.{SocketAddr}
 use Rattle.std.specs.declared.io.ErrorKind.TheVariants as Kinds
 use Rattle.std.specs.declared.time.Instant.{Instant}
-use Rattle.daide_io.specs.Network.{NetworkCall, AcceptsConnection, BeginsConnect, Follows}
+use Rattle.daide_io.specs.Network.{NetworkCall, AcceptsConnection, BeginsConnect, AsksConnect, Follows}
+use Rattle.daide_io.specs.declared.network.ConnectStatus.{ConnectStatus}
 use Rattle.daide_buffered_io.specs.declared.readiness.Readiness.{Readiness}
 use Rattle.daide_sockets.specs.declared.admission.Declined.{Declined}
 use Rattle.daide_sockets.specs.declared.admission.Declined.TheVariants as Declines
@@ -94,6 +95,29 @@ ConnectsFrom transition addresses place zero old new = new ≡ old
 ConnectsFrom {N = N} transition addresses place (suc count) old new = (mid : N) × (address : SocketAddr)
     × ConnectsFrom transition addresses place count old mid
     × (slice_get addresses (place + count) ≡ Some address) × ConnectsOnce transition address mid new
+
+-- no call was made, or one that asks for the state of a connect
+abbrev pub AsksAtMostOnce : {N C : Type 0} → (N → NetworkCall C → N → Type 0) → N → N → Type 0
+AsksAtMostOnce {C = C} transition old new =
+    (new ≡ old) ⊎ (connection : C) × (status : ConnectStatus) × transition old (AsksConnect connection status) new
+
+-- A look at a connect, of whose addresses the first `before` were tried: its state is asked at most once, and then connects are
+-- made to the next addresses, up to the first `after`.
+pub record TriesOn {N C : Type 0} (transition : N → NetworkCall C → N → Type 0) (addresses : List SocketAddr) (before after : ℕ)
+    (old new : N) : Type 0 where
+  pub mid : N
+  pub asks : AsksAtMostOnce transition old mid
+  pub count : ℕ
+  pub counted : after ≡ before + count
+  pub connects : ConnectsFrom transition addresses before count mid new
+
+-- The deadline of a connect is past at this reading, or each of the addresses was tried: the first `before` of them
+-- earlier, and the others now.
+pub data IsUnreached {N C : Type 0} (transition : N → NetworkCall C → N → Type 0) (addresses : List SocketAddr)
+    (reading due : Option Instant) (before : ℕ) (old new : N) : Type 0 where
+  IsLate : is_past reading due ≡ true → IsUnreached transition addresses reading due before old new
+  TriedAll : (after : ℕ) → length addresses ≤ after → TriesOn transition addresses before after old new →
+      IsUnreached transition addresses reading due before old new
 
 -- One accept was made, its connection was followed, and then connects were made to some of these addresses, from the first
 -- on. So no other bot was accepted, by whichever call.

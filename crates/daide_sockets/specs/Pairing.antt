@@ -1,5 +1,5 @@
 -- The sockets of a run beside those of its sessions, and the effect of each system call on them. (own)
-use Rattle.std.specs.Prelude.{◌≡◌, ◌⊎◌, ℕ, ◌+◌, ◌-◌, nat_lt, true, false, List, [], ◌∷◌, ◌++◌, length, remove}
+use Rattle.std.specs.Prelude.{◌≡◌, ◌⊎◌, ℕ, ◌+◌, ◌-◌, ◌≤◌, nat_lt, true, false, List, [], ◌∷◌, ◌++◌, length, remove}
 use Rattle.std.specs.Prelude.{Option, Some, None, Ok, slice_get, if◌then◌else◌}
 use Rattle.std.specs.declared.net.socket_addr.SocketAddr.{SocketAddr}
 use Rattle.daide_io.specs.Network.{NetworkCall, BeginsConnect, Follows}
@@ -22,13 +22,15 @@ pub record ConnectRow : Type 0 where
   pub known : Readiness
 
 -- a bot whose connect to the server is pending: its session's number, its stream, and the key of its row; the stream of
--- the connect, if there is one, and its row; the deadline of the connect, and that of its initial message
+-- the connect, if there is one, and its row; how many of the server's addresses were tried; the deadline of the connect,
+-- and that of its initial message
 pub record Arriving (S : Type 0) : Type 0 where
   pub number : ℕ
   pub bot : Buffer S
   pub bot_key : ℕ
   pub server : Option (Buffer S)
   pub row : Option ConnectRow
+  pub tried : ℕ
   pub gives_up : Option Instant
   pub im_due : Option Instant
 
@@ -64,12 +66,13 @@ pub record IsJoined {S : Type 0} (arrival : Arriving S) (pair : Paired S) : Type
   pub server : arrival.server ≡ Some pair.server
   pub bot_key : pair.bot_key ≡ arrival.bot_key
 
--- the same bot, whose connect is unchanged or began again
+-- the same bot, whose connect is unchanged or began again, and of whose addresses none is tried a second time
 pub record StaysPending {S : Type 0} (old new : Arriving S) : Type 0 where
   pub number : new.number ≡ old.number
   pub bot : new.bot ≡ old.bot
   pub bot_key : new.bot_key ≡ old.bot_key
   pub server : (new.server ≡ old.server) ⊎ IsFreshConnect new.server
+  pub tried : old.tried ≤ new.tried
   pub gives_up : new.gives_up ≡ old.gives_up
   pub im_due : new.im_due ≡ old.im_due
 

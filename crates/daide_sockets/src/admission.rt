@@ -3,7 +3,7 @@
 //! Neither an accept nor a connect blocks. The server's name is resolved at the start. If it has several addresses,
 //! they are tried one after the other, within one deadline for all.
 
-ghost use Rattle.std.specs.Prelude.{◌≡◌, ◌≢◌, ◌⊎◌, ℕ, ◌+◌, ◌<◌, ◌++◌, ◌∷◌, [], Some, None, Err, true, false, IfOk, IfErr, IfSome, IsSome, MatchResult, option_map};
+ghost use Rattle.std.specs.Prelude.{◌≡◌, ◌≢◌, ◌⊎◌, ℕ, ◌+◌, ◌<◌, ◌≤◌, ◌++◌, ◌∷◌, [], Some, None, Err, true, false, IfOk, IfErr, IfSome, IfNone, IsSome, MatchResult, length, option_map};
 ghost use Rattle.std.specs.Option.{is_some};
 ghost use Rattle.daide_buffered_io.specs.Buffers.{Buffer};
 ghost use Rattle.daide_io.specs.Network.{AsksConnect, StopsListening};
@@ -12,7 +12,7 @@ ghost use Rattle.daide_sockets.specs.InTime.{watching_all};
 ghost use Rattle.daide_sockets.specs.Pairing.{ConnectsTo};
 ghost use Rattle.daide_sockets.specs.Rows.{HandsRows, KeepsRows, arrival_keys, connect_key, key_in, result_key, listener_keys};
 ghost use Rattle.daide_sockets.specs.Table.{watching, no_report, report_at};
-ghost use Rattle.daide_sockets.specs.Accepting.{is_accept_made, is_accept_due, accept_pause, ReportsAccept, AcceptsOnce, AcceptsOneBot, BringsNoBot, ConnectsFrom, GivesConnection, Pauses};
+ghost use Rattle.daide_sockets.specs.Accepting.{is_accept_made, is_accept_due, accept_pause, ReportsAccept, AcceptsOnce, AcceptsOneBot, AsksAtMostOnce, BringsNoBot, ConnectsFrom, TriesOn, GivesConnection, Pauses};
 ghost use Rattle.daide_sockets.specs.Present.{HasRoomForOne};
 ghost use Rattle.std.specs.Duration.{as_nanos};
 ghost use Rattle.daide_sockets.specs.Timers.{BeginsAt, timers_of};
@@ -414,6 +414,7 @@ impl<'w, S: Drop> Model for PendingConnection<'w, S> {
       bot_key = a.bot.key;
       server = option_map (λ socket. socket.stream) a.server;
       row = option_map (λ socket. record { key = socket.key; known = socket.readiness }) a.server;
+      tried = a.tried;
       gives_up = a.gives_up;
       im_due = a.im_due;
     } };
@@ -436,6 +437,8 @@ pub(crate) struct Unreached<'w, S: Drop> {
 /// connection under this key.
 ///
 /// `calls`: one connect was made to each address tried, in their order. No other call was made but to follow them.
+///
+/// `all`: if none began, no address is left.
 fn begun<N: Network>(
     poller: &mut Poller<N>,
     servers: &[SocketAddr],
@@ -444,6 +447,7 @@ fn begun<N: Network>(
     ensures connects { IfSome result (λ begun. ConnectsTo N.transition servers.now begun.0 begun.1 poller.new.network) }
     ensures calls { (count : ℕ) × (tried.new ≡ tried.old + count)
         × ConnectsFrom N.transition servers.now tried.old count poller.old.network poller.new.network }
+    ensures all { IfNone result (length servers.now ≤ tried.new) }
     ensures unknown { IfSome result (λ begun. report_at poller.new.table begun.1 ≡ no_report) }
     ensures clock { poller.new.table.reading ≡ poller.old.table.reading }
     ensures rows { HandsRows poller.old.table [] poller.new.table (key_in (option_map (λ begun. begun.1) result)) }
@@ -469,6 +473,7 @@ fn connecting<'w, S: Duplex + Drop>(
 ) -> Option<Socket<'w, S>>
     ensures fresh { IfSome result (λ socket. IsFresh socket.stream × (socket.made_for ≡ number)) }
     ensures key { option_map (λ socket. socket.key) result ≡ option_map (λ begun. begun.1) begun }
+    ensures none { result ≡ None → begun ≡ None }
 {
     match begun {
         Some((stream, key)) => Some(Socket::over(pool, stream, key).of_connect(number)),
@@ -490,7 +495,8 @@ fn release_connect<S: Drop>(server: Option<Socket<'_, S>>, table: &mut SocketTab
 impl<'w, S: Duplex + Drop> PendingConnection<'w, S> {
     /// Starts the connect of a newly accepted bot.
     ///
-    /// `calls`: connects are made to the first addresses of the server, until one begins, and no other call.
+    /// `calls`, `all`: connects are made to the first addresses of the server, until one begins or no address is left, and
+    /// no other call.
     pub(crate) fn new<N: Network<Connection = S>>(
         poller: &mut Poller<N>,
         servers: &[SocketAddr],
@@ -500,7 +506,8 @@ impl<'w, S: Duplex + Drop> PendingConnection<'w, S> {
         ensures number { result.number ≡ came.entry.0 }
         ensures bot { result.bot ≡ came.entry.1.stream }
         ensures server { IsFreshConnect result.server }
-        ensures calls { (count : ℕ) × ConnectsFrom N.transition servers.now 0 count poller.old.network poller.new.network }
+        ensures calls { ConnectsFrom N.transition servers.now 0 result.tried poller.old.network poller.new.network }
+        ensures all { result.server ≡ None → length servers.now ≤ result.tried }
         ensures rows { HandsRows poller.old.table (came.entry.1.key ∷ []) poller.new.table (arrival_keys result) }
         ensures im_due { IsAfter poller.old.table.reading (as_nanos times.0) result.im_due }
         ensures gives_up { IsAfter poller.old.table.reading (as_nanos times.1) result.gives_up }
@@ -536,6 +543,8 @@ impl<'w, S: Duplex + Drop> PendingConnection<'w, S> {
             self.old.server ≡ Some server →
             N.transition poller.old.network (AsksConnect server.stream result) poller.new.network }
         ensures still { result ≡ ConnectStatus.Pending → may_connect poller.new.table self.new.row ≡ false }
+        ensures calls { AsksAtMostOnce N.transition poller.old.network poller.new.network }
+        ensures none { self.old.server ≡ None → result ≡ ConnectStatus.Failed }
         ensures rest { self.new ≡ record self.old { row = self.new.row } }
         ensures clock { poller.new.table.reading ≡ poller.old.table.reading }
         ensures rows { KeepsRows poller.old.table poller.new.table }
@@ -566,12 +575,17 @@ impl<'w, S: Duplex + Drop> PendingConnection<'w, S> {
     }
 
     /// Closes the connect, and starts one to the next address, if one is left.
+    ///
+    /// `calls`, `all`: connects are made to the next addresses, until one begins or no address is left, and no other call.
     fn try_next<N: Network<Connection = S>>(
         &mut self,
         poller: &mut Poller<N>,
         servers: &[SocketAddr],
     )
         ensures goes_on { StaysPending self.old self.new }
+        ensures calls { (count : ℕ) × (self.new.tried ≡ self.old.tried + count)
+            × ConnectsFrom N.transition servers.now self.old.tried count poller.old.network poller.new.network }
+        ensures all { self.new.server ≡ None → length servers.now ≤ self.new.tried }
         ensures clock { poller.new.table.reading ≡ poller.old.table.reading }
         ensures rows { HandsRows poller.old.table (arrival_keys self.old) poller.new.table (arrival_keys self.new) }
     {
@@ -600,6 +614,10 @@ impl<'w, S: Duplex + Drop> PendingConnection<'w, S> {
     /// `late`: once its deadline is past at the reading of the clock, it is no longer under way.
     ///
     /// `early`: before its deadline it is given up only after a poll reported something of the connect.
+    ///
+    /// `tries`: a failed connect is followed by connects to the next addresses, each once, and no other call is made.
+    ///
+    /// `all`: before its deadline it is given up only if no address is left.
     pub(crate) fn advances<N: Network<Connection = S>>(
         &mut self,
         poller: &mut Poller<N>,
@@ -610,6 +628,10 @@ impl<'w, S: Duplex + Drop> PendingConnection<'w, S> {
         ensures late { result ≡ true → is_past poller.old.table.reading self.old.gives_up ≡ false }
         ensures early { result ≡ false → is_past poller.old.table.reading self.old.gives_up ≡ false →
             may_connect poller.old.table self.old.row ≡ true }
+        ensures tries { TriesOn N.transition servers.now self.old.tried self.new.tried poller.old.network
+            poller.new.network }
+        ensures all { is_past poller.old.table.reading self.old.gives_up ≡ false → self.new.server ≡ None →
+            length servers.now ≤ self.new.tried }
         ensures clock { poller.new.table.reading ≡ poller.old.table.reading }
         ensures rows { HandsRows poller.old.table (arrival_keys self.old) poller.new.table (arrival_keys self.new) }
     {

@@ -77,7 +77,8 @@ fn idle_time_of(seconds: u32) -> Option<Duration>
 /// with the next number and the connect that was begun for it. Ports that are ready have the two connections of one
 /// such bot: its own, and the one made for it. A bot whose server can't be reached begins to close. So do both
 /// connections of a session that is retired, with what is held for them. A pending connect keeps its bot, and may be
-/// begun again. Except `begin_round`, no other call changes them.
+/// begun again. It is given up only after a stop of all sessions, after its deadline, or once each address of the server
+/// was tried (`look_at_first`: `unreached`). Except `begin_round`, no other call changes them.
 ///
 /// In `begin_round` the sockets that close make progress, by the table's reading of the clock (`tidy`: `closing`): all of
 /// them, or eight if there are more (`ClosingsGoOn`). They keep their order. If a turn begins, what was held for too long

@@ -3,12 +3,12 @@
 ghost use Rattle.std.specs.Duration.{as_nanos};
 ghost use Rattle.std.specs.Net.Socket.{socket_ip};
 ghost use Rattle.daide_settings.specs.Ranges.{host_of, may_come};
-ghost use Rattle.std.specs.Prelude.{◌≡◌, ℕ, ◌+◌, ◌<◌, ◌++◌, [], ◌∷◌, IfSome, IfNone, None, Some, true, false, length, not, vec_capacity};
+ghost use Rattle.std.specs.Prelude.{◌≡◌, ℕ, List, ◌+◌, ◌<◌, ◌++◌, [], ◌∷◌, IfSome, IfNone, None, Some, true, false, length, not, vec_capacity};
 ghost use Rattle.daide_io.specs.System.{Accepts};
 ghost use Rattle.daide_buffered_io.specs.Buffers.{Buffer};
-ghost use Rattle.daide_sockets.specs.Accepting.{is_accept_due, AcceptsThenConnects, BringsNoBot, GivesConnection};
+ghost use Rattle.daide_sockets.specs.Accepting.{is_accept_due, AcceptsThenConnects, BringsNoBot, IsUnreached, GivesConnection};
 ghost use Rattle.daide_sockets.specs.declared.ports.SocketPorts.{SocketPorts as PortsOf};
-ghost use Rattle.daide_sockets.specs.Pairing.{FirstArrivalEvolves, ClosesAt, Comes, ComesWith};
+ghost use Rattle.daide_sockets.specs.Pairing.{Arriving, FirstArrivalEvolves, ClosesAt, Comes, ComesWith};
 ghost use Rattle.daide_sockets.specs.Present.{HasRoomForOne, IsAllowed, IsPresentWith, position_of, without_at};
 ghost use Rattle.daide_sockets.specs.Rows.{HandsRows, closing_keys, connected_keys, control_keys, keys_of_run};
 ghost use Rattle.daide_sockets.specs.Scheduling.{RunEvolves, run_state};
@@ -57,6 +57,7 @@ impl<'w, N: Network, E: Write + Drop> Sockets<'w, N, E> {
         ensures addresses { self.new.present.addresses.items
             ≡ without_at (position_of left.entry.number self.old.present.numbers.items) self.old.present.addresses.items }
         ensures clock { self.new.poller.table.reading ≡ self.old.poller.table.reading }
+        ensures network { self.new.poller.network ≡ self.old.poller.network }
         ensures timeouts { (self.new.idle_time ≡ self.old.idle_time) × (self.new.stall_time ≡ self.old.stall_time) }
         ensures acceptor { self.new.acceptor ≡ self.old.acceptor }
         ensures control { self.new.control ≡ self.old.control }
@@ -77,12 +78,18 @@ impl<'w, N: Network, E: Write + Drop> Sockets<'w, N, E> {
     ///
     /// `given_up`: after a request that sessions end now, the connect is given up.
     ///
+    /// `unreached`: without one it is given up only if its deadline is past or each of the server's addresses was tried.
+    ///
     /// `closes`: the socket of a bot that is given up begins to close at the table's reading of the clock.
     ///
     /// `begins`: ports begin at the table's reading of the clock, with the timeouts of the run.
     pub(super) fn look_at_first(&mut self) -> Connect<SocketPorts<'w, N::Connection>>
         requires { 0 < length self.old.arrivals.items }
         ensures given_up { self.old.control.stops_now ≡ true → result ≡ Connect.Failed }
+        ensures unreached { result ≡ Connect.Failed → self.old.control.stops_now ≡ false →
+            (arrival : Arriving N.Connection) × (others : List (Arriving N.Connection))
+            × (self.old.arrivals.items ≡ arrival ∷ others) × IsUnreached N.transition self.old.servers.now
+            self.old.poller.table.reading arrival.gives_up arrival.tried self.old.poller.network self.new.poller.network }
         ensures evolves { FirstArrivalEvolves N.Connection.to_give N.Connection.taken
             N.Connection.calls
             (λ ports. record {
@@ -116,15 +123,8 @@ impl<'w, N: Network, E: Write + Drop> Sockets<'w, N, E> {
             return Connect::Failed;
         }
         if arrival.advances(&mut self.poller, self.servers) {
-            return match self.arrivals.push(arrival) {
-                Ok(()) => Connect::Pending,
-                // The list had room for it before.
-                Err(refused) => {
-                    let left = refused.value.give_up(&mut self.poller.table);
-                    self.let_go(left);
-                    Connect::Failed
-                }
-            };
+            self.arrivals.push_reserved(arrival);
+            return Connect::Pending;
         }
         let now = self.poller.table.now();
         match arrival.join(now, (self.idle_time, self.stall_time)) {

@@ -1,4 +1,4 @@
-use Rattle.std.proofs.Common.{refl, ap, inl}
+use Rattle.std.proofs.Common.{refl, ap, inl, arith}
 use Rattle.daide_sockets.specs.Rows.{HandsRows, arrival_keys}
 use Rattle.daide_sockets.specs.Pairing.{Arriving, StaysPending}
 use Rattle.daide_sockets.proofs.PairingLemmas.{same_pending, stays_both}
@@ -21,7 +21,7 @@ returns-clause-rows g c =
 pub returns-clause-goes_on : goal.returns-clause-goes_on
 returns-clause-goes_on g c =
     let first : StaysPending c.args.self.now c.progress.new.self = rw c.progress.ensures.rest
-    (record { number = refl; bot = refl; bot_key = refl; server = inl refl; gives_up = refl; im_due = refl }) in
+    (record { number = refl; bot = refl; bot_key = refl; server = inl refl; tried = omega arith; gives_up = refl; im_due = refl }) in
     let second : StaysPending c.progress.new.self c.match-progress.self = elim c.match-progress.branch [
       | in-Failed w ↦ rw w.self-is w.try_next.ensures.goes_on
       | in-Pending w ↦ rw w.self-is (same_pending _)

@@ -49,8 +49,8 @@ pub returns-clause-made : goal.returns-clause-made
 returns-clause-made g c = λ room few due. record {
   mid = c.next_bot-next.new.poller.network;
   accepts = c.next_bot-next.ensures.once (rw c.await_bots.ensures due) (rw c.await_bots.ensures few);
-  count = c.new-arrival.ensures.calls.0;
-  connects = c.new-arrival.ensures.calls.1;
+  count = c.new-arrival.result.tried;
+  connects = c.new-arrival.ensures.calls;
 }
 
 pub returns-in-Err-clause-kept : goal.returns-in-Err-clause-kept
