@@ -4,9 +4,10 @@ ghost use Rattle.std.specs.Option.{is_some};
 ghost use Rattle.std.specs.Prelude.{◌≡◌, ◌⊎◌, ℕ, ◌+◌, ◌*◌, ◌^◌, ◌<◌, ◌≤◌, ◌||◌, ◌&&◌, IfSome, IsSome, IsNone, None, Some, true, false, [], length, not, nat_le, Option, slice_get, vec_capacity};
 ghost use Rattle.daide_io.specs.Ports.{TurnBegins};
 ghost use Rattle.daide_status.specs.declared.snapshot.SessionRow.{SessionRow};
-ghost use Rattle.daide_io.specs.System.{Begins, Shows, ReportsNews, BeginsTurn, Watches, Retires, Waits};
+ghost use Rattle.daide_io.specs.System.{Accepts, Begins, Connects, Notifies, Shows, ReportsNews, BeginsTurn, Watches, Retires, Waits};
 ghost use Rattle.daide_buffered_io.specs.Streams.{Transfers};
 ghost use Rattle.daide_settings.specs.BotsInAll.{bots_in_all};
+ghost use Rattle.daide_sockets.specs.Accepting.{IsUnreached};
 ghost use Rattle.daide_sockets.specs.Beside.{listener_watched, others_watched};
 ghost use Rattle.daide_sockets.specs.declared.ports.SocketPorts.{SocketPorts as PortsOf};
 ghost use Rattle.daide_sockets.specs.ControlSlots.{Each, PlaceShows, places, is_newly_stopped, watching_control};
@@ -15,7 +16,7 @@ ghost use Rattle.daide_sockets.specs.Snapshot.{seconds_between, IsSessionRow};
 ghost use Rattle.daide_sockets.specs.Lingering.{LooksAround, in_pass, GoOnFor, no_closing};
 ghost use Rattle.daide_sockets.specs.Capacity.{capacity_after};
 ghost use Rattle.daide_sockets.specs.Lines.{milliseconds_between};
-ghost use Rattle.daide_sockets.specs.Pairing.{ClosesBothAt};
+ghost use Rattle.daide_sockets.specs.Pairing.{Arriving, ClosesBothAt, TakesOut};
 ghost use Rattle.daide_sockets.specs.Present.{position_of, time_in, without_at};
 ghost use Rattle.daide_sockets.specs.Rows.{AreRowsOf, HandsRows, KeepsRows, control_keys, keys_of_run};
 ghost use Rattle.daide_sockets.specs.Scheduling.{RunEvolves, run_state};
@@ -77,37 +78,38 @@ fn idle_time_of(seconds: u32) -> Option<Duration>
 /// with the next number and the connect that was begun for it. Ports that are ready have the two connections of one
 /// such bot: its own, and the one made for it. A bot whose server can't be reached begins to close. So do both
 /// connections of a session that is retired, with what is held for them. A pending connect keeps its bot, and may be
-/// begun again. It is given up only after a stop of all sessions, after its deadline, or once each address of the server
-/// was tried (`look_at_first`: `unreached`). Except `begin_round`, no other call changes them.
+/// begun again. It is given up only after a stop of all sessions, after its deadline, or once each address of the
+/// server was tried (`connected`: `unreached`). Except `begin_round`, no other call changes them.
 ///
-/// In `begin_round` the sockets that close make progress, by the table's reading of the clock (`tidy`: `closing`): all of
-/// them, or eight if there are more (`ClosingsGoOn`). They keep their order. If a turn begins, what was held for too long
-/// is written to that session's own sockets, and neither is read. There is news for a session exactly if something may be
-/// done at once for it, or its nearest deadline is past (`has_news`: `news`). If there is none, the next wait watches it
-/// (`looks`, `rests`: `after_question`). A wait watches the sessions that it was to
-/// watch (`Wakes`), the listener, each connect and each closing socket (`wait`: `polls`). It polls once, for the time
-/// until the nearest deadline, unless something is pending or may be done at once. Beside that, the network is polled for
-/// no time once 32 turns began since the last poll: before a session is asked for news (`has_news`: `looks`, `begin_turn`:
-/// `counted`), and when a round begins. With room for one more, exactly one
-/// accept is made if the listener is ready (`accept_next`: `made`), and no other call but connects for its bot. If it brings
-/// no bot, it failed, or its bot may not come, or the system refused to follow it (`kept`). From then on the wait of the
-/// round is for bots too (`awaited`), so it does not block while an accept is due. A bot is accepted only if it may come by
-/// the settings, beside the hosts of those that are there (`allowed`). A bot that comes is added to those, and the end of its session removes it
-/// (`retire` and `let_go`: `hosts`).
+/// In `begin_round` the sockets that close make progress, by the table's reading of the clock (`tidy`: `closing`): all
+/// of them, or eight if there are more (`ClosingsGoOn`). They keep their order. If a turn begins, what was held for too
+/// long is written to that session's own sockets, and neither is read. There is news for a session exactly if something
+/// may be done at once for it, or its nearest deadline is past (`has_news`: `news`). If there is none, the next wait
+/// watches it (`looks`, `rests`: `after_question`). A wait watches the sessions that it was to watch (`Wakes`), the
+/// listener, each connect and each closing socket (`wait`: `polls`). It polls once, for the time until the nearest
+/// deadline, unless something is pending or may be done at once. Beside that, the network is polled for no time once 32
+/// turns began since the last poll: before a session is asked for news (`has_news`: `looks`, `begin_turn`: `counted`),
+/// and when a round begins. With room for one more, exactly one accept is made if the listener is ready (`accept_next`:
+/// `made`), and no other call but connects for its bot. If it brings no bot, it failed, or its bot may not come, or no
+/// row is left, or the system refused to follow its connection (`kept`). From then on the wait of the round is for bots
+/// too (`awaited`), so it does not block while an accept is due. A bot is accepted only if it may come by the settings,
+/// beside the hosts of those that are there (`allowed`). A bot that comes is added to those, and the end of its session
+/// removes it (`retire` and `let_go`: `hosts`).
 ///
-/// Each call says which rows of the table it takes and frees, by the keys of the sockets that have one (`HandsAlong`). An
-/// accepted bot gets a row, and so does its connect. Ports that are ready have these two, and those of ports that are retired
-/// are the closing sockets' then. A socket that is closed leaves its row free, and so does the listener. A run begins with
-/// those of its listeners (`new`: `rows`). So over a run no row leaks (`no_row_leaks`).
+/// Each call says which rows of the table it takes and frees, by the keys of the sockets that have one (`HandsAlong`).
+/// An accepted bot gets a row, and so does its connect. Ports that are ready have these two, and those of ports that
+/// are retired are the closing sockets' then. A socket that is closed leaves its row free, and so does the listener. A
+/// run begins with those of its listeners (`new`: `rows`). So over a run no row leaks (`no_row_leaks`).
 ///
-/// No call changes the timeouts of the run, which are those of the settings (`new`: `idle_time`, `stall_time`). The ports of
-/// a connect begin with them, at the table's reading of the clock (`Schedules`).
+/// No call changes the limits, the ranges, the timeouts or the server of the run (`same`). The timeouts are those of
+/// the settings (`new`: `idle_time`, `stall_time`). The ports of a connect begin with them, at the table's reading of
+/// the clock (`Schedules`).
 ///
 /// At the end of `begin_round` the control socket advances, and the next wait watches it (`take_orders`: `control`,
 /// `watched`). Once a stop is requested, or all bots of the run came, the listener for bots is closed (`closes`,
-/// `all_came`). Once it is requested that sessions end
-/// now, a pending connect is given up (`look_at_first`: `given_up`). Each session has news until its next turn (`has_news`:
-/// `news`). That turn stops it, and no later one (`begin_turn`: `stops`, `once`).
+/// `all_came`). Once it is requested that sessions end now, a pending connect is given up (`look_at_first`:
+/// `given_up`). Each session has news until its next turn (`has_news`: `news`). That turn stops it, and no later one
+/// (`begin_turn`: `stops`, `once`).
 ///
 /// Before a wait, a run notes whether it is full and whether accepts pause, and logs what changed (`wait`: `capacity`).
 ///
@@ -296,6 +298,11 @@ impl<'w, N: Network, E: Write + Drop> Sockets<'w, N, E> {
         ensures rows { HandsRows self.old.poller.table (keys_of_run self.old.acceptor (control_keys self.old.control)
             self.old.arrivals.items self.old.closings.streams) self.new.poller.table (keys_of_run self.new.acceptor
             (control_keys self.new.control) self.new.arrivals.items self.new.closings.streams) }
+        ensures same { self.new ≡ record self.old {
+          poller = self.new.poller;
+          acceptor = self.new.acceptor;
+          closings = self.new.closings;
+        } }
     {
         self.acceptor.begin_round(self.poller.table.now());
         self.closings.advance(&mut self.poller.table);
@@ -358,6 +365,7 @@ impl<'w, N: Network, E: Write + Drop> Sockets<'w, N, E> {
         ensures rows { HandsRows self.old.poller.table (keys_of_run self.old.acceptor (control_keys self.old.control)
             self.old.arrivals.items self.old.closings.streams) self.new.poller.table (keys_of_run self.new.acceptor
             (control_keys self.new.control) self.new.arrivals.items self.new.closings.streams) }
+        ensures same { self.new ≡ record self.old { poller = self.new.poller; closings = self.new.closings } }
     {
         self.closings.finish(&mut self.poller);
     }
@@ -428,6 +436,12 @@ impl<'w, N: Network, E: Write + Drop> System<SocketPorts<'w, N::Connection>> for
         ensures kept { self.old.control.stops_accepting ≡ true → self.new.control.stops_accepting ≡ true }
         ensures now_kept { self.old.control.stops_now ≡ true → self.new.control.stops_now ≡ true }
         ensures watched { (before : Table) × (self.new.poller.table ≡ watching_control before self.new.control) }
+        ensures same { self.new ≡ record self.old {
+          poller = self.new.poller;
+          acceptor = self.new.acceptor;
+          closings = self.new.closings;
+          control = self.new.control;
+        } }
     {
         // Only what this round watches counts.
         self.poller.table.unwatch();
@@ -530,7 +544,21 @@ impl<'w, N: Network, E: Write + Drop> System<SocketPorts<'w, N::Connection>> for
         self.poller.table.watch_for(interest)
     }
 
-    fn accept(&mut self) -> bool {
+    fn accept(&mut self) -> bool
+        ensures transition { RunEvolves N.transition N.Connection.to_give N.Connection.taken N.Connection.calls
+            (λ (ports : PortsOf N.Connection). ports)
+            (run_state (self.old.poller.network, self.old.poller.table) (self.old.idle_time, self.old.stall_time) self.old.acceptor
+            self.old.control (vec_capacity self.old.arrivals) self.old.arrivals.items self.old.closings) (Accepts result)
+            (run_state (self.new.poller.network, self.new.poller.table) (self.new.idle_time, self.new.stall_time) self.new.acceptor
+            self.new.control (vec_capacity self.new.arrivals) self.new.arrivals.items self.new.closings) }
+        ensures same { self.new ≡ record self.old {
+          poller = self.new.poller;
+          acceptor = self.new.acceptor;
+          arrivals = self.new.arrivals;
+          present = self.new.present;
+          errors = self.new.errors;
+        } }
+    {
         // Most rounds end here.
         if !self.acceptor.is_due(&self.poller.table) {
             self.acceptor.await_bots();
@@ -539,7 +567,26 @@ impl<'w, N: Network, E: Write + Drop> System<SocketPorts<'w, N::Connection>> for
         self.accept_due()
     }
 
-    fn connected(&mut self) -> Connect<SocketPorts<'w, N::Connection>> {
+    fn connected(&mut self) -> Connect<SocketPorts<'w, N::Connection>>
+        ensures transition { RunEvolves N.transition N.Connection.to_give N.Connection.taken N.Connection.calls
+            (λ (ports : PortsOf N.Connection). ports)
+            (run_state (self.old.poller.network, self.old.poller.table) (self.old.idle_time, self.old.stall_time) self.old.acceptor
+            self.old.control (vec_capacity self.old.arrivals) self.old.arrivals.items self.old.closings) (Connects result)
+            (run_state (self.new.poller.network, self.new.poller.table) (self.new.idle_time, self.new.stall_time) self.new.acceptor
+            self.new.control (vec_capacity self.new.arrivals) self.new.arrivals.items self.new.closings) }
+        ensures unreached { result ≡ Connect.Failed → self.old.control.stops_now ≡ false →
+            (arrival : Arriving N.Connection) × (mid : N) × TakesOut self.old.arrivals.items arrival self.new.arrivals.items
+            × IsUnreached N.transition self.old.servers.now self.old.poller.table.reading arrival.gives_up arrival.tried mid
+            self.new.poller.network }
+        ensures same { self.new ≡ record self.old {
+          poller = self.new.poller;
+          arrivals = self.new.arrivals;
+          closings = self.new.closings;
+          present = self.new.present;
+          unreached = self.new.unreached;
+          errors = self.new.errors;
+        } }
+    {
         // A pending arrival moves to the end, so after a check of each the order is as before.
         for _look in 0..self.arrivals.len() {
             match self.look_at_first() {
@@ -574,6 +621,12 @@ impl<'w, N: Network, E: Write + Drop> System<SocketPorts<'w, N::Connection>> for
             ≡ without_at (position_of ports.entry.number self.old.present.numbers.items) self.old.present.addresses.items }
         ensures times { self.new.present.times.items
             ≡ without_at (position_of ports.entry.number self.old.present.numbers.items) self.old.present.times.items }
+        ensures same { self.new ≡ record self.old {
+          poller = self.new.poller;
+          closings = self.new.closings;
+          present = self.new.present;
+          errors = self.new.errors;
+        } }
     {
         let session = (ports.number(), self.lasted(ports.number()));
         self.present.remove(ports.number());
@@ -582,7 +635,15 @@ impl<'w, N: Network, E: Write + Drop> System<SocketPorts<'w, N::Connection>> for
         self.closings.begin_both(&mut self.poller.table, ports);
     }
 
-    fn tell(&mut self, notice: Notice) {
+    fn tell(&mut self, notice: Notice)
+        ensures transition { RunEvolves N.transition N.Connection.to_give N.Connection.taken N.Connection.calls
+            (λ (ports : PortsOf N.Connection). ports)
+            (run_state (self.old.poller.network, self.old.poller.table) (self.old.idle_time, self.old.stall_time) self.old.acceptor
+            self.old.control (vec_capacity self.old.arrivals) self.old.arrivals.items self.old.closings) (Notifies notice)
+            (run_state (self.new.poller.network, self.new.poller.table) (self.new.idle_time, self.new.stall_time) self.new.acceptor
+            self.new.control (vec_capacity self.new.arrivals) self.new.arrivals.items self.new.closings) }
+        ensures same { self.new ≡ record self.old { errors = self.new.errors } }
+    {
         // Once sessions end at an operator's request, no connect is tried, so the server was not unreachable.
         if self.control.stops_now() && notice == Notice::CannotReach {
             return;

@@ -65,6 +65,13 @@ impl<'w, N: Network, E: Write + Drop> Sockets<'w, N, E> {
             self.new.poller.table (closing_keys self.new.closings.streams) }
         ensures times { self.new.present.times.items
             ≡ without_at (position_of left.entry.number self.old.present.numbers.items) self.old.present.times.items }
+        ensures same { self.new ≡ record self.old {
+          poller = self.new.poller;
+          closings = self.new.closings;
+          present = self.new.present;
+          unreached = self.new.unreached;
+          errors = self.new.errors;
+        } }
     {
         let lasted = self.lasted(left.number);
         self.present.remove(left.number);
@@ -114,6 +121,14 @@ impl<'w, N: Network, E: Write + Drop> Sockets<'w, N, E> {
             self.old.arrivals.items self.old.closings.streams) self.new.poller.table (connected_keys (λ ports.
             ports.bot.key ∷ ports.server.key ∷ []) result ++ keys_of_run self.new.acceptor (control_keys self.new.control)
             self.new.arrivals.items self.new.closings.streams) }
+        ensures same { self.new ≡ record self.old {
+          poller = self.new.poller;
+          arrivals = self.new.arrivals;
+          closings = self.new.closings;
+          present = self.new.present;
+          unreached = self.new.unreached;
+          errors = self.new.errors;
+        } }
     {
         let mut arrival = self.arrivals.remove(0);
         let is_given_up = self.control.stops_now();
@@ -147,8 +162,8 @@ impl<'w, N: Network, E: Write + Drop> Sockets<'w, N, E> {
     ///
     /// `not_made`: otherwise no call is made.
     ///
-    /// `kept`: if a due accept brings no bot, it failed, or its bot may not come, or no row is left, or the system refused to
-    /// follow its connection. So a bot that may come is not dropped.
+    /// `kept`: if a due accept brings no bot, and one more may be present, then it failed, or its bot may not come, or no row
+    /// is left, or the system refused to follow its connection. No other bot is dropped.
     ///
     /// `awaited`: the wait of this round is for bots too, so it does not block while an accept is due.
     ///
@@ -196,6 +211,13 @@ impl<'w, N: Network, E: Write + Drop> Sockets<'w, N, E> {
             self.old.arrivals.items self.old.closings.streams) self.new.poller.table (keys_of_run self.new.acceptor
             (control_keys self.new.control) self.new.arrivals.items self.new.closings.streams) }
         ensures timeouts { (self.new.idle_time ≡ self.old.idle_time) × (self.new.stall_time ≡ self.old.stall_time) }
+        ensures same { self.new ≡ record self.old {
+          poller = self.new.poller;
+          acceptor = self.new.acceptor;
+          arrivals = self.new.arrivals;
+          present = self.new.present;
+          errors = self.new.errors;
+        } }
     {
         self.acceptor.await_bots();
         if self.arrivals.len() >= self.arrivals.capacity() {
@@ -231,6 +253,13 @@ impl<'w, N: Network, E: Write + Drop> Sockets<'w, N, E> {
             self.old.control (vec_capacity self.old.arrivals) self.old.arrivals.items self.old.closings) (Accepts result)
             (run_state (self.new.poller.network, self.new.poller.table) (self.new.idle_time, self.new.stall_time) self.new.acceptor
             self.new.control (vec_capacity self.new.arrivals) self.new.arrivals.items self.new.closings) }
+        ensures same { self.new ≡ record self.old {
+          poller = self.new.poller;
+          acceptor = self.new.acceptor;
+          arrivals = self.new.arrivals;
+          present = self.new.present;
+          errors = self.new.errors;
+        } }
     {
         let Some(began) = self.accept_next() else {
             return false;

@@ -1,11 +1,11 @@
-use Rattle.std.proofs.Common.{◌≡◌, ℕ, ◌<◌, length, refl, sym, ◌∙◌, subst, arith}
+use Rattle.std.proofs.Common.{◌≡◌, ℕ, ◌<◌, length, refl, sym, ◌∙◌, subst, arith, rules}
 use Rattle.daide_sockets.specs.Pairing.{ChecksArrivals}
 use Rattle.daide_sockets.proofs.PairingLemmas.{next_out, one_more, checked_len}
 use Rattle.daide_sockets.proofs.RowLemmas.{handed_both}
 use Rattle.daide_sockets.proofs.system.SocketsSystemSocketPortsConnection.connected.Goals as goal
 
-pub returns-in-Ready : goal.returns-in-Ready
-returns-in-Ready g c =
+pub returns-in-Ready-clause-transition : goal.returns-in-Ready-clause-transition
+returns-in-Ready-clause-transition g c =
     let e = c.in-Ready.ensures.evolves in
     let inside = subst (λ (n : ℕ). c.loop-look._look < n) (c.len-look-end.ensures ∙ c.args.self.now.arrivals.ok.0)
     c.loop-look-test.true in (
@@ -32,8 +32,8 @@ returns-in-Ready g c =
       handed_both _ _ _ _ _ _ c.loop-look.invariant.rows c.in-Ready.ensures.rows,
     )
 
-pub returns-in-Failed : goal.returns-in-Failed
-returns-in-Failed g c =
+pub returns-in-Failed-clause-transition : goal.returns-in-Failed-clause-transition
+returns-in-Failed-clause-transition g c =
     let e = c.in-Failed.ensures.evolves in
     let inside = subst (λ (n : ℕ). c.loop-look._look < n) (c.len-look-end.ensures ∙ c.args.self.now.arrivals.ok.0)
     c.loop-look-test.true in (
@@ -58,6 +58,22 @@ returns-in-Failed g c =
       handed_both _ _ _ _ _ _ c.loop-look.invariant.rows c.in-Failed.ensures.rows,
     )
 
+-- the arrival that was checked last is the one that is removed
+pub returns-in-Failed-clause-unreached : goal.returns-in-Failed-clause-unreached
+returns-in-Failed-clause-unreached g c = λ failed off.
+    let e = c.in-Failed.ensures.evolves in
+    let inside = subst (λ (n : ℕ). c.loop-look._look < n) (c.len-look-end.ensures ∙ c.args.self.now.arrivals.ok.0)
+    c.loop-look-test.true in
+    let given_up = c.in-Failed.ensures.unreached refl (rw c.loop-look.invariant.control off) in
+    let first = e.1 in
+    let other = given_up.2 in
+    let same : given_up.0 ≡ e.0 = cc in (
+      e.0,
+      c.loop-look.self.poller.network,
+      next_out c.loop-look._look _ _ _ e.0 c.loop-look.invariant.looks inside e.1,
+      rw (sym same, sym c.loop-look.invariant.servers, sym c.loop-look.invariant.clock) given_up.3,
+    )
+
 pub loop-look-preserved : goal.loop-look-preserved
 loop-look-preserved g c =
     let e = c.in-Pending.ensures.evolves in
@@ -73,11 +89,13 @@ loop-look-preserved g c =
       control = c.in-Pending.ensures.control ∙ c.loop-look.invariant.control;
       rows = handed_both _ _ _ _ _ _ c.loop-look.invariant.rows c.in-Pending.ensures.rows;
       clock = c.in-Pending.ensures.clock ∙ c.loop-look.invariant.clock;
+      servers = search rules;
+      same = search rules;
     }
 
 -- each was checked
-pub returns : goal.returns
-returns g c =
+pub returns-clause-transition : goal.returns-clause-transition
+returns-clause-transition g c =
     let past = c.loop-look-test.false in
     let few = c.loop-look.auto._look-end in
     let all = c.len-look-end.ensures ∙ c.args.self.now.arrivals.ok.0 in

@@ -17,4 +17,13 @@ invariant-loop-look g l = record {
       l.initial.self.arrivals.items l.initial.self.closings.streams) l.self.poller.table (keys_of_run l.self.acceptor
       (control_keys l.self.control) l.self.arrivals.items l.self.closings.streams);
   clock : l.self.poller.table.reading ≡ l.initial.self.poller.table.reading;
+  servers : l.self.servers ≡ l.initial.self.servers;
+  same : l.self ≡ record l.initial.self {
+    poller = l.self.poller;
+    arrivals = l.self.arrivals;
+    closings = l.self.closings;
+    present = l.self.present;
+    unreached = l.self.unreached;
+    errors = l.self.errors;
+  };
 }
