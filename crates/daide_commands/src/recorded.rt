@@ -102,6 +102,10 @@ impl<'w, N: Network, R: AllocGlobal + Files, C: Clock, E: Write + Drop> System<
         self.sockets.show(ports.ports(), status);
     }
 
+    fn is_at_rest(&self, interest: &Interest) -> bool {
+        self.sockets.is_at_rest(interest)
+    }
+
     /// A record that has just ended is work of its ports, so that the next turn begins at once and logs it.
     fn has_news(&mut self, interest: &Interest) -> bool {
         self.sockets.has_news(interest)

@@ -22,6 +22,18 @@ use Rattle.daide_event_loop.specs.Serving.{most_turns, shows, shows_where, openi
 use Rattle.daide_event_loop.specs.Served.{sum_over_calls}
 use Rattle.daide_event_loop.proofs.TransitLemmas.{transits_then}
 
+-- ---- a question for news
+
+-- the system was asked with what the ports wait for, after a turn without progress
+pub asked_news : {P S : Type 0} (transition : S → SystemCall P → S → Type 0) (moved : Bool) (ports : P) (old new : S)
+    (news : Bool) → moved ≡ false → transition old (ReportsNews ports news) new →
+    (report : List (SystemCall P)) × TransitsBy transition old report new × IsDueBy moved ports report news
+asked_news transition moved ports old new news still told = (
+  ReportsNews ports news ∷ [],
+  (new, told, refl),
+  subst (λ (m : Bool). IsDueBy m ports (ReportsNews ports news ∷ []) news) (sym still) refl,
+)
+
 -- ---- the system calls
 
 module _ {P : Type 0} where

@@ -1,5 +1,5 @@
 -- What the visits of a round found, place by place.
-use Rattle.std.proofs.Common.{◌≡◌, ℕ, zero, suc, ◌<◌, ◌≤◌, ◌+◌, Bool, true, false, List, [], ◌∷◌, ◌++◌, length}
+use Rattle.std.proofs.Common.{◌≡◌, ℕ, zero, suc, ◌<◌, ◌≤◌, ◌+◌, ◌-◌, Bool, true, false, List, [], ◌∷◌, ◌++◌, length}
 use Rattle.std.proofs.Common.{refl, sym, ap, ◌∙◌, subst, arith, append-nil, Option, Some, None}
 use Rattle.std.specs.Prelude.{◌||◌, ◌&&◌, ◌==◌, ◌≢◌, nat_le, not, if◌then◌else◌, IfSome, slice_get}
 use Rattle.std.proofs.lemmas.Bool.{eqb-true, eqb-false, lt-leb}
@@ -10,10 +10,10 @@ use Rattle.daide_io.specs.Ports.{PortCall}
 use Rattle.daide_io.specs.System.{SystemCall, TransitsBy}
 use Rattle.daide_driver.specs.Hub.{HubView, AddsSession}
 use Rattle.daide_event_loop.specs.QuotaPorts.{QuotaPortsView}
-use Rattle.daide_event_loop.specs.Serving.{IsDueBy, VisitsPlace, VisitsNext, VisitsIfCalm, is_calm_in, TurnsBelow, TurnsAll}
+use Rattle.daide_event_loop.specs.Serving.{IsDueBy, IsAtRest, AreAtRest, VisitsPlace, VisitsNext, VisitsCalmIf, VisitsIfCalm, is_calm_in, TurnsBelow, TurnsAll}
 use Rattle.daide_event_loop.specs.Serving.{turns_left_over, has_moved_in, RemovesClosed, any_moved, any_closed, AreOpen, AreStill}
 use Rattle.daide_event_loop.specs.Serving.{retirements, retirement_where, remaining}
-use Rattle.daide_event_loop.proofs.BeginningLemmas.{Turning, none_turned, another_visit, slice_some, Looks}
+use Rattle.daide_event_loop.proofs.BeginningLemmas.{Turning, none_turned, another_visit, slice_some, Looks, visited}
 use Rattle.daide_event_loop.proofs.BeginningLemmas.{Calming, none_calmed, another_calmed}
 use Rattle.daide_event_loop.proofs.RemovalLemmas.{kept_place, gone_place}
 use Rattle.daide_event_loop.proofs.VisitLemmas.{gets_at, others_stay}
@@ -239,6 +239,85 @@ module _ {P S : Type 0} (port_transition : P → PortCall → P → Type 0) (tra
           place.1.made_progress ≡ false
       by true e due = let no = due.1 in absurd (cc)
       by false e due = e
+
+  -- a session at rest is passed over, which changes neither the sessions nor the system
+  passed_over : (t : S) (hub : HubView (QuotaPortsView P)) (i busy : ℕ) → i < length hub.places → busy < 32 →
+      IfSome (slice_get hub.places i) (Looks port_transition transition t t false) →
+      (answers : List (SystemCall P)) × TransitsBy transition t answers t
+      × VisitsNext port_transition busy hub i answers hub busy × VisitsPlace port_transition hub i answers hub
+  passed_over t hub i busy inside few rests =
+      let one = visited port_transition transition hub hub i t t t false (is_calm_in (slice_get hub.places i)) _ 0 inside
+      rests refl refl ([], refl, (refl, refl)) refl in
+      let more = none_more busy _ (sym one.3) few in (
+        one.0,
+        one.1,
+        record {
+          mid = hub;
+          first = one.0;
+          second = [];
+          visit = one.2;
+          calm = subst (λ (b : Bool). VisitsCalmIf port_transition b hub [] hub) (sym more.0) (refl, refl);
+          counted = more.1;
+          asked = sym (append-nil one.0);
+        },
+        one.2,
+      )
+
+  -- some sessions at rest are passed over, and nothing is found there
+  rest_found : (s t : S) (old hub : HubView (QuotaPortsView P)) (n busy : ℕ) (moved closed : Bool) →
+      Finding s old n busy hub t moved closed → (m : ℕ) → n + m ≤ length hub.places →
+      AreAtRest transition t n (n + m) hub.places → Finding s old (n + m) busy hub t moved closed
+  rest_found s t old hub n busy moved closed h zero fits rest =
+      let same : n ≡ n + 0 = omega arith in
+      subst (λ (k : ℕ). Finding s old k busy hub t moved closed) same h
+  rest_found s t old hub n busy moved closed h (suc m) fits rest =
+      let before = rest_found s t old hub n busy moved closed h m (omega (arith, fits))
+      (λ k far few. rest k far (omega (arith, few))) in
+      let own = rest (n + m) (omega arith) (omega arith) in
+      let passes = passed_over t hub (n + m) busy (omega (arith, fits)) before.few own in
+      let same : n + m + 1 ≡ n + suc m = omega arith in
+      subst (λ (k : ℕ). Finding s old k busy hub t moved closed) same
+      (another_found s t t old hub hub (n + m) busy busy moved closed moved closed before passes.0 passes.1 passes.2
+      before.few
+      (λ none. (
+        none,
+        λ are. still_next hub hub (n + m) passes.0 passes.3
+            (calm_place t t (slice_get hub.places (n + m)) own) are,
+      ))
+      (λ none. (none, λ are. are)))
+
+  -- so are all up to a place
+  pub rest_until : (s t : S) (old hub : HubView (QuotaPortsView P)) (n busy : ℕ) (moved closed : Bool) →
+      Finding s old n busy hub t moved closed → (last : ℕ) → n ≤ last → last ≤ length hub.places →
+      AreAtRest transition t n last hub.places → Finding s old last busy hub t moved closed
+  rest_until s t old hub n busy moved closed h last far fits rest =
+      let all : n + (last - n) ≡ last = omega (arith, far) in
+      subst (λ (k : ℕ). Finding s old k busy hub t moved closed) all
+      (rest_found s t old hub n busy moved closed h (last - n) (omega (arith, all, fits))
+      (subst (λ (k : ℕ). AreAtRest transition t n k hub.places) (sym all) rest))
+
+  -- the session at a place rests as its ports do
+  pub rests_there : (t : S) (places : List (SessionView × QuotaPortsView P)) (i : ℕ) (ports : QuotaPortsView P) →
+      IfSome (slice_get places i) (λ place. ports ≡ place.1) → IsAtRest transition t ports →
+      IfSome (slice_get places i) (λ place. IsAtRest transition t place.1)
+  rests_there t places i ports value rests = by (slice_get places i) value
+    where
+      by : (o : Option (SessionView × QuotaPortsView P)) → IfSome o (λ place. ports ≡ place.1) →
+          IfSome o (λ place. IsAtRest transition t place.1)
+      by None same = tt
+      by (Some place) same = subst (IsAtRest transition t) same rests
+
+  -- one more is at rest
+  pub rest_more : (t : S) (places : List (SessionView × QuotaPortsView P)) (first i : ℕ) →
+      AreAtRest transition t first i places →
+      IfSome (slice_get places i) (λ place. IsAtRest transition t place.1) → AreAtRest transition t first (i + 1) places
+  rest_more t places first i are own = λ k far few. by k far few (k == i) refl
+    where
+      by : (k : ℕ) → first ≤ k → k < i + 1 → (here : Bool) → (k == i) ≡ here →
+          IfSome (slice_get places k) (λ place. IsAtRest transition t place.1)
+      by k far few true e =
+          subst (λ (m : ℕ). IfSome (slice_get places m) (λ place. IsAtRest transition t place.1)) (sym (eqb-true k i e)) own
+      by k far few false e = let differ = eqb-false k i e in are k far (below_it k i few (λ same. differ same))
 
 -- ---- closed sessions
 

@@ -1,6 +1,6 @@
 -- The loop of a run: the system calls and the effect of each step of a round, a round, and a whole run, completed or
 -- broken off. Each step is stated with its trace of system calls, recorded or not.
-use Rattle.std.specs.Prelude.{◌≡◌, ℕ, zero, suc, ◌+◌, ◌-◌, ◌<◌, ◌≤◌, nat_lt, nat_le, Bool, true, false, not, ◌&&◌, ◌||◌, ◌==◌, ◌⊎◌}
+use Rattle.std.specs.Prelude.{IfSome, ◌≡◌, ℕ, zero, suc, ◌+◌, ◌-◌, ◌<◌, ◌≤◌, nat_lt, nat_le, Bool, true, false, not, ◌&&◌, ◌||◌, ◌==◌, ◌⊎◌}
 use Rattle.std.specs.Prelude.{List, [], ◌∷◌, ◌++◌, length, filter, Option, Some, None, is_none, slice_get}
 use Rattle.std.specs.Prelude.{if◌then◌else◌}
 use Rattle.std.specs.List.{list_any}
@@ -27,7 +27,7 @@ use Rattle.daide_io.specs.declared.system.SessionEnd.{SessionEnd}
 use Rattle.daide_io.specs.declared.fault_field.FaultField.{FaultField}
 use Rattle.daide_io.specs.FaultField.{fault_field_of}
 use Rattle.daide_event_loop.specs.QuotaPorts.{QuotaPortsView, Meters, beginning, is_calm}
-use Rattle.daide_io.specs.System.{SystemCall, Begins, Shows, ReportsNews, BeginsTurn, Watches, Accepts, Connects}
+use Rattle.daide_io.specs.System.{SystemCall, TransitsBy, Begins, Shows, ReportsNews, BeginsTurn, Watches, Accepts, Connects}
 use Rattle.daide_io.specs.System.{Retires, Notifies, Waits, status_of}
 use Rattle.daide_io.specs.ByteCounts.{no_bytes}
 use Rattle.daide_settings.specs.BotsInAll.{bots_in_all}
@@ -171,6 +171,17 @@ pub record TakesTurn {P : Type 0} (transition : P → PortCall → P → Type 0)
 abbrev pub IsDueBy : {P : Type 0} → Bool → P → List (SystemCall P) → Bool → Type 0
 IsDueBy true ports answers due = (answers ≡ []) × (due ≡ true)
 IsDueBy false ports answers due = answers ≡ ReportsNews ports due ∷ []
+
+-- a session is due no turn, and the question for its news changes nothing of the system
+abbrev pub IsAtRest : {P S : Type 0} → (S → SystemCall P → S → Type 0) → S → QuotaPortsView P → Type 0
+IsAtRest {P} transition system ports = (report : List (SystemCall P)) × TransitsBy transition system report system
+    × IsDueBy ports.made_progress ports.ports report false
+
+-- so are the sessions at these places, the first one included and the last one not
+abbrev pub AreAtRest : {P S : Type 0} → (S → SystemCall P → S → Type 0) → S → ℕ → ℕ → List (SessionView × QuotaPortsView P) →
+    Type 0
+AreAtRest transition system first last places = (k : ℕ) → first ≤ k → k < last →
+    IfSome (slice_get places k) (λ place. IsAtRest transition system place.1)
 
 -- The most turns of a session in one visit, by whether it is calm: eight if so, so that a short frame passes in one visit;
 -- one if it is busy, since sessions with bytes without end take turns. (own)

@@ -5,7 +5,7 @@ ghost use Rattle.daide_io.specs.ByteCounts.{no_bytes};
 ghost use Rattle.daide_io.specs.Ports.{TurnBegins};
 ghost use Rattle.daide_event_loop.specs.QuotaPorts.{load_at_turn};
 ghost use Rattle.daide_io.specs.System.{SystemCall, TransitsBy};
-ghost use Rattle.daide_event_loop.specs.Serving.{IsDueBy, watch_unless};
+ghost use Rattle.daide_event_loop.specs.Serving.{IsDueBy, IsAtRest, watch_unless};
 
 use daide_frame::side::Side;
 use daide_io::byte_counts::ByteCounts;
@@ -30,12 +30,12 @@ pub struct QuotaPorts<P: Ports> {
     first_synthetic_end: Option<Ending>,
     /// The bytes delivered and taken so far.
     bytes: ByteCounts,
-    /// What the session waits for; `None` if a call was made since this was asked.
-    interest: Option<Interest>,
+    /// What the session waits for. It has work if a call was made since this was asked, so that it is asked again.
+    interest: Interest,
 }
 
 impl<P: Ports> Model for QuotaPorts<P> {
-    ghost use Rattle.std.specs.Prelude.{◌≡◌, false, IfSome};
+    ghost use Rattle.std.specs.Prelude.{◌≡◌, false};
     ghost use Rattle.daide_event_loop.specs.QuotaPorts.{QuotaPortsView};
 
     ghost Value = { QuotaPortsView P };
@@ -50,7 +50,8 @@ impl<P: Ports> Model for QuotaPorts<P> {
     } };
 
     // no call was made on the ports since the interest was asked, after a turn without progress
-    ghost invariant = { λ m. IfSome m.interest (λ interest. P.interest m.ports interest × (m.made_progress ≡ false)) };
+    ghost invariant = { λ m. m.interest.has_work ≡ false →
+        P.interest m.ports m.interest × (m.made_progress ≡ false) };
 }
 
 /// The most load of a session.
@@ -93,7 +94,7 @@ impl<P: Ports> QuotaPorts<P> {
             load: 0,
             first_synthetic_end: None,
             bytes: ByteCounts::new(),
-            interest: None,
+            interest: Interest::UNKNOWN,
         }
     }
 
@@ -103,10 +104,7 @@ impl<P: Ports> QuotaPorts<P> {
         ensures begins { Meters P.transition self.old TurnBegins self.new }
         ensures asked { TransitsBy S.transition system.old (beginning self.old self.new) system.new }
     {
-        // Most calls of a turn have none to forget, and to write it takes longer than to look.
-        if self.interest.is_some() {
-            self.interest = None;
-        }
+        self.interest.has_work = true;
         self.turns_left = self.turns_left.and_then(|turns| turns.checked_sub(1));
         self.load = load_at_turn(self.made_progress, self.load);
         self.made_progress = false;
@@ -164,7 +162,7 @@ impl<P: Ports> QuotaPorts<P> {
         }
         let interest = self.ports.interest();
         system.watch(&interest);
-        self.interest = Some(interest);
+        self.interest = interest;
     }
 
     /// Returns whether the session is due a turn: its last turn made progress, or the system has news for its ports.
@@ -173,11 +171,18 @@ impl<P: Ports> QuotaPorts<P> {
         ensures { (report : List (SystemCall P)) × TransitsBy S.transition system.old report system.new
             × IsDueBy self.now.made_progress self.now.ports report result }
     {
-        match &self.interest {
-            // Most sessions of most rounds have one.
-            Some(interest) => system.has_news(interest),
-            None => self.made_progress || system.has_news(&self.ports.interest()),
+        if self.interest.has_work {
+            return self.made_progress || system.has_news(&self.ports.interest());
         }
+        system.has_news(&self.interest)
+    }
+
+    /// Returns true only if the session is due no turn, and the question for its news would change nothing of the system.
+    #[inline(always)]
+    pub fn is_at_rest<S: System<P>>(&self, system: &S) -> bool
+        ensures { result ≡ true → IsAtRest S.transition system.now self.now }
+    {
+        system.is_at_rest(&self.interest)
     }
 
     /// Returns the ports inside by reference.
@@ -212,9 +217,7 @@ impl<P: Ports> Ports for QuotaPorts<P> {
     ghost interest = { λ ports interest. P.interest ports.ports interest };
 
     fn pull(&mut self, side: Side, buffer: &mut [u8]) -> Pull {
-        if self.interest.is_some() {
-            self.interest = None;
-        }
+        self.interest.has_work = true;
         let pull = match self.turns_left {
             Some(_turns) => self.ports.pull(side, buffer),
             None => {
@@ -233,9 +236,7 @@ impl<P: Ports> Ports for QuotaPorts<P> {
     }
 
     fn put(&mut self, side: Side, bytes: &[u8]) -> Put {
-        if self.interest.is_some() {
-            self.interest = None;
-        }
+        self.interest.has_work = true;
         let put = match self.turns_left {
             Some(_turns) => self.ports.put(side, bytes),
             None => {
@@ -253,9 +254,7 @@ impl<P: Ports> Ports for QuotaPorts<P> {
     }
 
     fn clock(&mut self) -> ClockEvent {
-        if self.interest.is_some() {
-            self.interest = None;
-        }
+        self.interest.has_work = true;
         let event = match self.turns_left {
             Some(_turns) => self.ports.clock(),
             None => ClockEvent::NoEvent,

@@ -7,7 +7,7 @@ ghost use Rattle.std.specs.Prelude.{◌≡◌, ℕ, ◌+◌, ◌++◌, ◌<◌, 
 ghost use Rattle.std.specs.Prelude.{OnOk, OnErr, IfOk, IfErr, IfSome, Option, slice_get};
 ghost use Rattle.daide_io.specs.System.{SystemCall, Connects, TransitsBy};
 ghost use Rattle.daide_event_loop.specs.Serving.{shows, shows_where};
-ghost use Rattle.daide_event_loop.specs.Serving.{IsWithinQuotas, Admits, FinishesConnect, IsDueBy, TakesTurn, TakesTurns, VisitsPlace, most_turns};
+ghost use Rattle.daide_event_loop.specs.Serving.{IsWithinQuotas, Admits, FinishesConnect, IsDueBy, AreAtRest, TakesTurn, TakesTurns, VisitsPlace, most_turns};
 ghost use Rattle.daide_event_loop.specs.Serving.{TurnsAll, VisitsNext, VisitsCalm, VisitsCalmIf, VisitsIfCalm, is_calm_in, busy_turns_in, turns_left_over};
 ghost use Rattle.daide_event_loop.specs.Serving.{any_moved, has_moved_in, AreOpen, AreStill};
 ghost use Rattle.daide_event_loop.specs.Serving.{RemovesClosed, parting};
@@ -449,7 +449,7 @@ fn visit_next<P: Ports, A: Allocator + Copy, S: System<P>>(
         (found.has_closed ≡ false) × (AreOpen hub.old.places → AreOpen hub.new.places) }
 {
     let one = visit(hub, i, system);
-    // Most sessions of most rounds end here.
+    // Without a turn nothing else is found.
     if !one.had_turn {
         return found;
     }
@@ -469,6 +469,26 @@ fn has_any_moved<P: Ports, A: Allocator + Copy>(hub: &Hub<QuotaPorts<P>, A>) -> 
     false
 }
 
+/// Returns the first place from `from` on whose session may be due a turn; the number of sessions if there is none. The
+/// sessions between are at rest. It is a loop of its own that changes nothing, so that a session at rest costs little.
+#[inline(never)]
+fn next_to_visit<P: Ports, A: Allocator + Copy, S: System<P>>(
+    hub: &Hub<QuotaPorts<P>, A>,
+    from: usize,
+    system: &S,
+) -> usize
+    requires { from ≤ length hub.now.places }
+    ensures place { (from ≤ result) × (result ≤ length hub.now.places) }
+    ensures between { AreAtRest S.transition system.now from result hub.now.places }
+{
+    for i in from..hub.count() {
+        if !hub.ports(i).is_at_rest(system) {
+            return i;
+        }
+    }
+    hub.count()
+}
+
 /// Visits each session, in order of place, and the calm ones again after each `MOST_BUSY_TURNS` turns of busy ones. Returns
 /// whether the last turn of any session made progress, and whether any may be closed.
 ///
@@ -486,8 +506,10 @@ fn turn_all<P: Ports, A: Allocator + Copy, S: System<P>>(
     ensures closed { result.has_closed ≡ false → AreOpen hub.new.places }
 {
     let mut found = Findings::NONE;
-    for i in 0..hub.count() {
+    let mut i = next_to_visit(hub, 0, system);
+    while i < hub.count() {
         found = visit_next(found, hub, i, system);
+        i = next_to_visit(hub, i + 1, system);
     }
     Findings {
         has_moved: found.has_moved && has_any_moved(hub),

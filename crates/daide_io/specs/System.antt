@@ -27,10 +27,11 @@ status_of session bytes = record {
 }
 
 -- One call with its result: the beginning of a round, with the operator's orders; the ports of a session whose status is
--- shown; whether there is news for the ports of a session, which the next wait is to watch if there is none; the beginning
--- of a turn, with the ports of its session before and after; the ports of a session that the next wait is to watch after
--- its turns; whether a bot arrived; the result of a connect; ports
--- that were retired, with how their session ended; a line that was logged; and a wait that ended.
+-- shown; whether there is news for the ports of a session, which the next wait is to watch if there is none (it is left
+-- out where the answer is known to be no and to change nothing); the beginning of a turn, with the ports of its session
+-- before and after; the ports of a session that the next wait is to watch after its turns; whether a bot arrived; the
+-- result of a connect; ports that were retired, with how their session ended; a line that was logged; and a wait that
+-- ended.
 pub data SystemCall (P : Type 0) : Type 0 where
   Begins : (orders : Orders) → SystemCall P
   Shows : (ports : P) → (status : SessionStatus) → SystemCall P

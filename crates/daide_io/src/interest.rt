@@ -31,6 +31,15 @@ impl Interest {
         due: None,
     };
 
+    /// An interest of which nothing is known, so that something may always be done at once.
+    pub const UNKNOWN: Interest = Interest {
+        bot: 0,
+        server: 0,
+        has_work: true,
+        is_stopped: false,
+        due: None,
+    };
+
     /// Returns the same interest; if `other` is true, something else may be done at once too.
     pub fn or_work(self, other: bool) -> Interest
         ensures { result ≡ record self { has_work = self.has_work || other } }

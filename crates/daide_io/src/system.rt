@@ -8,6 +8,7 @@
 //!                                  `-Failed-> CannotReach is logged, and the run goes on
 //! ```
 
+ghost use Rattle.std.specs.Prelude.{◌≡◌, true, false};
 ghost use Rattle.daide_io.specs.Ports.{TurnBegins};
 ghost use Rattle.daide_io.specs.System.{SystemCall, Begins, Shows, ReportsNews, BeginsTurn, Watches, Accepts, Connects};
 ghost use Rattle.daide_io.specs.System.{Retires, Notifies, Waits};
@@ -117,6 +118,15 @@ pub trait System<P: Ports> {
     /// follow in the same round, so the system itself sees to it that the operator receives what is shown.
     fn show(&mut self, ports: &P, status: SessionStatus)
         ensures { transition self.old (Shows ports.now status) self.new };
+
+    /// Returns true only if there is nothing to do for the session with this interest, nor for the system: `has_news` would
+    /// return false, and change nothing. So a round passes over sessions at rest without a call that may change the system.
+    ///
+    /// `no_work`: nothing may be done at once.
+    fn is_at_rest(&self, interest: &Interest) -> bool
+        ensures no_work { result ≡ true → interest.now.has_work ≡ false }
+        ensures at_rest { result ≡ true →
+            (ports : P) → P.interest ports interest.now → transition self.now (ReportsNews ports false) self.now };
 
     /// Returns whether a turn of the session with this interest may do something: whether, since its last turn began, an
     /// event came for one of its wires, or one of its deadlines expired. It is called for sessions whose last turn made

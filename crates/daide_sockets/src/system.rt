@@ -471,6 +471,11 @@ impl<'w, N: Network, E: Write + Drop> System<SocketPorts<'w, N::Connection>> for
     }
 
     #[inline(always)]
+    fn is_at_rest(&self, interest: &Interest) -> bool {
+        !self.control.stops_now() && self.poller.table.is_watched_at_rest(interest)
+    }
+
+    #[inline(always)]
     fn has_news(&mut self, interest: &Interest) -> bool
         ensures transition { (ports : PortsOf N.Connection) → interest.now ≡ interest_of ports →
             RunEvolves N.transition N.Connection.to_give N.Connection.taken N.Connection.calls
@@ -490,7 +495,7 @@ impl<'w, N: Network, E: Write + Drop> System<SocketPorts<'w, N::Connection>> for
             × (self.new.poller.table ≡ after_question result self.old.poller.table interest.now) }
         ensures same { self.new ≡ record self.old { poller = self.new.poller } }
     {
-        // Most questions of most rounds end here.
+        // Most questions for a calm session that is visited again end here.
         if !self.control.stops_now() && self.poller.table.is_watched_at_rest(interest) {
             return false;
         }

@@ -33,6 +33,8 @@ struct Row {
     is_reported: bool,
     /// What polls reported of the socket since it last took the report.
     report: Readiness,
+    /// Makes a row eight bytes long, so that a look at it takes no multiplication.
+    fill: [u8; 3],
 }
 
 impl Model for Row {
@@ -52,6 +54,7 @@ impl Row {
         is_taken: false,
         is_reported: false,
         report: Readiness::UNKNOWN,
+        fill: [0; 3],
     };
 
     /// Adds a report.
@@ -421,9 +424,16 @@ impl SocketTable {
         ensures news { result ≡ true → has_news_for self.now interest.now ≡ false }
         ensures watched { result ≡ true → after_question false self.now interest.now ≡ self.now }
     {
-        !self.needs_look
-            && !self.may_go_on_for(interest)
-            && !is_nearer(interest.due, self.watched_due)
+        // What is the same for each session comes first, so that a loop over sessions reads it once.
+        if self.needs_look {
+            return false;
+        }
+        match self.watched_due {
+            Some(watched) => {
+                !self.may_go_on_for(interest) && !is_nearer(interest.due, Some(watched))
+            }
+            None => !self.may_go_on_for(interest) && interest.due.is_none(),
+        }
     }
 
     /// Has the next wait watch the session with this interest: whether something may be done at once for it, and its nearest

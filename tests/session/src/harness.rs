@@ -45,6 +45,8 @@ pub(crate) struct Scene {
     pub(crate) accepts: &'static [bool],
     pub(crate) fates: &'static [Fate],
     pub(crate) news: &'static [bool],
+    /// The number of first rounds in which each session whose interest is kept is at rest.
+    pub(crate) rests: usize,
     pub(crate) orders: &'static [Orders],
     pub(crate) bot: Script<'static>,
 }
@@ -158,6 +160,10 @@ impl System<MemoryPorts<'static>> for Harness {
         let _ = self.shown.push(shown);
     }
 
+    fn is_at_rest(&self, interest: &Interest) -> bool {
+        !interest.has_work && self.orders <= self.scene.rests
+    }
+
     fn has_news(&mut self, _interest: &Interest) -> bool {
         let news = self.scene.news.get(self.news).is_none_or(|news| *news);
         self.news = self.news.saturating_add(1);
@@ -252,6 +258,7 @@ pub(crate) const ENDING: Scene = Scene {
     accepts: &[],
     fates: &[],
     news: &[],
+    rests: 0,
     orders: &[],
     bot: ENDS,
 };

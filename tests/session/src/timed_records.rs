@@ -72,6 +72,10 @@ impl System<MemoryPorts<'static>> for Turns {
 
     fn show(&mut self, _ports: &MemoryPorts<'static>, _status: SessionStatus) {}
 
+    fn is_at_rest(&self, _interest: &Interest) -> bool {
+        false
+    }
+
     fn has_news(&mut self, _interest: &Interest) -> bool {
         true
     }

@@ -621,6 +621,10 @@ impl<'w, 'n> System<ObservedPorts<'w, 'n>> for ObservedSockets<'w, 'n> {
         self.sockets.show(&ports.ports, status);
     }
 
+    fn is_at_rest(&self, interest: &Interest) -> bool {
+        self.sockets.is_at_rest(interest)
+    }
+
     fn has_news(&mut self, interest: &Interest) -> bool {
         self.sockets.has_news(interest)
     }
