@@ -432,6 +432,8 @@ pub struct ObservedSockets<'w, 'n> {
     held: usize,
     /// Whether no further bot is accepted, at an operator's request.
     has_stopped: bool,
+    /// The number of retired sessions to which a stop was reported before.
+    stopped_and_retired: u64,
     /// Whether the turns of the session that is retired next are spent: then bytes for it may be left.
     is_spent: bool,
 }
@@ -514,7 +516,21 @@ impl<'w, 'n> ObservedSockets<'w, 'n> {
             came: 0,
             held: 0,
             has_stopped: false,
+            stopped_and_retired: 0,
             is_spent: false,
+        }
+    }
+
+    /// Checks before a wait that a stop that ends sessions was reported to each of them.
+    fn check_stops(&self) {
+        if !ends_sessions(self.world) {
+            return;
+        }
+        if let Ok(mut state) = self.world.state.try_borrow_mut() {
+            let stopped = state.tally.stopped.saturating_sub(self.stopped_and_retired);
+            if u64::try_from(self.held) != Ok(stopped) {
+                state.fail("a session sleeps through a stop", 0);
+            }
         }
     }
 
@@ -693,10 +709,13 @@ impl<'w, 'n> System<ObservedPorts<'w, 'n>> for ObservedSockets<'w, 'n> {
             machine: _,
             im_at: _,
             has_expired: _,
-            is_stopped: _,
+            is_stopped,
             silent_at: _,
             rules: _,
         } = ports;
+        if is_stopped {
+            self.stopped_and_retired = self.stopped_and_retired.saturating_add(1);
+        }
         let before = self.sockets.errors.count;
         self.sockets.retire(ports, end);
         self.check_line(before, number, "ended", bot);
@@ -708,6 +727,7 @@ impl<'w, 'n> System<ObservedPorts<'w, 'n>> for ObservedSockets<'w, 'n> {
     }
 
     fn wait(&mut self) {
+        self.check_stops();
         let (max_sessions, sessions) = self.limits;
         let accepts = self.came < sessions && self.held < max_sessions && !self.has_stopped;
         if let Ok(mut state) = self.world.state.try_borrow_mut() {
