@@ -1,5 +1,7 @@
 -- A list of commands to which commands were pushed.
 use Rattle.std.proofs.Common.{◌≡◌, ◌||◌, ◌++◌, Bool, true, false, List, [], ◌∷◌, map, refl, ap, ◌∙◌}
+use Rattle.std.proofs.Common.{Result, Ok, Err, IfOk, IsOkAnd}
+use Rattle.std.specs.declared.alloc.AllocError.{AllocError}
 use Rattle.std.specs.List.{list_any}
 use Rattle.clap.specs.Words.{App, Shape, app_of, shape_of}
 use Rattle.clap.specs.declared.builder.command.Command.{Command}
@@ -36,14 +38,16 @@ none_listed negative commands empty = record {
   shaped = λ plain. ap (map shape_of) empty;
 }
 
-pub one_listed : (negative : Bool) (old new : List Command) (shapes : List Shape) (command : Command) (app : App)
-    → new ≡ old ++ command ∷ [] → (out-Command command).has_globals ≡ false
-    → (negative ≡ false → app_of command ≡ app) → AreListed negative old shapes
+pub one_listed : (negative : Bool) (old new : List Command) (shapes : List Shape) (made : Result Command AllocError) (app : App)
+    → IsOkAnd made (λ command. new ≡ old ++ command ∷ [])
+    → IfOk made (λ command. (out-Command command).has_globals ≡ false)
+    → (negative ≡ false → IfOk made (λ command. app_of command ≡ app)) → AreListed negative old shapes
     → AreListed negative new (shapes ++ app.top ∷ [])
-one_listed negative old new shapes command app pushed one app_is listed = record {
+one_listed negative old new shapes (Ok command) app pushed one app_is listed = record {
   local = ap (λ commands. list_any (λ command. (out-Command command).has_globals) commands) pushed
       ∙ any_pushed old command listed.local one;
   shaped = λ plain. ap (map shape_of) pushed ∙ map_pushed old command
       ∙ ap (λ before. before ++ shape_of command ∷ []) (listed.shaped plain)
       ∙ ap (λ (a : App). shapes ++ a.top ∷ []) (app_is plain);
 }
+one_listed negative old new shapes (Err error) app pushed one app_is listed = absurd pushed

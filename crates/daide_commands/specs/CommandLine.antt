@@ -15,6 +15,7 @@ use Rattle.clap.specs.Simple.{new_shape}
 use Rattle.clap.specs.declared.builder.command.Command.{Command}
 use Rattle.clap.specs.declared.builder.command.Command.TheViews.{out-Command}
 use Rattle.clap.specs.Lexer.{is_digit, usize_max}
+use Rattle.clap.specs.declared.builder.arg.Arg.{Arg}
 use Rattle.clap.specs.declared.builder.action.ArgAction.TheVariants.{Set, SetTrue, Append}
 use Rattle.daide_frame.specs.declared.side.Side.{Side}
 use Rattle.daide_frame.specs.declared.side.Side.TheVariants.{Bot, Server}
@@ -55,6 +56,11 @@ word_rule name required = record (new_rule name) { action = Some Set; required =
 -- a command with these arguments
 abbrev pub with_rules : Text → List Rule → App
 with_rules name rules = record { top = record (new_shape name) { rules = rules }; subs = [] }
+
+-- arguments that belong to one command alone
+abbrev pub AreLocal : List Arg → Type 0
+AreLocal [] = Unit {0}
+AreLocal (arg ∷ args) = (arg.global ≡ false) × AreLocal args
 
 abbrev pub show_app : App
 show_app = with_rules (codes "show")

@@ -1,10 +1,10 @@
 //! The arguments of the command line, and the order that they give.
 
-ghost use Rattle.std.specs.Prelude.{◌≡◌, IfOk, map, option_map, unwrap_or, codes, false, true};
+ghost use Rattle.std.specs.Prelude.{◌≡◌, ◌++◌, ◌∷◌, [], IfOk, IsOkAnd, map, option_map, unwrap_or, codes, false, true};
 ghost use Rattle.std.specs.List.{list_any};
 ghost use Rattle.clap.specs.Words.{app_of, rule_of, rows_of, found_of, subcommand_rows_of, first_of, all_of};
 ghost use Rattle.clap.specs.declared.builder.command.Command.TheViews.{out-Command};
-ghost use Rattle.daide_commands.specs.CommandLine.{AreCommands, option_rule, flag_rule, words_rule, gate_app, frame_app, show_app, check_app, settings_app, run_app};
+ghost use Rattle.daide_commands.specs.CommandLine.{AreCommands, option_rule, flag_rule, words_rule, with_rules, AreLocal, gate_app, frame_app, show_app, check_app, settings_app, run_app};
 ghost use Rattle.daide_commands.specs.CommandLine.{status_app, stop_app, word_rule, format_named, IsTimeout, IsStatusOrder, IsStopWithin, IsStopOrder};
 ghost use Rattle.daide_commands.specs.CommandLine.{begins_negative, side_named, level_named, is_set};
 ghost use Rattle.daide_commands.specs.CommandLine.{IsRunOrder, IsCheckOrder, IsFrameOrder, IsSettingsOrder, IsShowOrder, IsOrderFor, IsOrderOf, subcommand_named, ParsesTo, parsed_by};
@@ -233,6 +233,17 @@ fn flag<'a>(alloc: Global, name: &'a str, help: &'a str) -> Arg<'a>
         .help(help)
 }
 
+/// Returns an argument that takes one word that is not an option.
+fn word<'a>(alloc: Global, name: &'a str, is_required: bool, help: &'a str) -> Arg<'a>
+    ensures rule { rule_of result ≡ word_rule name.entry.now is_required }
+    ensures local { result.global ≡ false }
+{
+    Arg::new(alloc, name)
+        .required(is_required)
+        .action(ArgAction::Set)
+        .help(help)
+}
+
 /// Returns an argument that takes all words that are not options.
 fn all_words<'a>(alloc: Global, name: &'a str, help: &'a str) -> Arg<'a>
     ensures rule { rule_of result ≡ words_rule name.entry.now }
@@ -243,6 +254,25 @@ fn all_words<'a>(alloc: Global, name: &'a str, help: &'a str) -> Arg<'a>
         .action(ArgAction::Append)
         .num_args(1..)
         .help(help)
+}
+
+/// Returns a command with these arguments, each of which belongs to it alone.
+fn command_with<'a>(
+    alloc: Global,
+    name: &'a str,
+    about: &'a str,
+    notes: &'a str,
+    args: Vec<Arg<'a>>,
+) -> Result<Command<'a>, AllocError>
+    requires { AreLocal args.items }
+    ensures app { IfOk result (λ command.
+        app_of command ≡ with_rules name.entry.now (map rule_of args.entry.items)) }
+    ensures local { IfOk result (λ command. (out-Command command).has_globals ≡ false) }
+{
+    Command::new(alloc, name)
+        .about(about)
+        .after_help(notes)
+        .args(args)
 }
 
 /// Returns the command `show`.
@@ -262,10 +292,8 @@ fn show_command<'a>(alloc: Global) -> Result<Command<'a>, AllocError>
         flag(alloc, "explain", explain),
         all_words(alloc, "HEX", typed),
     ]?;
-    Command::new(alloc, "show")
-        .about("Shows one frame, given as hexadecimal digits")
-        .after_help(SHOW_NOTES)
-        .args(words_taken)
+    let about = "Shows one frame, given as hexadecimal digits";
+    command_with(alloc, "show", about, SHOW_NOTES, words_taken)
 }
 
 /// Returns the command `check`.
@@ -274,14 +302,13 @@ fn check_command<'a>(alloc: Global) -> Result<Command<'a>, AllocError>
     ensures local { IfOk result (λ command. (out-Command command).has_globals ≡ false) }
 {
     let explain = "Print each message and its answer, and say why it was not relayed";
-    let file = Arg::new(alloc, "FILE")
-        .action(ArgAction::Set)
-        .help("The log; without it, and for '-', standard input is read");
-    let words_taken = vec![in alloc; flag(alloc, "explain", explain), file]?;
-    Command::new(alloc, "check")
-        .about("Reports what a gateway makes of each line of a log")
-        .after_help(CHECK_NOTES)
-        .args(words_taken)
+    let file = "The log; without it, and for '-', standard input is read";
+    let words_taken = vec![in alloc;
+        flag(alloc, "explain", explain),
+        word(alloc, "FILE", false, file),
+    ]?;
+    let about = "Reports what a gateway makes of each line of a log";
+    command_with(alloc, "check", about, CHECK_NOTES, words_taken)
 }
 
 /// Returns the command `frame`. Its arguments may be negative numbers if it `takes_negative`.
@@ -295,10 +322,8 @@ fn frame_command<'a>(alloc: Global, takes_negative: bool) -> Result<Command<'a>,
         option(alloc, "words", "SETTINGS", words),
         all_words(alloc, "TEXT", typed).allow_negative_numbers(takes_negative),
     ]?;
-    Command::new(alloc, "frame")
-        .about("Writes the frames of messages, as hexadecimal digits")
-        .after_help(FRAME_NOTES)
-        .args(words_taken)
+    let about = "Writes the frames of messages, as hexadecimal digits";
+    command_with(alloc, "frame", about, FRAME_NOTES, words_taken)
 }
 
 /// Returns the command `settings`.
@@ -306,15 +331,10 @@ fn settings_command<'a>(alloc: Global) -> Result<Command<'a>, AllocError>
     ensures app { IfOk result (λ command. app_of command ≡ settings_app) }
     ensures local { IfOk result (λ command. (out-Command command).has_globals ≡ false) }
 {
-    let file = Arg::new(alloc, "FILE")
-        .required(true)
-        .action(ArgAction::Set)
-        .help("The file of settings; for '-', standard input is read");
-    let words_taken = vec![in alloc; file]?;
-    Command::new(alloc, "settings")
-        .about("Judges a file of settings, without a run")
-        .after_help(SETTINGS_NOTES)
-        .args(words_taken)
+    let file = "The file of settings; for '-', standard input is read";
+    let words_taken = vec![in alloc; word(alloc, "FILE", true, file)]?;
+    let about = "Judges a file of settings, without a run";
+    command_with(alloc, "settings", about, SETTINGS_NOTES, words_taken)
 }
 
 /// Returns the command `run`.
@@ -324,33 +344,19 @@ fn run_command<'a>(alloc: Global) -> Result<Command<'a>, AllocError>
 {
     let verbose = "Tell where each session begins, and how it ended, on standard error";
     let record = "The folder in which a log of each session is kept";
-    let settings = Arg::new(alloc, "SETTINGS")
-        .required(true)
-        .action(ArgAction::Set)
-        .help("The file of settings; docs/FORMATS.md and examples/settings.toml have its keys");
+    let settings = "The file of settings; docs/FORMATS.md and examples/settings.toml have its keys";
     let words_taken = vec![in alloc;
         flag(alloc, "verbose", verbose),
         option(alloc, "record", "FOLDER", record),
-        settings,
+        word(alloc, "SETTINGS", true, settings),
     ]?;
     let about =
         "Serves bots, each with a connection of its own to the server, until all were served";
-    Command::new(alloc, "run")
-        .about(about)
-        .after_help(RUN_NOTES)
-        .args(words_taken)
+    command_with(alloc, "run", about, RUN_NOTES, words_taken)
 }
 
-/// Returns the argument that is the file of a run's settings.
-fn settings_of_run<'a>(alloc: Global) -> Arg<'a>
-    ensures rule { rule_of result ≡ word_rule (codes "SETTINGS") true }
-    ensures local { result.global ≡ false }
-{
-    Arg::new(alloc, "SETTINGS")
-        .required(true)
-        .action(ArgAction::Set)
-        .help("The file of settings of the run, with the key 'control'")
-}
+/// The help on the file of a run's settings.
+const SETTINGS_OF_RUN: &str = "The file of settings of the run, with the key 'control'";
 
 /// Returns the command `status`.
 fn status_command<'a>(alloc: Global) -> Result<Command<'a>, AllocError>
@@ -360,12 +366,10 @@ fn status_command<'a>(alloc: Global) -> Result<Command<'a>, AllocError>
     let format = "The form: table, json or prometheus [default: table]";
     let words_taken = vec![in alloc;
         option(alloc, "format", "FORM", format),
-        settings_of_run(alloc),
+        word(alloc, "SETTINGS", true, SETTINGS_OF_RUN),
     ]?;
-    Command::new(alloc, "status")
-        .about("Prints the status of a run and of its open sessions")
-        .after_help(STATUS_NOTES)
-        .args(words_taken)
+    let about = "Prints the status of a run and of its open sessions";
+    command_with(alloc, "status", about, STATUS_NOTES, words_taken)
 }
 
 /// Returns the command `stop`.
@@ -378,27 +382,35 @@ fn stop_command<'a>(alloc: Global) -> Result<Command<'a>, AllocError>
     let words_taken = vec![in alloc;
         flag(alloc, "now", now),
         option(alloc, "timeout", "SECONDS", timeout),
-        settings_of_run(alloc),
+        word(alloc, "SETTINGS", true, SETTINGS_OF_RUN),
     ]?;
-    Command::new(alloc, "stop")
-        .about("Stops a run, and returns when it is over")
-        .after_help(STOP_NOTES)
-        .args(words_taken)
+    let about = "Stops a run, and returns when it is over";
+    command_with(alloc, "stop", about, STOP_NOTES, words_taken)
+}
+
+/// Adds a command to others, unless there was no memory for it.
+fn with_command<'a>(
+    others: Vec<Command<'a>>,
+    command: Result<Command<'a>, AllocError>,
+) -> Result<Vec<Command<'a>>, AllocError>
+    ensures { IfOk result (λ all. IsOkAnd command.entry (λ command. all.items ≡ others.entry.items ++ command ∷ [])) }
+{
+    let mut commands = others;
+    commands.push(command?)?;
+    Ok(commands)
 }
 
 /// Returns the commands, in the order of the help.
 fn subcommands<'a>(alloc: Global, takes_negative: bool) -> Result<Vec<Command<'a>>, AllocError>
     ensures { IfOk result (λ commands. AreCommands takes_negative commands.items) }
 {
-    let mut commands = Vec::new(alloc);
-    commands.push(show_command(alloc)?)?;
-    commands.push(check_command(alloc)?)?;
-    commands.push(frame_command(alloc, takes_negative)?)?;
-    commands.push(settings_command(alloc)?)?;
-    commands.push(run_command(alloc)?)?;
-    commands.push(status_command(alloc)?)?;
-    commands.push(stop_command(alloc)?)?;
-    Ok(commands)
+    let shown = with_command(Vec::new(alloc), show_command(alloc))?;
+    let checked = with_command(shown, check_command(alloc))?;
+    let framed = with_command(checked, frame_command(alloc, takes_negative))?;
+    let judged = with_command(framed, settings_command(alloc))?;
+    let run = with_command(judged, run_command(alloc))?;
+    let reported = with_command(run, status_command(alloc))?;
+    with_command(reported, stop_command(alloc))
 }
 
 /// Returns the command line that the program understands: each command, its options and their names. Negative numbers

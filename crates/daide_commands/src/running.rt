@@ -2,7 +2,7 @@
 
 ghost use Rattle.std.specs.Prelude.{◌≡◌, ◌≤◌, None, [], IfOk, IfErr, OnOk, IfSome, IsOkAnd, string_bytes};
 ghost use Rattle.daide_log.specs.Recording.{HasFailed};
-ghost use Rattle.daide_commands.specs.Running.{RunEnds, RunsOn, TextRuns, RecordedRunEnds, RecordedTextRuns, IsOfText, ending_by};
+ghost use Rattle.daide_commands.specs.Running.{HasNoSockets, RunEnds, RunsOn, TextRuns, RecordedRunEnds, RecordedTextRuns, IsOfText, ending_by};
 ghost use Rattle.daide_commands.specs.Gateway.{Announces};
 ghost use Rattle.daide_sockets.specs.Scheduling.{pair_of};
 ghost use Rattle.daide_words.specs.Words.{words_of};
@@ -144,6 +144,54 @@ fn control_file<'a, R: Files>(rt: &'a R, settings: &'a Settings) -> Option<Contr
     }
 }
 
+/// Serves on sockets to which no bot came, and waits until the last sockets are closed.
+fn run_plain<N: Network<Connection = Connection>, O: Sink, E: Write + Drop>(
+    alloc: Global,
+    settings: &Settings,
+    sockets: &mut Sockets<'_, N, E>,
+    output: &mut O,
+) -> Result<(), RunFault>
+    requires { HasNoSockets settings.now.stall_seconds (record {
+      came = sockets.old.acceptor.came;
+      arrivals = sockets.old.arrivals.items;
+      closing = sockets.old.closings;
+    }) }
+    ensures { RunEnds ⟦<Connection as Duplex>⟧.to_give ⟦<Connection as Duplex>⟧.taken ⟦<Connection as Duplex>⟧.calls
+        (λ ports. pair_of ports)
+        ⟦<SocketPorts<'static, Connection> as Ports>⟧.transition settings.now (HasFailed O.Fails)
+        (O.contents output.old) (O.contents output.new) result }
+{
+    run_on(alloc, settings, sockets, output)
+}
+
+/// Serves on sockets to which no bot came, with a system around them that keeps a record of each session in a folder.
+fn run_recording<
+    N: Network<Connection = Connection>,
+    C: AllocGlobal + Clock,
+    F: AllocGlobal + Files,
+    O: Sink,
+    E: Write + Drop,
+>(
+    clock: &C,
+    settings: &Settings,
+    sockets: Sockets<'_, N, E>,
+    folder: &Folder<'_, F>,
+    output: &mut O,
+) -> Result<(), RunFault>
+    requires { HasNoSockets settings.now.stall_seconds (record {
+      came = sockets.acceptor.came;
+      arrivals = sockets.arrivals.items;
+      closing = sockets.closings;
+    }) }
+    ensures { RunEnds ⟦<Connection as Duplex>⟧.to_give ⟦<Connection as Duplex>⟧.taken ⟦<Connection as Duplex>⟧.calls
+        (λ ports. pair_of ports.ports)
+        ⟦<TimedRecording<SocketPorts<'static, Connection>, SessionFile<F::File>> as Ports>⟧.transition settings.now
+        (HasFailed O.Fails) (O.contents output.old) (O.contents output.new) result }
+{
+    let mut system = RecordedSockets::new(sockets, folder, clock);
+    run_on(clock.alloc(), settings, &mut system, output)
+}
+
 /// Serves over sockets that are bound, with these settings: opens the sockets, serves on them, and finishes closing. If
 /// there is a folder, the system is one around the sockets, which keeps a record of each session there.
 fn serve_bound<'r, R: AllocGlobal + Clock + Net, F: AllocGlobal + Files, O: Sink, E: Write + Drop>(
@@ -181,11 +229,8 @@ fn serve_bound<'r, R: AllocGlobal + Clock + Net, F: AllocGlobal + Files, O: Sink
     };
     sockets.set_verbose(reports.is_verbose);
     match reports.folder {
-        None => run_on(rt.alloc(), settings, &mut sockets, output),
-        Some(folder) => {
-            let mut system = RecordedSockets::new(sockets, folder, rt);
-            run_on(rt.alloc(), settings, &mut system, output)
-        }
+        None => run_plain(rt.alloc(), settings, &mut sockets, output),
+        Some(folder) => run_recording(rt, settings, sockets, folder, output),
     }
 }
 

@@ -184,23 +184,26 @@ no_row : (key : ℕ) → one_if_taken (bit [] key) ≡ 0
 no_row zero = refl
 no_row (suc key) = refl
 
-pub first_rows : {S : Type 0} (given t0 t1 t2 : Table) (acceptor : Acceptor) (k : List ℕ) (a : List (Arriving S))
-    (c : List (ClosingStream S)) → KeepsRows given t0 → HandsRows t0 [] t1 (listener_keys acceptor) → HandsRows t1 [] t2 k →
-    a ≡ [] → c ≡ [] → given.rows ≡ [] → AreRowsOf t2 (keys_of_run acceptor k a c)
-first_rows {S = S} given t0 t1 t2 acceptor k a c same one two none no_stream empty key =
+pub listeners_rows : (given t0 t1 t2 : Table) (l k : List ℕ) → KeepsRows given t0 → HandsRows t0 [] t1 l →
+    HandsRows t1 [] t2 k → given.rows ≡ [] → AreRowsOf t2 (l ++ k)
+listeners_rows given t0 t1 t2 l k same one two empty key =
     let none_at : taken_at given key ≡ 0 = ap (λ (rows : List Row). one_if_taken (bit rows key)) empty ∙ no_row key in
     let first = one.hands (λ n. omega arith) key in
     let second = two.hands (λ n. omega arith) key in
+    omega (arith, none_at, same key, first, second, occurrences_of_both key l k)
+
+pub first_rows : {S : Type 0} (table : Table) (acceptor : Acceptor) (k : List ℕ) (a : List (Arriving S))
+    (c : List (ClosingStream S)) → AreRowsOf table (listener_keys acceptor ++ k) → a ≡ [] → c ≡ [] →
+    AreRowsOf table (keys_of_run acceptor k a c)
+first_rows {S = S} table acceptor k a c listeners none no_stream key =
     let bots : occurrences_of key (keys_of_arrivals a) ≡ 0 = ap (λ (l : List (Arriving S)). occurrences_of key (keys_of_arrivals l)) none in
     let streams : occurrences_of key (closing_keys c) ≡ 0 = ap (λ (l : List (ClosingStream S)). occurrences_of key (closing_keys l)) no_stream in
     omega (
       arith,
-      none_at,
-      same key,
-      first,
-      second,
+      listeners key,
       bots,
       streams,
+      occurrences_of_both key (listener_keys acceptor) k,
       all_count key (listener_keys acceptor) k (keys_of_arrivals a) (closing_keys c),
     )
 

@@ -34,6 +34,15 @@ fn position_of(number: u32, numbers: &[u32]) -> usize
     at
 }
 
+/// Removes the element at a position, if there is one.
+fn remove_at<T: Copy>(list: &mut Vec<T>, at: usize)
+    ensures { list.new.items ≡ without_at at list.old.items }
+{
+    if at < list.len() {
+        list.remove(at);
+    }
+}
+
 impl Present {
     /// Creates the list of a run with at most this many bots at once. Returns `None` if memory is refused.
     pub fn new(alloc: Global, most: usize) -> Option<Present>
@@ -136,17 +145,9 @@ impl Present {
             ≡ without_at (position_of number self.old.numbers.items) self.old.times.items }
     {
         let at = position_of(number, self.numbers.as_slice());
-        if at < self.numbers.len() {
-            self.numbers.remove(at);
-        }
-        if at < self.hosts.len() {
-            self.hosts.remove(at);
-        }
-        if at < self.addresses.len() {
-            self.addresses.remove(at);
-        }
-        if at < self.times.len() {
-            self.times.remove(at);
-        }
+        remove_at(&mut self.numbers, at);
+        remove_at(&mut self.hosts, at);
+        remove_at(&mut self.addresses, at);
+        remove_at(&mut self.times, at);
     }
 }

@@ -29,6 +29,7 @@ ghost use Rattle.daide_sockets.specs.Wakeups.{Settles, RestsOnce, KeepsWatched, 
 ghost use Rattle.daide_sockets.specs.Interests.{interest_of, may_go_on_for, has_news_for, after_question};
 
 mod arrivals;
+mod beginning;
 mod orders;
 
 use crate::admission::{Acceptor, PendingConnection, watch_arrivals};
@@ -39,6 +40,7 @@ use crate::poller::Poller;
 use crate::ports::SocketPorts;
 use crate::present::Present;
 use crate::session_notice::{Lasted, SessionNotice};
+use crate::system::beginning::{Listening, RunLists};
 use crate::table::{SocketTable, either};
 use daide_buffered_io::pool::Pool;
 use daide_io::interest::Interest;
@@ -189,19 +191,17 @@ impl<'w, N: Network, E: Write + Drop> Sockets<'w, N, E> {
             (keys_of_run sockets.acceptor (control_keys sockets.control) sockets.arrivals.items sockets.closings.streams)) }
     {
         let (network, servers, table, pool) = ground;
-        let Ok(mut poller) = Poller::new(alloc, network, table) else {
-            return None;
-        };
-        let acceptor = Acceptor::new(&mut poller)?;
-        let control = Control::new(alloc, &mut poller)?;
-        let Ok(arrivals) = Vec::with_capacity(alloc, settings.max_sessions) else {
-            return None;
-        };
-        let present = Present::new(alloc, settings.max_sessions)?;
         let stall_time = idle_time_of(settings.stall_seconds);
-        let Ok(closings) = Closings::new(alloc, stall_time) else {
-            return None;
-        };
+        let RunLists {
+            arrivals,
+            present,
+            closings,
+        } = RunLists::new(alloc, settings.max_sessions, stall_time)?;
+        let Listening {
+            poller,
+            acceptor,
+            control,
+        } = Listening::new(alloc, network, table)?;
         Some(Sockets {
             poller,
             acceptor,

@@ -48,8 +48,6 @@ impl<'w, N: Network, E: Write + Drop> Sockets<'w, N, E> {
     fn let_go(&mut self, left: Unreached<'w, N::Connection>)
         ensures closes { ClosesAt N.Connection.to_give N.Connection.taken N.Connection.calls
             self.old.poller.table.reading self.old.closings left.entry.bot.key left.entry.bot.stream self.new.closings }
-        ensures came { self.new.acceptor.came ≡ self.old.acceptor.came }
-        ensures arrivals { self.new.arrivals.items ≡ self.old.arrivals.items }
         ensures numbers { self.new.present.numbers.items
             ≡ without_at (position_of left.entry.number self.old.present.numbers.items) self.old.present.numbers.items }
         ensures hosts { self.new.present.hosts.items
@@ -58,9 +56,6 @@ impl<'w, N: Network, E: Write + Drop> Sockets<'w, N, E> {
             ≡ without_at (position_of left.entry.number self.old.present.numbers.items) self.old.present.addresses.items }
         ensures clock { self.new.poller.table.reading ≡ self.old.poller.table.reading }
         ensures network { self.new.poller.network ≡ self.old.poller.network }
-        ensures timeouts { (self.new.idle_time ≡ self.old.idle_time) × (self.new.stall_time ≡ self.old.stall_time) }
-        ensures acceptor { self.new.acceptor ≡ self.old.acceptor }
-        ensures control { self.new.control ≡ self.old.control }
         ensures rows { HandsRows self.old.poller.table (left.entry.bot.key ∷ closing_keys self.old.closings.streams)
             self.new.poller.table (closing_keys self.new.closings.streams) }
         ensures times { self.new.present.times.items
@@ -114,9 +109,6 @@ impl<'w, N: Network, E: Write + Drop> Sockets<'w, N, E> {
         ensures begins { (ports : PortsOf N.Connection) → result ≡ Connect.Ready ports →
             BeginsAt self.old.poller.table.reading (self.old.idle_time, self.old.stall_time) (timers_of ports) }
         ensures clock { self.new.poller.table.reading ≡ self.old.poller.table.reading }
-        ensures times { (self.new.idle_time ≡ self.old.idle_time) × (self.new.stall_time ≡ self.old.stall_time) }
-        ensures acceptor { self.new.acceptor ≡ self.old.acceptor }
-        ensures control { self.new.control ≡ self.old.control }
         ensures rows { HandsRows self.old.poller.table (keys_of_run self.old.acceptor (control_keys self.old.control)
             self.old.arrivals.items self.old.closings.streams) self.new.poller.table (connected_keys (λ ports.
             ports.bot.key ∷ ports.server.key ∷ []) result ++ keys_of_run self.new.acceptor (control_keys self.new.control)
@@ -210,7 +202,6 @@ impl<'w, N: Network, E: Write + Drop> Sockets<'w, N, E> {
         ensures rows { HandsRows self.old.poller.table (keys_of_run self.old.acceptor (control_keys self.old.control)
             self.old.arrivals.items self.old.closings.streams) self.new.poller.table (keys_of_run self.new.acceptor
             (control_keys self.new.control) self.new.arrivals.items self.new.closings.streams) }
-        ensures timeouts { (self.new.idle_time ≡ self.old.idle_time) × (self.new.stall_time ≡ self.old.stall_time) }
         ensures same { self.new ≡ record self.old {
           poller = self.new.poller;
           acceptor = self.new.acceptor;
@@ -243,6 +234,7 @@ impl<'w, N: Network, E: Write + Drop> Sockets<'w, N, E> {
             bot: address,
         })
     }
+
     /// Accepts the next bot, if there is one, and logs that its session begins. It is apart from `accept`, which each round
     /// calls, since a call clears its locals.
     #[inline(never)]

@@ -27,7 +27,7 @@ returns-in-Err-clause-evolves g c =
     first_removed _ _ _ c.requires c.remove-arrival.ensures.value c.remove-arrival.ensures.items in (
       c.remove-arrival.result,
       first ∙ ap (λ (others : List (Arriving g.row.N-Connection.Denot)). c.remove-arrival.result ∷ others)
-          (sym c.let_go-in-Err.ensures.arrivals),
+          (search rules),
       search rules,
       search rules,
     )
@@ -45,7 +45,10 @@ returns-in-Err-clause-closes g c =
 
 pub returns-then-is_given_up-clause-rows : goal.returns-then-is_given_up-clause-rows
 returns-then-is_given_up-clause-rows g c =
-    rw (c.let_go.ensures.acceptor, c.let_go.ensures.control, c.let_go.ensures.arrivals)
+    let acceptor : c.let_go.new.self.acceptor ≡ c.args.self.now.acceptor = search rules in
+    let control : c.let_go.new.self.control ≡ c.args.self.now.control = search rules in
+    let arrivals : c.let_go.new.self.arrivals.items ≡ c.remove-arrival.new.self.items = search rules in
+    rw (acceptor, control, arrivals)
     (first_closes _ c.args.self.now.acceptor _ _ _ c.remove-arrival.result
     (first_removed _ _ _ c.requires c.remove-arrival.ensures.value c.remove-arrival.ensures.items) _ _ _ _ _ _ refl
     c.give_up-left.ensures.rows c.let_go.ensures.rows)
@@ -65,7 +68,10 @@ returns-in-Ok-clause-rows g c =
 
 pub returns-in-Err-clause-rows : goal.returns-in-Err-clause-rows
 returns-in-Err-clause-rows g c =
-    rw (c.let_go-in-Err.ensures.acceptor, c.let_go-in-Err.ensures.control, c.let_go-in-Err.ensures.arrivals)
+    let acceptor : c.let_go-in-Err.new.self.acceptor ≡ c.args.self.now.acceptor = search rules in
+    let control : c.let_go-in-Err.new.self.control ≡ c.args.self.now.control = search rules in
+    let arrivals : c.let_go-in-Err.new.self.arrivals.items ≡ c.remove-arrival.new.self.items = search rules in
+    rw (acceptor, control, arrivals)
     (first_closes _ c.args.self.now.acceptor _ _ _ c.remove-arrival.result
     (first_removed _ _ _ c.requires c.remove-arrival.ensures.value c.remove-arrival.ensures.items) _ _ _ _ _ _
     (rw c.in-Err.is at c.join.ensures.keys) c.advances.ensures.rows c.let_go-in-Err.ensures.rows)

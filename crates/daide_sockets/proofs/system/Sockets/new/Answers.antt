@@ -6,8 +6,7 @@ use Rattle.daide_sockets.proofs.system.Sockets.new.Goals as goal
 
 pub returns-clause-rows : goal.returns-clause-rows
 returns-clause-rows g c = λ empty.
-    first_rows {S = g.row.N-Connection.Denot} c.args.ground.2 c.in-Ok.poller.table c.new-2.new.poller.table
-    c.new-3.new.poller.table c.in_ok-acceptor.acceptor (control_keys c.in_ok-control.control)
-    c.in-Ok-with_capacity.arrivals.items c.in-Ok-new.closings.streams c.in-Ok.ensures.rows c.in_ok-acceptor.ensures.rows
-    c.in_ok-control.ensures.rows c.in-Ok-with_capacity.ensures.items
-    (ap (λ (l : ClosingList g.row.N-Connection.Denot). l.streams) c.in-Ok-new.ensures) empty
+    first_rows {S = g.row.N-Connection.Denot} c.in_ok-poller.field-0.poller.table c.in_ok-poller.field-0.acceptor
+    (control_keys c.in_ok-poller.field-0.control) c.in_ok-arrivals.field-0.arrivals.items
+    c.in_ok-arrivals.field-0.closings.streams (c.in_ok-poller.ensures.rows empty) c.in_ok-arrivals.ensures.none_held.0
+    (ap (λ (l : ClosingList g.row.N-Connection.Denot). l.streams) c.in_ok-arrivals.ensures.none_held.1)

@@ -20,10 +20,10 @@ returns-in-Ready-clause-transition g c =
       (
         (
           (
-            c.in-Ready.ensures.times.0 ∙ c.loop-look.invariant.idle_time,
-            c.in-Ready.ensures.times.1 ∙ c.loop-look.invariant.stall_time,
+            search rules,
+            search rules,
           ),
-          c.in-Ready.ensures.acceptor ∙ c.loop-look.invariant.acceptor,
+          search rules,
         ),
         rw (sym c.loop-look.invariant.clock, sym c.loop-look.invariant.idle_time, sym c.loop-look.invariant.stall_time)
             (c.in-Ready.ensures.begins c.in-Ready.ports refl),
@@ -47,10 +47,10 @@ returns-in-Failed-clause-transition g c =
       (
         (
           (
-            c.in-Failed.ensures.times.0 ∙ c.loop-look.invariant.idle_time,
-            c.in-Failed.ensures.times.1 ∙ c.loop-look.invariant.stall_time,
+            search rules,
+            search rules,
           ),
-          c.in-Failed.ensures.acceptor ∙ c.loop-look.invariant.acceptor,
+          search rules,
         ),
         tt,
       ),
@@ -83,10 +83,10 @@ loop-look-preserved g c =
       looks = one_more c.loop-look._look _ _ _ _ e.0 e.1 c.loop-look.invariant.looks inside e.3 e.4 e.5;
       came = e.6 ∙ c.loop-look.invariant.came;
       closing = e.7 ∙ c.loop-look.invariant.closing;
-      idle_time = c.in-Pending.ensures.times.0 ∙ c.loop-look.invariant.idle_time;
-      stall_time = c.in-Pending.ensures.times.1 ∙ c.loop-look.invariant.stall_time;
-      acceptor = c.in-Pending.ensures.acceptor ∙ c.loop-look.invariant.acceptor;
-      control = c.in-Pending.ensures.control ∙ c.loop-look.invariant.control;
+      idle_time = search rules;
+      stall_time = search rules;
+      acceptor = search rules;
+      control = search rules;
       rows = handed_both _ _ _ _ _ _ c.loop-look.invariant.rows c.in-Pending.ensures.rows;
       clock = c.in-Pending.ensures.clock ∙ c.loop-look.invariant.clock;
       servers = search rules;
