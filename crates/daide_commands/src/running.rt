@@ -167,12 +167,12 @@ fn run_plain<N: Network<Connection = Connection>, O: Sink, E: Write + Drop>(
 /// Serves on sockets to which no bot came, with a system around them that keeps a record of each session in a folder.
 fn run_recording<
     N: Network<Connection = Connection>,
-    C: AllocGlobal + Clock,
+    R: AllocGlobal + Clock,
     F: AllocGlobal + Files,
     O: Sink,
     E: Write + Drop,
 >(
-    clock: &C,
+    rt: &R,
     settings: &Settings,
     sockets: Sockets<'_, N, E>,
     folder: &Folder<'_, F>,
@@ -188,8 +188,8 @@ fn run_recording<
         ⟦<TimedRecording<SocketPorts<'static, Connection>, SessionFile<F::File>> as Ports>⟧.transition settings.now
         (HasFailed O.Fails) (O.contents output.old) (O.contents output.new) result }
 {
-    let mut system = RecordedSockets::new(sockets, folder, clock);
-    run_on(clock.alloc(), settings, &mut system, output)
+    let mut system = RecordedSockets::new(sockets, folder, rt);
+    run_on(rt.alloc(), settings, &mut system, output)
 }
 
 /// Serves over sockets that are bound, with these settings: opens the sockets, serves on them, and finishes closing. If

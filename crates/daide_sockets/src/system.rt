@@ -41,7 +41,7 @@ use crate::ports::SocketPorts;
 use crate::present::Present;
 use crate::session_notice::{Lasted, SessionNotice};
 use crate::system::beginning::{Listening, RunLists};
-use crate::table::{SocketTable, either};
+use crate::table::SocketTable;
 use daide_buffered_io::pool::Pool;
 use daide_io::interest::Interest;
 use daide_io::network::Network;
@@ -388,15 +388,7 @@ impl<'w, N: Network, E: Write + Drop> Sockets<'w, N, E> {
         ensures same { self.new ≡ record self.old { poller = self.new.poller } }
     {
         self.poller.look_by_turns();
-        let has_news = either(
-            self.stops_newly(interest.is_stopped),
-            self.poller.table.has_news_for(interest),
-        );
-        if has_news {
-            return true;
-        }
-        self.poller.table.watch_for(interest);
-        false
+        self.stops_newly(interest.is_stopped) || self.poller.table.answer_question(interest)
     }
 
     /// Waits, and watches the sessions that it was to watch, the listener, each connect and each closing socket

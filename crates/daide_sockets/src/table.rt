@@ -436,6 +436,22 @@ impl SocketTable {
         }
     }
 
+    /// Returns whether there is news for the session with this interest. If there is none, the next wait watches the session:
+    /// its nearest deadline, which is not past.
+    #[inline(always)]
+    pub(crate) fn answer_question(&mut self, interest: &Interest) -> bool
+        ensures news { result ≡ has_news_for self.old interest.now }
+        ensures watched { self.new ≡ after_question result self.old interest.now }
+    {
+        if self.has_news_for(interest) {
+            return true;
+        }
+        if is_nearer(interest.due, self.watched_due) {
+            self.watched_due = interest.due;
+        }
+        false
+    }
+
     /// Has the next wait watch the session with this interest: whether something may be done at once for it, and its nearest
     /// deadline. So no wait blocks beyond these.
     #[inline(always)]

@@ -55,8 +55,11 @@ impl<'w, S: Duplex + Drop> RunLists<'w, S> {
 
 /// The network of a run, with its listeners followed.
 pub(super) struct Listening<N: Network> {
+    /// What polls the network, with its table.
     pub poller: Poller<N>,
+    /// What accepts the bots.
     pub acceptor: Acceptor,
+    /// The control socket, to which nobody has connected yet.
     pub control: Control<N::Connection>,
 }
 
