@@ -559,7 +559,7 @@ module _ {P S : Type 0} (port_transition : P → PortCall → P → Type 0) (tra
       IfSome (slice_get hub.places i) (Looks s t due) → is_calm_in (slice_get hub.places i) ≡ calm → most ≡ most_turns calm →
       ((turns : List (SystemCall P)) × TransitsBy transition t (turns ++ watch_after due (slice_get new.places i)) u
       × TakesTurns port_transition due most hub i turns new) →
-      count ≡ (if due && not calm then 1 else 0) → (answers : List (SystemCall P)) × TransitsBy transition s answers u
+      count ≡ (if due && not calm then 4 else 0) → (answers : List (SystemCall P)) × TransitsBy transition s answers u
       × (visit : VisitsPlace port_transition hub i answers new) × (count ≡ busy_turns_in visit)
   visited hub new i s t u due calm most count inside looks is few turns counted =
       let found = slice_some hub.places i inside in
@@ -580,5 +580,5 @@ module _ {P S : Type 0} (port_transition : P → PortCall → P → Type 0) (tra
           turns = subst (λ (n : ℕ). TakesTurns port_transition due n hub i turns.0 new) (few ∙ ap most_turns (sym own)) turns.2;
           asked = refl;
         },
-        counted ∙ ap (λ (c : Bool). if due && not c then 1 else 0) (sym own),
+        counted ∙ ap (λ (c : Bool). if due && not c then 4 else 0) (sym own),
       )

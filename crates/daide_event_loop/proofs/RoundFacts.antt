@@ -103,8 +103,8 @@ calm_sessions : (map (λ load. is_calm (loaded false load)) (range_with_len 0 65
     × (map (λ load. is_calm (loaded true load)) (range_with_len 0 65) ≡ replicate 65 false)
 calm_sessions = (refl, refl)
 
--- a calm session has up to eight turns in a visit, a busy one has one; the turns of busy ones are counted up to 32
-turns_of_a_visit : (most_turns true ≡ 8) × (most_turns false ≡ 1)
+-- a calm session has up to eight turns in a visit, a busy one up to four; the turns of busy ones are counted up to 32
+turns_of_a_visit : (most_turns true ≡ 8) × (most_turns false ≡ 4)
     × (map turns_left_over (range_with_len 0 33) ≡ range_with_len 0 32 ++ 0 ∷ [])
 turns_of_a_visit = (refl, refl, refl)
 

@@ -184,10 +184,10 @@ AreAtRest transition system first last places = (k : ℕ) → first ≤ k → k 
     IfSome (slice_get places k) (λ place. IsAtRest transition system place.1)
 
 -- The most turns of a session in one visit, by whether it is calm: eight if so, so that a short frame passes in one visit;
--- one if it is busy, since sessions with bytes without end take turns. (own)
+-- four if it is busy, since sessions with bytes without end take turns. (own)
 abbrev pub most_turns : Bool → ℕ
 most_turns true = 8
-most_turns false = 1
+most_turns false = 4
 
 -- whether the session at a place is calm; not if there is none at this place
 abbrev pub is_calm_in : {P : Type 0} → Option (SessionView × QuotaPortsView P) → Bool
@@ -233,10 +233,10 @@ pub record VisitsPlace {P : Type 0} (transition : P → PortCall → P → Type 
   pub turns : TakesTurns transition due (most_turns (is_calm place.1)) old i turn new
   pub asked : answers ≡ report ++ turn ++ watch_after due (slice_get new.places i)
 
--- the turns of busy sessions in a visit: one if the session is due a turn and busy
+-- the turns of busy sessions that a visit counts: as many as it has at most, if the session is due a turn and busy
 abbrev pub busy_turns_in : {P : Type 0} → {transition : P → PortCall → P → Type 0} → {old : HubView (QuotaPortsView P)} → {i : ℕ} →
     {answers : List (SystemCall P)} → {new : HubView (QuotaPortsView P)} → VisitsPlace transition old i answers new → ℕ
-busy_turns_in visit = if visit.due && not (is_calm visit.place.1) then 1 else 0
+busy_turns_in visit = if visit.due && not (is_calm visit.place.1) then 4 else 0
 
 -- the session at this place is visited if it is calm
 abbrev pub VisitsIfCalm : {P : Type 0} → (P → PortCall → P → Type 0) → Bool → HubView (QuotaPortsView P) → ℕ →
@@ -264,7 +264,7 @@ turns_left_over turns = if nat_le 32 turns then 0 else turns
 
 -- The session at a place is visited, after this many turns of busy sessions in the round. Once they had 32 turns, each
 -- calm session is visited before any other. So in a round a calm session with news waits for at most 32 turns of busy
--- ones, and not for one of each. Each round counts anew, so over the end of a round it may wait for 63. (own)
+-- ones, and not for one of each. Each round counts anew, so over the end of a round it may wait for 60. (own)
 pub record VisitsNext {P : Type 0} (transition : P → PortCall → P → Type 0) (turns : ℕ) (old : HubView (QuotaPortsView P))
     (i : ℕ) (answers : List (SystemCall P)) (new : HubView (QuotaPortsView P)) (left : ℕ) : Type 0 where
   pub mid : HubView (QuotaPortsView P)

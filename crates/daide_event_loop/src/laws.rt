@@ -71,10 +71,10 @@ pub fn runs_are_idle_at_waits<P: Ports>()
 
 /// In each round each session is attended, whatever the others do: it had a turn, or the system reported no news for its
 /// ports (`IsAttended`). So a session with news has at least one turn in each round. One that has bytes without end has
-/// one (`most_turns`), unless it was calm when it was visited: then it has at most eight, and from 32 turns on it counts
+/// four (`most_turns`), unless it was calm when it was visited: then it has at most eight, and from 32 turns on it counts
 /// as busy (`load_at_turn`). In a round, a calm session with news waits for at most 32 turns of busy ones, since the calm
-/// ones are visited again after each 32 (`VisitsNext`). Each round counts anew, so over the end of a round it may wait for
-/// 63.
+/// ones are visited again after each 32, four for each visit (`VisitsNext`). Each round counts anew, so over the end of a
+/// round it may wait for 60.
 ///
 /// Not said: how long a turn takes.
 pub fn rounds_attend_all<P: Ports>()

@@ -36,10 +36,13 @@ use std::marker::Model;
 use thiserror::Error;
 
 /// The most turns of a calm session in one visit. A short frame takes four: its header and its body are read, and both are
-/// written. The fifth finds nothing more to do. A busy session has one turn.
+/// written. The fifth finds nothing more to do.
 const MOST_TURNS: usize = 8;
 
-/// After this many turns of busy sessions the calm ones are visited again.
+/// The most turns of a busy session in one visit, so that one round serves several turns of it.
+const BUSY_TURNS: usize = 4;
+
+/// After as many turns of busy sessions the calm ones are visited again.
 const MOST_BUSY_TURNS: usize = 32;
 
 /// Why a run ended before all its bots were served.
@@ -222,20 +225,21 @@ fn is_due<P: Ports, A: Allocator + Copy, S: System<P>>(
     hub.ports(i).is_due(system)
 }
 
-/// Returns the most turns of a session in one visit, by whether it is calm. So a session with bytes without end has one
-/// turn in a round, and a calm session goes on until there is nothing to do.
+/// Returns the most turns of a session in one visit, by whether it is calm. So a session with bytes without end has four
+/// turns in a round, and a calm session goes on until there is nothing to do.
 fn most_turns(is_calm: bool) -> usize
     ensures { result ≡ most_turns is_calm }
 {
-    if is_calm { MOST_TURNS } else { 1 }
+    if is_calm { MOST_TURNS } else { BUSY_TURNS }
 }
 
-/// Returns how many turns of busy sessions a visit with turns counts, by whether its session is calm.
-fn busy_turn(is_calm: bool) -> usize
-    ensures count { result ≡ (if not is_calm then 1 else 0) }
-    ensures one { result ≤ 1 }
+/// Returns how many turns of busy sessions a visit with turns counts, by whether its session is calm: as many as it has at
+/// most.
+fn busy_turns(is_calm: bool) -> usize
+    ensures count { result ≡ (if not is_calm then 4 else 0) }
+    ensures few { result ≤ 4 }
 {
-    if is_calm { 0 } else { 1 }
+    if is_calm { 0 } else { BUSY_TURNS }
 }
 
 /// Makes a turn of the session at a place, and then one more after each that made progress, at most `most`.
@@ -301,7 +305,7 @@ struct Findings {
     has_moved: bool,
     /// Whether a session is closed after a turn.
     has_closed: bool,
-    /// The turns of busy sessions since the calm ones were visited.
+    /// How many turns busy sessions had since the calm ones were visited, four for each visit.
     busy_turns: usize,
 }
 
@@ -337,7 +341,7 @@ impl Findings {
 }
 
 /// Makes turns of the session at a place if it is due one. Returns whether its last turn made progress, and whether it is
-/// closed after a turn. The turn of a busy session is counted.
+/// closed after a turn. The turns of a busy session are counted.
 #[inline(always)]
 fn visit<P: Ports, A: Allocator + Copy, S: System<P>>(
     hub: &mut Hub<QuotaPorts<P>, A>,
@@ -347,7 +351,7 @@ fn visit<P: Ports, A: Allocator + Copy, S: System<P>>(
     requires { i < length hub.old.places }
     ensures visits { (answers : List (SystemCall P)) × TransitsBy S.transition system.old answers system.new
         × (visit : VisitsPlace P.transition hub.old i answers hub.new) × (result.busy_turns ≡ busy_turns_in visit) }
-    ensures one { result.busy_turns ≤ 1 }
+    ensures few { result.busy_turns ≤ 4 }
     ensures moved { has_moved_in (slice_get hub.new.places i) ≡ result.has_moved }
     ensures count { length hub.new.places ≡ length hub.old.places }
     ensures closed { result.has_closed ≡ false → AreOpen hub.old.places → AreOpen hub.new.places }
@@ -363,7 +367,7 @@ fn visit<P: Ports, A: Allocator + Copy, S: System<P>>(
         had_turn: true,
         has_moved: hub.ports(i).has_moved(),
         has_closed: hub.session(i).is_closed(),
-        busy_turns: busy_turn(is_calm),
+        busy_turns: busy_turns(is_calm),
     }
 }
 
@@ -658,10 +662,10 @@ impl<P: Ports, A: Memory + Copy> Service<P, A> {
     }
 
     /// Makes one round. It calls the system to begin the round, heeds its orders, accepts at most one bot, and takes up
-    /// at most one connect. Then it visits each session, in order of place: a calm one for which there is news has a turn,
-    /// and one more after each that made progress, at most eight; a busy one that is due a turn has one. After each 32
-    /// turns of busy sessions it visits each calm one again before it goes on. Closed sessions are taken out, from the
-    /// last place to the first. If nothing moved in all this and the run is not done, it waits once.
+    /// at most one connect. Then it visits each session, in order of place: one that is due a turn has it, and one more
+    /// after each that made progress, a calm one at most eight, a busy one at most four. After each 32 turns of busy
+    /// sessions, four for each visit, it visits each calm one again before it goes on. Closed sessions are taken out,
+    /// from the last place to the first. If nothing moved in all this and the run is not done, it waits once.
     ///
     /// `round`: if the orders require it, the status of each session is shown once before any other call, in order of
     /// place (`shows`). If they stop accepting, the bots accepted so far are all bots of the run, in this round and from
@@ -670,7 +674,7 @@ impl<P: Ports, A: Memory + Copy> Service<P, A> {
     /// A session is due a turn if its last turn made progress, if it is new, or else if the system has news for its
     /// ports (`VisitsPlace`, `TakesTurns`). The system begins each turn with the session's ports (`begin_turn`), and the
     /// turn is made by the clauses of `turn` (`TakesTurn`). So a short frame passes in one visit, and a session with bytes
-    /// without end has one turn in a round, as all others like it. A session is calm if its last turn made no progress
+    /// without end has four turns in a round, as all others like it. A session is calm if its last turn made no progress
     /// and few turns did before it (`is_calm`). If there is news for it, it waits in a round for at most 32 turns of busy
     /// sessions (`VisitsNext`). Exactly the sessions that are over and for which nothing waits are taken out.
     /// It waits if and only if nothing moved and the run is not done. The wait watches the ports of each session: the

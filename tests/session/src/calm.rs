@@ -117,9 +117,9 @@ fn turns_beside(alloc: Global, busy: usize) -> Result<usize, Fail> {
 }
 
 /// The number of busy sessions | the turns of a round.
-const TURNS: &[(usize, usize)] = &[(1, 2), (31, 32), (32, 34), (63, 65), (64, 67)];
+const TURNS: &[(usize, usize)] = &[(1, 5), (7, 29), (8, 34), (15, 62), (16, 67)];
 
-/// The calm session has a turn at its place, and one more after each 32 turns of busy ones.
+/// The calm session has a turn at its place, and one more after each 32 turns of busy ones, four of each.
 #[test]
 fn calm_session_has_a_turn_after_32_busy_ones(rt: HostRuntime) -> Result<(), Fail> {
     for (busy, turns) in TURNS {

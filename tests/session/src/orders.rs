@@ -1,8 +1,7 @@
 //! The operator's orders in whole runs in memory: bots are accepted no more, and each session is shown.
 
 use crate::harness::{
-    ENDING, ENDS, ENDS_LATER, Event, Fate, Harness, Limits, OPENS_ALONE, Scene, Shown, assert_run,
-    settings,
+    ENDING, ENDS, ENDS_LATER, Event, Fate, Harness, Limits, Scene, Shown, assert_run, settings,
 };
 use daide_gate::serving::Service;
 use daide_gate::system::{Notice, Orders};
@@ -159,23 +158,38 @@ fn orders_are_heeded_round_by_round(rt: HostRuntime) -> Result<(), Fail> {
     Ok(())
 }
 
-/// Three bots that send their IM, header and body in a turn each. A round accepts one of them, and the fourth and the
-/// fifth round show all.
+/// A bot that sends its IM byte by byte, one in each turn, and nothing more.
+const OPENS_SLOWLY: Script<'static> = Script {
+    pulls: &[
+        ScriptedRead::Bytes(&[0]),
+        ScriptedRead::Bytes(&[0]),
+        ScriptedRead::Bytes(&[0]),
+        ScriptedRead::Bytes(&[4]),
+        ScriptedRead::Bytes(&[0]),
+        ScriptedRead::Bytes(&[1]),
+        ScriptedRead::Bytes(&[0xDA]),
+        ScriptedRead::Bytes(&[0x10]),
+    ],
+    puts: &[],
+};
+
+/// Three bots that send their IM byte by byte. A round accepts one of them, and the fourth and the fifth round show all.
 const SHOWN: Scene = Scene {
     orders: &[Orders::NONE, Orders::NONE, Orders::NONE, SHOW, SHOW],
-    bot: OPENS_ALONE,
+    bot: OPENS_SLOWLY,
     ..ENDING
 };
 
 /// Turns begun | the phase | relayed frames from the bot | bytes queued for the server | bytes received from the bot | bytes
-/// sent to the server. An IM is relayed once its second part is read, and the server takes a part a turn.
+/// sent to the server. A session that makes progress has four turns in a round, so its IM is read in two rounds. In the
+/// third the server takes both parts, and the third turn finds nothing more. From then on there is one in each round.
 const STATUSES: &[(usize, Phase, u64, usize, u64, u64)] = &[
-    (3, Phase::WaitRm, 1, 4, 8, 4),
-    (2, Phase::WaitRm, 1, 8, 8, 0),
-    (1, Phase::WaitIm, 0, 0, 4, 0),
-    (4, Phase::WaitRm, 1, 0, 8, 8),
-    (3, Phase::WaitRm, 1, 4, 8, 4),
-    (2, Phase::WaitRm, 1, 8, 8, 0),
+    (11, Phase::WaitRm, 1, 0, 8, 8),
+    (8, Phase::WaitRm, 1, 8, 8, 0),
+    (4, Phase::WaitIm, 0, 0, 4, 0),
+    (12, Phase::WaitRm, 1, 0, 8, 8),
+    (11, Phase::WaitRm, 1, 0, 8, 8),
+    (8, Phase::WaitRm, 1, 8, 8, 0),
 ];
 
 /// Checks a status that was shown, of a session without a level, a refusal and bytes for its bot.
@@ -206,7 +220,7 @@ fn assert_status(shown: &Shown, want: &(usize, Phase, u64, usize, u64, u64)) -> 
 
 #[test]
 fn each_session_is_shown_in_order(rt: HostRuntime) -> Result<(), Fail> {
-    let settings = settings(rt.alloc(), (3, 3, 9))?;
+    let settings = settings(rt.alloc(), (3, 3, 99))?;
     let mut stage = Harness::new(rt.alloc(), SHOWN);
     let mut service = Service::<MemoryPorts<'static>, Global>::new(rt.alloc(), &settings)?;
     for _round in 0..5 {

@@ -29,11 +29,11 @@ returns-clause-visits g c =
     let hub = c.args.hub.now in
     let go = g.S.System.transition in
     visited g.P.Ports.transition go hub c.turn_and_settle.new.hub c.args.i c.args.system.now c.is_due.new.system
-    c.turn_and_settle.new.system true c.is_calm-is_calm.result c.most_turns.result c.busy_turn.result c.requires
+    c.turn_and_settle.new.system true c.is_calm-is_calm.result c.most_turns.result c.busy_turns.result c.requires
     (subst (λ (due : Bool). IfSome (slice_get hub.places c.args.i) (Looks g.P.Ports.transition go c.args.system.now c.is_due.new.system due))
     c.if-not-is_due.false c.is_due.ensures)
     (calm_there g.P.Ports.transition go hub c.args.i c.ports.result.now c.is_calm-is_calm.result c.requires c.ports.ensures c.is_calm-is_calm.ensures)
-    c.most_turns.ensures c.turn_and_settle.ensures.turns c.busy_turn.ensures.count
+    c.most_turns.ensures c.turn_and_settle.ensures.turns c.busy_turns.ensures.count
 
 pub returns-clause-moved : goal.returns-clause-moved
 returns-clause-moved g c =
