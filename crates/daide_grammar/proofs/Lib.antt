@@ -21,7 +21,9 @@ pub mod NumberLemmas
 pub mod WordColumns
 pub mod ColumnsAgree
 pub mod RulesFit
+pub mod RowParts
 pub mod RowsAgree
+pub mod NextsAgree
 pub mod PlainRules
 pub mod OtherClasses
 pub mod OneEntry

@@ -4,14 +4,14 @@ use Rattle.std.proofs.Common.{◌∷◌}
 use Rattle.std.proofs.Common.{Option, Some, None, length, map, get_or, refl, sym, ap, subst, ◌∙◌, arith}
 use Rattle.std.proofs.lemmas.Bool.{and_parts, eqb-true}
 use Rattle.std.specs.List.{list_all, range_with_len}
-use Rattle.std.specs.Prelude.{slice_index_or}
+use Rattle.std.specs.Prelude.{◌%◌, slice_index_or}
 use Rattle.daide_token.specs.declared.class.Class.{Class}
 use Rattle.daide_token.specs.declared.class.Class.TheVariants.{Ket, Num, Other, Word}
 use Rattle.daide_grammar.specs.declared.symbol.Sym.{Sym}
 use Rattle.daide_grammar.specs.declared.symbol.Sym.TheVariants.{Closing}
 use Rattle.daide_grammar.specs.declared.table.rows.TheConstants.{TABLE}
 use Rattle.daide_grammar.specs.Table.Answers.{TableEntry, Take, Skip, Stop}
-use Rattle.daide_grammar.specs.Table.Cells.{rule_at}
+use Rattle.daide_grammar.specs.Table.Cells.{row_cell, rule_at}
 use Rattle.daide_grammar.specs.Classes.{class_number, own_classes}
 use Rattle.daide_grammar.specs.Table.Numbers.{all_classes, classes, class_at, symbol_at, symbol_number, symbols}
 use Rattle.daide_grammar.specs.Words.{most_words}
@@ -19,6 +19,7 @@ use Rattle.daide_grammar.specs.Table.ParseActions.{all_rules, action, rest_of_ac
 use Rattle.daide_grammar.specs.Table.Symbols.{Alternative, answer_by, entries, entry_at, may_end_of, table_answer}
 use Rattle.daide_grammar.proofs.Alike.{alike, passes_at}
 use Rattle.daide_grammar.proofs.NumberLemmas.{symbol_back, symbol_small}
+use Rattle.daide_grammar.proofs.RowParts.{rule_seen, rules}
 use Rattle.daide_grammar.proofs.WordColumns.{class_told, word_at}
 
 -- whether two rests are the same, symbol by symbol
@@ -76,7 +77,7 @@ first_wrong (s ∷ ss) columns =
     if_wrong (is_right s rules) s (first_wrong ss others)
 
 -- A test that computes: each rule of each symbol agrees with the entries. A wrong cell fails with its symbol's name.
-rows_agree : first_wrong symbols TABLE.rows ≡ None
+rows_agree : first_wrong symbols rules ≡ None
 unfolding action rest_of_action entries may_end_of
 rows_agree = refl
 
@@ -151,12 +152,14 @@ right_at (s ∷ ss) columns h (suc k) less =
     (there.0, there.1, λ n. there.2 n ∙ below_at columns n k)
 
 -- so the rules of a symbol are right
-right : (s : Sym) → (rules : List ℕ) × (is_right s rules ≡ true)
-    × ((n : ℕ) → get_or rules n 0 ≡ rule_at n (symbol_number s))
-unfolding rule_at
+right : (s : Sym) → (told : List ℕ) × (is_right s told ≡ true)
+    × ((n : ℕ) → get_or told n 0 ≡ rule_at n (symbol_number s))
 right s =
-    let there = right_at symbols TABLE.rows rows_agree (symbol_number s) (symbol_small s) in
-    (there.0, subst (λ (x : Sym). is_right x there.0 ≡ true) (symbol_back s) there.1, there.2)
+    let there = right_at symbols rules rows_agree (symbol_number s) (symbol_small s) in (
+      there.0,
+      subst (λ (x : Sym). is_right x there.0 ≡ true) (symbol_back s) there.1,
+      λ n. there.2 n ∙ rule_seen n (symbol_number s),
+    )
 
 -- and a look-up returns the entry of the definitions
 pub looked_up : (s : Sym) (n : ℕ) → n < all_classes → action (rule_at n (symbol_number s)) ≡ table_answer s (class_at n)
@@ -169,14 +172,8 @@ looked_up s n less =
     ∙ told_at (entries s) (may_end_of s) there.0 classes (and_parts told ends there.1).0 n less
 
 -- each rule has a number of one byte
-in_a_byte : list_all (list_all (λ rule. nat_lt rule all_rules)) TABLE.rows ≡ true
-in_a_byte = refl
-
 small_rule : (c s : ℕ) → rule_at c s < all_rules
-unfolding rule_at
-small_rule c s =
-    let column = passes_at (list_all (λ rule. nat_lt rule all_rules)) TABLE.rows c [] in_a_byte refl in
-    ltb-true (rule_at c s) all_rules (passes_at (λ rule. nat_lt rule all_rules) (slice_index_or TABLE.rows c []) s 0 column refl)
+small_rule c s = omega arith
 
 -- each entry has a rule
 pub has_rule : (s : Sym) (c : Class) → class_number c < all_classes → HasRule (table_answer s c)
@@ -194,17 +191,17 @@ ends_told s =
     ap (λ (rule : ℕ). nat_eq rule 1) (sym (there.2 1))
     ∙ truths_same (nat_eq (get_or there.0 1 0) 1) (may_end_of s) (and_parts told ends there.1).1
 
--- the rules of an operator's word are those of a token without a meaning
+-- the cells of an operator's word are those of a token without a meaning
 repeated : map (λ k. slice_index_or TABLE.rows (own_classes + k) []) (range_with_len 0 most_words)
     ≡ map (λ k. slice_index_or TABLE.rows (class_number Other) []) (range_with_len 0 most_words)
 repeated = refl
 
 -- so the table does not know the word
 pub word_unknown : (s : Sym) (k : ℕ) → k < most_words → table_answer s (Word k) ≡ table_answer s Other
-unfolding rule_at
+unfolding row_cell
 word_unknown s k less =
     let n = symbol_number s in
     let row = alike (λ k. slice_index_or TABLE.rows (own_classes + k) []) (λ k. slice_index_or TABLE.rows (class_number Other) []) most_words repeated k
     less in
     ap (table_answer s) (sym (word_at k less)) ∙ sym (looked_up s (own_classes + k) (omega (arith, less)))
-    ∙ ap (λ (row : List ℕ). action (get_or row n 0)) row ∙ looked_up s (class_number Other) (omega arith)
+    ∙ ap (λ (row : List ℕ). action (get_or row n 0 % 256)) row ∙ looked_up s (class_number Other) (omega arith)

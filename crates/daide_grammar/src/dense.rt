@@ -7,7 +7,7 @@ ghost use Rattle.std.specs.Prelude.{◌≡◌, ◌<◌, ◌+◌, ◌%◌, ◌/�
 ghost use Rattle.daide_token.specs.Class.{class_of};
 ghost use Rattle.daide_grammar.specs.Table.Symbols.{may_end_of, start_symbol_of, table_answer};
 ghost use Rattle.daide_grammar.specs.Table.AnswersGiven.{look_ups};
-ghost use Rattle.daide_grammar.specs.Table.Cells.{class_cell, rule_at};
+ghost use Rattle.daide_grammar.specs.Table.Cells.{class_cell, row_cell, rule_at};
 ghost use Rattle.daide_grammar.specs.Table.Numbers.{all_classes, all_symbols};
 ghost use Rattle.daide_grammar.specs.declared.table.rows.TheConstants.{TABLE};
 
@@ -41,22 +41,33 @@ impl Dense {
 fn move_of(sym: Symbol, class: Column) -> Move
     ensures { result ≡ table_answer sym class }
 {
-    Move::of(rule_at(class.number(), sym.number()))
+    let cell = row_cell(class.number(), sym.number());
+    Move::of_cell((cell % 256) as u8, (cell / 256) as u8)
 }
 
 #[inline(always)]
-#[tactic(auto, unfolding(crate::specs::Table::Cells::rule_at))]
 fn rule_at(class: usize, symbol: u8) -> u8
     requires class { class < all_classes }
     requires symbol { symbol < all_symbols }
     ensures { result ≡ rule_at class symbol }
 {
-    rules_of(class)[symbol as usize]
+    (row_cell(class, symbol) % 256) as u8
 }
 
-/// Returns the rules of a class, one for each symbol.
+/// Returns the cell of a class and a symbol.
 #[inline(always)]
-fn rules_of(class: usize) -> &'static [u8; SYMBOL_COUNT]
+#[tactic(auto, unfolding(crate::specs::Table::Cells::row_cell))]
+fn row_cell(class: usize, symbol: u8) -> u16
+    requires class { class < all_classes }
+    requires symbol { symbol < all_symbols }
+    ensures { result ≡ row_cell class symbol }
+{
+    row_of(class)[symbol as usize]
+}
+
+/// Returns the cells of a class, one for each symbol.
+#[inline(always)]
+fn row_of(class: usize) -> &'static [u16; SYMBOL_COUNT]
     requires { class < all_classes }
     ensures { result.now ≡ slice_index_or TABLE.rows class [] }
 {

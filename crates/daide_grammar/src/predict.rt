@@ -26,23 +26,26 @@ use crate::table::whole;
 use daide_token::token::Token;
 use std::marker::Model;
 
-/// What a token means to the expected symbol, as the number of a rule, with the width of an index. Its abstract value
-/// is the entry.
+/// What a token means to the expected symbol. Its abstract value is the entry.
 #[derive(Drop)]
 pub struct Move {
+    /// The number of the rule, with the width of an index.
     rule: usize,
+    /// The number of the first symbol that the rule leaves, or 0 if it leaves none.
+    next: u8,
 }
 
 impl Model for Move {
     ghost use Rattle.daide_grammar.specs.Table.Answers.{TableEntry};
+    ghost use Rattle.daide_grammar.specs.Table.Cells.{first_at};
     ghost use Rattle.daide_grammar.specs.Table.ParseActions.{all_rules, action};
-    ghost use Rattle.std.specs.Prelude.{◌<◌};
+    ghost use Rattle.std.specs.Prelude.{◌<◌, ◌≡◌};
 
     ghost Value = { TableEntry };
 
     ghost view = { λ m. action m.rule };
 
-    ghost invariant = { λ m. m.rule < all_rules };
+    ghost invariant = { λ m. (m.rule < all_rules) × (m.next ≡ first_at m.rule) };
 }
 
 impl Move {
@@ -51,8 +54,22 @@ impl Move {
     pub fn of(rule: u8) -> Move
         ensures { result ≡ action rule }
     {
+        let rule = rule as usize;
+        Move {
+            rule,
+            next: first_at(rule),
+        }
+    }
+
+    /// Returns the entry of a rule, with the number of the first symbol that it leaves.
+    #[inline(always)]
+    pub(crate) fn of_cell(rule: u8, next: u8) -> Move
+        requires { next ≡ first_at rule }
+        ensures { result ≡ action rule }
+    {
         Move {
             rule: rule as usize,
+            next,
         }
     }
 
@@ -90,7 +107,7 @@ impl Move {
         if self.rule <= TAKE {
             return None;
         }
-        Some(first_of(self.rule))
+        Some(Symbol::of(self.next))
     }
 
     /// Returns the height of a stack after its top, at this index, took the token.
@@ -147,14 +164,6 @@ fn length_at(rule: usize) -> u8
     ensures { result ≡ length_at rule }
 {
     whole().lengths[rule]
-}
-
-#[inline(always)]
-fn first_of(rule: usize) -> Symbol
-    requires { rule < all_rules }
-    ensures { result ≡ symbol_at (first_at rule) }
-{
-    Symbol::of(first_at(rule))
 }
 
 /// Returns the number of the first symbol that a rule leaves.

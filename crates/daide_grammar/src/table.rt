@@ -14,8 +14,10 @@ pub(crate) mod rules;
 
 /// The constant table in a readable layout, which only contracts and proofs name.
 pub(crate) struct Table {
-    /// The rule of each symbol at each class. An operator's word has the rules of a token without a meaning.
-    pub(crate) rows: [[u8; SYMBOL_COUNT]; CLASS_COUNT],
+    /// The cell of each symbol at each class: the number of the first symbol that the rule leaves, or 0 if it leaves
+    /// none, and then the number of the rule, a byte each. So the symbol that is next on top is known without a look-up
+    /// that waits for the rule. An operator's word has the cells of a token without a meaning.
+    pub(crate) rows: [[u16; SYMBOL_COUNT]; CLASS_COUNT],
     /// The symbols that each rule leaves, in the order in which they are pushed on a stack.
     pub(crate) rests: [[u8; 8]; RULE_COUNT],
     /// How many symbols each rule leaves.
@@ -33,7 +35,7 @@ pub(crate) struct Table {
 /// The same table in one piece, so that one address reaches all of it. Each row is a reference, so that a class reaches
 /// its row by one load. Each code has its own row of classes: short lists make the proofs faster.
 pub(crate) struct Linked {
-    pub(crate) rows: [&'static [u8; SYMBOL_COUNT]; CLASS_COUNT],
+    pub(crate) rows: [&'static [u16; SYMBOL_COUNT]; CLASS_COUNT],
     pub(crate) rests: [[u8; 8]; RULE_COUNT],
     pub(crate) lengths: [u8; RULE_COUNT],
     pub(crate) firsts: [u8; RULE_COUNT],

@@ -159,5 +159,9 @@ fn answers_are_small(_rt: HostRuntime) -> Result<(), Fail> {
     let symbol = size_of::<Symbol>();
     let sizes = (symbol, size_of::<Column>(), size_of::<Move>());
     let word = size_of::<usize>();
-    same(&sizes, &(1, word, word), &"a symbol, a column, an answer")
+    same(
+        &sizes,
+        &(1, word, 2 * word),
+        &"a symbol, a column, an answer",
+    )
 }

@@ -1,10 +1,18 @@
 -- The cells of the constant table, each by its index. (own)
-use Rattle.std.specs.Prelude.{ℕ, ◌+◌, ◌*◌, [], slice_index, slice_index_or}
+use Rattle.std.specs.Prelude.{ℕ, ◌+◌, ◌*◌, ◌/◌, ◌%◌, [], slice_index, slice_index_or}
 use Rattle.daide_grammar.specs.declared.table.rows.TheConstants.{TABLE}
 
--- the rule for a class and a symbol, by their numbers
-unfoldable pub rule_at : ℕ → ℕ → ℕ
-rule_at class symbol = slice_index (slice_index_or TABLE.rows class []) symbol
+-- the cell for a class and a symbol, by their numbers
+unfoldable pub row_cell : ℕ → ℕ → ℕ
+row_cell class symbol = slice_index (slice_index_or TABLE.rows class []) symbol
+
+-- the rule for a class and a symbol: the low byte of the cell
+abbrev pub rule_at : ℕ → ℕ → ℕ
+rule_at class symbol = row_cell class symbol % 256
+
+-- the number of the first symbol that this rule leaves, or 0 if it leaves none: the high byte
+abbrev pub next_at : ℕ → ℕ → ℕ
+next_at class symbol = row_cell class symbol / 256
 
 -- the number of the class at an index of the list of classes
 unfoldable pub class_cell : ℕ → ℕ

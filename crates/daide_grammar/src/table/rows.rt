@@ -1,8 +1,9 @@
 //! What each class of tokens means to each symbol. Printed by `daide_table_printer`; the check is what is trusted.
 //!
-//! A row has a symbol's name. It lists classes, each with the number of its rule, and last what every other class
-//! means. A symbol with a level has a row for all levels and, where more may stand from a level on, a row with that
-//! level in its name, which adds to the one before; its rules that name a level are those of level 0, and the level's
+//! A row has a symbol's name. It lists classes, each with a cell, and last what every other class means. A cell has two
+//! bytes: the number of the first symbol that the rule leaves, or 0 if it leaves none, and then the number of the rule. A
+//! symbol with a level has a row for all levels and, where more may stand from a level on, a row with that level in its
+//! name, which adds to the one before; its rules and symbols that name a level are those of level 0, and the level's
 //! place among the levels is added.
 
 use crate::table::classes::{
@@ -12,672 +13,672 @@ use crate::table::rules::{FIRSTS, GROWTHS, LENGTHS, RESTS};
 use crate::table::{Linked, Table};
 
 macro_rules! closing {
-    (KET) => { 2 };
-    ($other:ident) => { 0 };
+    (KET) => { 0x0002 };
+    ($other:ident) => { 0x0000 };
 }
 
 macro_rules! one_power {
-    (POWER) => { 2 };
-    ($other:ident) => { 0 };
+    (POWER) => { 0x0002 };
+    ($other:ident) => { 0x0000 };
 }
 
 macro_rules! one_province {
-    (PROVINCE) => { 2 };
-    ($other:ident) => { 0 };
+    (PROVINCE) => { 0x0002 };
+    ($other:ident) => { 0x0000 };
 }
 
 macro_rules! one_coast {
-    (COAST) => { 2 };
-    ($other:ident) => { 0 };
+    (COAST) => { 0x0002 };
+    ($other:ident) => { 0x0000 };
 }
 
 macro_rules! one_number {
-    (NUM) => { 2 };
-    ($other:ident) => { 0 };
+    (NUM) => { 0x0002 };
+    ($other:ident) => { 0x0000 };
 }
 
 macro_rules! one_note {
-    (NOTE) => { 2 };
-    ($other:ident) => { 0 };
+    (NOTE) => { 0x0002 };
+    ($other:ident) => { 0x0000 };
 }
 
 macro_rules! one_fleet {
-    (FLT) => { 2 };
-    ($other:ident) => { 0 };
+    (FLT) => { 0x0002 };
+    ($other:ident) => { 0x0000 };
 }
 
 macro_rules! waived {
-    (WVE) => { 2 };
-    ($other:ident) => { 0 };
+    (WVE) => { 0x0002 };
+    ($other:ident) => { 0x0000 };
 }
 
 macro_rules! convoy_to {
-    (CTO) => { 2 };
-    ($other:ident) => { 0 };
+    (CTO) => { 0x0002 };
+    ($other:ident) => { 0x0000 };
 }
 
 macro_rules! through {
-    (VIA) => { 2 };
-    ($other:ident) => { 0 };
+    (VIA) => { 0x0002 };
+    ($other:ident) => { 0x0000 };
 }
 
 macro_rules! against {
-    (VSS) => { 2 };
-    ($other:ident) => { 0 };
+    (VSS) => { 0x0002 };
+    ($other:ident) => { 0x0000 };
 }
 
 macro_rules! text_group {
-    (BRA) => { 3 };
-    ($other:ident) => { 0 };
+    (BRA) => { 0x0C03 };
+    ($other:ident) => { 0x0000 };
 }
 
 macro_rules! texts {
-    (TEXT) => { 4 };
-    ($other:ident) => { 1 };
+    (TEXT) => { 0x0C04 };
+    ($other:ident) => { 0x0001 };
 }
 
 macro_rules! power_group {
-    (BRA) => { 5 };
-    ($other:ident) => { 0 };
+    (BRA) => { 0x0105 };
+    ($other:ident) => { 0x0000 };
 }
 
 macro_rules! powers_group {
-    (BRA) => { 6 };
-    ($other:ident) => { 0 };
+    (BRA) => { 0x0106 };
+    ($other:ident) => { 0x0000 };
 }
 
 macro_rules! maybe_powers_group {
-    (BRA) => { 6 };
-    ($other:ident) => { 1 };
+    (BRA) => { 0x0106 };
+    ($other:ident) => { 0x0001 };
 }
 
 macro_rules! powers {
-    (POWER) => { 7 };
-    ($other:ident) => { 1 };
+    (POWER) => { 0x1007 };
+    ($other:ident) => { 0x0001 };
 }
 
 macro_rules! number_group {
-    (BRA) => { 8 };
-    ($other:ident) => { 0 };
+    (BRA) => { 0x0408 };
+    ($other:ident) => { 0x0000 };
 }
 
 macro_rules! maybe_number_group {
-    (BRA) => { 8 };
-    ($other:ident) => { 1 };
+    (BRA) => { 0x0408 };
+    ($other:ident) => { 0x0001 };
 }
 
 macro_rules! maybe_number {
-    (NUM) => { 2 };
-    ($other:ident) => { 1 };
+    (NUM) => { 0x0002 };
+    ($other:ident) => { 0x0001 };
 }
 
 macro_rules! provinces_group {
-    (BRA) => { 9 };
-    ($other:ident) => { 0 };
+    (BRA) => { 0x0209 };
+    ($other:ident) => { 0x0000 };
 }
 
 macro_rules! maybe_provinces_group {
-    (BRA) => { 10 };
-    ($other:ident) => { 0 };
+    (BRA) => { 0x160A };
+    ($other:ident) => { 0x0000 };
 }
 
 macro_rules! provinces {
-    (PROVINCE) => { 11 };
-    ($other:ident) => { 1 };
+    (PROVINCE) => { 0x160B };
+    ($other:ident) => { 0x0001 };
 }
 
 macro_rules! turn_group {
-    (BRA) => { 12 };
-    ($other:ident) => { 0 };
+    (BRA) => { 0x180C };
+    ($other:ident) => { 0x0000 };
 }
 
 macro_rules! one_turn {
-    (SEASON) => { 13 };
-    ($other:ident) => { 0 };
+    (SEASON) => { 0x040D };
+    ($other:ident) => { 0x0000 };
 }
 
 macro_rules! words_group {
-    (BRA) => { 14 };
-    ($other:ident) => { 0 };
+    (BRA) => { 0x1A0E };
+    ($other:ident) => { 0x0000 };
 }
 
 macro_rules! word_list {
-    (BRA) => { 1 };
-    (KET) => { 1 };
-    ($other:ident) => { 15 };
+    (BRA) => { 0x0001 };
+    (KET) => { 0x0001 };
+    ($other:ident) => { 0x1A0F };
 }
 
 macro_rules! any_group {
-    (BRA) => { 16 };
-    ($other:ident) => { 0 };
+    (BRA) => { 0x1C10 };
+    ($other:ident) => { 0x0000 };
 }
 
 macro_rules! any {
-    (BRA) => { 17 };
-    (KET) => { 1 };
-    ($other:ident) => { 18 };
+    (BRA) => { 0x1C11 };
+    (KET) => { 0x0001 };
+    ($other:ident) => { 0x1C12 };
 }
 
 macro_rules! one_place {
-    (BRA) => { 19 };
-    (PROVINCE) => { 2 };
-    ($other:ident) => { 0 };
+    (BRA) => { 0x0213 };
+    (PROVINCE) => { 0x0002 };
+    ($other:ident) => { 0x0000 };
 }
 
 macro_rules! places_group {
-    (BRA) => { 20 };
-    ($other:ident) => { 0 };
+    (BRA) => { 0x1F14 };
+    ($other:ident) => { 0x0000 };
 }
 
 macro_rules! places {
-    (BRA) => { 21 };
-    (PROVINCE) => { 22 };
-    ($other:ident) => { 1 };
+    (BRA) => { 0x0215 };
+    (PROVINCE) => { 0x1F16 };
+    ($other:ident) => { 0x0001 };
 }
 
 macro_rules! unit_group {
-    (BRA) => { 23 };
-    ($other:ident) => { 0 };
+    (BRA) => { 0x2217 };
+    ($other:ident) => { 0x0000 };
 }
 
 macro_rules! unit_groups {
-    (BRA) => { 24 };
-    ($other:ident) => { 1 };
+    (BRA) => { 0x2218 };
+    ($other:ident) => { 0x0001 };
 }
 
 macro_rules! one_unit {
-    (POWER) => { 25 };
-    ($other:ident) => { 0 };
+    (POWER) => { 0x2319 };
+    ($other:ident) => { 0x0000 };
 }
 
 macro_rules! unit_type {
-    (AMY) => { 2 };
-    (FLT) => { 2 };
-    ($other:ident) => { 0 };
+    (AMY) => { 0x0002 };
+    (FLT) => { 0x0002 };
+    ($other:ident) => { 0x0000 };
 }
 
 macro_rules! order_group {
-    (BRA) => { 26 };
-    ($other:ident) => { 0 };
+    (BRA) => { 0x261A };
+    ($other:ident) => { 0x0000 };
 }
 
 macro_rules! orders {
-    (BRA) => { 27 };
-    ($other:ident) => { 1 };
+    (BRA) => { 0x261B };
+    ($other:ident) => { 0x0001 };
 }
 
 macro_rules! one_order {
-    (BRA) => { 28 };
-    (POWER) => { 29 };
-    ($other:ident) => { 0 };
+    (BRA) => { 0x221C };
+    (POWER) => { 0x071D };
+    ($other:ident) => { 0x0000 };
 }
 
 macro_rules! order_tail {
-    (CTO) => { 30 };
-    (CVY) => { 31 };
-    (HLD) => { 2 };
-    (MTO) => { 32 };
-    (SUP) => { 33 };
-    (DSB) => { 2 };
-    (RTO) => { 32 };
-    (BLD) => { 2 };
-    (REM) => { 2 };
-    ($other:ident) => { 0 };
+    (CTO) => { 0x021E };
+    (CVY) => { 0x201F };
+    (HLD) => { 0x0002 };
+    (MTO) => { 0x1D20 };
+    (SUP) => { 0x2021 };
+    (DSB) => { 0x0002 };
+    (RTO) => { 0x1D20 };
+    (BLD) => { 0x0002 };
+    (REM) => { 0x0002 };
+    ($other:ident) => { 0x0000 };
 }
 
 macro_rules! support_tail {
-    (MTO) => { 34 };
-    ($other:ident) => { 1 };
+    (MTO) => { 0x0222 };
+    ($other:ident) => { 0x0001 };
 }
 
 macro_rules! share_group {
-    (BRA) => { 35 };
-    ($other:ident) => { 0 };
+    (BRA) => { 0x0123 };
+    ($other:ident) => { 0x0000 };
 }
 
 macro_rules! shares {
-    (BRA) => { 36 };
-    ($other:ident) => { 1 };
+    (BRA) => { 0x0124 };
+    ($other:ident) => { 0x0001 };
 }
 
 macro_rules! submit_tail {
-    (BRA) => { 37 };
-    ($other:ident) => { 1 };
+    (BRA) => { 0x2C25 };
+    ($other:ident) => { 0x0001 };
 }
 
 macro_rules! submit_first {
-    (BRA) => { 38 };
-    (POWER) => { 39 };
-    (SEASON) => { 40 };
-    ($other:ident) => { 0 };
+    (BRA) => { 0x2226 };
+    (POWER) => { 0x0727 };
+    (SEASON) => { 0x0428 };
+    ($other:ident) => { 0x0000 };
 }
 
 macro_rules! cancel_group {
-    (BRA) => { 41 };
-    ($other:ident) => { 0 };
+    (BRA) => { 0x2E29 };
+    ($other:ident) => { 0x0000 };
 }
 
 macro_rules! cancel {
-    (DRW) => { 42 };
-    (GOF) => { 2 };
-    (SUB) => { 43 };
-    (TME) => { 44 };
-    ($other:ident) => { 0 };
+    (DRW) => { 0x0F2A };
+    (GOF) => { 0x0002 };
+    (SUB) => { 0x2B2B };
+    (TME) => { 0x122C };
+    ($other:ident) => { 0x0000 };
 }
 
 macro_rules! reply_group {
-    (BRA) => { 45 };
-    ($other:ident) => { 0 };
+    (BRA) => { 0x302D };
+    ($other:ident) => { 0x0000 };
 }
 
 macro_rules! reply {
-    (LOD) => { 46 };
-    (MAP) => { 46 };
-    (SVE) => { 46 };
-    ($other:ident) => { 0 };
+    (LOD) => { 0x0B2E };
+    (MAP) => { 0x0B2E };
+    (SVE) => { 0x0B2E };
+    ($other:ident) => { 0x0000 };
 }
 
 macro_rules! who_group {
-    (BRA) => { 47 };
-    ($other:ident) => { 0 };
+    (BRA) => { 0x322F };
+    ($other:ident) => { 0x0000 };
 }
 
 macro_rules! who {
-    (POWER) => { 2 };
-    (UNO) => { 2 };
-    ($other:ident) => { 0 };
+    (POWER) => { 0x0002 };
+    (UNO) => { 0x0002 };
+    ($other:ident) => { 0x0000 };
 }
 
 macro_rules! params_group {
-    (BRA) => { 48 };
-    ($other:ident) => { 0 };
+    (BRA) => { 0x3430 };
+    ($other:ident) => { 0x0000 };
 }
 
 macro_rules! params {
-    (BRA) => { 49 };
-    ($other:ident) => { 1 };
+    (BRA) => { 0x3531 };
+    ($other:ident) => { 0x0001 };
 }
 
 macro_rules! one_param {
-    (LVL) => { 50 };
-    (MRT) => { 50 };
-    (UNO) => { 50 };
-    (PARAM) => { 50 };
-    ($other:ident) => { 0 };
+    (LVL) => { 0x1332 };
+    (MRT) => { 0x1332 };
+    (UNO) => { 0x1332 };
+    (PARAM) => { 0x1332 };
+    ($other:ident) => { 0x0000 };
 }
 
 macro_rules! centres_group {
-    (BRA) => { 51 };
-    ($other:ident) => { 0 };
+    (BRA) => { 0x3733 };
+    ($other:ident) => { 0x0000 };
 }
 
 macro_rules! owners_group {
-    (BRA) => { 52 };
-    ($other:ident) => { 0 };
+    (BRA) => { 0x3834 };
+    ($other:ident) => { 0x0000 };
 }
 
 macro_rules! owners {
-    (BRA) => { 53 };
-    ($other:ident) => { 1 };
+    (BRA) => { 0x3935 };
+    ($other:ident) => { 0x0001 };
 }
 
 macro_rules! owned {
-    (BRA) => { 54 };
-    (POWER) => { 11 };
-    (UNO) => { 11 };
-    ($other:ident) => { 0 };
+    (BRA) => { 0x0136 };
+    (POWER) => { 0x160B };
+    (UNO) => { 0x160B };
+    ($other:ident) => { 0x0000 };
 }
 
 macro_rules! borders_group {
-    (BRA) => { 55 };
-    ($other:ident) => { 0 };
+    (BRA) => { 0x3B37 };
+    ($other:ident) => { 0x0000 };
 }
 
 macro_rules! borders_list {
-    (BRA) => { 56 };
-    ($other:ident) => { 1 };
+    (BRA) => { 0x3C38 };
+    ($other:ident) => { 0x0001 };
 }
 
 macro_rules! borders {
-    (PROVINCE) => { 57 };
-    ($other:ident) => { 0 };
+    (PROVINCE) => { 0x3D39 };
+    ($other:ident) => { 0x0000 };
 }
 
 macro_rules! kind_list {
-    (BRA) => { 58 };
-    ($other:ident) => { 1 };
+    (BRA) => { 0x3E3A };
+    ($other:ident) => { 0x0001 };
 }
 
 macro_rules! kind_places {
-    (BRA) => { 59 };
-    (AMY) => { 22 };
-    (FLT) => { 22 };
-    ($other:ident) => { 0 };
+    (BRA) => { 0x063B };
+    (AMY) => { 0x1F16 };
+    (FLT) => { 0x1F16 };
+    ($other:ident) => { 0x0000 };
 }
 
 macro_rules! stands {
-    (BRA) => { 60 };
-    ($other:ident) => { 1 };
+    (BRA) => { 0x403C };
+    ($other:ident) => { 0x0001 };
 }
 
 macro_rules! one_stand {
-    (POWER) => { 61 };
-    ($other:ident) => { 0 };
+    (POWER) => { 0x233D };
+    ($other:ident) => { 0x0000 };
 }
 
 macro_rules! stand_tail {
-    (MRT) => { 62 };
-    ($other:ident) => { 1 };
+    (MRT) => { 0x1E3E };
+    ($other:ident) => { 0x0001 };
 }
 
 macro_rules! missing_tail {
-    (BRA) => { 63 };
-    ($other:ident) => { 1 };
+    (BRA) => { 0x433F };
+    ($other:ident) => { 0x0001 };
 }
 
 macro_rules! missing_first {
-    (NUM) => { 64 };
-    (POWER) => { 65 };
-    ($other:ident) => { 0 };
+    (NUM) => { 0x0040 };
+    (POWER) => { 0x2341 };
+    ($other:ident) => { 0x0000 };
 }
 
 macro_rules! note_group {
-    (BRA) => { 66 };
-    ($other:ident) => { 0 };
+    (BRA) => { 0x0542 };
+    ($other:ident) => { 0x0000 };
 }
 
 macro_rules! outcomes_group {
-    (BRA) => { 67 };
-    ($other:ident) => { 0 };
+    (BRA) => { 0x4743 };
+    ($other:ident) => { 0x0000 };
 }
 
 macro_rules! outcomes {
-    (NOTE) => { 68 };
-    (OUTCOME) => { 68 };
-    ($other:ident) => { 1 };
+    (NOTE) => { 0x4644 };
+    (OUTCOME) => { 0x4644 };
+    ($other:ident) => { 0x0001 };
 }
 
 macro_rules! one_outcome {
-    (NOTE) => { 2 };
-    (OUTCOME) => { 2 };
-    ($other:ident) => { 0 };
+    (NOTE) => { 0x0002 };
+    (OUTCOME) => { 0x0002 };
+    ($other:ident) => { 0x0000 };
 }
 
 macro_rules! civil_disorder_group {
-    (BRA) => { 69 };
-    ($other:ident) => { 0 };
+    (BRA) => { 0x4945 };
+    ($other:ident) => { 0x0000 };
 }
 
 macro_rules! civil_disorder {
-    (CCD) => { 70 };
-    ($other:ident) => { 0 };
+    (CCD) => { 0x0D46 };
+    ($other:ident) => { 0x0000 };
 }
 
 macro_rules! players {
-    (BRA) => { 71 };
-    ($other:ident) => { 1 };
+    (BRA) => { 0x4B47 };
+    ($other:ident) => { 0x0001 };
 }
 
 macro_rules! one_player {
-    (POWER) => { 72 };
-    ($other:ident) => { 0 };
+    (POWER) => { 0x0B48 };
+    ($other:ident) => { 0x0000 };
 }
 
 macro_rules! arrangement_group {
-    (BRA $place:literal) => { 97 + $place };
-    ($other:ident $place:literal) => { 0 };
+    (BRA $place:literal) => { 0x5361 + 0x0101 * $place };
+    ($other:ident $place:literal) => { 0x0000 };
 }
 
 macro_rules! arrangement {
-    (DRW $place:literal) => { 42 };
-    (NOT $place:literal) => { 104 + $place };
-    (SLO $place:literal) => { 70 };
-    (ALY $place:literal) => { 73 };
-    (PCE $place:literal) => { 74 };
-    ($other:ident $place:literal) => { 0 };
+    (DRW $place:literal) => { 0x0F2A };
+    (NOT $place:literal) => { 0x4C68 + 0x0101 * $place };
+    (SLO $place:literal) => { 0x0D46 };
+    (ALY $place:literal) => { 0x0E49 };
+    (PCE $place:literal) => { 0x0E4A };
+    ($other:ident $place:literal) => { 0x0000 };
 }
 
 macro_rules! arrangement_20 {
-    (DMZ $place:literal) => { 75 };
-    (XDO $place:literal) => { 76 };
+    (DMZ $place:literal) => { 0x0E4B };
+    (XDO $place:literal) => { 0x244C };
     ($other:ident $place:literal) => { arrangement!($other $place) };
 }
 
 macro_rules! arrangement_30 {
-    (AND $place:literal) => { 111 + $place };
-    (ORR $place:literal) => { 111 + $place };
+    (AND $place:literal) => { 0x686F + 0x0101 * $place };
+    (ORR $place:literal) => { 0x686F + 0x0101 * $place };
     ($other:ident $place:literal) => { arrangement_20!($other $place) };
 }
 
 macro_rules! arrangement_40 {
-    (OCC $place:literal) => { 77 };
-    (SCD $place:literal) => { 78 };
+    (OCC $place:literal) => { 0x204D };
+    (SCD $place:literal) => { 0x294E };
     ($other:ident $place:literal) => { arrangement_30!($other $place) };
 }
 
 macro_rules! fact_group {
-    (BRA $place:literal) => { 118 + $place };
-    ($other:ident $place:literal) => { 0 };
+    (BRA $place:literal) => { 0x6176 + 0x0101 * $place };
+    ($other:ident $place:literal) => { 0x0000 };
 }
 
 macro_rules! fact {
-    (DRW $place:literal) => { 42 };
-    (NOT $place:literal) => { 104 + $place };
-    (SLO $place:literal) => { 70 };
-    (ALY $place:literal) => { 73 };
-    (PCE $place:literal) => { 74 };
-    ($other:ident $place:literal) => { 0 };
+    (DRW $place:literal) => { 0x0F2A };
+    (NOT $place:literal) => { 0x4C68 + 0x0101 * $place };
+    (SLO $place:literal) => { 0x0D46 };
+    (ALY $place:literal) => { 0x0E49 };
+    (PCE $place:literal) => { 0x0E4A };
+    ($other:ident $place:literal) => { 0x0000 };
 }
 
 macro_rules! fact_20 {
-    (DMZ $place:literal) => { 75 };
-    (XDO $place:literal) => { 76 };
+    (DMZ $place:literal) => { 0x0E4B };
+    (XDO $place:literal) => { 0x244C };
     ($other:ident $place:literal) => { fact!($other $place) };
 }
 
 macro_rules! fact_30 {
-    (AND $place:literal) => { 111 + $place };
-    (ORR $place:literal) => { 111 + $place };
+    (AND $place:literal) => { 0x686F + 0x0101 * $place };
+    (ORR $place:literal) => { 0x686F + 0x0101 * $place };
     ($other:ident $place:literal) => { fact_20!($other $place) };
 }
 
 macro_rules! fact_40 {
-    (OCC $place:literal) => { 77 };
-    (SCD $place:literal) => { 78 };
+    (OCC $place:literal) => { 0x204D };
+    (SCD $place:literal) => { 0x294E };
     ($other:ident $place:literal) => { fact_30!($other $place) };
 }
 
 macro_rules! fact_60 {
-    (NOT $place:literal) => { 125 + $place };
-    (QRY $place:literal) => { 104 + $place };
+    (NOT $place:literal) => { 0x5A7D + 0x0101 * $place };
+    (QRY $place:literal) => { 0x4C68 + 0x0101 * $place };
     ($other:ident $place:literal) => { fact_40!($other $place) };
 }
 
 macro_rules! operand_group {
-    (BRA $place:literal) => { 132 + $place };
-    ($other:ident $place:literal) => { 0 };
+    (BRA $place:literal) => { 0x7684 + 0x0101 * $place };
+    ($other:ident $place:literal) => { 0x0000 };
 }
 
 macro_rules! operands {
-    (BRA $place:literal) => { 139 + $place };
-    ($other:ident $place:literal) => { 1 };
+    (BRA $place:literal) => { 0x768B + 0x0101 * $place };
+    ($other:ident $place:literal) => { 0x0001 };
 }
 
 macro_rules! operand {
-    (DRW $place:literal) => { 42 };
-    (NOT $place:literal) => { 146 + $place };
-    (SLO $place:literal) => { 70 };
-    (ALY $place:literal) => { 73 };
-    (PCE $place:literal) => { 74 };
-    ($other:ident $place:literal) => { 0 };
+    (DRW $place:literal) => { 0x0F2A };
+    (NOT $place:literal) => { 0x6892 + 0x0101 * $place };
+    (SLO $place:literal) => { 0x0D46 };
+    (ALY $place:literal) => { 0x0E49 };
+    (PCE $place:literal) => { 0x0E4A };
+    ($other:ident $place:literal) => { 0x0000 };
 }
 
 macro_rules! operand_20 {
-    (DMZ $place:literal) => { 75 };
-    (XDO $place:literal) => { 76 };
+    (DMZ $place:literal) => { 0x0E4B };
+    (XDO $place:literal) => { 0x244C };
     ($other:ident $place:literal) => { operand!($other $place) };
 }
 
 macro_rules! operand_40 {
-    (OCC $place:literal) => { 77 };
-    (SCD $place:literal) => { 78 };
+    (OCC $place:literal) => { 0x204D };
+    (SCD $place:literal) => { 0x294E };
     ($other:ident $place:literal) => { operand_20!($other $place) };
 }
 
 macro_rules! operand_50 {
-    (AND $place:literal) => { 111 + $place };
-    (ORR $place:literal) => { 111 + $place };
+    (AND $place:literal) => { 0x686F + 0x0101 * $place };
+    (ORR $place:literal) => { 0x686F + 0x0101 * $place };
     ($other:ident $place:literal) => { operand_40!($other $place) };
 }
 
 macro_rules! press_group {
-    (BRA $place:literal) => { 153 + $place };
-    ($other:ident $place:literal) => { 0 };
+    (BRA $place:literal) => { 0x8499 + 0x0101 * $place };
+    ($other:ident $place:literal) => { 0x0000 };
 }
 
 macro_rules! press {
-    (HUH $place:literal) => { 79 };
-    (REJ $place:literal) => { 160 + $place };
-    (YES $place:literal) => { 160 + $place };
-    (BWX $place:literal) => { 160 + $place };
-    (FCT $place:literal) => { 125 + $place };
-    (PRP $place:literal) => { 104 + $place };
-    (TRY $place:literal) => { 80 };
-    ($other:ident $place:literal) => { 0 };
+    (HUH $place:literal) => { 0x1B4F };
+    (REJ $place:literal) => { 0x7DA0 + 0x0101 * $place };
+    (YES $place:literal) => { 0x7DA0 + 0x0101 * $place };
+    (BWX $place:literal) => { 0x7DA0 + 0x0101 * $place };
+    (FCT $place:literal) => { 0x5A7D + 0x0101 * $place };
+    (PRP $place:literal) => { 0x4C68 + 0x0101 * $place };
+    (TRY $place:literal) => { 0x1950 };
+    ($other:ident $place:literal) => { 0x0000 };
 }
 
 macro_rules! press_60 {
-    (IDK $place:literal) => { 160 + $place };
-    (INS $place:literal) => { 104 + $place };
-    (QRY $place:literal) => { 104 + $place };
-    (SRY $place:literal) => { 160 + $place };
-    (SUG $place:literal) => { 104 + $place };
-    (THK $place:literal) => { 125 + $place };
+    (IDK $place:literal) => { 0x7DA0 + 0x0101 * $place };
+    (INS $place:literal) => { 0x4C68 + 0x0101 * $place };
+    (QRY $place:literal) => { 0x4C68 + 0x0101 * $place };
+    (SRY $place:literal) => { 0x7DA0 + 0x0101 * $place };
+    (SUG $place:literal) => { 0x4C68 + 0x0101 * $place };
+    (THK $place:literal) => { 0x5A7D + 0x0101 * $place };
     ($other:ident $place:literal) => { press!($other $place) };
 }
 
 macro_rules! send_group {
-    (BRA $place:literal) => { 167 + $place };
-    ($other:ident $place:literal) => { 0 };
+    (BRA $place:literal) => { 0x99A7 + 0x0101 * $place };
+    ($other:ident $place:literal) => { 0x0000 };
 }
 
 macro_rules! maybe_send_group {
-    ($other:ident $place:literal) => { 1 };
+    ($other:ident $place:literal) => { 0x0001 };
 }
 
 macro_rules! maybe_send_group_10 {
-    (BRA $place:literal) => { 167 + $place };
+    (BRA $place:literal) => { 0x99A7 + 0x0101 * $place };
     ($other:ident $place:literal) => { maybe_send_group!($other $place) };
 }
 
 macro_rules! send {
-    (SND $place:literal) => { 174 + $place };
-    ($other:ident $place:literal) => { 0 };
+    (SND $place:literal) => { 0xA0AE + 0x0101 * $place };
+    ($other:ident $place:literal) => { 0x0000 };
 }
 
 macro_rules! send_tail {
-    (BRA $place:literal) => { 181 + $place };
-    ($other:ident $place:literal) => { 0 };
+    (BRA $place:literal) => { 0xA7B5 + 0x0101 * $place };
+    ($other:ident $place:literal) => { 0x0000 };
 }
 
 macro_rules! send_first {
-    (POWER $place:literal) => { 188 + $place };
-    (SEASON $place:literal) => { 195 + $place };
-    ($other:ident $place:literal) => { 0 };
+    (POWER $place:literal) => { 0x10BC + $place };
+    (SEASON $place:literal) => { 0x04C3 + $place };
+    ($other:ident $place:literal) => { 0x0000 };
 }
 
 macro_rules! client {
-    (DRW $place:literal) => { 42 };
-    (GOF $place:literal) => { 2 };
-    (HLO $place:literal) => { 2 };
-    (HST $place:literal) => { 81 };
-    (HUH $place:literal) => { 79 };
-    (IAM $place:literal) => { 82 };
-    (MAP $place:literal) => { 2 };
-    (MDF $place:literal) => { 2 };
-    (MIS $place:literal) => { 2 };
-    (NME $place:literal) => { 83 };
-    (NOT $place:literal) => { 84 };
-    (NOW $place:literal) => { 2 };
-    (OBS $place:literal) => { 2 };
-    (ORD $place:literal) => { 2 };
-    (REJ $place:literal) => { 85 };
-    (SCO $place:literal) => { 2 };
-    (SUB $place:literal) => { 43 };
-    (TME $place:literal) => { 44 };
-    (YES $place:literal) => { 85 };
-    (ADM $place:literal) => { 83 };
-    ($other:ident $place:literal) => { 0 };
+    (DRW $place:literal) => { 0x0F2A };
+    (GOF $place:literal) => { 0x0002 };
+    (HLO $place:literal) => { 0x0002 };
+    (HST $place:literal) => { 0x1751 };
+    (HUH $place:literal) => { 0x1B4F };
+    (IAM $place:literal) => { 0x0D52 };
+    (MAP $place:literal) => { 0x0002 };
+    (MDF $place:literal) => { 0x0002 };
+    (MIS $place:literal) => { 0x0002 };
+    (NME $place:literal) => { 0x0B53 };
+    (NOT $place:literal) => { 0x2D54 };
+    (NOW $place:literal) => { 0x0002 };
+    (OBS $place:literal) => { 0x0002 };
+    (ORD $place:literal) => { 0x0002 };
+    (REJ $place:literal) => { 0x2F55 };
+    (SCO $place:literal) => { 0x0002 };
+    (SUB $place:literal) => { 0x2B2B };
+    (TME $place:literal) => { 0x122C };
+    (YES $place:literal) => { 0x2F55 };
+    (ADM $place:literal) => { 0x0B53 };
+    ($other:ident $place:literal) => { 0x0000 };
 }
 
 macro_rules! client_10 {
-    (SND $place:literal) => { 174 + $place };
+    (SND $place:literal) => { 0xA0AE + 0x0101 * $place };
     ($other:ident $place:literal) => { client!($other $place) };
 }
 
 macro_rules! request_group {
-    (BRA $place:literal) => { 202 + $place };
-    ($other:ident $place:literal) => { 0 };
+    (BRA $place:literal) => { 0xBCCA + 0x0101 * $place };
+    ($other:ident $place:literal) => { 0x0000 };
 }
 
 macro_rules! request {
-    (DRW $place:literal) => { 42 };
-    (GOF $place:literal) => { 2 };
-    (HLO $place:literal) => { 2 };
-    (HST $place:literal) => { 81 };
-    (IAM $place:literal) => { 82 };
-    (MAP $place:literal) => { 2 };
-    (MDF $place:literal) => { 2 };
-    (MIS $place:literal) => { 2 };
-    (NME $place:literal) => { 83 };
-    (NOT $place:literal) => { 84 };
-    (NOW $place:literal) => { 2 };
-    (OBS $place:literal) => { 2 };
-    (ORD $place:literal) => { 2 };
-    (SCO $place:literal) => { 2 };
-    (SUB $place:literal) => { 43 };
-    (TME $place:literal) => { 44 };
-    (ADM $place:literal) => { 83 };
-    ($other:ident $place:literal) => { 0 };
+    (DRW $place:literal) => { 0x0F2A };
+    (GOF $place:literal) => { 0x0002 };
+    (HLO $place:literal) => { 0x0002 };
+    (HST $place:literal) => { 0x1751 };
+    (IAM $place:literal) => { 0x0D52 };
+    (MAP $place:literal) => { 0x0002 };
+    (MDF $place:literal) => { 0x0002 };
+    (MIS $place:literal) => { 0x0002 };
+    (NME $place:literal) => { 0x0B53 };
+    (NOT $place:literal) => { 0x2D54 };
+    (NOW $place:literal) => { 0x0002 };
+    (OBS $place:literal) => { 0x0002 };
+    (ORD $place:literal) => { 0x0002 };
+    (SCO $place:literal) => { 0x0002 };
+    (SUB $place:literal) => { 0x2B2B };
+    (TME $place:literal) => { 0x122C };
+    (ADM $place:literal) => { 0x0B53 };
+    ($other:ident $place:literal) => { 0x0000 };
 }
 
 macro_rules! request_10 {
-    (SND $place:literal) => { 174 + $place };
+    (SND $place:literal) => { 0xA0AE + 0x0101 * $place };
     ($other:ident $place:literal) => { request!($other $place) };
 }
 
 macro_rules! server {
-    (CCD $place:literal) => { 209 + $place };
-    (DRW $place:literal) => { 42 };
-    (HLO $place:literal) => { 86 };
-    (HUH $place:literal) => { 79 };
-    (LOD $place:literal) => { 46 };
-    (MAP $place:literal) => { 46 };
-    (MDF $place:literal) => { 87 };
-    (MIS $place:literal) => { 88 };
-    (NOT $place:literal) => { 89 };
-    (NOW $place:literal) => { 90 };
-    (OFF $place:literal) => { 2 };
-    (ORD $place:literal) => { 91 };
-    (OUT $place:literal) => { 209 + $place };
-    (REJ $place:literal) => { 216 + $place };
-    (SCO $place:literal) => { 92 };
-    (SLO $place:literal) => { 70 };
-    (SVE $place:literal) => { 46 };
-    (THX $place:literal) => { 93 };
-    (TME $place:literal) => { 94 };
-    (YES $place:literal) => { 216 + $place };
-    (ADM $place:literal) => { 83 };
-    (SMR $place:literal) => { 95 };
-    ($other:ident $place:literal) => { 0 };
+    (CCD $place:literal) => { 0x0DD1 + $place };
+    (DRW $place:literal) => { 0x0F2A };
+    (HLO $place:literal) => { 0x3156 };
+    (HUH $place:literal) => { 0x1B4F };
+    (LOD $place:literal) => { 0x0B2E };
+    (MAP $place:literal) => { 0x0B2E };
+    (MDF $place:literal) => { 0x0E57 };
+    (MIS $place:literal) => { 0x4258 };
+    (NOT $place:literal) => { 0x4859 };
+    (NOW $place:literal) => { 0x175A };
+    (OFF $place:literal) => { 0x0002 };
+    (ORD $place:literal) => { 0x175B };
+    (OUT $place:literal) => { 0x0DD1 + $place };
+    (REJ $place:literal) => { 0xB5D8 + 0x0101 * $place };
+    (SCO $place:literal) => { 0x385C };
+    (SLO $place:literal) => { 0x0D46 };
+    (SVE $place:literal) => { 0x0B2E };
+    (THX $place:literal) => { 0x245D };
+    (TME $place:literal) => { 0x115E };
+    (YES $place:literal) => { 0xB5D8 + 0x0101 * $place };
+    (ADM $place:literal) => { 0x0B53 };
+    (SMR $place:literal) => { 0x175F };
+    ($other:ident $place:literal) => { 0x0000 };
 }
 
 macro_rules! server_10 {
-    (FRM $place:literal) => { 223 + $place };
+    (FRM $place:literal) => { 0x0DDF + $place };
     ($other:ident $place:literal) => { server!($other $place) };
 }
 
-/// A class's column: the rule of each symbol, in the order of their numbers.
+/// A class's column: the cell of each symbol, in the order of their numbers.
 macro_rules! column {
     ($class:ident) => {
         [

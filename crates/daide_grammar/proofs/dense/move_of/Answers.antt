@@ -1,13 +1,21 @@
-use Rattle.std.proofs.Common.{ap, ◌∙◌}
-use Rattle.daide_grammar.specs.Table.Cells.{rule_at}
+use Rattle.std.proofs.Common.{ℕ, ap, sym, ◌∙◌}
+use Rattle.std.specs.Prelude.{◌/◌, ◌%◌}
+use Rattle.daide_grammar.specs.Table.Cells.{first_at, rule_at}
 use Rattle.daide_grammar.specs.Table.ParseActions.{action}
 use Rattle.daide_grammar.specs.Table.Symbols.{table_answer}
+use Rattle.daide_grammar.proofs.NextsAgree.{next_told}
 use Rattle.daide_grammar.proofs.RowsAgree.{looked_up}
 use Rattle.daide_grammar.proofs.dense.move_of.Goals as goal
 
+pub of_cell-requires : goal.of_cell-requires
+of_cell-requires c =
+    ap (λ (cell : ℕ). cell / 256) c.row_cell-cell.ensures
+    ∙ next_told c.number.result c.number-2.result
+    ∙ ap (λ (cell : ℕ). first_at (cell % 256)) (sym c.row_cell-cell.ensures)
+
 pub returns : goal.returns
 returns c =
-    c.of.ensures ∙ ap action c.rule_at.ensures
+    c.of_cell.ensures ∙ ap (λ (cell : ℕ). action (cell % 256)) c.row_cell-cell.ensures
     ∙ ap (λ n. action (rule_at c.number.result n)) c.number-2.ensures.number
     ∙ looked_up c.args.sym c.number.result c.number.ensures.below
     ∙ ap (table_answer c.args.sym) c.number.ensures.class

@@ -4,8 +4,11 @@ use Rattle.daide_grammar.specs.Table.Answers.{TableEntry}
 use Rattle.daide_grammar.specs.Table.Cells.{first_at}
 use Rattle.daide_grammar.specs.Table.Numbers.{symbol_at}
 use Rattle.daide_grammar.specs.Table.ParseActions.{rest_of}
-use Rattle.daide_grammar.proofs.RulesFit.{first_fits, no_rest}
+use Rattle.daide_grammar.proofs.RulesFit.{first_fits, first_small, no_rest}
 use Rattle.daide_grammar.proofs.predict.Move.first.Goals as goal
+
+pub of-requires : goal.of-requires
+of-requires c = omega (arith, c.self.invariant.1, first_small c.self.inside.rule)
 
 pub returns-clause-first : goal.returns-clause-first
 returns-clause-first c =
@@ -13,9 +16,9 @@ returns-clause-first c =
     let less : n < 256 = omega arith in
     let many = c.if-self-le-TAKE.false in
     let some : nat_le n 2 ≡ false = grind (arith, nat_tests) in
-    rw c.first_of.ensures
+    rw c.of.ensures (rw c.self.invariant.1
     (subst (λ (a : TableEntry). rest_of a ≡ symbol_at (first_at n) ∷ drop 1 (rest_of a)) c.self.view_is
-    (first_fits n less some))
+    (first_fits n less some)))
 
 pub returns-then-self-le-TAKE-clause-none : goal.returns-then-self-le-TAKE-clause-none
 returns-then-self-le-TAKE-clause-none c =
