@@ -430,10 +430,12 @@ class Floods(Act):
 
 @dataclass(frozen=True)
 class Flooded(Act):
-    """The bot has done so for a second."""
+    """The bot has done so for this many seconds."""
+
+    seconds: float = 1
 
     def play(self, stage):
-        return stage.awaits_moment(stage.flood_began + 1)
+        return stage.awaits_moment(stage.flood_began + self.seconds)
 
 
 @dataclass(frozen=True)

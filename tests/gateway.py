@@ -147,26 +147,30 @@ TWO_AT_ONCE = [
     HearsEnd(Server(0)),
 ]
 
-ONE_FLOODS = [
-    *joins(),
-    *joins(),
-    *opens(0),
-    *asks(1),
-    Floods(0),
-    *greets(1),
-    Says(Bot(1), OBS),
-    Hears(Server(1), OBS),
-    Flooded(),
-    Says(Bot(1), OBS),
-    Hears(Server(1), OBS),
-    Says(Bot(1), UNCLOSED),
-    Hears(Bot(1), ITS_PRN),
-    Says(Bot(1), FM),
-    Hears(Server(1), FM),
-    HearsEnd(Server(1)),
-    Leave(),
-    Hears(Server(0), FM),
-]
+
+def one_floods(seconds):
+    """Returns the acts of two bots, one of which has sent messages without end for this long when the other goes on."""
+    return [
+        *joins(),
+        *joins(),
+        *opens(0),
+        *asks(1),
+        Floods(0),
+        *greets(1),
+        Says(Bot(1), OBS),
+        Hears(Server(1), OBS),
+        Flooded(seconds),
+        Says(Bot(1), OBS),
+        Hears(Server(1), OBS),
+        Says(Bot(1), UNCLOSED),
+        Hears(Bot(1), ITS_PRN),
+        Says(Bot(1), FM),
+        Hears(Server(1), FM),
+        HearsEnd(Server(1)),
+        Leave(),
+        Hears(Server(0), FM),
+    ]
+
 
 SECOND_WAITS = [
     Comes(),
@@ -272,7 +276,7 @@ SCENES = [
     Scene("server_that_never_answers_is_given_up", NEVER_ANSWERS, told=UNREACHED, server=full_listener, waits=True),
     Scene("end_that_comes_with_the_last_bytes_is_heard", ENDS_WITH_ITS_LAST),
     Scene("two_sessions_at_once", TWO_AT_ONCE, "sessions = 2"),
-    Scene("messages_pass_beside_a_flood", ONE_FLOODS, "sessions = 2"),
+    Scene("messages_pass_beside_a_flood", one_floods(1), "sessions = 2"),
     Scene("one_bot_more_than_held_waits", SECOND_WAITS, "max_sessions = 1\nsessions = 2"),
     Scene("each_is_greeted_beside_idle_ones", ALL_ARE_GREETED, f"max_sessions = {IDLE}\nsessions = {IDLE}"),
     Scene("silent_bot_gets_em_01_after_its_time", STAYS_SILENT, "im_seconds = 1", waits=True),

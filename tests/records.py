@@ -15,7 +15,7 @@ from frames import (
     EM_01, EM_08, EM_09, EM_0C, EM_0E, FM, IM, ITS_ERR, ITS_PRN, OBS, OBS_FM, OBS_GOF, RM, UNCLOSED, UNKNOWN, YES,
 )
 from gateway import (
-    GETS_PRN, HEARS_THE_END, IS_NOT_RESET, NOBODY_SERVES, ONE_FLOODS, STAYS_SILENT, UNREACHED, joins, opens,
+    GETS_PRN, HEARS_THE_END, IS_NOT_RESET, NOBODY_SERVES, STAYS_SILENT, UNREACHED, joins, one_floods, opens,
 )
 from held import Wrong, same
 from stage import SECONDS, Scene, full_listener, record_names, silent_door
@@ -383,7 +383,8 @@ SCENES = [
         recorded=0,
     ),
     Scene("recorded_run_waits", STAYS_SILENT, "im_seconds = 1", waits=True, recorded=1),
-    Scene("recorded_messages_pass_beside_a_flood", ONE_FLOODS, "sessions = 2", recorded=2),
+    # A flood of a second may have more lines than a record.
+    Scene("recorded_messages_pass_beside_a_flood", one_floods(0.2), "sessions = 2", recorded=2),
     Scene("recorded_run_ends_without_a_reset", IS_NOT_RESET, recorded=1),
     Scene("verbose_run_tells_both_ends_of_a_session", GETS_PRN, told=TELLS_BOTH, verbose=True),
     Scene("verbose_run_is_recorded", GETS_PRN, told=TELLS_BOTH, verbose=True, recorded=1),

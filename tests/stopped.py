@@ -11,9 +11,9 @@ SOME, MORE = 70, 130
 # The number of bots that come at once: fewer than wait in the queue of a listener.
 COMING = 100
 
-# The numbers of messages of 6 and of 12 bytes that take more than one read of 4,096 bytes, or more than two.
-MANY_SHORT = (700, 1_000, 1_400)
-MANY_LONG = (350, 500, 700)
+# The numbers of messages of 6 and of 12 bytes that take more than one read of 16,384 bytes, or more than two.
+MANY_SHORT = (2_800, 4_000, 5_600)
+MANY_LONG = (1_400, 2_000, 2_800)
 
 
 def speak_at_once(count):

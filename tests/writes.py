@@ -1,4 +1,4 @@
-"""A scene under strace: each answer of the gateway that fits into 4,096 bytes is one system call, as docs/OPERATING.md
+"""A scene under strace: each answer of the gateway that fits into 16,384 bytes is one system call, as docs/OPERATING.md
 says.
 
 The calls are those that write to a socket. A call that accepted nothing counts as well.
@@ -20,18 +20,18 @@ from held import NotPlayed, Wrong, same
 from stage import Scene, begun
 
 # The capacity of a socket's write buffer.
-MOST_IN_ONE = 4_096
+MOST_IN_ONE = 16_384
 
 # The messages of a bot and their answers: short ones, the longest that fit, the shortest that do not fit, and one that
 # is far longer.
 ANSWERS = [
     (UNCLOSED, ITS_PRN),
     (OBS_GOF, ITS_ERR),
-    unclosed_name(2_041),
-    misnamed(2_035),
-    unclosed_name(2_042),
-    misnamed(2_036),
-    misnamed(10_000),
+    unclosed_name(8_185),
+    misnamed(8_179),
+    unclosed_name(8_186),
+    misnamed(8_180),
+    misnamed(30_000),
 ]
 
 ACTS = [

@@ -65,7 +65,7 @@ drop_size = 4096
 
 -- the capacity of a buffer, in bytes
 abbrev pub buffer_size : ℕ
-buffer_size = 4096
+buffer_size = 16384
 
 -- the bytes of one buffer, and the free space after them
 pub record Roomful : Type 0 where

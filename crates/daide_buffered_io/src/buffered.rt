@@ -200,7 +200,7 @@ impl<S: Duplex + Drop> Buffered<S> {
     ///
     /// `unwritten`: it writes nothing.
     ///
-    /// `few`: each buffer has at most 4,096 bytes.
+    /// `few`: each buffer has at most 16,384 bytes.
     ///
     /// `asked`: if the read buffer is empty, it reads the stream, into as much room or more, and returns what that read
     /// is.
@@ -389,7 +389,7 @@ impl<S: Duplex + Drop> Buffered<S> {
         put
     }
 
-    /// Puts bytes. Fewer than `MOST_HELD`, 4,096, are kept together: if the free space is too small for all of them,
+    /// Puts bytes. Fewer than `MOST_HELD`, 16,384, are kept together: if the free space is too small for all of them,
     /// the write buffer is written first.
     ///
     /// Returns `Took(n)` if the first `n` bytes are accepted, in order: the stream or the write buffer has them.

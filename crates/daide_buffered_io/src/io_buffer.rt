@@ -15,7 +15,7 @@ use std::alloc::{AllocError, Global};
 use std::marker::Model;
 
 /// The capacity of a buffer, in bytes.
-pub const MOST_HELD: usize = 4096;
+pub const MOST_HELD: usize = 16384;
 
 /// A FIFO byte buffer with a capacity of `MOST_HELD`, allocated at once. Its abstract value is the list of its bytes,
 /// and the free space after the last of them. Removing the first bytes adds nothing to it; only an emptied buffer is

@@ -11,7 +11,7 @@ use std::marker::Model;
 /// The most free buffers that are kept. Further ones are deallocated.
 const MOST_FREE: usize = 64;
 
-/// The free buffers, at most 64 of 4,096 bytes each: 256 KB. The abstract value is their number.
+/// The free buffers, at most 64 of 16,384 bytes each: 1 MB. The abstract value is their number.
 #[derive(Drop)]
 struct Free {
     rooms: Vec<IoBuffer>,
@@ -52,7 +52,7 @@ impl Free {
 }
 
 /// The buffers of a run's sockets. A socket takes one with its first buffered byte, and gives it back with the last. At
-/// most 64 free buffers of 4,096 bytes are kept (the invariant of `Free`).
+/// most 64 free buffers of 16,384 bytes are kept (the invariant of `Free`).
 #[derive(Drop)]
 pub struct Pool {
     alloc: Global,

@@ -78,7 +78,7 @@ fn needs_of(alloc: Global, settings: &Settings) -> io::Result<Vec<u8>> {
     )?;
     writeln!(
         text,
-        "#   about 22000 a session for its other fields and its buffers, and 3 MB for the program"
+        "#   about 71000 a session for its other fields and its buffers, and 3 MB for the program"
     )?;
     write_descriptors(settings, &mut text)?;
     Ok(text)

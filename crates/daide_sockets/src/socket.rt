@@ -31,8 +31,8 @@ use daide_io::network::Network;
 use daide_io::ports::{Pull, Put};
 use std::time::{Duration, Instant};
 
-/// The most turns for which writable bytes stay buffered, even if each turn adds more.
-const MOST_TURNS_HELD: usize = 32;
+/// The most turns for which writable bytes stay buffered, even if each turn adds more: 32 visits of a busy session.
+const MOST_TURNS_HELD: usize = 128;
 
 /// A non-blocking connection with its buffers, its readiness and its deadlines. It has a row of the table.
 #[derive(Drop)]

@@ -134,10 +134,10 @@ type Written = (
     (usize, usize),
 );
 
-/// A stream that accepts every write whole.
-const ALL: &[usize] = &[9_999, 9_999, 9_999, 9_999];
+/// A stream that accepts every write whole; at most 16,384 bytes are written at once.
+const ALL: &[usize] = &[59_999, 59_999, 59_999, 59_999];
 
-/// A few bytes stay in the write buffer until their session has nothing else to do, the buffer is full, or 32 turns
+/// A few bytes stay in the write buffer until their session has nothing else to do, the buffer is full, or 128 turns
 /// began. Many bytes are written at once, together with the write buffer before them.
 const WRITTEN: &[Written] = &[
     (ALL, ALL, &[Puts(Side::Server, 3)], (0, 0)),
@@ -153,13 +153,13 @@ const WRITTEN: &[Written] = &[
     (
         &[],
         ALL,
-        &[Puts(Side::Server, 3), Puts(Side::Bot, 5_000)],
+        &[Puts(Side::Server, 3), Puts(Side::Bot, 17_000)],
         (0, 3),
     ),
     (
         ALL,
         &[],
-        &[Puts(Side::Bot, 3), Puts(Side::Server, 5_000)],
+        &[Puts(Side::Bot, 3), Puts(Side::Server, 17_000)],
         (3, 0),
     ),
     (
@@ -169,25 +169,25 @@ const WRITTEN: &[Written] = &[
         (0, 0),
     ),
     (ALL, ALL, &[Puts(Side::Bot, 3), Puts(Side::Bot, 3)], (0, 0)),
-    (ALL, ALL, &[Puts(Side::Server, 3), Turns(31)], (0, 0)),
-    (ALL, ALL, &[Puts(Side::Server, 3), Turns(32)], (0, 3)),
-    (ALL, ALL, &[Puts(Side::Bot, 3), Turns(32)], (3, 0)),
+    (ALL, ALL, &[Puts(Side::Server, 3), Turns(127)], (0, 0)),
+    (ALL, ALL, &[Puts(Side::Server, 3), Turns(128)], (0, 3)),
+    (ALL, ALL, &[Puts(Side::Bot, 3), Turns(128)], (3, 0)),
     (
         ALL,
         ALL,
-        &[Turns(20), Puts(Side::Server, 3), Turns(31)],
+        &[Turns(20), Puts(Side::Server, 3), Turns(127)],
         (0, 0),
     ),
     (
         ALL,
         ALL,
-        &[Puts(Side::Server, 3), Puts(Side::Bot, 3), Turns(32)],
+        &[Puts(Side::Server, 3), Puts(Side::Bot, 3), Turns(128)],
         (3, 3),
     ),
     (
         ALL,
-        &[0, 9_999],
-        &[Puts(Side::Server, 3), Turns(32), Turns(1)],
+        &[0, 59_999],
+        &[Puts(Side::Server, 3), Turns(128), Turns(1)],
         (0, 3),
     ),
     // Turns are counted for each side, and from 0 again after a part of its write buffer was written.
@@ -198,7 +198,7 @@ const WRITTEN: &[Written] = &[
             Puts(Side::Server, 3),
             Turns(20),
             Puts(Side::Bot, 3),
-            Turns(12),
+            Turns(108),
         ],
         (0, 3),
     ),
@@ -206,54 +206,54 @@ const WRITTEN: &[Written] = &[
         ALL,
         ALL,
         &[
-            Puts(Side::Server, 4_000),
+            Puts(Side::Server, 16_000),
             Turns(20),
-            Puts(Side::Server, 200),
-            Turns(31),
+            Puts(Side::Server, 500),
+            Turns(127),
         ],
-        (0, 4_000),
+        (0, 16_000),
     ),
     (
         ALL,
         ALL,
-        &[Puts(Side::Server, 3_000), Puts(Side::Server, 3_000)],
-        (0, 3_000),
+        &[Puts(Side::Server, 10_000), Puts(Side::Server, 10_000)],
+        (0, 10_000),
     ),
     (
         ALL,
         ALL,
-        &[Puts(Side::Server, 3), Puts(Side::Server, 4_093)],
+        &[Puts(Side::Server, 3), Puts(Side::Server, 16_381)],
         (0, 0),
     ),
     // The free space is only after the last byte; removing bytes from the front adds none.
     (
         ALL,
-        &[1_000, 9_999],
+        &[1_000, 59_999],
         &[
-            Puts(Side::Server, 4_000),
+            Puts(Side::Server, 16_000),
             Idles(Side::Bot),
-            Puts(Side::Server, 200),
+            Puts(Side::Server, 500),
         ],
-        (0, 4_000),
+        (0, 16_000),
     ),
-    (ALL, ALL, &[Puts(Side::Server, 5_000)], (0, 5_000)),
+    (ALL, ALL, &[Puts(Side::Server, 17_000)], (0, 16_384)),
     // Many bytes are sent in one write with the write buffer before them; fewer are kept together.
     (
         ALL,
-        &[9_999],
-        &[Puts(Side::Server, 3), Puts(Side::Server, 5_000)],
-        (0, 4_096),
+        &[59_999],
+        &[Puts(Side::Server, 3), Puts(Side::Server, 17_000)],
+        (0, 16_384),
     ),
     (
         ALL,
-        &[9_999],
-        &[Puts(Side::Server, 3), Puts(Side::Server, 4_096)],
-        (0, 4_096),
+        &[59_999],
+        &[Puts(Side::Server, 3), Puts(Side::Server, 16_384)],
+        (0, 16_384),
     ),
     (
         ALL,
         ALL,
-        &[Puts(Side::Server, 3), Puts(Side::Server, 4_095)],
+        &[Puts(Side::Server, 3), Puts(Side::Server, 16_383)],
         (0, 3),
     ),
     (
@@ -266,17 +266,17 @@ const WRITTEN: &[Written] = &[
     // the same put.
     (
         ALL,
-        &[1_000, 9_999, 9_999],
+        &[1_000, 59_999, 59_999],
         &[
             Puts(Side::Server, 3),
-            Puts(Side::Server, 5_000),
-            Puts(Side::Server, 5_000),
+            Puts(Side::Server, 17_000),
+            Puts(Side::Server, 17_000),
         ],
-        (0, 9_096),
+        (0, 32_768),
     ),
 ];
 
-const BYTES: &[u8] = &[7; 5_000];
+const BYTES: &[u8] = &[7; 17_000];
 
 /// Makes a call of the ports, and returns whether its result is right: no failure of a put, and an idle pull.
 fn does(ports: &mut WirePorts<'_>, table: &mut SocketTable, step: Step) -> bool {
@@ -350,10 +350,10 @@ const FLAGGED: &[Flagged] = &[
     (&[], 0, &[Call::Pull], (false, true, 0)),
     (&[], 8, &[Call::Pull], (false, true, 4)),
     (&[], 8, &[Call::Pull, Call::Pull], (false, true, 8)),
-    (&[], 5_000, &[Call::Pull], (true, true, 4)),
-    (&[], 0, &[Call::Put(5_000)], (true, false, 0)),
-    (&[99], 0, &[Call::Put(5_000)], (true, false, 0)),
-    (&[5_000], 0, &[Call::Put(5_000)], (true, true, 0)),
+    (&[], 17_000, &[Call::Pull], (true, true, 4)),
+    (&[], 0, &[Call::Put(17_000)], (true, false, 0)),
+    (&[99], 0, &[Call::Put(17_000)], (true, false, 0)),
+    (&[17_000], 0, &[Call::Put(17_000)], (true, true, 0)),
     (&[], 0, &[Call::Put(3), Call::Flush], (true, false, 0)),
     (&[3], 0, &[Call::Put(3), Call::Flush], (true, true, 0)),
 ];

@@ -30,34 +30,34 @@ returns-in_default-clause-asked g c =
 
 pub returns-in-Got-clause-asked : goal.returns-in-Got-clause-asked
 returns-in-Got-clause-asked g c =
-    let free_space = short (length c.args.buffer.now) 4096 _ c.in-Some.held c.in-Some.is
+    let free_space = short (length c.args.buffer.now) 16384 _ c.in-Some.held c.in-Some.is
     (elim c.if-buffer-lt-MOST_HELD.branch [
       | then-buffer-lt-MOST_HELD w ↦ inl w.if-buffer-lt-MOST_HELD.true
       | else-buffer-lt-MOST_HELD w ↦ inr w.free_space-is
     ]) in
-    more_pull g.S.Duplex.calls c.args.self.now.read_buffer _ 4096 _ _ c.self.inside.stream _ c.refill.new.stream _
+    more_pull g.S.Duplex.calls c.args.self.now.read_buffer _ 16384 _ _ c.self.inside.stream _ c.refill.new.stream _
     (Got c.hand_out.result) (Got c.in-Got._count) (ap (λ (b : Buffer g.row.S.Denot). b.stream) c.self.view_is) free_space
     c.hand_out.ensures.rest.0 refl c.in-Got.ensures.asked
 
 pub returns-in-Idle-clause-asked : goal.returns-in-Idle-clause-asked
 returns-in-Idle-clause-asked g c =
-    let free_space = short (length c.args.buffer.now) 4096 _ c.in-Some.held c.in-Some.is
+    let free_space = short (length c.args.buffer.now) 16384 _ c.in-Some.held c.in-Some.is
     (elim c.if-buffer-lt-MOST_HELD.branch [
       | then-buffer-lt-MOST_HELD w ↦ inl w.if-buffer-lt-MOST_HELD.true
       | else-buffer-lt-MOST_HELD w ↦ inr w.free_space-is
     ]) in
-    more_pull g.S.Duplex.calls c.args.self.now.read_buffer _ 4096 _ _ c.self.inside.stream _ c.refill.new.stream _
+    more_pull g.S.Duplex.calls c.args.self.now.read_buffer _ 16384 _ _ c.self.inside.stream _ c.refill.new.stream _
     Idle Idle (ap (λ (b : Buffer g.row.S.Denot). b.stream) c.self.view_is) free_space refl refl
     c.in-Idle.ensures.asked
 
 pub returns-in-Ended-clause-asked : goal.returns-in-Ended-clause-asked
 returns-in-Ended-clause-asked g c =
-    let free_space = short (length c.args.buffer.now) 4096 _ c.in-Some.held c.in-Some.is
+    let free_space = short (length c.args.buffer.now) 16384 _ c.in-Some.held c.in-Some.is
     (elim c.if-buffer-lt-MOST_HELD.branch [
       | then-buffer-lt-MOST_HELD w ↦ inl w.if-buffer-lt-MOST_HELD.true
       | else-buffer-lt-MOST_HELD w ↦ inr w.free_space-is
     ]) in
-    more_pull g.S.Duplex.calls c.args.self.now.read_buffer _ 4096 _ _ c.self.inside.stream _ c.refill.new.stream _
+    more_pull g.S.Duplex.calls c.args.self.now.read_buffer _ 16384 _ _ c.self.inside.stream _ c.refill.new.stream _
     Ended Ended (ap (λ (b : Buffer g.row.S.Denot). b.stream) c.self.view_is) free_space refl refl
     c.in-Ended.ensures.asked
 

@@ -16,7 +16,7 @@ returns-in-Got-clause-given g c =
 
 pub returns-in-Got-clause-asked : goal.returns-in-Got-clause-asked
 returns-in-Got-clause-asked g c =
-    let size : length c.as_mut_slice.result.now ≡ 4096 = c.as_mut_slice.ensures.len ∙ c.self.invariant.2 in
+    let size : length c.as_mut_slice.result.now ≡ 16384 = c.as_mut_slice.ensures.len ∙ c.self.invariant.2 in
     subst (λ (free_space : ℕ). IsPull g.S.Duplex.calls free_space c.args.readiness.now c.args.stream.now (Got c.in-Got.count)
     c.pull_from-pull.new.readiness c.pull_from-pull.new.stream) size c.in-Got.ensures.asked
 
@@ -29,7 +29,7 @@ returns-in-Got-clause-count g c =
 
 pub returns-in_default : goal.returns-in_default
 returns-in_default g c =
-    let size : length c.as_mut_slice.result.now ≡ 4096 = c.as_mut_slice.ensures.len ∙ c.self.invariant.2 in
+    let size : length c.as_mut_slice.result.now ≡ 16384 = c.as_mut_slice.ensures.len ∙ c.self.invariant.2 in
     let none = nothing_pulled c.pull_from-pull.result c.in_default.not-Got in
     record {
       given = subst (λ (n : ℕ). Consumes (g.S.Duplex.to_give c.args.stream.now)
