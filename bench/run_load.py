@@ -8,7 +8,7 @@ MEASURE all eight are measured:
 
     calls         system calls per frame, if strace is installed
     instructions  instructions of the process (callgrind), in bulk and for a round trip, if valgrind is installed
-    round-trip    the time of a request and its answer, also beside 100 idle sessions
+    round-trip    the time of a request and its answer, also beside 100 and 255 idle sessions
     bulk          throughput of one session in one direction, at three sizes of bodies
     recorded      throughput of 256 sessions at once, with and without a record of each, of PROGRAM alone
     memory        memory of idle and of used sessions, and the processor time of 256 idle ones
@@ -245,19 +245,16 @@ def measure_round_trip(programs):
     tell_times("round trip with nothing between", direct_round_trip(5000))
     tell_beside("round trip, p50 / p99", medians(programs, trips), "us")
 
-    def beside_idle(between):
-        held = [between.session() for _ in range(100)]
-        found = trips(between)
-        del held
-        return found
-
-    for name, program in programs.items():
-        found = []
-        for _ in range(5):
-            with Gateway(program) as gateway:
-                found.append(beside_idle(gateway))
-        p50, p99 = (statistics.median(column) for column in zip(*found))
-        print(f"round trip beside 100 idle sessions, p50 / p99, {name}: {p50:.4g} / {p99:.4g} us", flush=True)
+    for idle in (100, 255):
+        for name, program in programs.items():
+            found = []
+            for _ in range(5):
+                with Gateway(program) as gateway:
+                    held = [gateway.session() for _ in range(idle)]
+                    found.append(trips(gateway))
+                    del held
+            p50, p99 = (statistics.median(column) for column in zip(*found))
+            print(f"round trip beside {idle} idle sessions, p50 / p99, {name}: {p50:.4g} / {p99:.4g} us", flush=True)
 
 
 def measure_calls(programs):
