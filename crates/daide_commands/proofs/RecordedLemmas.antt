@@ -2,7 +2,7 @@
 use Rattle.std.proofs.Common.{◌≡◌, Bool, true, false, refl, ap, ◌∙◌}
 use Rattle.std.specs.Prelude.{◌||◌}
 use Rattle.daide_io.specs.Interest.{MayAddWork}
-use Rattle.daide_io.specs.declared.interest.Interest.{Interest}
+use Rattle.daide_io.specs.Interest.{InterestView}
 use Rattle.daide_sockets.specs.declared.ports.SocketPorts.{SocketPorts}
 use Rattle.daide_sockets.specs.Interests.{interest_of, may_go_on_for}
 use Rattle.daide_sockets.specs.Table.{Table, is_reported_at, watching}
@@ -24,25 +24,25 @@ moved false false false true = refl
 moved false false false false = refl
 
 -- ports with this interest, whatever is added to the work of others
-pub is_of_busier : {S : Type 0} (ports : SocketPorts S) (interest : Interest) →
+pub is_of_busier : {S : Type 0} (ports : SocketPorts S) (interest : InterestView) →
     (h : MayAddWork (λ own. own ≡ interest_of ports) interest) → interest ≡ interest_of (busier ports h.1)
 is_of_busier ports interest h =
-    h.3 ∙ (ap (λ (own : Interest). record own { has_work = own.has_work || h.1 }) h.2
+    h.3 ∙ (ap (λ (own : InterestView). record own { has_work = own.has_work || h.1 }) h.2
     ∙ ap (λ (b : Bool). record (interest_of ports) { has_work = b }) (moved ports.bot.tries_again h.1 _ _))
 
 -- what a table knows of it
-pub goes_on_for : {S : Type 0} (table : Table) (ports : SocketPorts S) (interest : Interest) →
+pub goes_on_for : {S : Type 0} (table : Table) (ports : SocketPorts S) (interest : InterestView) →
     (h : MayAddWork (λ own. own ≡ interest_of ports) interest) →
     may_go_on_for table interest ≡ (may_session_go_on table (timers_of ports).sockets || h.1)
 goes_on_for table ports interest h =
-    ap (λ (i : Interest). may_go_on_for table i)
-    (h.3 ∙ ap (λ (own : Interest). record own { has_work = own.has_work || h.1 }) h.2)
+    ap (λ (i : InterestView). may_go_on_for table i)
+    (h.3 ∙ ap (λ (own : InterestView). record own { has_work = own.has_work || h.1 }) h.2)
     ∙ waits_at_most table ports h.1
 
 -- its deadline is that of the ports
-pub due_for : {S : Type 0} (ports : SocketPorts S) (interest : Interest) →
+pub due_for : {S : Type 0} (ports : SocketPorts S) (interest : InterestView) →
     (h : MayAddWork (λ own. own ≡ interest_of ports) interest) → interest.due ≡ (interest_of ports).due
-due_for ports interest h = ap (λ (i : Interest). i.due) h.3 ∙ ap (λ (own : Interest). own.due) h.2
+due_for ports interest h = ap (λ (i : InterestView). i.due) h.3 ∙ ap (λ (own : InterestView). own.due) h.2
 
 added : (reported tries other held rest : Bool) →
     ((reported || ((tries || other) || held)) || rest) ≡ (((reported || (tries || held)) || rest) || other)

@@ -104,7 +104,7 @@ impl<P: Ports> QuotaPorts<P> {
         ensures begins { Meters P.transition self.old TurnBegins self.new }
         ensures asked { TransitsBy S.transition system.old (beginning self.old self.new) system.new }
     {
-        self.interest.has_work = true;
+        self.interest.add_work();
         self.turns_left = self.turns_left.and_then(|turns| turns.checked_sub(1));
         self.load = load_at_turn(self.made_progress, self.load);
         self.made_progress = false;
@@ -171,7 +171,7 @@ impl<P: Ports> QuotaPorts<P> {
         ensures { (report : List (SystemCall P)) × TransitsBy S.transition system.old report system.new
             × IsDueBy self.now.made_progress self.now.ports report result }
     {
-        if self.interest.has_work {
+        if self.interest.has_work() {
             return self.made_progress || system.has_news(&self.ports.interest());
         }
         system.has_news(&self.interest)
@@ -217,7 +217,7 @@ impl<P: Ports> Ports for QuotaPorts<P> {
     ghost interest = { λ ports interest. P.interest ports.ports interest };
 
     fn pull(&mut self, side: Side, buffer: &mut [u8]) -> Pull {
-        self.interest.has_work = true;
+        self.interest.add_work();
         let pull = match self.turns_left {
             Some(_turns) => self.ports.pull(side, buffer),
             None => {
@@ -236,7 +236,7 @@ impl<P: Ports> Ports for QuotaPorts<P> {
     }
 
     fn put(&mut self, side: Side, bytes: &[u8]) -> Put {
-        self.interest.has_work = true;
+        self.interest.add_work();
         let put = match self.turns_left {
             Some(_turns) => self.ports.put(side, bytes),
             None => {
@@ -254,7 +254,7 @@ impl<P: Ports> Ports for QuotaPorts<P> {
     }
 
     fn clock(&mut self) -> ClockEvent {
-        self.interest.has_work = true;
+        self.interest.add_work();
         let event = match self.turns_left {
             Some(_turns) => self.ports.clock(),
             None => ClockEvent::NoEvent,

@@ -1,24 +1,68 @@
 //! What a session waits for between two of its turns.
 
-ghost use Rattle.std.specs.Prelude.{◌≡◌, ◌||◌};
+ghost use Rattle.std.specs.Prelude.{◌≡◌, ◌≤◌, ◌||◌, Option, true};
+ghost use Rattle.daide_io.specs.Interest.{greater_of};
 
+use std::marker::Model;
 use std::time::Instant;
+
+/// Returns the greater one of two keys.
+#[inline(always)]
+fn greater_of(one: usize, other: usize) -> usize
+    ensures { result ≡ greater_of one other }
+{
+    if one <= other { other } else { one }
+}
 
 /// What a session waits for from the end of a turn until its next one: all that its system needs to know of its ports to
 /// tell whether there is news for it. It is a small copy, so that a system does not look at the ports of each session in
-/// each round.
+/// each round. The abstract value has the keys of both connections, whether something may be done at once, whether the
+/// session knows that the operator stopped it, and the nearest deadline.
 #[derive(Clone, Copy)]
 pub struct Interest {
-    /// The key under which the network follows the bot's connection.
-    pub bot: usize,
-    /// The key under which it follows the server's connection.
-    pub server: usize,
-    /// Whether something may be done at once.
-    pub has_work: bool,
-    /// Whether the session knows that the operator stopped it.
-    pub is_stopped: bool,
-    /// The nearest deadline; `None` if there is none.
-    pub due: Option<Instant>,
+    bot: usize,
+    server: usize,
+    /// The greater one of both keys, so that one comparison tells whether a table has a row for each.
+    greater: usize,
+    has_work: bool,
+    is_stopped: bool,
+    due: Option<Instant>,
+}
+
+impl Model for Interest {
+    ghost use Rattle.std.specs.Prelude.{◌≡◌, ℕ};
+    ghost use Rattle.daide_io.specs.Interest.{InterestView, greater_of};
+    ghost use Rattle.std.proofs.Common.{ap, sym};
+
+    ghost Value = { InterestView };
+
+    ghost view = { λ i. record {
+      bot = i.bot;
+      server = i.server;
+      has_work = i.has_work;
+      is_stopped = i.is_stopped;
+      due = i.due;
+    } };
+
+    ghost invariant = { λ i. i.greater ≡ greater_of i.bot i.server };
+
+    ghost inverse = { λ i. record {
+      bot = i.bot;
+      server = i.server;
+      greater = greater_of i.bot i.server;
+      has_work = i.has_work;
+      is_stopped = i.is_stopped;
+      due = i.due;
+    } };
+
+    ghost inverse_ok = { λ i h. ap (λ (k : ℕ). record {
+      bot = i.bot;
+      server = i.server;
+      greater = k;
+      has_work = i.has_work;
+      is_stopped = i.is_stopped;
+      due = i.due;
+    }) (sym h) };
 }
 
 impl Interest {
@@ -26,6 +70,7 @@ impl Interest {
     pub const NONE: Interest = Interest {
         bot: 0,
         server: 0,
+        greater: 0,
         has_work: false,
         is_stopped: false,
         due: None,
@@ -35,18 +80,104 @@ impl Interest {
     pub const UNKNOWN: Interest = Interest {
         bot: 0,
         server: 0,
+        greater: 0,
         has_work: true,
         is_stopped: false,
         due: None,
     };
 
+    /// Creates the interest in a bot's connection and a server's, which the network follows under these keys, by whether
+    /// the session knows that the operator stopped it, whether something may be done at once, and its nearest deadline.
+    pub fn new(
+        bot: usize,
+        server: usize,
+        is_stopped: bool,
+        has_work: bool,
+        due: Option<Instant>,
+    ) -> Interest
+        ensures { result ≡ record {
+          bot = bot;
+          server = server;
+          has_work = has_work;
+          is_stopped = is_stopped;
+          due = due;
+        } }
+    {
+        Interest {
+            bot,
+            server,
+            greater: greater_of(bot, server),
+            has_work,
+            is_stopped,
+            due,
+        }
+    }
+
+    /// Returns the key under which the network follows the bot's connection.
+    #[inline(always)]
+    pub fn bot(&self) -> usize
+        ensures { result ≡ self.now.bot }
+    {
+        self.bot
+    }
+
+    /// Returns the key under which it follows the server's connection.
+    #[inline(always)]
+    pub fn server(&self) -> usize
+        ensures { result ≡ self.now.server }
+    {
+        self.server
+    }
+
+    /// Returns the greater one of both keys.
+    #[inline(always)]
+    pub fn greater_key(&self) -> usize
+        ensures bot { self.now.bot ≤ result }
+        ensures server { self.now.server ≤ result }
+    {
+        self.greater
+    }
+
+    /// Returns whether the session knows that the operator stopped it.
+    #[inline(always)]
+    pub fn is_stopped(&self) -> bool
+        ensures { result ≡ self.now.is_stopped }
+    {
+        self.is_stopped
+    }
+
+    /// Returns whether something may be done at once.
+    #[inline(always)]
+    pub fn has_work(&self) -> bool
+        ensures { result ≡ self.now.has_work }
+    {
+        self.has_work
+    }
+
+    /// Returns the nearest deadline; `None` if there is none.
+    #[inline(always)]
+    pub fn due(&self) -> Option<Instant>
+        ensures { result ≡ self.now.due }
+    {
+        self.due
+    }
+
+    /// Records that something may be done at once.
+    #[inline(always)]
+    pub fn add_work(&mut self)
+        ensures { self.new ≡ record self.old { has_work = true } }
+    {
+        self.has_work = true;
+    }
+
     /// Returns the same interest; if `other` is true, something else may be done at once too.
     pub fn or_work(self, other: bool) -> Interest
         ensures { result ≡ record self { has_work = self.has_work || other } }
     {
-        Interest {
-            has_work: self.has_work || other,
-            ..self
+        let mut interest = self;
+        if other {
+            interest.add_work();
         }
+        interest
     }
 }

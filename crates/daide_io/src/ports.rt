@@ -3,7 +3,7 @@
 ghost use Rattle.std.specs.Prelude.{length, take};
 ghost use Rattle.daide_io.specs.Ports.{PortCall, Clock, Pulled, Offered, IsPullWithin, IsPutWithin};
 ghost use Rattle.daide_io.specs.Ports.{pulled_len};
-ghost use Rattle.daide_io.specs.declared.interest.Interest.{Interest};
+ghost use Rattle.daide_io.specs.Interest.{InterestView};
 
 use crate::interest::Interest;
 use daide_frame::side::Side;
@@ -49,7 +49,7 @@ pub trait Ports: Drop {
     ghost transition: { Self → PortCall → Self → Type 0 };
 
     /// What the session with these ports may wait for until its next turn.
-    ghost interest: { Self → Interest → Type 0 };
+    ghost interest: { Self → InterestView → Type 0 };
 
     /// Reads bytes from a side into the front of the buffer. Returns `Got`, `Idle` or `Ended`.
     fn pull(&mut self, side: Side, buffer: &mut [u8]) -> Pull

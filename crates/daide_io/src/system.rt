@@ -12,7 +12,7 @@ ghost use Rattle.std.specs.Prelude.{◌≡◌, true, false};
 ghost use Rattle.daide_io.specs.Ports.{TurnBegins};
 ghost use Rattle.daide_io.specs.System.{SystemCall, Begins, Shows, ReportsNews, BeginsTurn, Watches, Accepts, Connects};
 ghost use Rattle.daide_io.specs.System.{Retires, Notifies, Waits};
-ghost use Rattle.daide_io.specs.declared.interest.Interest.{Interest};
+ghost use Rattle.daide_io.specs.Interest.{InterestView};
 
 use crate::byte_counts::ByteCounts;
 use crate::fault_field::FaultField;

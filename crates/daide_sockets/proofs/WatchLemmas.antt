@@ -3,7 +3,7 @@ use Rattle.std.proofs.Common.{◌≡◌, ℕ, zero, suc, Bool, true, false, List
 use Rattle.std.specs.Prelude.{◌||◌, nat_le}
 use Rattle.std.specs.declared.time.Duration.{Duration}
 use Rattle.daide_io.specs.Network.{NetworkCall}
-use Rattle.daide_io.specs.declared.interest.Interest.{Interest}
+use Rattle.daide_io.specs.Interest.{InterestView}
 use Rattle.daide_io.specs.declared.network.SocketEvent.{SocketEvent}
 use Rattle.daide_sockets.specs.declared.ports.SocketPorts.{SocketPorts}
 use Rattle.daide_sockets.specs.Table.{Row}
@@ -102,11 +102,11 @@ polled_keeps transition old_network new_network old new looks rests = by (nat_le
 
 -- ---- a question
 
-pub asked : {S : Type 0} (news : Bool) (old mid new : Table) (ports : SocketPorts S) (interest : Interest) →
+pub asked : {S : Type 0} (news : Bool) (old mid new : Table) (ports : SocketPorts S) (interest : InterestView) →
     interest ≡ interest_of ports → KeepsWatched old mid → new ≡ after_question news mid interest →
     AsksForNews news old (timers_of ports).sockets new
 asked news old mid new ports interest own keeps e =
-    (mid, keeps, by news (e ∙ ap (λ (i : Interest). after_question news mid i) own))
+    (mid, keeps, by news (e ∙ ap (λ (i : InterestView). after_question news mid i) own))
   where
     by : (news : Bool) → new ≡ after_question news mid (interest_of ports) →
         WatchesUnless news mid (timers_of ports).sockets new

@@ -181,7 +181,7 @@ fn put_or_flush_peer<S: Duplex + Drop>(
 /// and took exactly those that it says it took (`transition`, `Transfers`). Of the other side nothing is read,
 /// and only bytes that were held for it are written. A call of the clock leaves both sides unchanged.
 ///
-/// What is held for a side is flushed after 32 turns, and once a pull of the other side or a put finds nothing to do
+/// What is held for a side is flushed after 128 turns, and once a pull of the other side or a put finds nothing to do
 /// (`pull_or_flush_peer`, `put_or_flush_peer`: `written`). The parts of an answer are not flushed by such a pull or put
 /// while the turn still puts some.
 ///
@@ -599,12 +599,12 @@ impl<S: Duplex + Drop> Ports for SocketPorts<'_, S> {
     fn interest(&self) -> Interest
         ensures { result ≡ interest_of self.now }
     {
-        Interest {
-            bot: self.bot.key,
-            server: self.server.key,
-            has_work: self.bot.has_work() || self.server.has_work(),
-            is_stopped: self.is_stopped,
-            due: self.due(),
-        }
+        Interest::new(
+            self.bot.key,
+            self.server.key,
+            self.is_stopped,
+            self.bot.has_work() || self.server.has_work(),
+            self.due(),
+        )
     }
 }

@@ -388,7 +388,7 @@ impl<'w, N: Network, E: Write + Drop> Sockets<'w, N, E> {
         ensures same { self.new ≡ record self.old { poller = self.new.poller } }
     {
         self.poller.look_by_turns();
-        self.stops_newly(interest.is_stopped) || self.poller.table.answer_question(interest)
+        self.stops_newly(interest.is_stopped()) || self.poller.table.answer_question(interest)
     }
 
     /// Waits, and watches the sessions that it was to watch, the listener, each connect and each closing socket

@@ -396,15 +396,27 @@ impl SocketTable {
         }
     }
 
+    /// Returns whether polls reported something of a connection of the session with this interest since it last took the
+    /// report.
+    #[inline(always)]
+    fn is_any_reported(&self, interest: &Interest) -> bool
+        ensures { result ≡ (is_reported_at self.now interest.now.bot || is_reported_at self.now interest.now.server) }
+    {
+        // One comparison for both, since each round does this for each session.
+        if interest.greater_key() < self.rows.len() {
+            return self.rows[interest.bot()].is_reported
+                || self.rows[interest.server()].is_reported;
+        }
+        self.is_reported_at(interest.bot()) || self.is_reported_at(interest.server())
+    }
+
     /// Returns whether something may be done at once for the session with this interest: a poll reported something that was
     /// not taken yet, or there is work.
     #[inline(always)]
     fn may_go_on_for(&self, interest: &Interest) -> bool
         ensures { result ≡ may_go_on_for self.now interest.now }
     {
-        self.is_reported_at(interest.bot)
-            || self.is_reported_at(interest.server)
-            || interest.has_work
+        self.is_any_reported(interest) || interest.has_work()
     }
 
     /// Returns whether there is news for the session with this interest: something may be done at once, or its nearest
@@ -413,7 +425,7 @@ impl SocketTable {
     pub fn has_news_for(&self, interest: &Interest) -> bool
         ensures { result ≡ has_news_for self.now interest.now }
     {
-        self.may_go_on_for(interest) || is_past(self.reading, interest.due)
+        self.may_go_on_for(interest) || is_past(self.reading, interest.due())
     }
 
     /// Returns true only if there is no news for the session with this interest, and the next wait watches it already: no
@@ -430,9 +442,9 @@ impl SocketTable {
         }
         match self.watched_due {
             Some(watched) => {
-                !self.may_go_on_for(interest) && !is_nearer(interest.due, Some(watched))
+                !self.may_go_on_for(interest) && !is_nearer(interest.due(), Some(watched))
             }
-            None => !self.may_go_on_for(interest) && interest.due.is_none(),
+            None => !self.may_go_on_for(interest) && interest.due().is_none(),
         }
     }
 
@@ -446,8 +458,8 @@ impl SocketTable {
         if self.has_news_for(interest) {
             return true;
         }
-        if is_nearer(interest.due, self.watched_due) {
-            self.watched_due = interest.due;
+        if is_nearer(interest.due(), self.watched_due) {
+            self.watched_due = interest.due();
         }
         false
     }
@@ -459,7 +471,7 @@ impl SocketTable {
         ensures { self.new ≡ watching self.old (may_go_on_for self.old interest.now) interest.now.due }
     {
         let has_work = self.may_go_on_for(interest);
-        self.watch(has_work, interest.due);
+        self.watch(has_work, interest.due());
     }
 
     /// Returns what the next wait watches: whether something may be done at once, and the nearest deadline.

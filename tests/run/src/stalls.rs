@@ -37,7 +37,7 @@ fn deadlines_of(poller: &mut StillPoller, pool: &Pool) -> (Option<Instant>, [Opt
         }
         ports.begin_turn(&mut poller.table);
         ports.put(Side::Bot, b"abc");
-        *deadline = ports.interest().due;
+        *deadline = ports.interest().due();
     }
     (first, deadlines)
 }

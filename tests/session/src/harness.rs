@@ -161,7 +161,7 @@ impl System<MemoryPorts<'static>> for Harness {
     }
 
     fn is_at_rest(&self, interest: &Interest) -> bool {
-        !interest.has_work && self.orders <= self.scene.rests
+        !interest.has_work() && self.orders <= self.scene.rests
     }
 
     fn has_news(&mut self, _interest: &Interest) -> bool {

@@ -1,6 +1,6 @@
 use Rattle.std.proofs.Common.{Bool, refl, sym, ap, ◌∙◌}
 use Rattle.std.specs.Prelude.{◌||◌}
-use Rattle.daide_io.specs.declared.interest.Interest.{Interest}
+use Rattle.daide_io.specs.Interest.{InterestView}
 use Rattle.daide_sockets.specs.ControlSlots.{is_newly_stopped}
 use Rattle.daide_sockets.specs.Interests.{has_news_for}
 use Rattle.daide_sockets.specs.Timers.{timers_of}
@@ -14,7 +14,7 @@ pub returns-then-is_watched_at_rest-clause-news : goal.returns-then-is_watched_a
 returns-then-is_watched_at_rest-clause-news g c = λ ports own.
     let table = c.args.self.now.poller.table in
     let none = sym (news_alike table ports)
-    ∙ (ap (λ (i : Interest). has_news_for table i) (sym own)
+    ∙ (ap (λ (i : InterestView). has_news_for table i) (sym own)
     ∙ c.is_watched_at_rest.ensures.news c.if-is_watched_at_rest.true) in
     sym (ap (λ (stops : Bool). is_newly_stopped stops ports.is_stopped || has_session_news table (timers_of ports).sockets)
     (sym c.stops_now.ensures ∙ c.if-not-stops_now.true) ∙ none)
@@ -35,5 +35,5 @@ returns-clause-news g c = λ ports own.
     let table = c.look_for_news.new.self.poller.table in
     let stops = c.args.self.now.control.stops_now in
     c.look_for_news.ensures.news
-    ∙ (ap (λ (i : Interest). is_newly_stopped stops i.is_stopped || has_news_for table i) own
+    ∙ (ap (λ (i : InterestView). is_newly_stopped stops i.is_stopped || has_news_for table i) own
     ∙ ap (λ (b : Bool). is_newly_stopped stops ports.is_stopped || b) (news_alike table ports))
