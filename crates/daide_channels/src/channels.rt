@@ -250,6 +250,7 @@ impl<A: Allocator> Channels<A> {
     }
 
     /// Receives a side's next bytes, at most `room` of them, and reads the tokens that they complete.
+    #[inline(always)]
     pub fn feed(&mut self, side: Side, piece: &[u8]) -> Step
         requires free { is_awaited (at self.old.queued) side ≡ false }
         requires room { length piece.now ≤ missing self.old.cap (pending self.old side) }

@@ -227,6 +227,7 @@ impl<A: Allocator> Receiver<A> {
 
     /// Receives the next bytes, at most `room` of them, and reads the tokens that they complete. The HLO scan reads
     /// each of these tokens at most once.
+    #[inline(always)]
     pub fn feed(&mut self, piece: &[u8]) -> Step
         requires free { self.old.verdict ≡ None }
         requires room { length piece.now ≤ missing self.old.cap self.old.held }
@@ -253,6 +254,7 @@ impl<A: Allocator> Receiver<A> {
     /// Judges the held frame: a message by the grammar, any other frame as relayed. Turns the frame into its answer:
     /// itself, `PRN ( message )`, or `HUH ( message )` with ERR before the token at the error place. `head` is the
     /// frame's header.
+    #[inline(always)]
     pub fn answer(&mut self, head: Head) -> Verdict
         requires free { self.old.verdict ≡ None }
         requires head { head_in self.old.cap self.old.held ≡ Some head }

@@ -114,6 +114,7 @@ fn known_front(body: &[u8], known: usize) -> usize
 
 /// Returns the offset of the end of the first token with an unknown category in a body, of which more bytes may follow.
 /// Only a diplomacy message consists of tokens. The first `known` tokens were checked before.
+#[inline(always)]
 fn alien_end(head: Head, body: &[u8], known: usize) -> Option<usize>
     requires within { length body.now ≤ head.len }
     requires counted { 2 * known ≤ length body.now }
@@ -204,6 +205,7 @@ impl<A: Allocator> Cutter<A> {
     }
 
     /// Feeds bytes of the header, and judges it once it is whole.
+    #[inline(always)]
     fn feed_header(&mut self, piece: &[u8]) -> Step
         requires header { length self.old.bytes < 4 }
         requires room { length piece.now ≤ missing self.old.cap self.old.bytes }
@@ -230,6 +232,7 @@ impl<A: Allocator> Cutter<A> {
 
     /// Feeds bytes of the body all at once, and then checks the tokens that they complete. After a fault it drops the
     /// bytes after the wrong token.
+    #[inline(always)]
     fn feed_body(&mut self, piece: &[u8]) -> Step
         requires header { 4 ≤ length self.old.bytes }
         requires room { length piece.now ≤ missing self.old.cap self.old.bytes }
@@ -261,6 +264,7 @@ impl<A: Allocator> Cutter<A> {
     ///
     /// `items`: let the bytes fed since `new` or `reset` be one list. The events other than `More` are the items of its
     /// first frame, whatever the pieces.
+    #[inline(always)]
     pub fn feed(&mut self, piece: &[u8]) -> Step
         requires { length piece.now ≤ missing self.old.cap self.old.bytes }
         ensures cap { self.new.cap ≡ self.old.cap }

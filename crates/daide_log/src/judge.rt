@@ -40,6 +40,7 @@ pub(crate) fn as_fault(reported: Result<(), Unreported>) -> Result<(), LogFault>
 
 /// Judges an event. Feeds its bytes, which are at the front of the buffer, or reports its end, the timer or a stop to the
 /// session, and reports the session's moves.
+#[inline(always)]
 pub fn judge<A: Allocator, W: Write, S: Style>(
     session: &mut Session<A>,
     reported: ParsedEvent,
@@ -72,6 +73,7 @@ pub fn judge<A: Allocator, W: Write, S: Style>(
 }
 
 /// Parses an event line. In version 1 its session is the only one.
+#[inline(always)]
 pub(crate) fn read_reported(
     version: Version,
     line: &[u8],
@@ -136,6 +138,7 @@ fn quote<W: Write, S: Style>(
 /// Judges a line by the session that it names. Decodes a side's bytes into the buffer.
 ///
 /// Fails with `BadLine` if the line has no allowed form, and else with the faults of writing the report.
+#[inline(always)]
 pub fn judge_line<A: Allocator, W: Write, S: Style>(
     sessions: &mut Vec<Session<A>, A>,
     line: &[u8],

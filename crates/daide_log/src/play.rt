@@ -24,6 +24,7 @@ use std::alloc::Allocator;
 use std::io::Write;
 
 /// Drops the frames queued for both sides.
+#[inline(always)]
 fn take_answers<A: Allocator>(session: &mut Session<A>)
     ensures state { session.new.state ≡ session.old.state }
     ensures idle { IsIdle session.new }
@@ -33,6 +34,7 @@ fn take_answers<A: Allocator>(session: &mut Session<A>)
 }
 
 /// Counts a side's move, and writes its line and what the style adds to it.
+#[inline(always)]
 fn tell<A: Allocator, W: Write, S: Style>(
     session: &Session<A>,
     source: ReportKey,
@@ -61,6 +63,7 @@ fn tell<A: Allocator, W: Write, S: Style>(
 /// Feeds a side's next bytes, which must fit its room, and reports the move that they cause, if there is one. Empties
 /// the session's queues only afterwards, because an explanation needs the frame that the session still holds. Without a
 /// move nothing is queued.
+#[inline(always)]
 fn feed_piece<A: Allocator, W: Write, S: Style>(
     session: &mut Session<A>,
     side: Side,
@@ -91,6 +94,7 @@ fn feed_piece<A: Allocator, W: Write, S: Style>(
 }
 
 /// Feeds a side's bytes in pieces that fit its room, and reports each frame and fault.
+#[inline(always)]
 pub fn feed_all<A: Allocator, W: Write, S: Style>(
     session: &mut Session<A>,
     side: Side,

@@ -70,6 +70,7 @@ impl SideCounts {
 
 /// Returns the level after one more frame of a side, by what its message contains. A relayed HLO of the server sets the
 /// level, to at most `top`. A bot's HLO never changes it.
+#[inline(always)]
 fn level_after(
     top: Level,
     kind: Kind,
@@ -104,6 +105,7 @@ impl Account {
 
     /// Counts one frame of a side by what was done with it, and records the level after it. It leaves the name to
     /// `record_name`.
+    #[inline(always)]
     pub fn count_frame(&mut self, top: Level, side: Side, kind: Kind, deed: Deed, found: LvlScan)
         ensures { (tokens : List ℕ) → found ≡ lvl_scan_of tokens →
             self.new ≡ record (frame_accounted top side kind deed tokens self.old) { name = self.old.name } }

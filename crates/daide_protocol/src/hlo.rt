@@ -168,6 +168,7 @@ impl HloScan {
 
 /// Returns the level after a relayed message of the server, by what its tokens contain: an HLO sets it, to at most
 /// `top`.
+#[inline(always)]
 pub fn level_reported(top: Level, found: LvlScan, level: Level) -> Level
     ensures { (tokens : List ℕ) → found ≡ lvl_scan_of tokens → result ≡ level_of_message top tokens level }
 {

@@ -96,6 +96,7 @@ pub fn deed_of(is_sent: bool, verdict: Verdict) -> Deed
 impl SessionPhase {
     /// Returns the phase after a side's frame of a kind was answered, by what its message contains. An FM or an EM ends
     /// the session. A relayed HLO of the server sets the level, to at most `top`. A bot's HLO never changes it.
+    #[inline(always)]
     pub fn after(
         self,
         top: Level,

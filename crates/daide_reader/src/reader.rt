@@ -170,6 +170,7 @@ impl<T: Predict, const N: usize> Reader<T, N> {
     }
 
     /// Reads the next tokens, as a body of their own. `outline` is the outline of all tokens including them.
+    #[inline(always)]
     fn go_on(&mut self, outline: Outline, body: &[u8])
         requires unfinished { self.old.finished ≡ false }
         requires bytes { length body.now ≤ longest_message }

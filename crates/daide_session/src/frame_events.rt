@@ -169,6 +169,7 @@ fn begin_and_complete<A: Allocator>(
 }
 
 /// Handles the step that the last byte of a piece completed in a side's frame.
+#[inline(always)]
 pub fn on_frame_event<A: Allocator>(
     channels: &mut Channels<A>,
     protocol: &mut ProtocolState,
