@@ -236,7 +236,7 @@ pub record VisitsPlace {P : Type 0} (transition : P → PortCall → P → Type 
 -- the turns of busy sessions that a visit counts: as many as it has at most, if the session is due a turn and busy
 abbrev pub busy_turns_in : {P : Type 0} → {transition : P → PortCall → P → Type 0} → {old : HubView (QuotaPortsView P)} → {i : ℕ} →
     {answers : List (SystemCall P)} → {new : HubView (QuotaPortsView P)} → VisitsPlace transition old i answers new → ℕ
-busy_turns_in visit = if visit.due && not (is_calm visit.place.1) then 4 else 0
+busy_turns_in visit = if visit.due && not (is_calm visit.place.1) then most_turns false else 0
 
 -- the session at this place is visited if it is calm
 abbrev pub VisitsIfCalm : {P : Type 0} → (P → PortCall → P → Type 0) → Bool → HubView (QuotaPortsView P) → ℕ →

@@ -16,6 +16,6 @@ abbrev pub MayAddWork : (InterestView → Type 0) → InterestView → Type 0
 MayAddWork IsOwn interest =
     (own : InterestView) × (other : Bool) × IsOwn own × (interest ≡ record own { has_work = own.has_work || other })
 
--- the greater one of two keys
+-- the greater of two keys
 abbrev pub greater_of : ℕ → ℕ → ℕ
 greater_of one other = if nat_le one other then other else one

@@ -6,7 +6,7 @@ ghost use Rattle.daide_io.specs.Interest.{greater_of};
 use std::marker::Model;
 use std::time::Instant;
 
-/// Returns the greater one of two keys.
+/// Returns the greater of two keys.
 #[inline(always)]
 fn greater_of(one: usize, other: usize) -> usize
     ensures { result ≡ greater_of one other }
@@ -22,7 +22,7 @@ fn greater_of(one: usize, other: usize) -> usize
 pub struct Interest {
     bot: usize,
     server: usize,
-    /// The greater one of both keys, so that one comparison tells whether a table has a row for each.
+    /// The greater of both keys, so that one comparison tells whether a table has a row for each.
     greater: usize,
     has_work: bool,
     is_stopped: bool,
@@ -129,9 +129,10 @@ impl Interest {
         self.server
     }
 
-    /// Returns the greater one of both keys.
+    /// Returns the greater of both keys.
     #[inline(always)]
     pub fn greater_key(&self) -> usize
+        ensures exact { result ≡ greater_of self.now.bot self.now.server }
         ensures bot { self.now.bot ≤ result }
         ensures server { self.now.server ≤ result }
     {
