@@ -18,6 +18,7 @@ use crate::predict::{Move, Predict};
 use crate::side::Side2;
 use crate::symbol::{Sym, Symbol};
 use crate::table::whole;
+use crate::top_symbol::TopSymbol;
 use daide_token::token::Token;
 
 /// Predicts by a constant table, and counts its look-ups. It has the protocol's own grammar at every level, and meets
@@ -38,15 +39,15 @@ impl Dense {
 
 /// Returns the entry for a symbol and a class.
 #[inline(always)]
-fn move_of(sym: Symbol, class: Column) -> Move
+fn move_of(sym: TopSymbol, class: Column) -> Move
     ensures { result ≡ table_answer sym class }
 {
     let cell = row_cell(class.number(), sym.number());
-    Move::of_cell((cell % 256) as u8, (cell / 256) as u8)
+    Move::of_cell((cell % 256) as u8, cell as usize / 256)
 }
 
 #[inline(always)]
-fn rule_at(class: usize, symbol: u8) -> u8
+fn rule_at(class: usize, symbol: usize) -> u8
     requires class { class < all_classes }
     requires symbol { symbol < all_symbols }
     ensures { result ≡ rule_at class symbol }
@@ -57,12 +58,12 @@ fn rule_at(class: usize, symbol: u8) -> u8
 /// Returns the cell of a class and a symbol.
 #[inline(always)]
 #[tactic(auto, unfolding(crate::specs::Table::Cells::row_cell))]
-fn row_cell(class: usize, symbol: u8) -> u16
+fn row_cell(class: usize, symbol: usize) -> u16
     requires class { class < all_classes }
     requires symbol { symbol < all_symbols }
     ensures { result ≡ row_cell class symbol }
 {
-    row_of(class)[symbol as usize]
+    row_of(class)[symbol]
 }
 
 /// Returns the cells of a class, one for each symbol.
@@ -97,7 +98,7 @@ fn class_cell(place: u16) -> u8
 fn is_optional(sym: Symbol) -> bool
     ensures { result ≡ may_end_of sym }
 {
-    rule_at(KET, sym.number()) == SKIP
+    rule_at(KET, sym.number() as usize) == SKIP
 }
 
 /// Returns the start symbol for a side's messages at a level.
@@ -137,11 +138,11 @@ impl Predict for Dense {
     #[inline(always)]
     fn predict(&mut self, sym: Symbol, class: Column) -> Move {
         self.asked = self.asked.wrapping_add(1);
-        move_of(sym, class)
+        move_of(TopSymbol::of(sym), class)
     }
 
     #[inline(always)]
-    fn predict_token(&mut self, sym: Symbol, _token: Token, known: Column) -> Move {
+    fn predict_token(&mut self, sym: TopSymbol, _token: Token, known: Column) -> Move {
         self.asked = self.asked.wrapping_add(1);
         move_of(sym, known)
     }

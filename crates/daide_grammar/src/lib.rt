@@ -16,6 +16,7 @@ pub mod predict;
 pub mod side;
 pub mod symbol;
 mod table;
+pub mod top_symbol;
 
 pub use column::Column;
 pub use dense::Dense;
@@ -24,3 +25,4 @@ pub use plain::Plain;
 pub use predict::{Move, Predict};
 pub use side::Side2;
 pub use symbol::{Sym, Symbol};
+pub use top_symbol::TopSymbol;

@@ -31,6 +31,7 @@ use crate::plain::server::{
 use crate::predict::{Move, Predict};
 use crate::side::Side2;
 use crate::symbol::{Sym, Symbol};
+use crate::top_symbol::TopSymbol;
 use daide_token::class::Class;
 use daide_token::token::Token;
 
@@ -86,8 +87,8 @@ impl Predict for Plain {
         move_of(sym, class)
     }
 
-    fn predict_token(&mut self, sym: Symbol, _token: Token, known: Column) -> Move {
-        self.predict(sym, known)
+    fn predict_token(&mut self, sym: TopSymbol, _token: Token, known: Column) -> Move {
+        self.predict(sym.symbol(), known)
     }
 
     fn predict_word(&mut self, sym: Symbol, _token: Token, known: Column) -> Move {

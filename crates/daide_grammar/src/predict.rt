@@ -23,6 +23,7 @@ use crate::numbers::TAKE;
 use crate::side::Side2;
 use crate::symbol::Symbol;
 use crate::table::whole;
+use crate::top_symbol::TopSymbol;
 use daide_token::token::Token;
 use std::marker::Model;
 
@@ -32,7 +33,7 @@ pub struct Move {
     /// The number of the rule, with the width of an index.
     rule: usize,
     /// The number of the first symbol that the rule leaves, or 0 if it leaves none.
-    next: u8,
+    next: usize,
 }
 
 impl Model for Move {
@@ -57,13 +58,13 @@ impl Move {
         let rule = rule as usize;
         Move {
             rule,
-            next: first_at(rule),
+            next: first_at(rule) as usize,
         }
     }
 
     /// Returns the entry of a rule, with the number of the first symbol that it leaves.
     #[inline(always)]
-    pub(crate) fn of_cell(rule: u8, next: u8) -> Move
+    pub(crate) fn of_cell(rule: u8, next: usize) -> Move
         requires { next ≡ first_at rule }
         ensures { result ≡ action rule }
     {
@@ -100,14 +101,14 @@ impl Move {
 
     /// Returns the first symbol that must follow, or `None` if none must.
     #[inline(always)]
-    pub fn first(&self) -> Option<Symbol>
+    pub fn first(&self) -> Option<TopSymbol>
         ensures none { IfNone result (rest_of self.now ≡ []) }
         ensures first { IfSome result (λ s. rest_of self.now ≡ s ∷ drop 1 (rest_of self.now)) }
     {
         if self.rule <= TAKE {
             return None;
         }
-        Some(Symbol::of(self.next))
+        Some(TopSymbol::at(self.next))
     }
 
     /// Returns the height of a stack after its top, at this index, took the token.
@@ -223,7 +224,7 @@ pub trait Predict {
 
     /// Returns the entry for a symbol and a token, by the token's class in the protocol's own table. Unless it is a
     /// `Stop`, it is the entry for the token. After a `Stop`, `predict_word` returns that entry.
-    fn predict_token(&mut self, sym: Symbol, token: Token, known: Column) -> Move
+    fn predict_token(&mut self, sym: TopSymbol, token: Token, known: Column) -> Move
         requires { known ≡ known_class token }
         ensures answer { is_stop result ≡ false →
             result ≡ moves (words self.old) sym (class_of (words self.old) token) }

@@ -19,6 +19,7 @@ use crate::loaded::LoadedToken;
 use daide_grammar::column::Column;
 use daide_grammar::predict::Predict;
 use daide_grammar::symbol::Symbol;
+use daide_grammar::top_symbol::TopSymbol;
 use daide_token::token::Token;
 use daide_token::token_at;
 
@@ -154,7 +155,7 @@ fn run_below_depth_limit<T: Predict, const N: usize>(
     let mut held = LoadedToken::at(body, next);
     let mut known = Column::known(held.token());
     if left != 0 {
-        let mut symbol = cells[left - 1];
+        let mut symbol = TopSymbol::of(cells[left - 1]);
         loop {
             let top = left - 1;
             let answer = table.predict_token(symbol, held.token(), known);
@@ -197,7 +198,7 @@ fn run_below_depth_limit<T: Predict, const N: usize>(
             if left == 0 {
                 break;
             }
-            symbol = cells[left - 1];
+            symbol = TopSymbol::of(cells[left - 1]);
         }
     }
     reject_at(opened.wrapping_add(known.bracket_step()), next)

@@ -21,6 +21,7 @@ use daide_grammar::numbers::{OTHER, STOP};
 use daide_grammar::predict::{Move, Predict};
 use daide_grammar::side::Side2;
 use daide_grammar::symbol::Symbol;
+use daide_grammar::top_symbol::TopSymbol;
 use daide_token::token::Token;
 
 /// Predicts by the constant table and the words of an operator, and counts its look-ups. It meets the laws of `Predict`
@@ -131,7 +132,7 @@ impl Predict for Extended {
     }
 
     #[inline(always)]
-    fn predict_token(&mut self, sym: Symbol, token: Token, known: Column) -> Move {
+    fn predict_token(&mut self, sym: TopSymbol, token: Token, known: Column) -> Move {
         self.table.predict_token(sym, token, known)
     }
 

@@ -25,7 +25,9 @@ loop-first-init g c =
     record {
       inside = c.requires.count;
       some = c.if-left-ne0.true;
-      top = on_top c.args.cells.now c.args.start.count c.index-cells-left.result (omega (arith, c.if-left-ne0.true)) (omega (arith, c.requires.count));
+      top = rw c.of-symbol.ensures
+          (on_top c.args.cells.now c.args.start.count c.index-cells-left.result (omega (arith, c.if-left-ne0.true))
+          (omega (arith, c.requires.count)));
       from = omega arith;
       more = end_moves (length c.args.body.now) c.args.start.read (c.args.max_depth - c.args.start.unclosed)
           c.min-end.result c.min-end.ensures c.requires.read (some_left _ _ c.requires.deep);
@@ -323,8 +325,10 @@ loop-first-preserved g c =
     let low = count_low opened c.args.max_depth g.row.N (less_within _ _ less) c.requires.size c.requires.at_depth_limit in
     let long : length c.if-is_take.cells ≡ g.row.N = search rules in
     let top_left = λ (inside : c.if-is_take.left ≤ g.row.N).
-    on_top c.if-is_take.cells c.if-is_take.left c.index-cells-left-in-loop-first.result
-    (omega (arith, c.if-left-eq0.false)) (rw long inside) in
+    subst (λ (s : Sym). reverse (take c.if-is_take.left c.if-is_take.cells) ≡ s ∷ reverse (take (c.if-is_take.left - 1) c.if-is_take.cells))
+    (sym c.of-symbol-in-loop-first.ensures)
+    (on_top c.if-is_take.cells c.if-is_take.left c.index-cells-left-in-loop-first.result
+    (omega (arith, c.if-left-eq0.false)) (rw long inside)) in
     elim c.if-is_take.branch [
       | then-is_take+else-next-end-2 w ↦
           let t = c.token-in-loop-first.result in

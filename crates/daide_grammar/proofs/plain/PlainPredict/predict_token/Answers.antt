@@ -1,6 +1,8 @@
 use Rattle.std.proofs.Common.{ap, ◌∙◌}
+use Rattle.daide_grammar.specs.declared.symbol.Sym.{Sym}
 use Rattle.daide_grammar.specs.Table.Symbols.{table_answer}
 use Rattle.daide_grammar.proofs.plain.PlainPredict.predict_token.Goals as goal
 
 pub returns-clause-answer : goal.returns-clause-answer
-returns-clause-answer c = λ _. c.predict.ensures.answer ∙ ap (table_answer c.args.sym) c.requires
+returns-clause-answer c = λ _. c.predict.ensures.answer
+    ∙ (ap (λ (s : Sym). table_answer s c.args.known) c.symbol.ensures ∙ ap (table_answer c.args.sym) c.requires)

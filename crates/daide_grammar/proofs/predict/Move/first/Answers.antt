@@ -7,8 +7,8 @@ use Rattle.daide_grammar.specs.Table.ParseActions.{rest_of}
 use Rattle.daide_grammar.proofs.RulesFit.{first_fits, first_small, no_rest}
 use Rattle.daide_grammar.proofs.predict.Move.first.Goals as goal
 
-pub of-requires : goal.of-requires
-of-requires c = omega (arith, c.self.invariant.1, first_small c.self.inside.rule)
+pub at-requires : goal.at-requires
+at-requires c = omega (arith, c.self.invariant.1, first_small c.self.inside.rule)
 
 pub returns-clause-first : goal.returns-clause-first
 returns-clause-first c =
@@ -16,7 +16,7 @@ returns-clause-first c =
     let less : n < 256 = omega arith in
     let many = c.if-self-le-TAKE.false in
     let some : nat_le n 2 ≡ false = grind (arith, nat_tests) in
-    rw c.of.ensures (rw c.self.invariant.1
+    rw c.at.ensures (rw c.self.invariant.1
     (subst (λ (a : TableEntry). rest_of a ≡ symbol_at (first_at n) ∷ drop 1 (rest_of a)) c.self.view_is
     (first_fits n less some)))
 
