@@ -51,7 +51,10 @@ pub start_shallow : (unclosed max_depth size read end : ℕ) → end ≡ min (si
     → unclosed < max_depth → unclosed + (end - read) ≤ max_depth
 start_shallow unclosed max_depth size read end is deep = omega arith
 
-pub not_last : (next end : ℕ) → next < end → next + 1 ≢ end → next + 1 < end
+pub is_last : (next end : ℕ) → next < end → next ≡ end - 1 → next + 1 ≡ end
+is_last next end less same = omega arith
+
+pub not_last : (next end : ℕ) → next < end → next ≢ end - 1 → next + 1 < end
 not_last next end less other = omega arith
 
 pub all_of : (next end : ℕ) → next ≤ end → end ≤ next → next ≡ end

@@ -213,6 +213,7 @@ impl<T: Predict, const N: usize> Reader<T, N> {
     /// `verdict`: after the tokens m it is `Prn` if and only if m is not paired. It is `Relay` if and only if m is
     /// paired, a message, and no deeper than `max_depth`. Else it is `Huh(i)` with the least i such that the first i +
     /// 1 tokens are continued by no message or are too deep. If the message merely stops early, i is its length.
+    #[inline(always)]
     pub fn finish(&mut self) -> Verdict
         requires { self.old.finished ≡ false }
         ensures verdict { (words : Words) (first : Sym) (max_depth : ℕ) (m : List ℕ) →

@@ -149,6 +149,8 @@ fn run_below_depth_limit<T: Predict, const N: usize>(
     ensures none_left { IsSome result.place → result.count ≡ 0 }
 {
     let end = (body.len() / 2).min(start.read + (max_depth - start.unclosed) as usize);
+    // The index is compared before it goes up. Otherwise the compiler copies it at each token.
+    let last = end - 1;
     let mut opened = start.unclosed;
     let mut left = start.count;
     let mut next = start.read;
@@ -161,10 +163,10 @@ fn run_below_depth_limit<T: Predict, const N: usize>(
             let answer = table.predict_token(symbol, held.token(), known);
             if let Some(first) = answer.first() {
                 opened = opened.wrapping_add(known.bracket_step());
-                next += 1;
-                if next == end {
+                if next == last {
                     return run_end(end, opened, put(cells, top, &answer));
                 }
+                next += 1;
                 held = LoadedToken::at(body, next);
                 known = Column::known(held.token());
                 left = put(cells, top, &answer);
@@ -173,10 +175,10 @@ fn run_below_depth_limit<T: Predict, const N: usize>(
             }
             if answer.is_take() {
                 opened = opened.wrapping_add(known.bracket_step());
-                next += 1;
-                if next == end {
+                if next == last {
                     return run_end(end, opened, top);
                 }
+                next += 1;
                 held = LoadedToken::at(body, next);
                 known = Column::known(held.token());
                 left = top;
@@ -185,10 +187,10 @@ fn run_below_depth_limit<T: Predict, const N: usize>(
                 let Some(now) = follow_word(table, cells, top, held.token(), known) else {
                     return reject_at(opened, next);
                 };
-                next += 1;
-                if next == end {
+                if next == last {
                     return run_end(end, opened, now);
                 }
+                next += 1;
                 held = LoadedToken::at(body, next);
                 known = Column::known(held.token());
                 left = now;

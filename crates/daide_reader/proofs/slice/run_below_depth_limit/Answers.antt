@@ -7,15 +7,15 @@ use Rattle.daide_grammar.specs.Table.Brackets.{is_bra, is_ket, count_one}
 use Rattle.daide_reader.specs.Slice.{SliceState}
 use Rattle.daide_reader.specs.Stack.{open_count}
 use Rattle.daide_reader.proofs.Counts.{before_end, count_low, end_moves, from_next, less_deep, less_within}
-use Rattle.daide_reader.proofs.Counts.{not_last, once_more, rest_inside, shallow_next, some_left}
+use Rattle.daide_reader.proofs.Counts.{is_last, not_last, once_more, rest_inside, shallow_next, some_left}
 use Rattle.daide_reader.proofs.Counts.{start_shallow, token_inside, top_inside, top_whole}
 use Rattle.daide_reader.proofs.BodyLemmas.{tokens_of-length}
 use Rattle.daide_reader.proofs.CellLemmas.{known_on_top, leaves_by_taking, on_top}
 use Rattle.daide_reader.proofs.StretchLemmas.{at_start, begun, counted_by_step, due_same, goes_on, room_for, run_whole}
 use Rattle.daide_reader.proofs.StretchLemmas.{rejects_next, said_same, skipped, stops_here, took}
 use Rattle.daide_reader.proofs.slice.run_below_depth_limit.Goals.{else-is_take+else-is_stop, else-left-ne0}
-use Rattle.daide_reader.proofs.slice.run_below_depth_limit.Goals.{else-is_take+then-is_stop+in-Some-follow_word+else-next-end-3}
-use Rattle.daide_reader.proofs.slice.run_below_depth_limit.Goals.{then-is_take+else-next-end-2, then-left-ne0+in_default+then-left-eq0}
+use Rattle.daide_reader.proofs.slice.run_below_depth_limit.Goals.{else-is_take+then-is_stop+in-Some-follow_word+else-next-last-3}
+use Rattle.daide_reader.proofs.slice.run_below_depth_limit.Goals.{then-is_take+else-next-last-2, then-left-ne0+in_default+then-left-eq0}
 use Rattle.daide_reader.proofs.slice.run_below_depth_limit.Goals as goal
 
 pub loop-first-init : goal.loop-first-init
@@ -42,8 +42,8 @@ loop-first-init g c =
     }
 
 -- the symbol on top takes the last token of the run, and leaves symbols
-pub returns-then-next-end-clause-reads : goal.returns-then-next-end-clause-reads
-returns-then-next-end-clause-reads g c =
+pub returns-then-next-last-clause-reads : goal.returns-then-next-last-clause-reads
+returns-then-next-last-clause-reads g c =
     let old : SliceState g.row.T.Denot =
     record { table = c.args.table.now; stack = reverse (take c.args.start.count c.args.cells.now) } in
     let now : SliceState g.row.T.Denot =
@@ -77,14 +77,14 @@ returns-then-next-end-clause-reads g c =
     c.predict_token-answer.ensures.counts_each_answer less counted in
     run_whole g.T.Predict g.met.T.Predict.laws c.args.max_depth c.args.body.now c.args.start.read c.args.start.unclosed old
     (i + 1) ((opened + c.bracket_step-opened.result) % 65536) end c.run_end.result.tokens c.run_end.result.unclosed
-    c.run_end.result.place new _ next.0 c.if-next-end.true c.run_end.ensures.tokens c.run_end.ensures.unclosed
+    c.run_end.result.place new _ next.0 (is_last i end inv.more c.if-next-last.true) c.run_end.ensures.tokens c.run_end.ensures.unclosed
     c.run_end.ensures.place
     (ap (λ (k : ℕ). record { table = c.predict_token-answer.new.self; stack = reverse (take k c.put.new.cells) })
     c.run_end.ensures.count)
 
 -- it leaves nothing
-pub returns-then-next-end-2-clause-reads : goal.returns-then-next-end-2-clause-reads
-returns-then-next-end-2-clause-reads g c =
+pub returns-then-next-last-2-clause-reads : goal.returns-then-next-last-2-clause-reads
+returns-then-next-last-2-clause-reads g c =
     let old : SliceState g.row.T.Denot =
     record { table = c.args.table.now; stack = reverse (take c.args.start.count c.args.cells.now) } in
     let now : SliceState g.row.T.Denot =
@@ -117,11 +117,11 @@ returns-then-next-end-2-clause-reads g c =
     (sym c.is_take.ensures ∙ c.if-is_take.true) (rw c.in_default.ensures.none refl) c.predict_token-answer.ensures.words_stay
     c.predict_token-answer.ensures.counts_each_answer less counted in
     run_whole g.T.Predict g.met.T.Predict.laws c.args.max_depth c.args.body.now c.args.start.read c.args.start.unclosed old
-    (i + 1) ((opened + c.bracket_step-opened-then-is_take.result) % 65536) end c.run_end-then-next-end-2.result.tokens c.run_end-then-next-end-2.result.unclosed
-    c.run_end-then-next-end-2.result.place new _ next.0 c.if-next-end-2.true c.run_end-then-next-end-2.ensures.tokens c.run_end-then-next-end-2.ensures.unclosed
-    c.run_end-then-next-end-2.ensures.place
+    (i + 1) ((opened + c.bracket_step-opened-then-is_take.result) % 65536) end c.run_end-then-next-last-2.result.tokens c.run_end-then-next-last-2.result.unclosed
+    c.run_end-then-next-last-2.result.place new _ next.0 (is_last i end inv.more c.if-next-last-2.true) c.run_end-then-next-last-2.ensures.tokens c.run_end-then-next-last-2.ensures.unclosed
+    c.run_end-then-next-last-2.ensures.place
     (ap (λ (k : ℕ). record { table = c.predict_token-answer.new.self; stack = reverse (take k c.loop-first.cells) })
-    c.run_end-then-next-end-2.ensures.count)
+    c.run_end-then-next-last-2.ensures.count)
 
 -- the symbol on top takes a token that is not the last one, and leaves a symbol
 pub loop-first-preserved-in-Some : goal.loop-first-preserved-in-Some
@@ -165,7 +165,7 @@ loop-first-preserved-in-Some g c =
       some = follows.0;
       top = follows.1;
       from = from_next c.args.start.read i inv.from;
-      more = not_last i end inv.more c.if-next-end.false;
+      more = not_last i end inv.more c.if-next-last.false;
       shallow = shallow_next opened end i c.args.max_depth inv.shallow inv.more _ next.1;
       front = c.at-held-in-Some.ensures.front;
       rest = c.at-held-in-Some.ensures.rest;
@@ -263,8 +263,8 @@ returns-in_default-follow_word-clause-reads g c =
     c.reject_at.ensures.tokens c.reject_at.ensures.place
 
 -- the last token of the run is a word
-pub returns-then-next-end-3-clause-reads : goal.returns-then-next-end-3-clause-reads
-returns-then-next-end-3-clause-reads g c =
+pub returns-then-next-last-3-clause-reads : goal.returns-then-next-last-3-clause-reads
+returns-then-next-last-3-clause-reads g c =
     let old : SliceState g.row.T.Denot =
     record { table = c.args.table.now; stack = reverse (take c.args.start.count c.args.cells.now) } in
     let now : SliceState g.row.T.Denot =
@@ -302,12 +302,12 @@ returns-then-next-end-3-clause-reads g c =
     (c.follow_word.ensures.words ∙ c.predict_token-answer.ensures.words_stay) (1, omega arith, once_more _ _ _ _ _ due once steps) less
     counted in
     run_whole g.T.Predict g.met.T.Predict.laws c.args.max_depth c.args.body.now c.args.start.read c.args.start.unclosed old
-    (i + 1) ((opened + c.bracket_step-opened-then-is_stop.result) % 65536) end c.run_end-then-next-end-3.result.tokens
-    c.run_end-then-next-end-3.result.unclosed c.run_end-then-next-end-3.result.place new _ next.0 c.if-next-end-3.true
-    c.run_end-then-next-end-3.ensures.tokens c.run_end-then-next-end-3.ensures.unclosed
-    c.run_end-then-next-end-3.ensures.place
+    (i + 1) ((opened + c.bracket_step-opened-then-is_stop.result) % 65536) end c.run_end-then-next-last-3.result.tokens
+    c.run_end-then-next-last-3.result.unclosed c.run_end-then-next-last-3.result.place new _ next.0 (is_last i end inv.more c.if-next-last-3.true)
+    c.run_end-then-next-last-3.ensures.tokens c.run_end-then-next-last-3.ensures.unclosed
+    c.run_end-then-next-last-3.ensures.place
     (ap (λ (k : ℕ). record { table = c.follow_word.new.table; stack = reverse (take k c.follow_word.new.cells) })
-    c.run_end-then-next-end-3.ensures.count)
+    c.run_end-then-next-last-3.ensures.count)
 
 -- the symbol on top takes the token and leaves nothing, a word is taken, or the symbol on top is skipped
 pub loop-first-preserved : goal.loop-first-preserved
@@ -330,7 +330,7 @@ loop-first-preserved g c =
     (on_top c.if-is_take.cells c.if-is_take.left c.index-cells-left-in-loop-first.result
     (omega (arith, c.if-left-eq0.false)) (rw long inside)) in
     elim c.if-is_take.branch [
-      | then-is_take+else-next-end-2 w ↦
+      | then-is_take+else-next-last-2 w ↦
           let t = c.token-in-loop-first.result in
           let same = c.token-in-loop-first.ensures in
           let front : take (i + 1) toks ≡ take i toks ++ t ∷ [] = inv.front ∙ ap (λ (k : ℕ). take i toks ++ k ∷ []) (sym same) in
@@ -356,7 +356,7 @@ loop-first-preserved g c =
             some = c.if-left-eq0.false;
             top = top_left (rw w.left-is (rest_inside c.loop-first.left g.row.N inv.some inv.inside));
             from = rw w.next-is (from_next c.args.start.read i inv.from);
-            more = rw w.next-is (not_last i end inv.more w.if-next-end-2.false);
+            more = rw w.next-is (not_last i end inv.more w.if-next-last-2.false);
             shallow = rw (w.opened-is, w.next-is) (shallow_next opened end i c.args.max_depth inv.shallow inv.more _ next.1);
             front = rw (w.next-is, w.held-is) w.at-held-then-is_take.ensures.front;
             rest = rw (w.next-is, w.held-is) w.at-held-then-is_take.ensures.rest;
@@ -364,7 +364,7 @@ loop-first-preserved g c =
                 (w.known-known-then-is_take.ensures ∙ ap known_class w.token-then-is_take.ensures);
             mid = rw (w.next-is, w.opened-is, w.table-is, w.left-is, w.cells-is) next.0;
           }
-      | else-is_take+then-is_stop+in-Some-follow_word+else-next-end-3 w ↦
+      | else-is_take+then-is_stop+in-Some-follow_word+else-next-last-3 w ↦
           let t = w.token-then-is_stop.result in
           let same = w.token-then-is_stop.ensures in
           let front : take (i + 1) toks ≡ take i toks ++ t ∷ [] = inv.front ∙ ap (λ (k : ℕ). take i toks ++ k ∷ []) (sym same) in
@@ -395,7 +395,7 @@ loop-first-preserved g c =
             some = c.if-left-eq0.false;
             top = top_left (rw w.left-is w.in-Some-follow_word.ensures.inside);
             from = rw w.next-is (from_next c.args.start.read i inv.from);
-            more = rw w.next-is (not_last i end inv.more w.if-next-end-3.false);
+            more = rw w.next-is (not_last i end inv.more w.if-next-last-3.false);
             shallow = rw (w.opened-is, w.next-is) (shallow_next opened end i c.args.max_depth inv.shallow inv.more _ next.1);
             front = rw (w.next-is, w.held-is) w.at-held-then-is_stop.ensures.front;
             rest = rw (w.next-is, w.held-is) w.at-held-then-is_stop.ensures.rest;
@@ -455,7 +455,7 @@ returns-clause-reads g c =
           let less = less_deep opened end i c.args.max_depth inv.shallow inv.more in
           let low = count_low opened c.args.max_depth g.row.N (less_within _ _ less) c.requires.size c.requires.at_depth_limit in
           elim w.if-is_take.branch [
-            | then-is_take+else-next-end-2 v ↦
+            | then-is_take+else-next-last-2 v ↦
                 let t = w.token-in-loop-first.result in
                 let same = w.token-in-loop-first.ensures in
                 let front : take (i + 1) toks ≡ take i toks ++ t ∷ [] = inv.front ∙ ap (λ (k : ℕ). take i toks ++ k ∷ []) (sym same) in
@@ -477,7 +477,7 @@ returns-clause-reads g c =
                 (sym w.is_take.ensures ∙ v.if-is_take.true) (rw w.in_default.ensures.none refl) w.predict_token-answer.ensures.words_stay
                 w.predict_token-answer.ensures.counts_each_answer less counted in
                 let here = i + 1 in
-                let more : here < end = not_last i end inv.more v.if-next-end-2.false in
+                let more : here < end = not_last i end inv.more v.if-next-last-2.false in
                 let inside = token_inside size here
                 (before_end _ c.args.start.read (c.args.max_depth - c.args.start.unclosed) end c.min-end.ensures here more) _
                 (tokens_of-length c.args.body.now) in
@@ -491,7 +491,7 @@ returns-clause-reads g c =
                 (w.left-is ∙ w.if-left-eq0.true) (rw (w.next-is ∙ v.next-is) inside) (rw (w.next-is ∙ v.next-is) v.at-held-then-is_take.ensures.front) (rw (w.next-is ∙ v.next-is) v.at-held-then-is_take.ensures.rest)
                 (w.known-is ∙ v.known-is ∙ v.known-known-then-is_take.ensures ∙ ap known_class v.token-then-is_take.ensures) (rw (w.opened-is ∙ v.opened-is) few) c.bracket_step.ensures
                 shut.ensures.tokens shut.ensures.unclosed shut.ensures.place shut.ensures.count
-            | else-is_take+then-is_stop+in-Some-follow_word+else-next-end-3 v ↦
+            | else-is_take+then-is_stop+in-Some-follow_word+else-next-last-3 v ↦
                 let t = v.token-then-is_stop.result in
                 let same = v.token-then-is_stop.ensures in
                 let front : take (i + 1) toks ≡ take i toks ++ t ∷ [] = inv.front ∙ ap (λ (k : ℕ). take i toks ++ k ∷ []) (sym same) in
@@ -518,7 +518,7 @@ returns-clause-reads g c =
                 (v.follow_word.ensures.words ∙ w.predict_token-answer.ensures.words_stay) (1, omega arith, once_more _ _ _ _ _ due once steps) less
                 counted in
                 let here = i + 1 in
-                let more : here < end = not_last i end inv.more v.if-next-end-3.false in
+                let more : here < end = not_last i end inv.more v.if-next-last-3.false in
                 let inside = token_inside size here
                 (before_end _ c.args.start.read (c.args.max_depth - c.args.start.unclosed) end c.min-end.ensures here more) _
                 (tokens_of-length c.args.body.now) in
