@@ -213,9 +213,10 @@ pub read_along : {T : Type 0} (table : Ghosts T) (asked : T → ℕ) (side : Sid
     (tokens_held new.cap new.bytes) →
     now.found ≡ lvl_scan_of (tokens_held new.cap new.bytes) →
     (is_dm_head (head_in new.cap new.bytes) ≡ false → w.asked_before ≡ asked w.table) →
+    (drop 4 new.bytes ≡ [] → w.asked_before ≡ asked w.table) →
     IsReadOn table asked side level new w now header verdict
 read_along table asked side level old new v w hlo now header verdict h none same depth words goes_on stands found
-    uncounted =
+    uncounted unasked =
     record {
       four = h.four;
       place = subst (λ (a : Option Verdict). HasHuhIndex new.bytes a) (sym none) tt;
@@ -224,6 +225,7 @@ read_along table asked side level old new v w hlo now header verdict h none same
       found = found;
       unfinished = λ free. goes_on;
       uncounted = uncounted;
+      unasked = λ free. unasked;
     }
 
 -- a reader with the same depth limit and the same words has the same limits
@@ -322,6 +324,7 @@ fresh_on table asked side level cut v w hlo header now four capped none place ke
   found = found ∙ ap lvl_scan_of (sym (none_begun cut.cap cut.bytes none));
   unfinished = λ free. goes_on;
   uncounted = λ no. base ∙ ap asked (sym kept);
+  unasked = λ free bare. base ∙ ap asked (sym kept);
 }
 
 pub rules_set : {T : Type 0} (words : T → Words) (w : Reading T) (most : ℕ) (all : Words) → w.max_depth ≡ most →

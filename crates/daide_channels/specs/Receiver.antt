@@ -127,6 +127,8 @@ pub record IsReadOn {T : Type 0} (table : Ghosts T) (asked : T → ℕ) (side : 
   pub unfinished : verdict ≡ None → v.finished ≡ false
   -- look-ups are made for a message only
   pub uncounted : is_dm_head (head_in cut.cap cut.bytes) ≡ false → v.asked_before ≡ asked v.table
+  -- and for none before its first byte
+  pub unasked : verdict ≡ None → drop 4 cut.bytes ≡ [] → v.asked_before ≡ asked v.table
 
 -- ---- what the calls do
 

@@ -120,6 +120,7 @@ fn first_frame_len<A: Allocator>(wire: &SendQueue, receivers: &PerSide<Receiver<
 }
 
 /// Clears the frame of the answer `gone`; without effect if `gone` is not an answer.
+#[inline(always)]
 fn release<A: Allocator>(gone: Option<QueuedFrame>, receivers: &mut PerSide<Receiver<A>>)
     ensures { (side : Side) → IsReleased (answered_by gone) side (at receivers.old side) (at receivers.new side) }
 {
@@ -378,6 +379,7 @@ impl<A: Allocator> Channels<A> {
 
     /// Removes the first frame queued for a wire, if there is one. If it was an answer, clears the frame of that
     /// answer.
+    #[inline(always)]
     fn drop_first(&mut self, to: Side)
         ensures lets_go { ReleasesFrames self.old self.new }
         ensures queued { self.new.queued ≡ put self.old.queued to (others (at self.old.queued to)) }

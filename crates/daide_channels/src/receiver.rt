@@ -220,6 +220,9 @@ impl<A: Allocator> Receiver<A> {
         requires bodiless { drop 4 self.old.held ≡ [] }
         ensures { StartsFrame self.old level self.old.held self.new }
     {
+        if self.level == level {
+            return;
+        }
         self.level = level;
         self.reader.start(side2_of(self.side), level);
         self.hlo.start();

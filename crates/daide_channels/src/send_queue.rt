@@ -107,6 +107,7 @@ impl SendQueue {
     }
 
     /// Removes and returns the first frame.
+    #[inline(always)]
     pub fn drop_first(&mut self) -> Option<QueuedFrame>
         ensures gone { result ≡ first_of self.old.items }
         ensures left { self.new ≡ record { written = 0; items = tail_of self.old.items } }

@@ -121,6 +121,7 @@ invariant_of-self g c =
       found = j.found;
       unfinished = λ none. absurd (cc);
       uncounted = j.uncounted;
+      unasked = λ none. absurd (cc);
     }
 
 pub returns-clause-right : goal.returns-clause-right

@@ -1,12 +1,22 @@
-use Rattle.std.proofs.Common.{[], refl, ap, ◌∙◌, drop, subst}
+use Rattle.std.proofs.Common.{[], refl, ap, ◌∙◌, drop, subst, rules}
 use Rattle.daide_grammar.specs.declared.side.Side2.{Side2}
 use Rattle.daide_grammar.specs.Table.Symbols.{start_symbol_of}
 use Rattle.daide_reader.specs.Reading.{HasReadPrefix}
 use Rattle.daide_words.specs.contracts.extended.ExtendedPredict.TheImpl.{ghosts}
 use Rattle.daide_words.specs.Table.Extended.{extended_look_ups, spoken_words}
-use Rattle.daide_channels.specs.Receiver.{Receiver, words_in}
+use Rattle.daide_channels.specs.Receiver.{Receiver, StartsFrame, words_in}
 use Rattle.daide_channels.proofs.ReceiverLemmas.{begins_of, fresh_on}
 use Rattle.daide_channels.proofs.receiver.Receiver.begin.Goals as goal
+
+pub returns-then-eq : goal.returns-then-eq
+returns-then-eq g c =
+    let i = c.self.inside in
+    let none = ap (λ (v : Receiver). v.verdict) c.self.view_is ∙ c.requires.free in
+    let bare = ap (λ (v : Receiver). drop 4 v.held) c.self.view_is ∙ c.requires.bodiless in
+    subst (λ (v : Receiver). StartsFrame c.args.self.now c.args.level c.args.self.now.held v) c.self.view_is
+    (begins_of words_in extended_look_ups i.side i.level i.level c.args.level i.cutter i.cutter i.reader i.reader i.hlo
+    i.hlo i.header i.verdict i.verdict c.args.self.now.held c.args.self.now c.self.view_is (search rules) refl
+    (ap (λ (v : Receiver). v.held) c.self.view_is) none refl refl (c.self.invariant.unasked none bare) refl)
 
 pub invariant_of-self : goal.invariant_of-self
 invariant_of-self g c =

@@ -67,7 +67,7 @@ invariant_of-self g c =
     c.self.invariant.stands)
     (c.self.invariant.found ∙ ap lvl_scan_of same)
     (λ no. c.self.invariant.uncounted (fed_past i.cutter.cap i.cutter.bytes c.args.piece.now cut
-    c.feed-step.ensures.cap c.feed-step.ensures.bytes no))
+    c.feed-step.ensures.cap c.feed-step.ensures.bytes no)) (λ bare. c.self.invariant.unasked none before)
 
 pub invariant_of-self-then-is_message : goal.invariant_of-self-then-is_message
 invariant_of-self-then-is_message g c =
@@ -104,6 +104,14 @@ invariant_of-self-then-is_message g c =
     c.self.invariant none c.feed-step.ensures.cap c.read.ensures.depth c.read.ensures.words c.read.ensures.unfinished
     (subst (λ (p : List ℕ). HasReadPrefix ghosts (spoken_words i.reader.table) first i.reader.max_depth c.read.new.self p)
     (ap tokens_of c.body-then-is_message.ensures.value ∙ sym on.all) stands) found (λ no. absurd (cc))
+    (λ bare. c.read.ensures.base
+    ∙ (c.self.invariant.unasked none (bodiless_before i.cutter.cap i.cutter.bytes c.args.piece.now
+    (ap (drop 4) (sym c.feed-step.ensures.bytes) ∙ bare))
+    ∙ (let within = on.within in
+    let z : length (drop 4 cut.bytes) ≡ 0 = ap length bare in
+    let value : length c.body-then-is_message.result.now ≡ length (drop 4 cut.bytes) =
+    ap length c.body-then-is_message.ensures.value in
+    sym (ap (λ (r : Reading Extended). extended_look_ups r.table) (c.read.ensures.unchanged (omega arith))))))
 
 pub invariant_of-self-else-is_message : goal.invariant_of-self-else-is_message
 invariant_of-self-else-is_message g c =
@@ -122,6 +130,8 @@ invariant_of-self-else-is_message g c =
     (c.self.invariant.found ∙ ap lvl_scan_of (none_held i.cutter.cap i.cutter.bytes past
     ∙ sym (none_held cut.cap cut.bytes dm)))
     (λ no. c.self.invariant.uncounted past)
+    (λ bare. c.self.invariant.unasked none (bodiless_before i.cutter.cap i.cutter.bytes c.args.piece.now
+    (ap (drop 4) (sym c.feed-step.ensures.bytes) ∙ bare)))
 
 pub returns-then-is_message-clause-reads : goal.returns-then-is_message-clause-reads
 returns-then-is_message-clause-reads g c =
