@@ -75,8 +75,10 @@ impl Page {
         ensures items { self.new.items ≡ self.old.items ++ byte ∷ [] }
         ensures len { length self.new.items ≡ length self.old.items + 1 }
     {
-        self.bytes[self.len] = byte;
-        self.len += 1;
+        // The compiler can't tell that the byte isn't stored over the length, and would read that again.
+        let len = self.len;
+        self.bytes[len] = byte;
+        self.len = len + 1;
     }
 
     /// Appends the text of some tokens of a message. `place` is the printer's state after the tokens before them.
