@@ -212,6 +212,7 @@ pub(crate) fn put_message<W: Write>(
 }
 
 /// Appends the line of a side's move to the page.
+#[inline(always)]
 pub fn put_move<W: Write>(
     source: ReportKey,
     side: Side,

@@ -95,7 +95,7 @@ fn feed_piece<A: Allocator, W: Write, S: Style>(
 
 /// Feeds a side's bytes in pieces that fit its room, and reports each frame and fault.
 #[inline(always)]
-pub fn feed_all<A: Allocator, W: Write, S: Style>(
+fn feed_pieces<A: Allocator, W: Write, S: Style>(
     session: &mut Session<A>,
     side: Side,
     bytes: &[u8],
@@ -120,6 +120,33 @@ pub fn feed_all<A: Allocator, W: Write, S: Style>(
         rest = more;
     }
     Ok(())
+}
+
+/// Feeds a side's bytes, and reports each frame and fault. Each side gets code of its own here, in which the side is a
+/// constant, since all that is called is inlined.
+#[inline(always)]
+pub fn feed_all<A: Allocator, W: Write, S: Style>(
+    session: &mut Session<A>,
+    side: Side,
+    bytes: &[u8],
+    source: ReportKey,
+    account: &mut ReportBuilder<'_, '_, W, S>,
+) -> Result<(), Unreported>
+    requires ready { IsReady account.old.head.limits.config (words_of account.old.head.words) session.old }
+    requires room { HasRoom (length bytes.now) account.old.summary }
+    ensures ready { IsReady account.old.head.limits.config (words_of account.old.head.words) session.new }
+    ensures few { IsMoreBy (length bytes.now) account.old.summary account.new.summary }
+    ensures reported { OnOk result (ReportsEvents (S.form (words_of account.old.head.words)) source side session.old.state (bytes_come side bytes.now) session.new.state
+        account.old.summary account.new.summary (all_of W.contents account.old.output)
+        (all_of W.contents account.new.output)) }
+    ensures refused { IfErr result (IsCauseIn (S.form (words_of account.old.head.words))) }
+    ensures same_head { account.new.head ≡ account.old.head }
+    ensures same_writer { IsSameWriter account.old.output account.new.output }
+{
+    match side {
+        Side::Bot => feed_pieces(session, Side::Bot, bytes, source, account),
+        Side::Server => feed_pieces(session, Side::Server, bytes, source, account),
+    }
 }
 
 /// Ends a side's stream, and reports that if it ended the session.

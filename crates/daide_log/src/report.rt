@@ -201,6 +201,7 @@ fn put_reported(side: Side, reported: Note, line: &mut Page)
 
 /// Appends the line of a side's move, with its key.
 #[tactic(auto, unfolding(crate::specs::Report::move_line))]
+#[inline(always)]
 pub(crate) fn write_move(source: ReportKey, side: Side, reported: Note, line: &mut Page)
     requires { length line.old.items + line_room ≤ page_size }
     ensures { line.new.items ≡ line.old.items ++ move_line source side reported }

@@ -119,6 +119,7 @@ impl Account {
 
     /// Records the name after one frame of a side with this body, by what was done with it: an NME or IAM of the bot
     /// that was relayed has one.
+    #[inline(always)]
     pub fn record_name(&mut self, side: Side, kind: Kind, deed: Deed, body: &[u8])
         ensures { self.new
             ≡ record self.old { name = name_after kind side deed (tokens_of body.now) self.old.name } }

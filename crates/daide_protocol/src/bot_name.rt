@@ -102,6 +102,7 @@ impl NameText {
 
 impl BotName {
     /// Returns the name in a message, if it is an NME or an IAM.
+    #[inline(always)]
     pub(crate) fn in_message(body: &[u8]) -> Option<BotName>
         ensures { result ≡ name_in (tokens_of body.now) }
     {

@@ -49,6 +49,7 @@ impl LvlScan {
     }
 
     /// Returns what is found after one more token.
+    #[inline(always)]
     fn with(self, token: Token) -> LvlScan
         ensures { (tokens : List ℕ) → self ≡ lvl_scan_of tokens → result ≡ lvl_scan_of (tokens ++ token ∷ []) }
     {
@@ -112,6 +113,7 @@ impl HloScan {
     }
 
     /// Examines the next token, and counts it.
+    #[inline(always)]
     fn look(&mut self, token: Token)
         ensures found { (tokens : List ℕ) → self.old.found ≡ lvl_scan_of tokens →
             self.new.found ≡ lvl_scan_of (tokens ++ token ∷ []) }

@@ -2,7 +2,7 @@ use Rattle.std.proofs.Common.{◌≡◌, length}
 use Rattle.daide_log_lines.specs.Output.{IsSameWriter, all_of}
 use Rattle.daide_words.specs.Words.{words_of}
 use Rattle.daide_log.proofs.PlayLemmas.{HasFed}
-use Rattle.daide_log.proofs.play.feed_all.Given as goal
+use Rattle.daide_log.proofs.play.feed_pieces.Given as goal
 
 abbrev pub invariant-loop-session : goal.invariant-loop-session
 invariant-loop-session g l =

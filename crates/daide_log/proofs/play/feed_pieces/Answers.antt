@@ -9,7 +9,7 @@ use Rattle.daide_log.specs.Reporting.{IsReady, ReportsEvents}
 use Rattle.daide_log.proofs.PlayLemmas.{piece_fed, all_fed, fed_few, idle_free, nothing_fed, reported_few}
 use Rattle.daide_protocol.proofs.GrowthLemmas.{less_room}
 use Rattle.daide_frame.proofs.FeedingLemmas.{not_empty}
-use Rattle.daide_log.proofs.play.feed_all.Goals as goal
+use Rattle.daide_log.proofs.play.feed_pieces.Goals as goal
 
 pub loop-session-init : goal.loop-session-init
 loop-session-init g c =
