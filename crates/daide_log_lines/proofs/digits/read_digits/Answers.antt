@@ -13,8 +13,8 @@ use Rattle.daide_log_lines.proofs.digits.read_digits.Goals as goal
 
 pub returns-then-count-lt-TOGETHER : goal.returns-then-count-lt-TOGETHER
 returns-then-count-lt-TOGETHER c =
-    is_read c.args.digits.now c.read_together.new.bytes (length c.args.bytes.now) c.read_together.result c.requires
-    c.read_together.ensures.all (λ e. c.read_together.ensures.bytes (sym c.read_together.ensures.all ∙ e))
+    is_read c.args.digits.now c.read_short.new.bytes (length c.args.bytes.now) c.read_short.result c.requires
+    c.read_short.ensures.all (λ e. c.read_short.ensures.bytes (sym c.read_short.ensures.all ∙ e))
 
 pub loop-turn-preserved : goal.loop-turn-preserved
 loop-turn-preserved c =
