@@ -4,11 +4,12 @@
     bench/run_load.py PROGRAM [--before PROGRAM] [MEASURE]..
 
 PROGRAM is the built program, bin/daide-gate. With --before another program is measured in the same run. Without a
-MEASURE all eight are measured:
+MEASURE all nine are measured:
 
     calls         system calls per frame, if strace is installed
     instructions  instructions of the process (callgrind), in bulk and for a round trip, if valgrind is installed
     round-trip    the time of a request and its answer, also beside 100 and 255 idle sessions
+    idle          the same beside 0, 100 and 255 idle sessions in turn
     bulk          throughput of one session in one direction, at three sizes of bodies
     recorded      throughput of 256 sessions at once, with and without a record of each, of PROGRAM alone
     memory        memory of idle and of used sessions, and the processor time of 256 idle ones
@@ -255,6 +256,22 @@ def measure_round_trip(programs):
                     del held
             p50, p99 = (statistics.median(column) for column in zip(*found))
             print(f"round trip beside {idle} idle sessions, p50 / p99, {name}: {p50:.4g} / {p99:.4g} us", flush=True)
+
+
+def measure_idle(programs):
+    """Measures round trips beside 0, 100 and 255 idle sessions in turn, so that other work on the host meets all three
+    alike. Prints the quartiles of 60 turns, of each the median of 500 round trips."""
+    for name, program in programs.items():
+        with contextlib.ExitStack() as running:
+            held, ends = [], {}
+            for idle in (0, 100, 255):
+                gateway = running.enter_context(Gateway(program))
+                held.append([gateway.session() for _ in range(idle)])
+                ends[idle] = gateway.session()
+            turns = [[part([round_trip(*two) for _ in range(500)], 0.5) for two in ends.values()] for _ in range(60)]
+        for idle, found in zip(ends, zip(*turns)):
+            quartiles = " / ".join(f"{part(found, share) * 1000:.1f}" for share in (0.25, 0.5, 0.75))
+            print(f"round trip in turn beside {idle} idle sessions, quartiles, {name}: {quartiles} us", flush=True)
 
 
 def measure_calls(programs):
@@ -611,6 +628,7 @@ MEASURES = {
     "calls": measure_calls,
     "instructions": measure_instructions,
     "round-trip": measure_round_trip,
+    "idle": measure_idle,
     "bulk": measure_bulk,
     "recorded": measure_recorded,
     "memory": measure_memory,
