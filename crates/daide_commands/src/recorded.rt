@@ -7,7 +7,9 @@ ghost use Rattle.daide_sockets.specs.Scheduling.{RunEvolves, run_state};
 
 use crate::folder::{Folder, SessionFile, end, tell_if_ended};
 use crate::running::Finish;
-use daide_io::{Connect, Interest, Network, Notice, Orders, SessionEnd, SessionStatus, System};
+use daide_io::{
+    Connect, GroupInterest, Interest, Network, Notice, Orders, SessionEnd, SessionStatus, System,
+};
 use daide_log::{Moment, TimedRecording};
 use daide_sockets::ports::SocketPorts;
 use daide_sockets::system::Sockets;
@@ -104,6 +106,10 @@ impl<'w, N: Network, R: AllocGlobal + Files, C: Clock, E: Write + Drop> System<
 
     fn is_at_rest(&self, interest: &Interest) -> bool {
         self.sockets.is_at_rest(interest)
+    }
+
+    fn are_at_rest(&self, group: &GroupInterest) -> bool {
+        self.sockets.are_at_rest(group)
     }
 
     /// A record that has just ended is work of its ports, so that the next turn begins at once and logs it.

@@ -1,6 +1,6 @@
 //! Ports with a quota of turns, which record whether their last turn made progress, and count their bytes.
 
-ghost use Rattle.std.specs.Prelude.{◌≡◌, false, true, Some, None, is_none, List};
+ghost use Rattle.std.specs.Prelude.{◌≡◌, false, true, Some, None, IfSome, is_none, List};
 ghost use Rattle.daide_io.specs.ByteCounts.{no_bytes};
 ghost use Rattle.daide_io.specs.Ports.{TurnBegins};
 ghost use Rattle.daide_event_loop.specs.QuotaPorts.{load_at_turn};
@@ -183,6 +183,18 @@ impl<P: Ports> QuotaPorts<P> {
         ensures { result ≡ true → IsAtRest S.transition system.now self.now }
     {
         system.is_at_rest(&self.interest)
+    }
+
+    /// Returns what the session waits for, if this was kept after its last turn, which made no progress, and nothing may be
+    /// done at once.
+    pub fn kept_interest(&self) -> Option<&Interest>
+        ensures { IfSome result (λ kept. (kept.now.has_work ≡ false) × P.interest self.now.ports kept.now
+            × (self.now.made_progress ≡ false)) }
+    {
+        if self.interest.has_work() {
+            return None;
+        }
+        Some(&self.interest)
     }
 
     /// Returns the ports inside by reference.

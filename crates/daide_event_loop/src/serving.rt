@@ -7,12 +7,13 @@ ghost use Rattle.std.specs.Prelude.{◌≡◌, ℕ, ◌+◌, ◌++◌, ◌<◌, 
 ghost use Rattle.std.specs.Prelude.{OnOk, OnErr, IfOk, IfErr, IfSome, Option, slice_get};
 ghost use Rattle.daide_io.specs.System.{SystemCall, Connects, TransitsBy};
 ghost use Rattle.daide_event_loop.specs.Serving.{shows, shows_where};
-ghost use Rattle.daide_event_loop.specs.Serving.{IsWithinQuotas, Admits, FinishesConnect, IsDueBy, AreAtRest, TakesTurn, TakesTurns, VisitsPlace, most_turns};
+ghost use Rattle.daide_event_loop.specs.Serving.{IsWithinQuotas, Admits, FinishesConnect, IsDueBy, TakesTurn, TakesTurns, VisitsPlace, most_turns};
 ghost use Rattle.daide_event_loop.specs.Serving.{TurnsAll, VisitsNext, VisitsCalm, VisitsCalmIf, VisitsIfCalm, is_calm_in, busy_turns_in, turns_left_over};
 ghost use Rattle.daide_event_loop.specs.Serving.{any_moved, has_moved_in, AreOpen, AreStill};
 ghost use Rattle.daide_event_loop.specs.Serving.{RemovesClosed, parting};
 ghost use Rattle.daide_event_loop.specs.Serving.{is_reported, cause_by, end_by};
 ghost use Rattle.daide_event_loop.specs.Serving.{watch_after, wait_where, any_progress, Round, is_done, initial_service};
+ghost use Rattle.daide_event_loop.specs.Resting.{AreGroupsKnown};
 ghost use Rattle.daide_event_loop.specs.Served.{IsWholeRun};
 ghost use Rattle.daide_event_loop.specs.QuotaPorts.{QuotaPortsView};
 ghost use Rattle.daide_driver.specs.Hub.{Removes, IsReportedOf};
@@ -24,6 +25,7 @@ ghost use Rattle.daide_event_loop.specs.Serving.{IsServeCause, BreaksOff, GivesU
 
 use crate::admission_counters::AdmissionCounters;
 use crate::quota_ports::QuotaPorts;
+use crate::resting_groups::{RestingGroups, next_to_visit};
 use daide_driver::hub::{AddFault, Hub, Removed};
 use daide_driver::status::session_status;
 use daide_frame::memory::Memory;
@@ -61,17 +63,21 @@ pub enum ServeFault {
 pub struct Service<P: Ports, A: Allocator = Global> {
     hub: Hub<QuotaPorts<P>, A>,
     counters: AdmissionCounters,
+    /// What sessions at rest wait for, by groups.
+    groups: RestingGroups,
 }
 
 impl<P: Ports, A: Allocator> Model for Service<P, A> {
     ghost use Rattle.daide_event_loop.specs.Serving.{ServiceView, IsWithinQuotas, AreOpen};
+    ghost use Rattle.daide_event_loop.specs.Resting.{AreGroupsKnown};
 
     ghost Value = { ServiceView P };
 
     ghost view = { λ s. record { hub = s.hub; counters = s.counters } };
 
-    // between rounds no closed session is held
-    ghost invariant = { λ s. IsWithinQuotas s.hub s.counters × AreOpen s.hub.places };
+    // between rounds no closed session is held, and what is known of each group is so
+    ghost invariant = { λ s. IsWithinQuotas s.hub s.counters × AreOpen s.hub.places
+        × AreGroupsKnown P.interest s.groups s.hub.places };
 }
 
 /// Shows the operator the status of each session, in order of place.
@@ -131,17 +137,20 @@ fn admit<P: Ports, S: System<P>>(
 #[inline(never)]
 fn take_up_connect<P: Ports, A: Memory + Copy, S: System<P>>(
     hub: &mut Hub<QuotaPorts<P>, A>,
+    groups: &mut RestingGroups,
     counters: &mut AdmissionCounters,
     system: &mut S,
 ) -> Result<bool, ServeFault>
     requires within { IsWithinQuotas hub.old counters.old }
     requires are_open { AreOpen hub.old.places }
+    requires known { AreGroupsKnown P.interest groups.old hub.old.places }
     requires under_way { (counters.old.connecting == 0) ≡ false }
     ensures finishes { IfOk result (λ progressed. (answers : List (SystemCall P))
         × TransitsBy S.transition system.old answers system.new
         × FinishesConnect hub.old counters.old answers hub.new counters.new × (progressed ≡ any_progress answers)) }
     ensures within { IsWithinQuotas hub.new counters.new }
     ensures are_open { AreOpen hub.new.places }
+    ensures known { AreGroupsKnown P.interest groups.new hub.new.places }
     ensures refused { IfErr result (λ fault. fault ≡ ServeFault.Memory) }
     ensures broken_off { OnErr result ((ports : P)
         × TransitsBy S.transition system.old (Connects (Connect.Ready ports) ∷ []) system.new) }
@@ -158,7 +167,10 @@ fn take_up_connect<P: Ports, A: Memory + Copy, S: System<P>>(
         Connect::Ready(ports) => {
             counters.connecting -= 1;
             match hub.add(QuotaPorts::new(ports, counters.turns)) {
-                Ok(_place) => Ok(true),
+                Ok(place) => {
+                    groups.forget(place);
+                    Ok(true)
+                }
                 Err((AddFault::Memory, _ports)) => Err(ServeFault::Memory),
                 Err((AddFault::Full, _ports)) => unreachable!(),
             }
@@ -171,16 +183,19 @@ fn take_up_connect<P: Ports, A: Memory + Copy, S: System<P>>(
 /// Fails with `Memory` if the allocator refused a body.
 fn finish_connect<P: Ports, A: Memory + Copy, S: System<P>>(
     hub: &mut Hub<QuotaPorts<P>, A>,
+    groups: &mut RestingGroups,
     counters: &mut AdmissionCounters,
     system: &mut S,
 ) -> Result<bool, ServeFault>
     requires within { IsWithinQuotas hub.old counters.old }
     requires are_open { AreOpen hub.old.places }
+    requires known { AreGroupsKnown P.interest groups.old hub.old.places }
     ensures finishes { IfOk result (λ progressed. (answers : List (SystemCall P))
         × TransitsBy S.transition system.old answers system.new
         × FinishesConnect hub.old counters.old answers hub.new counters.new × (progressed ≡ any_progress answers)) }
     ensures within { IsWithinQuotas hub.new counters.new }
     ensures are_open { AreOpen hub.new.places }
+    ensures known { AreGroupsKnown P.interest groups.new hub.new.places }
     ensures refused { IfErr result (λ fault. fault ≡ ServeFault.Memory) }
     ensures broken_off { OnErr result ((ports : P)
         × TransitsBy S.transition system.old (Connects (Connect.Ready ports) ∷ []) system.new
@@ -191,7 +206,7 @@ fn finish_connect<P: Ports, A: Memory + Copy, S: System<P>>(
     if counters.connecting == 0 {
         return Ok(false);
     }
-    take_up_connect(hub, counters, system)
+    take_up_connect(hub, groups, counters, system)
 }
 
 /// Makes one turn of the session at a place: the system begins it with the ports of that session.
@@ -357,6 +372,7 @@ fn visit<P: Ports, A: Allocator + Copy, S: System<P>>(
     ensures closed { result.has_closed ≡ false → AreOpen hub.old.places → AreOpen hub.new.places }
     ensures none { result.had_turn ≡ false →
         (result.busy_turns ≡ 0) × (result.has_moved ≡ false) × (result.has_closed ≡ false) }
+    ensures same { result.had_turn ≡ false → hub.new ≡ hub.old }
 {
     if !is_due(hub, i, system) {
         return Findings::NONE;
@@ -415,8 +431,10 @@ fn visit_calm<P: Ports, A: Allocator + Copy, S: System<P>>(
 fn catch_up<P: Ports, A: Allocator + Copy, S: System<P>>(
     busy_turns: usize,
     hub: &mut Hub<QuotaPorts<P>, A>,
+    groups: &mut RestingGroups,
     system: &mut S,
 ) -> Findings
+    requires known { AreGroupsKnown P.interest groups.old hub.old.places }
     ensures visits { (answers : List (SystemCall P)) × TransitsBy S.transition system.old answers system.new
         × VisitsCalmIf P.transition (nat_le 32 busy_turns) hub.old answers hub.new }
     ensures turns { result.busy_turns ≡ turns_left_over busy_turns }
@@ -425,10 +443,12 @@ fn catch_up<P: Ports, A: Allocator + Copy, S: System<P>>(
     ensures max { hub.new.max ≡ hub.old.max }
     ensures count { length hub.new.places ≡ length hub.old.places }
     ensures closed { result.has_closed ≡ false → AreOpen hub.old.places → AreOpen hub.new.places }
+    ensures known { AreGroupsKnown P.interest groups.new hub.new.places }
 {
     if busy_turns < MOST_BUSY_TURNS {
         return Findings::NONE.with_turns(busy_turns);
     }
+    groups.forget_all();
     visit_calm(hub, system).with_turns(0)
 }
 
@@ -437,11 +457,13 @@ fn catch_up<P: Ports, A: Allocator + Copy, S: System<P>>(
 fn visit_next<P: Ports, A: Allocator + Copy, S: System<P>>(
     found: Findings,
     hub: &mut Hub<QuotaPorts<P>, A>,
+    groups: &mut RestingGroups,
     i: usize,
     system: &mut S,
 ) -> Findings
     requires there { i < length hub.old.places }
     requires few { found.busy_turns < 32 }
+    requires known { AreGroupsKnown P.interest groups.old hub.old.places }
     ensures visits { (answers : List (SystemCall P)) × TransitsBy S.transition system.old answers system.new
         × VisitsNext P.transition found.busy_turns hub.old i answers hub.new result.busy_turns }
     ensures few { result.busy_turns < 32 }
@@ -451,13 +473,15 @@ fn visit_next<P: Ports, A: Allocator + Copy, S: System<P>>(
     ensures count { length hub.new.places ≡ length hub.old.places }
     ensures closed { result.has_closed ≡ false →
         (found.has_closed ≡ false) × (AreOpen hub.old.places → AreOpen hub.new.places) }
+    ensures known { AreGroupsKnown P.interest groups.new hub.new.places }
 {
     let one = visit(hub, i, system);
     // Without a turn nothing else is found.
     if !one.had_turn {
         return found;
     }
-    let again = catch_up(found.busy_turns + one.busy_turns, hub, system);
+    groups.forget(i);
+    let again = catch_up(found.busy_turns + one.busy_turns, hub, groups, system);
     found.or(one).or(again)
 }
 
@@ -473,47 +497,30 @@ fn has_any_moved<P: Ports, A: Allocator + Copy>(hub: &Hub<QuotaPorts<P>, A>) -> 
     false
 }
 
-/// Returns the first place from `from` on whose session may be due a turn; the number of sessions if there is none. The
-/// sessions between are at rest. It is a loop of its own that changes nothing, so that a session at rest costs little.
-#[inline(never)]
-fn next_to_visit<P: Ports, A: Allocator + Copy, S: System<P>>(
-    hub: &Hub<QuotaPorts<P>, A>,
-    from: usize,
-    system: &S,
-) -> usize
-    requires { from ≤ length hub.now.places }
-    ensures place { (from ≤ result) × (result ≤ length hub.now.places) }
-    ensures between { AreAtRest S.transition system.now from result hub.now.places }
-{
-    for i in from..hub.count() {
-        if !hub.ports(i).is_at_rest(system) {
-            return i;
-        }
-    }
-    hub.count()
-}
-
 /// Visits each session, in order of place, and the calm ones again after each `MOST_BUSY_TURNS` turns of busy ones. Returns
 /// whether the last turn of any session made progress, and whether any may be closed.
 ///
 /// `closed`: no session was closed before, so only one that had a turn may be.
 fn turn_all<P: Ports, A: Allocator + Copy, S: System<P>>(
     hub: &mut Hub<QuotaPorts<P>, A>,
+    groups: &mut RestingGroups,
     system: &mut S,
 ) -> Findings
-    requires { AreOpen hub.old.places }
+    requires are_open { AreOpen hub.old.places }
+    requires known { AreGroupsKnown P.interest groups.old hub.old.places }
     ensures turns { (answers : List (SystemCall P)) × TransitsBy S.transition system.old answers system.new
         × TurnsAll P.transition hub.old answers hub.new }
     ensures max { hub.new.max ≡ hub.old.max }
     ensures count { length hub.new.places ≡ length hub.old.places }
     ensures moved { result.has_moved ≡ any_moved hub.new.places }
     ensures closed { result.has_closed ≡ false → AreOpen hub.new.places }
+    ensures known { AreGroupsKnown P.interest groups.new hub.new.places }
 {
     let mut found = Findings::NONE;
-    let mut i = next_to_visit(hub, 0, system);
+    let mut i = next_to_visit(hub, groups, 0, system);
     while i < hub.count() {
-        found = visit_next(found, hub, i, system);
-        i = next_to_visit(hub, i + 1, system);
+        found = visit_next(found, hub, groups, i, system);
+        i = next_to_visit(hub, groups, i + 1, system);
     }
     Findings {
         has_moved: found.has_moved && has_any_moved(hub),
@@ -611,18 +618,22 @@ fn remove_closed<P: Ports, A: Allocator + Copy, S: System<P>>(
 fn remove_if_closed<P: Ports, A: Allocator + Copy, S: System<P>>(
     has_closed: bool,
     hub: &mut Hub<QuotaPorts<P>, A>,
+    groups: &mut RestingGroups,
     system: &mut S,
 ) -> bool
-    requires { has_closed ≡ false → AreOpen hub.old.places }
+    requires are_open { has_closed ≡ false → AreOpen hub.old.places }
+    requires known { AreGroupsKnown P.interest groups.old hub.old.places }
     ensures removes { (answers : List (SystemCall P)) × TransitsBy S.transition system.old answers system.new
         × RemovesClosed hub.old answers hub.new × (result ≡ any_progress answers) }
     ensures max { hub.new.max ≡ hub.old.max }
     ensures fewer { length hub.new.places ≤ length hub.old.places }
     ensures are_open { AreOpen hub.new.places }
+    ensures known { AreGroupsKnown P.interest groups.new hub.new.places }
 {
     if !has_closed {
         return false;
     }
+    groups.forget_all();
     remove_closed(hub, system)
 }
 
@@ -651,6 +662,7 @@ impl<P: Ports, A: Memory + Copy> Service<P, A> {
                 connecting: 0,
                 accepted: 0,
             },
+            groups: RestingGroups::new(),
         })
     }
 
@@ -698,9 +710,14 @@ impl<P: Ports, A: Memory + Copy> Service<P, A> {
         self.counters.heed(orders);
         show_sessions(orders, &self.hub, system);
         let came = admit::<P, S>(self.hub.count(), &mut self.counters, system);
-        let connected = finish_connect(&mut self.hub, &mut self.counters, system)?;
-        let found = turn_all(&mut self.hub, system);
-        let removed = remove_if_closed(found.has_closed, &mut self.hub, system);
+        let connected = finish_connect(
+            &mut self.hub,
+            &mut self.groups,
+            &mut self.counters,
+            system,
+        )?;
+        let found = turn_all(&mut self.hub, &mut self.groups, system);
+        let removed = remove_if_closed(found.has_closed, &mut self.hub, &mut self.groups, system);
         rest::<P, S>(
             came | connected | found.has_moved | removed | self.is_done(),
             system,

@@ -1,2 +1,3 @@
 mod FaultFieldFacts
+mod InterestLemmas
 pub mod TraceLemmas

@@ -1,7 +1,7 @@
 //! What a session waits for between two of its turns.
 
-ghost use Rattle.std.specs.Prelude.{◌≡◌, ◌≤◌, ◌||◌, Option, true};
-ghost use Rattle.daide_io.specs.Interest.{greater_of};
+ghost use Rattle.std.specs.Prelude.{◌≡◌, ◌≤◌, ◌||◌, Option, true, false};
+ghost use Rattle.daide_io.specs.Interest.{InterestView, IsOfGroup, earlier, greater_of};
 
 use std::marker::Model;
 use std::time::Instant;
@@ -12,6 +12,24 @@ fn greater_of(one: usize, other: usize) -> usize
     ensures { result ≡ greater_of one other }
 {
     if one <= other { other } else { one }
+}
+
+/// Returns the earlier of two moments; one or both may be missing.
+#[inline(always)]
+pub fn earlier(one: Option<Instant>, other: Option<Instant>) -> Option<Instant>
+    ensures { result ≡ earlier one other }
+{
+    match (one, other) {
+        (None, other) => other,
+        (one, None) => one,
+        (Some(one), Some(other)) => {
+            if other.checked_duration_since(one).is_some() {
+                Some(one)
+            } else {
+                Some(other)
+            }
+        }
+    }
 }
 
 /// What a session waits for from the end of a turn until its next one: all that its system needs to know of its ports to
@@ -180,5 +198,39 @@ impl Interest {
             interest.add_work();
         }
         interest
+    }
+}
+
+/// What the sessions of a group wait for together, while nothing may be done at once for any of them. So one question
+/// to a system tells that all are at rest.
+#[derive(Clone, Copy)]
+pub struct GroupInterest {
+    /// The least key of a connection.
+    pub least_key: usize,
+    /// The greatest key of a connection.
+    pub greatest_key: usize,
+    /// The nearest deadline; `None` if there is none.
+    pub due: Option<Instant>,
+}
+
+impl GroupInterest {
+    /// The interest of a group without a session.
+    pub const NONE: GroupInterest = GroupInterest {
+        least_key: usize::MAX,
+        greatest_key: 0,
+        due: None,
+    };
+
+    /// Returns the interest of the same group with one more session, which has this interest.
+    #[inline(always)]
+    pub fn with(self, interest: &Interest) -> GroupInterest
+        ensures own { interest.now.has_work ≡ false → IsOfGroup result interest.now }
+        ensures others { (other : InterestView) → IsOfGroup self other → IsOfGroup result other }
+    {
+        GroupInterest {
+            least_key: self.least_key.min(interest.bot()).min(interest.server()),
+            greatest_key: self.greatest_key.max(interest.greater_key()),
+            due: earlier(self.due, interest.due()),
+        }
     }
 }

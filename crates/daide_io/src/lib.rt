@@ -20,7 +20,7 @@ pub mod system;
 pub use byte_counts::ByteCounts;
 pub use duplex::Duplex;
 pub use fault_field::FaultField;
-pub use interest::Interest;
+pub use interest::{GroupInterest, Interest};
 pub use network::{ConnectStatus, Network, SocketEvent};
 pub use outcome::IoResult;
 pub use ports::{Ports, Pull, Put};

@@ -12,11 +12,11 @@ ghost use Rattle.std.specs.Prelude.{◌≡◌, true, false};
 ghost use Rattle.daide_io.specs.Ports.{TurnBegins};
 ghost use Rattle.daide_io.specs.System.{SystemCall, Begins, Shows, ReportsNews, BeginsTurn, Watches, Accepts, Connects};
 ghost use Rattle.daide_io.specs.System.{Retires, Notifies, Waits};
-ghost use Rattle.daide_io.specs.Interest.{InterestView};
+ghost use Rattle.daide_io.specs.Interest.{InterestView, IsOfGroup};
 
 use crate::byte_counts::ByteCounts;
 use crate::fault_field::FaultField;
-use crate::interest::Interest;
+use crate::interest::{GroupInterest, Interest};
 use crate::ports::Ports;
 use daide_grammar::level::Level;
 use daide_protocol::account::Account;
@@ -127,6 +127,12 @@ pub trait System<P: Ports> {
         ensures no_work { result ≡ true → interest.now.has_work ≡ false }
         ensures at_rest { result ≡ true →
             (ports : P) → P.interest ports interest.now → transition self.now (ReportsNews ports false) self.now };
+
+    /// Returns true only if each session of a group with this interest is at rest. So a round passes over a group at rest
+    /// with one question.
+    fn are_at_rest(&self, group: &GroupInterest) -> bool
+        ensures { result ≡ true → (interest : InterestView) → IsOfGroup group.now interest →
+            (ports : P) → P.interest ports interest → transition self.now (ReportsNews ports false) self.now };
 
     /// Returns whether a turn of the session with this interest may do something: whether, since its last turn began, an
     /// event came for one of its wires, or one of its deadlines expired. It is called for sessions whose last turn made

@@ -1,6 +1,7 @@
 -- Walks along the rows of a table, and along the events of a poll.
 use Rattle.std.proofs.Common.{◌≡◌, ℕ, zero, suc, ◌+◌, ◌<◌, ◌≤◌, Bool, true, false, List, [], ◌∷◌, ◌++◌, length, drop, get_or}
-use Rattle.std.proofs.Common.{refl, ap, sym, ◌∙◌, arith}
+use Rattle.std.proofs.Common.{refl, ap, sym, ◌∙◌, subst, arith, ◌==◌, ◌≢◌}
+use Rattle.std.proofs.lemmas.Bool.{eqb-true, eqb-false}
 use Rattle.std.specs.Prelude.{slice_set, if◌then◌else◌}
 use Rattle.std.proofs.Math.Seq.{drop-cons}
 use Rattle.std.specs.Prelude.{◌||◌}
@@ -9,7 +10,7 @@ use Rattle.daide_io.specs.declared.network.SocketEvent.{SocketEvent}
 use Rattle.daide_sockets.specs.Table.{Row}
 use Rattle.daide_sockets.specs.Table.{with_events, with_event}
 use Rattle.daide_sockets.specs.Table.{Table, taken_row, row_at, first_free, with_taken, changed, no_report, report_at, TakesRow}
-use Rattle.daide_sockets.specs.Table.{has_report, is_reported_at, merged, without_report}
+use Rattle.daide_sockets.specs.Table.{AreReportsWithin, has_report, is_reported_at, merged, without_report}
 
 true_not_false : true ≡ false → ⊥
 true_not_false h = absurd (cc)
@@ -138,3 +139,82 @@ pub table_unreported : (table : Table) (key : ℕ) → is_reported_at table key 
 table_unreported table key none =
     ap (λ (l : List Row). record table { rows = l })
     (unreported table.rows key (nothing_reported (row_at table.rows key).report none))
+
+-- ---- the bounds of the reports
+
+-- a row that was not changed
+changed_elsewhere : (rows : List Row) (at : ℕ) (row : Row) (key : ℕ) → (key ≡ at → ⊥) →
+    row_at (changed rows at row) key ≡ row_at rows key
+changed_elsewhere [] at row key far = refl
+changed_elsewhere (other ∷ rows) zero row zero far = absurd (far refl)
+changed_elsewhere (other ∷ rows) zero row (suc key) far = refl
+changed_elsewhere (other ∷ rows) (suc at) row zero far = refl
+changed_elsewhere (other ∷ rows) (suc at) row (suc key) far =
+    changed_elsewhere rows at row key (λ same. far (ap (λ (n : ℕ). suc n) same))
+
+-- the row that was
+changed_here : (rows : List Row) (at : ℕ) (row : Row) → has_report (row_at (changed rows at row) at).report ≡ true →
+    has_report row.report ≡ true
+changed_here [] at row some = absurd (true_not_false (sym some))
+changed_here (other ∷ rows) zero row some = some
+changed_here (other ∷ rows) (suc at) row some = changed_here rows at row some
+
+-- the reports lie within new bounds after one row was changed, if the others did within the old ones and it does
+pub within_changed : (rows : List Row) (at : ℕ) (row : Row) (first after new_first new_after : ℕ) →
+    AreReportsWithin first after rows →
+    ((key : ℕ) → (key ≡ at → ⊥) → first ≤ key → key < after → (new_first ≤ key) × (key < new_after)) →
+    (has_report row.report ≡ true → (new_first ≤ at) × (at < new_after)) →
+    AreReportsWithin new_first new_after (changed rows at row)
+within_changed rows at row first after new_first new_after within others own = λ key some. by key some (key == at) refl
+  where
+    by : (key : ℕ) → has_report (row_at (changed rows at row) key).report ≡ true → (here : Bool) → (key == at) ≡ here →
+        (new_first ≤ key) × (key < new_after)
+    by key some true e =
+        let same = eqb-true key at e in
+        subst (λ (k : ℕ). (new_first ≤ k) × (k < new_after)) (sym same)
+        (own (changed_here rows at row
+        (subst (λ (k : ℕ). has_report (row_at (changed rows at row) k).report ≡ true) same some)))
+    by key some false e =
+        let differ = eqb-false key at e in
+        let far : key ≡ at → ⊥ = λ same. differ same in
+        let was = within key (subst (λ (r : Row). has_report r.report ≡ true) (changed_elsewhere rows at row key far) some) in
+        others key far was.0 was.1
+
+-- a row behind the others
+pub within_behind : (rows : List Row) (row : Row) (first after : ℕ) → has_report row.report ≡ false →
+    AreReportsWithin first after rows → AreReportsWithin first after (rows ++ row ∷ [])
+within_behind rows row first after none within = λ key some. within key (by rows key some)
+  where
+    by : (rows : List Row) (key : ℕ) → has_report (row_at (rows ++ row ∷ []) key).report ≡ true →
+        has_report (row_at rows key).report ≡ true
+    by [] zero some = absurd (true_not_false (sym some ∙ none))
+    by [] (suc key) some = some
+    by (other ∷ rows) zero some = some
+    by (other ∷ rows) (suc key) some = by rows key some
+
+-- the first row has no report
+pub within_later : (rows : List Row) (first after : ℕ) → has_report (row_at rows first).report ≡ false →
+    AreReportsWithin first after rows → AreReportsWithin (first + 1) after rows
+within_later rows first after none within = λ key some. by key some (key == first) refl
+  where
+    by : (key : ℕ) → has_report (row_at rows key).report ≡ true → (here : Bool) → (key == first) ≡ here →
+        (first + 1 ≤ key) × (key < after)
+    by key some true e = absurd (true_not_false (sym some
+        ∙ (ap (λ (k : ℕ). has_report (row_at rows k).report) (eqb-true key first e) ∙ none)))
+    by key some false e =
+        let was = within key some in
+        let differ : key ≢ first = eqb-false key first e in
+        (omega (arith, was, differ), was.1)
+
+-- no row outside the bounds has a report
+pub none_outside : (rows : List Row) (first after key : ℕ) → AreReportsWithin first after rows →
+    ((first ≤ key) × (key < after) → ⊥) → has_report (row_at rows key).report ≡ false
+none_outside rows first after key within outside = by (has_report (row_at rows key).report) refl
+  where
+    by : (some : Bool) → has_report (row_at rows key).report ≡ some → some ≡ false
+    by true e = absurd (outside (within key e))
+    by false e = refl
+
+-- a row without its report has none
+pub cleared : {A : Type 0} {report : Readiness} → has_report report ≡ true → report ≡ no_report → A
+cleared some none = absurd (true_not_false (sym some ∙ ap has_report none))

@@ -1,5 +1,5 @@
 -- The table of a run: what polls reported of its sockets, what the next wait watches, and its time. (own)
-use Rattle.std.specs.Prelude.{◌≡◌, ℕ, ◌+◌, ◌-◌, ◌≤◌, nat_le, if◌then◌else◌, Bool, true, false, ◌||◌, List, [], ◌∷◌}
+use Rattle.std.specs.Prelude.{◌≡◌, ℕ, ◌+◌, ◌-◌, ◌<◌, ◌≤◌, nat_le, if◌then◌else◌, Bool, true, false, ◌||◌, List, [], ◌∷◌}
 use Rattle.std.specs.Prelude.{Option, Some, None, slice_get, slice_set}
 use Rattle.std.specs.Duration.{as_nanos}
 use Rattle.std.specs.Time.{instant_nanos}
@@ -7,6 +7,7 @@ use Rattle.std.specs.declared.time.Duration.{Duration}
 use Rattle.std.specs.declared.time.Instant.{Instant}
 use Rattle.daide_buffered_io.specs.declared.readiness.Readiness.{Readiness}
 use Rattle.daide_io.specs.declared.network.SocketEvent.{SocketEvent}
+use Rattle.daide_io.specs.Interest.{earlier}
 use Rattle.daide_io.specs.Network.{NetworkCall, Polls, ReadsClock}
 
 -- One row: whether a socket has it, and what polls reported of the socket since it last took the report.
@@ -25,14 +26,6 @@ pub record Table : Type 0 where
   pub watched_due : Option Instant
   pub max_rows : ℕ
   pub rows : List Row
-
--- ---- moments
-
--- the earlier of two moments
-abbrev pub earlier : Option Instant → Option Instant → Option Instant
-earlier None other = other
-earlier (Some one) None = Some one
-earlier (Some one) (Some other) = if nat_le (instant_nanos one) (instant_nanos other) then Some one else Some other
 
 -- ---- one row
 
@@ -79,6 +72,11 @@ report_at table key = (row_at table.rows key).report
 -- a poll reported something of a socket since it last took the report
 abbrev pub is_reported_at : Table → ℕ → Bool
 is_reported_at table key = has_report (report_at table key)
+
+-- each row with a report has a key between these, the first one included and the second one not
+abbrev pub AreReportsWithin : ℕ → ℕ → List Row → Type 0
+AreReportsWithin first after rows =
+    (key : ℕ) → has_report (row_at rows key).report ≡ true → (first ≤ key) × (key < after)
 
 -- ---- changes of a row
 

@@ -24,9 +24,10 @@ ghost use Rattle.daide_sockets.specs.Pairing.{ClosesAt, ClosesBothAt, with_room}
 use crate::poller::Poller;
 use crate::ports::SocketPorts;
 use crate::socket::Socket;
-use crate::table::{SocketTable, after, earlier, is_past, is_time_over, merged};
+use crate::table::{SocketTable, after, is_past, is_time_over, merged};
 use daide_buffered_io::dropping::Dropping;
 use daide_io::duplex::Duplex;
+use daide_io::interest::earlier;
 use daide_io::network::Network;
 use std::alloc::{AllocError, Global};
 use std::marker::Model;

@@ -21,12 +21,12 @@ ghost use Rattle.daide_sockets.specs.Wakeups.{session_due};
 ghost use Rattle.daide_sockets.specs.Interests.{interest_of};
 
 use crate::socket::{Socket, TurnsHeld};
-use crate::table::{SocketTable, earlier, is_past, merged, timeout_end};
+use crate::table::{SocketTable, is_past, merged, timeout_end};
 use crate::timed::Timed;
 use daide_buffered_io::readiness::Readiness;
 use daide_frame::side::Side;
 use daide_io::duplex::Duplex;
-use daide_io::interest::Interest;
+use daide_io::interest::{Interest, earlier};
 use daide_io::ports::{ClockEvent, Ports, Pull, Put};
 use std::time::{Duration, Instant};
 

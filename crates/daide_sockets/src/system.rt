@@ -43,7 +43,7 @@ use crate::session_notice::{Lasted, SessionNotice};
 use crate::system::beginning::{Listening, RunLists};
 use crate::table::SocketTable;
 use daide_buffered_io::pool::Pool;
-use daide_io::interest::Interest;
+use daide_io::interest::{GroupInterest, Interest};
 use daide_io::network::Network;
 use daide_io::system::{Connect, Notice, Orders, SessionEnd, SessionStatus, System};
 use daide_settings::{AddressRange, Settings};
@@ -465,6 +465,11 @@ impl<'w, N: Network, E: Write + Drop> System<SocketPorts<'w, N::Connection>> for
     #[inline(always)]
     fn is_at_rest(&self, interest: &Interest) -> bool {
         !self.control.stops_now() && self.poller.table.is_watched_at_rest(interest)
+    }
+
+    #[inline(always)]
+    fn are_at_rest(&self, group: &GroupInterest) -> bool {
+        !self.control.stops_now() && self.poller.table.are_watched_at_rest(group)
     }
 
     #[inline(always)]

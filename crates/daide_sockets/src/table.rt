@@ -5,16 +5,17 @@
 //! each wait. So an idle session makes no system call.
 
 ghost use Rattle.std.specs.Duration.{as_nanos};
-ghost use Rattle.std.specs.Prelude.{◌≡◌, ◌+◌, ◌<◌, ◌≤◌, ◌||◌, if◌then◌else◌, nat_le, length, IsNone, IfSome, IfNone, IfOk, None, [], true, false};
-ghost use Rattle.daide_sockets.specs.Table.{first_free, IsFull, TakesRow};
+ghost use Rattle.std.specs.Prelude.{◌≡◌, ℕ, ◌+◌, ◌<◌, ◌≤◌, ◌||◌, if◌then◌else◌, nat_le, length, IsNone, IfSome, IfNone, IfOk, None, [], true, false};
+ghost use Rattle.daide_sockets.specs.Table.{AreReportsWithin, first_free, IsFull, TakesRow};
 ghost use Rattle.daide_sockets.specs.Table.{merged, no_report, report_at, has_report, is_reported_at, has_pending};
 ghost use Rattle.daide_sockets.specs.Table.{without_report, watching, unwatched, freed, with_event, with_news, latest};
-ghost use Rattle.daide_sockets.specs.Table.{earlier, IsUntil};
+ghost use Rattle.daide_sockets.specs.Table.{IsUntil};
+ghost use Rattle.daide_io.specs.Interest.{InterestView, IsOfGroup, earlier};
 ghost use Rattle.daide_sockets.specs.Interests.{may_go_on_for, has_news_for, after_question};
 ghost use Rattle.daide_sockets.specs.Times.{IsAfter, IsStallEnd, StallsNext, is_past, is_time_over};
 
 use daide_buffered_io::readiness::Readiness;
-use daide_io::interest::Interest;
+use daide_io::interest::{GroupInterest, Interest};
 use daide_io::network::SocketEvent;
 use std::alloc::{AllocError, Global};
 use std::marker::Model;
@@ -93,6 +94,11 @@ pub struct SocketTable {
     /// Whether a question for news has to look closer: many turns began since the last poll, or the nearest deadline that is
     /// watched is past. So a question for a session that is watched already is short.
     needs_look: bool,
+    /// The least key of a row with a report, or a lesser one.
+    first_reported: usize,
+    /// The key after the greatest one of a row with a report, or a greater one. So most groups of sessions are known to have
+    /// no report without a look at a row.
+    after_reported: usize,
     /// The most rows.
     max_rows: usize,
     /// The rows that were ever taken.
@@ -101,7 +107,7 @@ pub struct SocketTable {
 
 impl Model for SocketTable {
     ghost use Rattle.std.specs.Prelude.{◌≡◌, ◌≤◌, nat_le, false, vec_capacity};
-    ghost use Rattle.daide_sockets.specs.Table.{Table};
+    ghost use Rattle.daide_sockets.specs.Table.{Table, AreReportsWithin};
     ghost use Rattle.daide_sockets.specs.Times.{is_past};
 
     ghost Value = { Table };
@@ -117,9 +123,10 @@ impl Model for SocketTable {
     } };
 
     // without a reason to look closer, few turns began, and no deadline that is watched is past; there is room for the most
-    // rows
+    // rows; and each report lies between its bounds
     ghost invariant = { λ t. (t.needs_look ≡ false →
-        (nat_le 32 t.turns ≡ false) × (is_past t.reading t.watched_due ≡ false)) × (t.max_rows ≤ vec_capacity t.rows) };
+        (nat_le 32 t.turns ≡ false) × (is_past t.reading t.watched_due ≡ false)) × (t.max_rows ≤ vec_capacity t.rows)
+        × AreReportsWithin t.first_reported t.after_reported t.rows.items };
 }
 
 /// Returns true if a moment is past at the last reading of the clock; false without a moment.
@@ -183,23 +190,6 @@ pub(crate) fn stalls_next(
     }
 }
 
-/// Returns the earlier of two moments; one or both may be missing.
-pub(crate) fn earlier(one: Option<Instant>, other: Option<Instant>) -> Option<Instant>
-    ensures { result ≡ earlier one other }
-{
-    match (one, other) {
-        (None, other) => other,
-        (one, None) => one,
-        (Some(one), Some(other)) => {
-            if is_past(Some(other), Some(one)) {
-                Some(one)
-            } else {
-                Some(other)
-            }
-        }
-    }
-}
-
 /// Returns whether a moment comes before another one; one or both may be missing.
 fn is_nearer(one: Option<Instant>, other: Option<Instant>) -> bool
     ensures { earlier other one ≡ (if result then one else other) }
@@ -258,6 +248,43 @@ fn first_free(rows: &[Row]) -> usize
     key
 }
 
+/// Returns bounds of keys with one key more between them: the first key, and the one after the last. If there is no key
+/// between them, it is the only one then.
+fn widened(first: usize, after: usize, key: usize) -> (usize, usize)
+    requires { key < usize.MAX }
+    ensures own { (result.0 ≤ key) × (key < result.1) }
+    ensures others { (other : ℕ) → first ≤ other → other < after → (result.0 ≤ other) × (other < result.1) }
+{
+    if first >= after {
+        (key, key + 1)
+    } else {
+        (first.min(key), after.max(key + 1))
+    }
+}
+
+/// Returns bounds of keys without a key, if it is the first or the last one between them.
+fn narrowed(first: usize, after: usize, key: usize) -> (usize, usize)
+    requires { key < usize.MAX }
+    ensures { (other : ℕ) → (other ≡ key → ⊥) → first ≤ other → other < after → (result.0 ≤ other) × (other < result.1) }
+{
+    let first = if key == first { key + 1 } else { first };
+    let after = if key + 1 == after { key } else { after };
+    (first, after)
+}
+
+/// Returns the key of the first row with a report, from `first` on and before `after`; `after` if there is none.
+fn first_reported(rows: &[Row], first: usize, after: usize) -> usize
+    ensures { AreReportsWithin first after rows.now → AreReportsWithin result after rows.now }
+{
+    for key in first..after {
+        match rows.get(key) {
+            Some(row) if row.is_reported => return key,
+            _ => {}
+        }
+    }
+    after
+}
+
 /// Returns whether the system is polled again after this many turns.
 fn are_many(turns: u64) -> bool
     ensures { result ≡ nat_le MOST_TURNS turns }
@@ -284,6 +311,8 @@ impl SocketTable {
             watched_work: false,
             watched_due: None,
             needs_look: false,
+            first_reported: 0,
+            after_reported: 0,
             max_rows: sockets,
             rows: Vec::with_capacity(alloc, sockets)?,
         })
@@ -368,7 +397,13 @@ impl SocketTable {
         if key >= self.rows.len() {
             return Readiness::UNKNOWN;
         }
-        self.rows[key].take_report()
+        let report = self.rows[key].take_report();
+        (self.first_reported, self.after_reported) = narrowed(
+            self.first_reported,
+            self.after_reported,
+            key,
+        );
+        report
     }
 
     /// Returns whether polls reported something of a socket since it last took the report.
@@ -448,6 +483,31 @@ impl SocketTable {
         }
     }
 
+    /// Returns false only if polls reported nothing of the connections of any session of a group with this interest.
+    #[inline(always)]
+    fn may_be_reported(&self, group: &GroupInterest) -> bool
+        ensures { result ≡ false → (key : ℕ) → group.now.least_key ≤ key → key ≤ group.now.greatest_key →
+            is_reported_at self.now key ≡ false }
+    {
+        self.first_reported <= group.greatest_key && group.least_key < self.after_reported
+    }
+
+    /// Returns true only if there is no news for any session of a group with this interest, and the next wait watches each of
+    /// them already, as `is_watched_at_rest` does for one.
+    #[inline(always)]
+    pub fn are_watched_at_rest(&self, group: &GroupInterest) -> bool
+        ensures few { result ≡ true → nat_le 32 self.now.turns ≡ false }
+        ensures news { result ≡ true → (interest : InterestView) → IsOfGroup group.now interest →
+            has_news_for self.now interest ≡ false }
+        ensures watched { result ≡ true → (interest : InterestView) → IsOfGroup group.now interest →
+            after_question false self.now interest ≡ self.now }
+    {
+        if self.needs_look || self.may_be_reported(group) {
+            return false;
+        }
+        !is_nearer(group.due, self.watched_due)
+    }
+
     /// Returns whether there is news for the session with this interest. If there is none, the next wait watches the session:
     /// its nearest deadline, which is not past.
     #[inline(always)]
@@ -514,6 +574,11 @@ impl SocketTable {
     {
         if event.key < self.rows.len() {
             self.rows[event.key].add_report(report_of(event));
+            (self.first_reported, self.after_reported) = widened(
+                self.first_reported,
+                self.after_reported,
+                event.key,
+            );
         }
     }
 
@@ -523,6 +588,7 @@ impl SocketTable {
     {
         self.turns = 0;
         self.has_news = self.has_news || !news.is_empty();
+        self.first_reported = first_reported(&self.rows, self.first_reported, self.after_reported);
         for event in news {
             self.note_event(*event);
         }

@@ -4,7 +4,7 @@ use crate::harness::settings;
 use crate::relays::{NEVER, QUIET};
 use daide_gate::serving::Service;
 use daide_gate::system::{Connect, Notice, Orders, SessionEnd, SessionStatus, System};
-use daide_io::interest::Interest;
+use daide_io::interest::{GroupInterest, Interest};
 use daide_test_support::memory_ports::{Acceptance, MemoryPorts, Script, ScriptedRead};
 use daide_test_support::rows::same;
 use std::alloc::Global;
@@ -64,6 +64,10 @@ impl System<MemoryPorts<'static>> for Crowd {
     fn show(&mut self, _ports: &MemoryPorts<'static>, _status: SessionStatus) {}
 
     fn is_at_rest(&self, _interest: &Interest) -> bool {
+        false
+    }
+
+    fn are_at_rest(&self, _group: &GroupInterest) -> bool {
         false
     }
 

@@ -5,7 +5,7 @@ use daide_gate::serving::serve;
 use daide_gate::settings::{Settings, read_settings};
 use daide_gate::system::{Cause, Connect, Notice, Orders, SessionEnd, SessionStatus, System};
 use daide_gate::{ByteCounts, FaultField, Level, Phase, SideCounts, Summary};
-use daide_io::interest::Interest;
+use daide_io::interest::{GroupInterest, Interest};
 use daide_test_support::memory_ports::{Call, MemoryPorts, Script, ScriptedRead};
 use daide_test_support::rows::holds;
 use std::alloc::Global;
@@ -162,6 +162,10 @@ impl System<MemoryPorts<'static>> for Harness {
 
     fn is_at_rest(&self, interest: &Interest) -> bool {
         !interest.has_work() && self.orders <= self.scene.rests
+    }
+
+    fn are_at_rest(&self, _group: &GroupInterest) -> bool {
+        self.orders <= self.scene.rests
     }
 
     fn has_news(&mut self, _interest: &Interest) -> bool {

@@ -32,6 +32,8 @@ mod records;
 #[cfg(test)]
 mod relays;
 #[cfg(test)]
+mod resting;
+#[cfg(test)]
 mod script;
 #[cfg(test)]
 mod serving;

@@ -6,7 +6,7 @@ use daide_gate::{
     Config, Connect, Notice, Orders, Ports, Pull, Record, RecordEnd, SessionEnd, SessionStatus,
     System, Words, check_log,
 };
-use daide_io::interest::Interest;
+use daide_io::interest::{GroupInterest, Interest};
 use daide_log::{Comment, Moment, TimedRecording};
 use daide_test_support::memory_ports::{MemoryPorts, Script, ScriptedRead};
 use daide_test_support::rows::{holds, same};
@@ -73,6 +73,10 @@ impl System<MemoryPorts<'static>> for Turns {
     fn show(&mut self, _ports: &MemoryPorts<'static>, _status: SessionStatus) {}
 
     fn is_at_rest(&self, _interest: &Interest) -> bool {
+        false
+    }
+
+    fn are_at_rest(&self, _group: &GroupInterest) -> bool {
         false
     }
 

@@ -7,7 +7,7 @@ use crate::network::{MemoryConnection, MemoryNetwork, World};
 use crate::state::{RunTimes, State};
 use crate::wire::Place;
 use daide_frame::side::Side;
-use daide_io::interest::Interest;
+use daide_io::interest::{GroupInterest, Interest};
 use daide_io::network::ConnectStatus;
 use daide_io::ports::{ClockEvent, Ports, Pull, Put};
 use daide_io::system::{Cause, Connect, Notice, Orders, SessionEnd, SessionStatus, System};
@@ -639,6 +639,10 @@ impl<'w, 'n> System<ObservedPorts<'w, 'n>> for ObservedSockets<'w, 'n> {
 
     fn is_at_rest(&self, interest: &Interest) -> bool {
         self.sockets.is_at_rest(interest)
+    }
+
+    fn are_at_rest(&self, group: &GroupInterest) -> bool {
+        self.sockets.are_at_rest(group)
     }
 
     fn has_news(&mut self, interest: &Interest) -> bool {

@@ -7,9 +7,10 @@ loop-i-init g c =
     let first = c.next_to_visit-i.ensures in
     record {
       finding = rest_until g.P.Ports.transition g.S.System.transition _ _ _ _ 0 0 false false
-          (none_found g.P.Ports.transition g.S.System.transition c.args.system.now c.args.hub.now c.requires) _
+          (none_found g.P.Ports.transition g.S.System.transition c.args.system.now c.args.hub.now c.requires.are_open) _
           first.place.0 first.place.1 first.between;
       within = first.place.1;
+      known = first.known;
     }
 
 pub loop-i-preserved : goal.loop-i-preserved
@@ -23,6 +24,7 @@ loop-i-preserved g c =
           c.visit_next-found.ensures.moved c.visit_next-found.ensures.closed) _
           next.place.0 next.place.1 next.between;
       within = next.place.1;
+      known = next.known;
     }
 
 pub returns-then-found-clause-turns : goal.returns-then-found-clause-turns

@@ -3,6 +3,7 @@ use Rattle.std.specs.Prelude.{nat_le}
 use Rattle.daide_event_loop.specs.Serving.{VisitsCalmIf, turns_left_over}
 use Rattle.daide_event_loop.proofs.BeginningLemmas.{visited_count}
 use Rattle.daide_event_loop.proofs.FindingLemmas.{is_not, none_more, still_next}
+use Rattle.daide_event_loop.proofs.RestingLemmas.{known_visited}
 use Rattle.daide_event_loop.proofs.TransitLemmas.{transits_then}
 use Rattle.daide_event_loop.proofs.WaitingLemmas.{first_false, later_false}
 use Rattle.daide_event_loop.proofs.serving.visit_next.Goals as goal
@@ -78,3 +79,11 @@ returns-clause-max g c =
     let one = c.visit-one.ensures.visits in
     c.catch_up-again.ensures.max
     ∙ (visited_count g.P.Ports.transition c.args.hub.now c.args.i one.0 c.visit-one.new.hub one.2).0
+
+pub catch_up-again-requires : goal.catch_up-again-requires
+catch_up-again-requires g c =
+    let one = c.visit-one.ensures.visits in
+    record {
+      known = known_visited g.P.Ports.interest g.P.Ports.transition c.args.groups.now c.forget.new.self c.args.i
+          c.args.hub.now c.visit-one.new.hub one.0 c.requires.known one.2 c.forget.ensures.own c.forget.ensures.kept;
+    }

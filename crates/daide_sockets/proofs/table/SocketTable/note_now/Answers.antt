@@ -12,4 +12,5 @@ invariant_of-self c = (
         sym c.is_past.ensures.past ∙ right_false _ _ both,
       ),
   c.self.invariant.1,
+  c.self.invariant.2,
 )

@@ -8,4 +8,5 @@ invariant_of-self c = (
       let both = sym c.either-self-inside.ensures ∙ e in
       (sym c.are_many.ensures ∙ right_false _ _ both, (c.self.invariant.0 (left_false _ _ both)).1),
   c.self.invariant.1,
+  c.self.invariant.2,
 )
