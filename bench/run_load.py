@@ -258,20 +258,29 @@ def measure_round_trip(programs):
             print(f"round trip beside {idle} idle sessions, p50 / p99, {name}: {p50:.4g} / {p99:.4g} us", flush=True)
 
 
+def turns_beside_idle(program):
+    """Returns the medians of 500 round trips in each of 60 turns beside 0, 100 and 255 idle sessions."""
+    with contextlib.ExitStack() as running:
+        held, ends = [], []
+        for idle in (0, 100, 255):
+            gateway = running.enter_context(Gateway(program))
+            held.append([gateway.session() for _ in range(idle)])
+            ends.append(gateway.session())
+        turns = [[part([round_trip(*two) for _ in range(500)], 0.5) for two in ends] for _ in range(60)]
+    return zip((0, 100, 255), zip(*turns))
+
+
 def measure_idle(programs):
     """Measures round trips beside 0, 100 and 255 idle sessions in turn, so that other work on the host meets all three
-    alike. Prints the quartiles of 60 turns, of each the median of 500 round trips."""
-    for name, program in programs.items():
-        with contextlib.ExitStack() as running:
-            held, ends = [], {}
-            for idle in (0, 100, 255):
-                gateway = running.enter_context(Gateway(program))
-                held.append([gateway.session() for _ in range(idle)])
-                ends[idle] = gateway.session()
-            turns = [[part([round_trip(*two) for _ in range(500)], 0.5) for two in ends.values()] for _ in range(60)]
-        for idle, found in zip(ends, zip(*turns)):
-            quartiles = " / ".join(f"{part(found, share) * 1000:.1f}" for share in (0.25, 0.5, 0.75))
-            print(f"round trip in turn beside {idle} idle sessions, quartiles, {name}: {quartiles} us", flush=True)
+    alike, and prints quartiles. First all processes share one processor, so that it makes no difference on which one
+    the kernel wakes a process; then they have all."""
+    for processors in ({max(PROCESSORS)}, PROCESSORS):
+        os.sched_setaffinity(0, processors)
+        where = "one processor" if len(processors) == 1 else f"{len(processors)} processors"
+        for name, program in programs.items():
+            for idle, found in turns_beside_idle(program):
+                quartiles = " / ".join(f"{part(found, share) * 1000:.1f}" for share in (0.25, 0.5, 0.75))
+                print(f"round trip in turn beside {idle} idle sessions, {where}, {name}: {quartiles} us", flush=True)
 
 
 def measure_calls(programs):
