@@ -9,7 +9,7 @@ MEASURE all nine are measured:
     calls         system calls per frame, if strace is installed
     instructions  instructions of the process (callgrind), in bulk and for a round trip, if valgrind is installed
     round-trip    the time of a request and its answer, also beside 100 and 255 idle sessions
-    idle          the same beside 0, 100 and 255 idle sessions in turn
+    idle          the same beside 0, 100 and 255 idle sessions in turn, on one processor and on all
     bulk          throughput of one session in one direction, at three sizes of bodies
     recorded      throughput of 256 sessions at once, with and without a record of each, of PROGRAM alone
     memory        memory of idle and of used sessions, and the processor time of 256 idle ones
