@@ -1,5 +1,5 @@
 -- The text of an address, byte by byte.
-use Rattle.std.proofs.Common.{◌≡◌, ℕ, zero, suc, ◌+◌, ◌<◌, ◌≤◌, List, [], ◌∷◌, ◌++◌, length, take, get_or, map, min, refl, sym, ap, ◌∙◌, append_assoc, arith}
+use Rattle.std.proofs.Common.{◌≡◌, ℕ, zero, suc, ◌+◌, ◌<◌, ◌≤◌, List, [], ◌∷◌, ◌++◌, length, take, get_or, map, refl, sym, ap, ◌∙◌, append_assoc, arith}
 use Rattle.std.proofs.lemmas.List.{take_more, map-append}
 use Rattle.daide_log.specs.RecordItem.{address_text, printable}
 use Rattle.daide_log.specs.UtcText.{two_digits, three_digits}
@@ -37,4 +37,14 @@ pub clock_put : (line a b c new minutes : List ℕ) (second fraction : ℕ) → 
 clock_put line a b c new minutes second fraction e f g h =
     h ∙ ap (λ (l : List ℕ). l ++ three_digits fraction)
     (g ∙ ap (λ (l : List ℕ). l ++ two_digits second ++ 46 ∷ []) (f ∙ ap (λ (l : List ℕ). l ++ 58 ∷ []) e))
+    ∙ simp append_assoc
+
+-- ---- the comment after the head, part by part
+
+pub parts_put : (line a b c d e f new p q r s t u : List ℕ) → a ≡ line ++ p → b ≡ a ++ q → c ≡ b ++ r → d ≡ c ++ s →
+    e ≡ d ++ t → f ≡ e ++ u → new ≡ f ++ 10 ∷ [] → new ≡ line ++ (p ++ q ++ r ++ s ++ t ++ u) ++ 10 ∷ []
+parts_put line a b c d e f new p q r s t u is_a is_b is_c is_d is_e is_f is_new =
+    is_new ∙ ap (λ (l : List ℕ). l ++ 10 ∷ [])
+    (is_f ∙ ap (λ (l : List ℕ). l ++ u) (is_e ∙ ap (λ (l : List ℕ). l ++ t) (is_d ∙ ap (λ (l : List ℕ). l ++ s)
+    (is_c ∙ ap (λ (l : List ℕ). l ++ r) (is_b ∙ ap (λ (l : List ℕ). l ++ q) is_a)))))
     ∙ simp append_assoc

@@ -1,6 +1,6 @@
 -- The lines for incomplete frames, in order.
 use Rattle.std.proofs.Common.{◌≡◌, ℕ, ◌+◌, List, [], ◌∷◌, ◌++◌, length, Option, refl, sym, ap, ◌∙◌, subst, arith}
-use Rattle.std.proofs.Common.{append_assoc, append-nil, length-append, zero, suc, ◌-◌, ◌≤◌, get_or, All}
+use Rattle.std.proofs.Common.{append_assoc, length-append, zero, suc, ◌-◌, ◌≤◌, get_or, All}
 use Rattle.daide_protocol.specs.Wires.{SessionView}
 use Rattle.daide_log.specs.declared.heading.Version.{Version}
 use Rattle.daide_log.specs.Progress.{states_of}
@@ -15,7 +15,7 @@ use Rattle.daide_frame.specs.Frames.{announced, announced_by, head_in}
 use Rattle.daide_log.specs.declared.report.Part as reports
 use Rattle.daide_log.specs.Explained.{Part, part_of, part_text, unfinished_parts, parts_from, session_number}
 use Rattle.daide_log.specs.Explaining.{HasPut, part_by, part_with}
-use Rattle.daide_log.proofs.PlayLemmas.{appends_more, appends_none, texts_of-append}
+use Rattle.daide_log.proofs.PlayLemmas.{appends_more, texts_of-append}
 
 -- a prefix of the lines is written and counted, and these are left
 pub record PutsParts (all left : List Part) (count : ℕ) (a b : Option (List ℕ)) : Type 0 where

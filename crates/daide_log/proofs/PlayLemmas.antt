@@ -24,7 +24,7 @@ use Rattle.daide_words.specs.declared.word.Word.{Word}
 use Rattle.daide_protocol.specs.declared.config.Config.{Config}
 use Rattle.daide_protocol.proofs.LimitsKept.{runs_limits}
 use Rattle.daide_log.specs.ReportForm.{ReportForm, IsWritableForm}
-use Rattle.daide_log.specs.Report.{ReportEntry, move_line, entries_of, lines_of, counted_all, texts_of, counted_over}
+use Rattle.daide_log.specs.Report.{move_line, texts_of, counted_over}
 use Rattle.daide_protocol.specs.Summary.{HasRoom, IsMoreBy}
 use Rattle.daide_protocol.proofs.GrowthLemmas.{no_more, more_by, more_then, less_room, room_after}
 use Rattle.daide_log.specs.Reporting.{IsIdle, IsOneEffect, ReportsEvents, IsMade, IsReportedWith, IsReady, IsUnder}

@@ -8,7 +8,7 @@ use Rattle.daide_log.specs.declared.report.ReportKey.{ReportKey}
 use Rattle.daide_log.specs.ReportForm.{IsWritableForm}
 use Rattle.daide_log.specs.Report.{ReportEntry, entries_of}
 use Rattle.daide_log.specs.Log.{plain}
-use Rattle.daide_log.specs.Explained.{ExplainedEntry, AreShown, AreShownBy, explained}
+use Rattle.daide_log.specs.Explained.{ExplainedEntry, AreShownBy, explained}
 
 -- ---- the plain report
 

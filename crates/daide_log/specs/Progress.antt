@@ -21,7 +21,7 @@ use Rattle.daide_words.specs.declared.word.Word.{Word}
 use Rattle.daide_words.specs.Words.{words_of}
 use Rattle.daide_log.specs.ReportForm.{ReportForm}
 use Rattle.daide_log.specs.Report.{texts_of, counted_over, summary_line}
-use Rattle.daide_log.specs.Log.{LogState, Opening, Playing, state_after_preamble, plain, GoesOnBy, ReportsBy, ReportsAllBy, IsReport, IsReportBy}
+use Rattle.daide_log.specs.Log.{LogState, Opening, Playing, state_after_preamble, GoesOnBy, ReportsBy, ReportsAllBy, IsReport, IsReportBy}
 use Rattle.daide_log_lines.specs.LogLine.{IsUnbroken, MayBeginLine, longest_line, most_lines}
 use Rattle.daide_log_lines.specs.Lines.{block_size}
 

@@ -1,6 +1,6 @@
 -- The text of the record of a session: a log of version 2 with one session, from the calls of its ports.
 -- docs/FORMATS.md, "The record". (own)
-use Rattle.std.specs.Prelude.{ℕ, ◌+◌, true, false, List, [], ◌∷◌, ◌++◌, length, codes, Option, Some, None}
+use Rattle.std.specs.Prelude.{ℕ, ◌+◌, List, [], ◌∷◌, ◌++◌, length, codes, Option, Some, None}
 use Rattle.std.specs.Fmt.{decimal}
 use Rattle.hex.specs.Hex.{encode_upper}
 use Rattle.daide_token.specs.Token.{token_bytes}

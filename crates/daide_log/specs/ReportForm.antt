@@ -1,6 +1,6 @@
 -- The form of a report: the entries for the events of a line, their text, and the end of the report. There are two: the
 -- plain report, and the report with explanations (`Explained`). (own)
-use Rattle.std.specs.Prelude.{◌≡◌, ⊤, ℕ, Bool, List, [], ◌∷◌, ◌++◌, Option}
+use Rattle.std.specs.Prelude.{◌≡◌, ⊤, ℕ, Bool, List, [], ◌++◌, Option}
 use Rattle.std.specs.Bool.{MatchBool}
 use Rattle.daide_frame.specs.declared.side.Side.{Side}
 use Rattle.daide_words.specs.declared.word.Word.{Word}
@@ -11,7 +11,7 @@ use Rattle.daide_log_lines.specs.LogLine.{LogEvent}
 use Rattle.daide_log.specs.declared.heading.Version.{Version}
 use Rattle.daide_log.specs.declared.report.ReportKey.{ReportKey}
 use Rattle.daide_log.specs.Heading.{Heading, Unnamed, Named, Headed, has_all_words}
-use Rattle.daide_log.specs.Report.{texts_of, counted_over, events_of_line, side_of}
+use Rattle.daide_log.specs.Report.{events_of_line, side_of}
 
 -- A form of report, with the type of the result for a log without a fault.
 pub record ReportForm (Answer : Type 0) : Type 1 where

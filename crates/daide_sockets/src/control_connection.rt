@@ -19,7 +19,7 @@ use std::alloc::Global;
 use std::time::Instant;
 
 /// What a control connection does.
-#[derive(Clone, Copy, Debug, PartialEq, Eq)]
+#[derive(Clone, Copy, PartialEq, Eq)]
 pub(crate) enum Stage {
     /// It reads a request.
     Reads,

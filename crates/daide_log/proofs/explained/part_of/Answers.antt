@@ -1,11 +1,7 @@
-use Rattle.std.proofs.Common.{◌≡◌, ◌∙◌, ℕ, List, Option, length, take, drop, sym, ap, subst, arith}
-use Rattle.std.proofs.Common.{length-take}
-use Rattle.daide_frame.specs.Frames.{announced}
+use Rattle.std.proofs.Common.{◌∙◌, length, ap}
 use Rattle.daide_protocol.specs.Machine.{coming, ending_in}
 use Rattle.daide_protocol.specs.Wires.{holding}
-use Rattle.daide_log.specs.declared.report.Part as reports
-use Rattle.daide_log.specs.Explaining.{part_by, part_with}
-use Rattle.daide_log.specs.Explained.{is_at_fault, part_of}
+use Rattle.daide_log.specs.Explained.{is_at_fault}
 use Rattle.daide_frame.specs.Frames.{announced_by}
 use Rattle.daide_log.proofs.PartLemmas.{part_found}
 use Rattle.daide_log.proofs.explained.part_of.Goals as goal

@@ -1,5 +1,7 @@
-use Rattle.std.proofs.Common.{◌∙◌, arith}
+use Rattle.std.proofs.Common.{◌∙◌, [], arith, refl, subst, sym}
+use Rattle.daide_log.specs.Reporting.{IsIdle}
 use Rattle.daide_log.proofs.PartLemmas.{parts_next, idle_next, one_less}
+use Rattle.daide_log.proofs.PlayLemmas.{appends_none}
 use Rattle.daide_log.proofs.explained.put_parts.Goals as goal
 
 pub sessions-preserved : goal.sessions-preserved
@@ -12,3 +14,27 @@ sessions-preserved g c = (
   idle_next c.sessions.rest.now _ c.sessions.invariant.3 c.in-len1-up.len_at_least (omega arith),
   c.put_session.ensures.same_writer ∙ c.sessions.invariant.4,
 )
+
+pub sessions-init : goal.sessions-init
+sessions-init g c = (
+  record { done = []; whole = refl; put = (refl, appends_none _) },
+  omega arith,
+  refl,
+  c.requires.idle,
+  refl,
+)
+
+pub overflow_add-count : goal.overflow_add-count
+overflow_add-count g c =
+    omega (arith, c.sessions.invariant.1, c.sessions.invariant.2, c.requires.few, c.in_ok-count.ensures.few)
+
+pub overflow_add-number : goal.overflow_add-number
+overflow_add-number g c = omega (arith, c.sessions.invariant.2, c.requires.few)
+
+pub returns-clause-few : goal.returns-clause-few
+returns-clause-few g c = omega (arith, c.sessions.invariant.1, c.sessions.invariant.2, c.requires.few)
+
+pub put_session-requires : goal.put_session-requires
+put_session-requires g c =
+    subst IsIdle (sym c.session-item.is)
+    (c.sessions.invariant.3 0 c.session-item.result (omega (arith, c.in-len1-up.len_at_least)))

@@ -1,7 +1,9 @@
-use Rattle.std.proofs.Common.{◌+◌, drop, sym, ap, ◌∙◌}
+use Rattle.std.proofs.Common.{◌+◌, List, drop, sym, ap, ◌∙◌}
 use Rattle.daide_sockets.specs.Beside.{arrivals_watched}
 use Rattle.daide_sockets.specs.InTime.{watching_all}
+use Rattle.daide_sockets.specs.Pairing.{Arriving}
 use Rattle.daide_sockets.specs.Table.{Table}
+use Rattle.std.proofs.lemmas.List.{drop_all}
 use Rattle.daide_sockets.proofs.BesideLemmas.{next_arrival}
 use Rattle.daide_sockets.proofs.admission.watch_arrivals.Goals as goal
 
@@ -14,3 +16,9 @@ loop-arrival-preserved g c = record {
       ∙ c.loop-arrival.invariant.watched;
   rows = ap (λ (t : Table). t.rows) c.watch.ensures ∙ c.loop-arrival.invariant.rows;
 }
+
+pub returns : goal.returns
+returns g c =
+    sym (ap (λ (rest : List (Arriving g.row.S.Denot)). watching_all c.loop-arrival.table (arrivals_watched c.args.table.now rest))
+    (drop_all c.loop-arrival.arrival-index c.args.arrivals.now c.loop-arrival-test.false))
+    ∙ c.loop-arrival.invariant.watched

@@ -1,7 +1,9 @@
-use Rattle.std.proofs.Common.{◌+◌, drop, sym, ap, ◌∙◌}
+use Rattle.std.proofs.Common.{◌+◌, List, drop, sym, ap, ◌∙◌}
 use Rattle.daide_sockets.specs.Beside.{closings_watched}
 use Rattle.daide_sockets.specs.InTime.{watching_all}
+use Rattle.daide_sockets.specs.Lingering.{ClosingStream}
 use Rattle.daide_sockets.specs.Table.{Table}
+use Rattle.std.proofs.lemmas.List.{drop_all}
 use Rattle.daide_sockets.proofs.BesideLemmas.{next_closing}
 use Rattle.daide_sockets.proofs.lingering_close.ClosingSockets.watch.Goals as goal
 
@@ -16,3 +18,12 @@ loop-closing-preserved g c =
           ∙ c.loop-closing.invariant.watched;
       rows = ap (λ (t : Table). t.rows) c.watch.ensures ∙ c.loop-closing.invariant.rows;
     }
+
+pub returns : goal.returns
+returns g c =
+    let items = c.deref-closing-items.result.now in
+    sym (ap (λ (rest : List (ClosingStream g.row.S.Denot)). watching_all c.loop-closing.table (closings_watched c.args.table.now rest))
+    (drop_all c.loop-closing.closing-index items c.loop-closing-test.false))
+    ∙ c.loop-closing.invariant.watched
+    ∙ ap (λ (all : List (ClosingStream g.row.S.Denot)). watching_all c.args.table.now (closings_watched c.args.table.now all))
+    (c.deref-closing-items.ensures.value ∙ c.self.view_is)
