@@ -13,13 +13,13 @@ use daide_io::ports::Ports;
 use daide_io::system::System;
 use std::alloc::Allocator;
 
-/// So many places in a row, from a multiple of it on, are a group.
+/// The number of places in a group. They follow each other, and the first is a multiple of it.
 const GROUP: usize = 16;
 
 /// The groups of 256 places, the most of a run.
 const GROUPS: usize = 16;
 
-/// A group is looked at anew once the session that is left out of it was at rest so many times.
+/// How often the session that is left out of a group is at rest before the group is learned with it.
 const MOST_RESTS: u8 = 16;
 
 /// What the sessions of a group wait for together: those before one that is left out, and those after it. So this stays
@@ -121,7 +121,7 @@ impl RestingGroups {
     }
 
     /// Keeps what the sessions in the group of a place wait for together, in the place of what was known of them.
-    fn learn(&mut self, place: usize, group: RestingGroup)
+    fn keep(&mut self, place: usize, group: RestingGroup)
         ensures { (number : ℕ) → (known : RestingGroup) → known_at self.new number ≡ Some known →
             (known_at self.old number ≡ Some known) ⊎ ((number ≡ place / 16) × (known ≡ group)) }
     {
@@ -189,7 +189,7 @@ fn learn<P: Ports, A: Allocator + Copy>(
     let before = shared_interest(hub, group_start(place), left_out);
     let after = shared_interest(hub, left_out.saturating_add(1), end);
     if let (Some(before), Some(after)) = (before, after) {
-        groups.learn(
+        groups.keep(
             place,
             RestingGroup {
                 left_out,

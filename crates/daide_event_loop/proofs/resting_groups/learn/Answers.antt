@@ -20,12 +20,12 @@ returns-in-Some-Some g c =
     let after = subst (λ (o : Option GroupInterest). IfSome o (λ i. AreMembers g.P.Ports.interest i next end places))
     c.in-Some-Some.is-1 c.shared_interest-after.ensures in
     record {
-      known = learned g.P.Ports.interest c.args.groups.now c.learn.new.self (c.args.place / 16) _ places c.requires.known
+      known = learned g.P.Ports.interest c.args.groups.now c.keep.new.self (c.args.place / 16) _ places c.requires.known
           (record {
             within = (left_out.0, left_out.1);
             before = members_within g.P.Ports.interest c.in-Some-Some.before start c.args.left_out _ _ places
                 (omega (arith, start_is)) (omega arith) before;
             after = members_beyond g.P.Ports.interest c.in-Some-Some.after next end _ _ places (omega (arith, next_is))
                 (λ k few far. let most = c.group_end-end.ensures.end k few far in omega (arith, most, count)) after;
-          }) c.learn.ensures;
+          }) c.keep.ensures;
     }
