@@ -1,8 +1,9 @@
 -- A command after arguments and subcommands were added to it.
-use Rattle.std.proofs.Common.{◌≡◌, ◌||◌, ◌++◌, Bool, true, false, List, [], ◌∷◌, map, refl, sym, ap, ap₂, ◌∙◌}
-use Rattle.std.proofs.Common.{append_assoc, append-nil}
-use Rattle.std.specs.List.{list_any}
-use Rattle.daide_commands.specs.CommandLine.{with_rules, AreLocal}
+use Rattle.std.proofs.Common.{◌≡◌, ◌||◌, ◌++◌, Bool, false, List, [], ◌∷◌, map, sym, ap, ap₂, ◌∙◌}
+use Rattle.std.proofs.Common.{append_assoc, append-nil, ℕ, ◌+◌, ◌<◌, ◌≤◌, length, drop, get_or}
+use Rattle.std.proofs.lemmas.List.{drop_all, drop_more, map-append}
+use Rattle.daide_commands.specs.CommandLine.{with_rules}
+use Rattle.daide_commands.specs.CommandTable.{AreLocal, HaveNoGlobals}
 use Rattle.clap.specs.Words.{App, Rule, Text, new_app, Shape, app_of, shape_of, rule_of, with_rule, with_subcommand, AddsArg, AddsSubcommand, AddsInTurn}
 use Rattle.clap.specs.declared.builder.arg.Arg.{Arg}
 use Rattle.clap.specs.declared.builder.command.Command.{Command}
@@ -39,26 +40,37 @@ stays_local [] old new local plain adds = ap (λ (command : Command). (out-Comma
 stays_local (arg ∷ args) old new local plain adds =
     stays_local args adds.0 new local.1 (adds.1.globals ∙ ap₂ (λ (a b : Bool). a || b) plain local.0) adds.2
 
+-- arguments, and commands, with one more
+pub one_more_local : (args : List Arg) (arg : Arg) → AreLocal args → arg.global ≡ false → AreLocal (args ++ arg ∷ [])
+one_more_local [] arg before here = (here, tt)
+one_more_local (other ∷ args) arg before here = (before.0, one_more_local args arg before.1 here)
+
+pub one_more_plain : (commands : List Command) (command : Command) → HaveNoGlobals commands →
+    (out-Command command).has_globals ≡ false → HaveNoGlobals (commands ++ command ∷ [])
+one_more_plain [] command before here = (here, tt)
+one_more_plain (other ∷ commands) command before here = (before.0, one_more_plain commands command before.1 here)
+
+-- what was made of rows, and then of one row more: with what the others give it is what all rows give
+pub one_more : {A B C : Type 0} (f : A → C) (g : B → C) (made : List A) (rows : List B) (i : ℕ) (one : A) (d : B) →
+    i < length rows → f one ≡ g (get_or rows i d) → map f made ++ map g (drop i rows) ≡ map g rows →
+    map f (made ++ one ∷ []) ++ map g (drop (i + 1) rows) ≡ map g rows
+one_more f g made rows i one d below is before =
+    ap (λ l. l ++ map g (drop (i + 1) rows)) (map-append f made (one ∷ []))
+    ∙ append_assoc (map f made) (f one ∷ []) (map g (drop (i + 1) rows))
+    ∙ ap (λ x. map f made ++ x ∷ map g (drop (i + 1) rows)) is
+    ∙ sym (ap (λ l. map f made ++ map g l) (drop_more rows i d below))
+    ∙ before
+
+-- what was made of all rows
+pub all_made : {A B C : Type 0} (f : A → C) (g : B → C) (made : List A) (rows : List B) (i : ℕ) → length rows ≤ i →
+    map f made ++ map g (drop i rows) ≡ map g rows → map f made ≡ map g rows
+all_made f g made rows i all before =
+    sym (append-nil (map f made)) ∙ sym (ap (λ l. map f made ++ map g l) (drop_all i rows all)) ∙ before
+
 -- an application with commands added in turn
 abbrev pub with_all_subcommands : App → List Shape → App
 with_all_subcommands app [] = app
 with_all_subcommands app (shape ∷ shapes) = with_all_subcommands (with_subcommand app shape) shapes
-
-abbrev pub HaveNoGlobals : List Command → Type 0
-HaveNoGlobals [] = Unit {0}
-HaveNoGlobals (command ∷ commands) = ((out-Command command).has_globals ≡ false) × HaveNoGlobals commands
-
-pub no_globals : (commands : List Command) → list_any (λ command. (out-Command command).has_globals) commands ≡ false →
-    HaveNoGlobals commands
-no_globals [] h = tt
-no_globals (command ∷ commands) h =
-    let parts = both (out-Command command).has_globals (list_any (λ command. (out-Command command).has_globals) commands) h in
-    (parts.0, no_globals commands parts.1)
-  where
-    both : (a b : Bool) → (a || b) ≡ false → (a ≡ false) × (b ≡ false)
-    both false false e = (refl, refl)
-    both false true e = absurd (cc)
-    both true b e = absurd (cc)
 
 pub subcommands_added : (commands : List Command) (old new : Command) → HaveNoGlobals commands →
     AddsInTurn AddsSubcommand old commands new →

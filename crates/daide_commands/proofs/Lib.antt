@@ -5,7 +5,6 @@ mod StreamLemmas
 mod AcceptedLemmas
 mod RecordedLemmas
 mod CommandLemmas
-pub mod Listed
 mod RunLemmas
 mod JudgingLemmas
 mod CommandFacts

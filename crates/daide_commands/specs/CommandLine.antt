@@ -5,17 +5,14 @@ use Rattle.std.specs.List.{list_any}
 use Rattle.std.specs.Option.{option_map_or}
 use Rattle.std.specs.Str.{bytes_eq}
 use Rattle.std.specs.Str.Parse.{IsNumeral, digits_value, without_leading_plus}
-use Rattle.clap.specs.Words.{App, Row, Rule, Text, all_of, first_of, new_rule, shape_of, fault_of, subcommand_of, subcommand_rows_of, kind_of}
+use Rattle.clap.specs.Words.{App, Row, Rule, Text, all_of, first_of, new_rule, fault_of, subcommand_of, subcommand_rows_of, kind_of}
 use Rattle.clap.specs.Kinds.{IsAmong}
 use Rattle.clap.specs.declared.error.Error.{Error}
 use Rattle.clap.specs.declared.error.kind.ErrorKind.{ErrorKind}
 use Rattle.clap.specs.declared.error.kind.ErrorKind.TheVariants.{OutOfMemory}
 use Rattle.clap.specs.declared.parser.matches.ArgMatches.{ArgMatches}
 use Rattle.clap.specs.Simple.{new_shape}
-use Rattle.clap.specs.declared.builder.command.Command.{Command}
-use Rattle.clap.specs.declared.builder.command.Command.TheViews.{out-Command}
 use Rattle.clap.specs.Lexer.{is_digit, usize_max}
-use Rattle.clap.specs.declared.builder.arg.Arg.{Arg}
 use Rattle.clap.specs.declared.builder.action.ArgAction.TheVariants.{Set, SetTrue, Append}
 use Rattle.daide_frame.specs.declared.side.Side.{Side}
 use Rattle.daide_frame.specs.declared.side.Side.TheVariants.{Bot, Server}
@@ -57,11 +54,6 @@ word_rule name required = record (new_rule name) { action = Some Set; required =
 abbrev pub with_rules : Text → List Rule → App
 with_rules name rules = record { top = record (new_shape name) { rules = rules }; subs = [] }
 
--- arguments that belong to one command alone
-abbrev pub AreLocal : List Arg → Type 0
-AreLocal [] = Unit {0}
-AreLocal (arg ∷ args) = (arg.global ≡ false) × AreLocal args
-
 abbrev pub show_app : App
 show_app = with_rules (codes "show")
     (option_rule (codes "side") ∷ option_rule (codes "level") ∷ option_rule (codes "words")
@@ -93,11 +85,6 @@ gate_app = record {
   top = record (new_shape (codes "daide-gate")) { is_leaf = false; has_version = true };
   subs = show_app.top ∷ check_app.top ∷ frame_app.top ∷ settings_app.top ∷ run_app.top ∷ status_app.top ∷ stop_app.top ∷ [];
 }
-
--- the subcommands, in the order of the help; `frame` may take negative numbers
-abbrev pub AreCommands : Bool → List Command → Type 0
-AreCommands negative commands = (list_any (λ command. (out-Command command).has_globals) commands ≡ false)
-    × (negative ≡ false → map shape_of commands ≡ gate_app.subs)
 
 -- a hyphen, and then a digit
 abbrev pub begins_negative : Text → Bool

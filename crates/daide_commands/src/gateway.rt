@@ -7,7 +7,7 @@ ghost use Rattle.daide_event_loop.specs.Serving.{IsServeCause, GivesUp};
 ghost use Rattle.daide_commands.specs.Gateway.{IsBeforeServing, fault_by, Announces};
 ghost use Rattle.daide_log.specs.Recording.{HasFailed};
 
-use crate::arguments::VERSION;
+use crate::command_line::VERSION;
 use daide_event_loop::{ServeFault, serve};
 use daide_frame::Memory;
 use daide_io::{Ports, System};
