@@ -20,6 +20,9 @@ LOOP = re.compile(r"-(init|preserved|decreases)(-|$)")
 # A proof that names what an edit took away: it shows nothing of the contract.
 LOST = re.compile(r"has no field|is not in scope|has no `|was not admitted")
 
+# What `rt must-fail` prints of an edit that the prover refused, with the first message.
+BY_RT = re.compile(r"rt: must-fail (\w+)/(\S+\.edit): refused, as it must be(?: \(.*?\))?(?:: (.*))?")
+
 
 @dataclass(frozen=True)
 class Refusal:
@@ -81,6 +84,11 @@ def refusals_in(sources, lines):
     lines = [UNPROVED.sub(r"\1:1:1: error: \2", line) for line in lines]
     found = [line for line in lines if (at := MESSAGE.match(line)) and (at[4] or at[1] and "not proved" in at[5])]
     return sorted((refusal_of(sources, line) for line in found), key=lambda each: each.is_lost)
+
+
+def first_messages(lines):
+    """The first message on each edit that `rt must-fail` printed as refused, by its crate and its file's name."""
+    return {found.group(1, 2): found[3] for line in lines if (found := BY_RT.match(line))}
 
 
 def is_met(said, seen):

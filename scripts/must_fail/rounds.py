@@ -2,6 +2,8 @@
 
 A body is proved over the contracts of what it calls, so an edit of another body changes no verdict on it."""
 
+import re
+
 from .claims import is_same_place
 from .sources import functions_in
 
@@ -48,6 +50,44 @@ def packed(edits):
         rounds[at].append((edit, targets))
         taken[at] |= targets
     return rounds
+
+
+def names_called(crate_sources):
+    """The names that the body of each function of a crate mentions, among those of its functions, by their names."""
+    found = {}
+    for name in crate_sources.files():
+        text = crate_sources.read(name)
+        lines = text.split("\n")
+        for each in functions_in(text):
+            found.setdefault(each.name, set()).update(re.findall(r"\w+", "\n".join(lines[at - 1] for at in each.body)))
+    return {name: words & found.keys() for name, words in found.items()}
+
+
+def names_reached(name, called):
+    """The names of functions that a function of this name may call, itself or by others."""
+    reached, new = set(), {name}
+    while new:
+        reached |= new
+        new = {each for one in new for each in called.get(one, ())} - reached
+    return reached
+
+
+def apart(edits):
+    """The edits in rounds in which no edit names a function that may call one which another edit changes: the prover
+    does not try what waits for the proof of a function that is called. Each edit has its targets."""
+    rounds = []
+    for edit, targets in edits:
+        called = names_called(edit.sources)
+        changed = {each.name for name, first in targets for each in functions_in(edit.sources.read(name)) if each.first == first}
+        reached = names_reached(edit.claim.place.rpartition("::")[2], called) | changed
+        free = next((each for each in rounds if not (each["reached"] & changed or each["changed"] & reached)), None)
+        if free is None:
+            free = {"edits": [], "reached": set(), "changed": set()}
+            rounds.append(free)
+        free["edits"].append((edit, targets))
+        free["reached"] |= reached
+        free["changed"] |= changed
+    return [each["edits"] for each in rounds]
 
 
 def merged(edits):

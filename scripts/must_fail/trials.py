@@ -24,7 +24,7 @@ class Outcome:
     @property
     def is_read(self):
         """Whether the prover read the crate and came to a verdict."""
-        return self.status == 0 or any(line.startswith("logic=") for line in self.lines)
+        return self.status == 0 or any(line.startswith(("logic=", "only=")) for line in self.lines)
 
 
 def link(source, target):

@@ -2,8 +2,8 @@
 
 import re
 
-from .claims import is_file
-from .messages import is_met, refusals_in
+from .claims import Fault, is_file
+from .messages import is_met, refusal_of, refusals_in
 from .sources import Sources
 
 # An error of the front end, before anything is proved.
@@ -56,3 +56,12 @@ def verdict_of(edit, outcome):
         return f"refused by {first.claim}, but only since a proof names what it took away"
     unknown = "" if first.claim.clause is not None or is_file(first.claim.place) else ", whose clause is not known"
     return f"refused by {first.claim}{unknown}, not by {edit.claim}"
+
+
+def verdict_of_message(edit, message):
+    """The verdict on an edit by the first message of the prover, as `verdict_of`."""
+    try:
+        seen = refusal_of(edit.sources, message).claim
+    except Fault as fault:
+        return str(fault)
+    return None if is_met(edit.claim, seen) else f"refused by {seen}, not by {edit.claim}"

@@ -220,6 +220,7 @@ impl<A: Allocator> Receiver<A> {
         requires bodiless { drop 4 self.old.held ≡ [] }
         ensures { StartsFrame self.old level self.old.held self.new }
     {
+        // After a frame at this level all is at its start already (`clear`).
         if self.level == level {
             return;
         }

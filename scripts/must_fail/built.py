@@ -1,0 +1,115 @@
+"""Checks of edited crates over the libraries that `rt ci` built, of those functions alone that edits name."""
+
+import os
+import pathlib
+import re
+import shutil
+import signal
+import subprocess
+import tempfile
+import threading
+
+from .claims import is_file, is_same_place
+from .sources import CRATES, TOP, functions_in, module_of
+from .trials import PARTS, Outcome
+
+
+def uses_by_crate():
+    """The crates of crates.txt, lowest first, each with the libraries that it uses."""
+    text = (TOP / "crates.txt").read_text(encoding="utf-8")
+    return {name: uses.split() for name, uses in re.findall(r"^(\w+)[^:#\n]*:(.*)", text, re.M)}
+
+
+def kit():
+    """The folder of the toolchain, which has the page that `rt doc` names."""
+    page = subprocess.run(["rt", "doc"], capture_output=True, text=True, check=True).stdout
+    return pathlib.Path(page.strip()).parent
+
+
+def path_of(name, function):
+    """The name of a function as `rattle check --only` takes it: a method by its type, any other by its module too."""
+    if function.owner:
+        return f"{function.owner}{function.trait}::{function.name}"
+    return (module_of(name) + function.name).replace("/", "::")
+
+
+def paths_of(edit):
+    """The functions whose check refuses an edit: those of the place that it names, or for a file of lemmas the laws of
+    the crate. It is empty if they are not known, so that the whole crate is checked."""
+    if is_file(edit.claim.place):
+        return {"laws"} if "src/laws.rt" in edit.sources.files() else set()
+    named = [(name, each) for name in edit.sources.files() for each in functions_in(edit.sources.text(name))]
+    return {path_of(name, each) for name, each in named if is_same_place(edit.claim.place, each.place())}
+
+
+class Built:
+    """Checks over the libraries below a folder in which `rt ci` proved all crates. A check keeps what it proved for the
+    next one of its crate, so there is one at a time of each crate."""
+
+    def __init__(self, folder):
+        self.folder, self.uses, self.kit = pathlib.Path(folder).resolve(), uses_by_crate(), kit()
+        self.top = pathlib.Path(tempfile.mkdtemp(prefix="gate-edits-"))
+        self.running, self.lock, self.is_stopped = set(), threading.Lock(), False
+
+    def below(self, crate):
+        """The crates of this repository below a crate."""
+        own = [name for name in self.uses[crate] if name in self.uses]
+        return list(dict.fromkeys([*own, *(low for name in own for low in self.below(name))]))
+
+    def library(self, name):
+        """The library of this name that `rt ci` built, or that the toolchain has."""
+        folder = self.folder / "crates" / name / "out/rlib" if name in self.uses else self.kit / "rlibs"
+        return folder / f"{name}.rlib"
+
+    def is_proved(self, crate):
+        """Whether `rt ci` has built the library of a crate, which comes last of its proof."""
+        return self.library(crate).exists()
+
+    def has_libraries(self, crate):
+        """Whether each library that a crate uses is where `rt ci` builds it."""
+        return all(self.library(name).exists() for name in {*self.uses[crate], *self.below(crate)})
+
+    def words(self, crate, paths):
+        """The command that checks these functions of a crate, or all if there are none."""
+        words = [self.kit / "bin/rattle", "check", "--crate-name", crate, "src/lib.rt"]
+        for name in dict.fromkeys(["std", *self.uses[crate]]):
+            words += ["--extern", f"{name}={self.library(name)}"]
+        for folder in (self.kit / "rlibs", *(self.library(name).parent for name in self.below(crate))):
+            words += ["-L", f"dependency={folder}"]
+        words += ["--antt-project", self.kit / "rattle/logic/antt-project.json"]
+        words += ["--logic-built", self.kit / "logic_built", "--incremental", self.top / crate / "kept"]
+        words += ["--links", f"{crate}=", "--jobs", "1"]
+        return [*words, *(word for path in sorted(paths) for word in ("--only", path))]
+
+    def try_texts(self, crate, texts, paths=()):
+        """Checks these functions of a crate, or all, with these texts in place of its own."""
+        room = self.top / crate / "edited"
+        shutil.rmtree(room, ignore_errors=True)
+        for part in PARTS:
+            if (CRATES / crate / part).is_dir():
+                shutil.copytree(CRATES / crate / part, room / part)
+        for name, text in texts.items():
+            (room / name).write_text(text, encoding="utf-8")
+        (self.top / crate / "kept").mkdir(exist_ok=True)
+        how = {"stdout": subprocess.PIPE, "stderr": subprocess.STDOUT, "stdin": subprocess.DEVNULL, "text": True}
+        with self.lock:
+            if self.is_stopped:
+                raise KeyboardInterrupt
+            ran = subprocess.Popen(self.words(crate, paths), cwd=room, errors="replace", start_new_session=True, **how)
+            self.running.add(ran)
+        text, _ = ran.communicate()
+        with self.lock:
+            self.running.discard(ran)
+        if self.is_stopped:
+            raise KeyboardInterrupt
+        return Outcome(ran.returncode, text.splitlines())
+
+    def stop(self):
+        """Ends each check that runs."""
+        self.is_stopped = True
+        for ran in list(self.running):
+            os.killpg(ran.pid, signal.SIGTERM)
+
+    def remove(self):
+        """Removes the copies."""
+        shutil.rmtree(self.top, ignore_errors=True)
