@@ -1,17 +1,14 @@
 """Checks of edited crates over the libraries that `rt ci` built, of those functions alone that edits name."""
 
-import os
 import pathlib
 import re
 import shutil
-import signal
 import subprocess
 import tempfile
-import threading
 
 from .claims import is_file, is_same_place
 from .sources import CRATES, TOP, functions_in, module_of
-from .trials import PARTS, Outcome
+from .trials import PARTS, Checks
 
 
 def uses_by_crate():
@@ -42,14 +39,14 @@ def paths_of(edit):
     return {path_of(name, each) for name, each in named if is_same_place(edit.claim.place, each.place())}
 
 
-class Built:
+class Built(Checks):
     """Checks over the libraries below a folder in which `rt ci` proved all crates. A check keeps what it proved for the
     next one of its crate, so there is one at a time of each crate."""
 
     def __init__(self, folder):
+        super().__init__()
         self.folder, self.uses, self.kit = pathlib.Path(folder).resolve(), uses_by_crate(), kit()
         self.top = pathlib.Path(tempfile.mkdtemp(prefix="gate-edits-"))
-        self.running, self.lock, self.is_stopped = set(), threading.Lock(), False
 
     def below(self, crate):
         """The crates of this repository below a crate."""
@@ -91,24 +88,7 @@ class Built:
         for name, text in texts.items():
             (room / name).write_text(text, encoding="utf-8")
         (self.top / crate / "kept").mkdir(exist_ok=True)
-        how = {"stdout": subprocess.PIPE, "stderr": subprocess.STDOUT, "stdin": subprocess.DEVNULL, "text": True}
-        with self.lock:
-            if self.is_stopped:
-                raise KeyboardInterrupt
-            ran = subprocess.Popen(self.words(crate, paths), cwd=room, errors="replace", start_new_session=True, **how)
-            self.running.add(ran)
-        text, _ = ran.communicate()
-        with self.lock:
-            self.running.discard(ran)
-        if self.is_stopped:
-            raise KeyboardInterrupt
-        return Outcome(ran.returncode, text.splitlines())
-
-    def stop(self):
-        """Ends each check that runs."""
-        self.is_stopped = True
-        for ran in list(self.running):
-            os.killpg(ran.pid, signal.SIGTERM)
+        return self.run(self.words(crate, paths), room)
 
     def remove(self):
         """Removes the copies."""

@@ -52,42 +52,62 @@ def packed(edits):
     return rounds
 
 
-def names_called(crate_sources):
-    """The names that the body of each function of a crate mentions, among those of its functions, by their names."""
+def names_called(sources):
+    """The names of a crate's functions, each with those that the body of a function of this name mentions."""
     found = {}
-    for name in crate_sources.files():
-        text = crate_sources.read(name)
+    for name in sources.files():
+        text = sources.read(name)
         lines = text.split("\n")
         for each in functions_in(text):
-            found.setdefault(each.name, set()).update(re.findall(r"\w+", "\n".join(lines[at - 1] for at in each.body)))
+            body = "\n".join(lines[number - 1] for number in each.body)
+            found.setdefault(each.name, set()).update(re.findall(r"\w+", body))
     return {name: words & found.keys() for name, words in found.items()}
 
 
-def names_reached(name, called):
-    """The names of functions that a function of this name may call, itself or by others."""
-    reached, new = set(), {name}
+def names_reached(names, called):
+    """The names of the functions that functions of these names may call, themselves or by others, and theirs."""
+    reached, new = set(), set(names)
     while new:
         reached |= new
-        new = {each for one in new for each in called.get(one, ())} - reached
+        new = {each for name in new for each in called.get(name, ())} - reached
     return reached
 
 
+class Round:
+    """Edits that share a check. No function that one of them names may call one that another changes: the prover does
+    not try what waits for the proof of a function that is called."""
+
+    def __init__(self):
+        self.edits, self.changed, self.reached = [], set(), set()
+
+    def has_room(self, changed, reached):
+        """Whether an edit fits that changes functions of these names, and whose check reaches those."""
+        return not (self.reached & changed or self.changed & reached)
+
+    def add(self, edit, targets, changed, reached):
+        """Adds an edit with its targets."""
+        self.edits.append((edit, targets))
+        self.changed |= changed
+        self.reached |= reached
+
+
+def names_of(sources, targets):
+    """The names of the functions that an edit changes."""
+    return {each.name for name, first in targets for each in functions_in(sources.read(name)) if each.first == first}
+
+
 def apart(edits):
-    """The edits in rounds in which no edit names a function that may call one which another edit changes: the prover
-    does not try what waits for the proof of a function that is called. Each edit has its targets."""
+    """The edits in rounds that share a check, each edit with its targets."""
     rounds = []
     for edit, targets in edits:
-        called = names_called(edit.sources)
-        changed = {each.name for name, first in targets for each in functions_in(edit.sources.read(name)) if each.first == first}
-        reached = names_reached(edit.claim.place.rpartition("::")[2], called) | changed
-        free = next((each for each in rounds if not (each["reached"] & changed or each["changed"] & reached)), None)
+        changed = names_of(edit.sources, targets)
+        place = edit.claim.place.rpartition("::")[2]
+        reached = names_reached(changed | {place}, names_called(edit.sources))
+        free = next((each for each in rounds if each.has_room(changed, reached)), None)
         if free is None:
-            free = {"edits": [], "reached": set(), "changed": set()}
-            rounds.append(free)
-        free["edits"].append((edit, targets))
-        free["reached"] |= reached
-        free["changed"] |= changed
-    return [each["edits"] for each in rounds]
+            rounds.append(free := Round())
+        free.add(edit, targets, changed, reached)
+    return [each.edits for each in rounds]
 
 
 def merged(edits):

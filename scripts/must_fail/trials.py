@@ -27,6 +27,34 @@ class Outcome:
         return self.status == 0 or any(line.startswith(("logic=", "only=")) for line in self.lines)
 
 
+class Checks:
+    """Runs of the prover, several at a time, which can all be stopped."""
+
+    def __init__(self):
+        self.running, self.lock, self.is_stopped = set(), threading.Lock(), False
+
+    def run(self, words, folder):
+        """Runs this command in a folder. Raises KeyboardInterrupt if it is stopped."""
+        how = {"stdout": subprocess.PIPE, "stderr": subprocess.STDOUT, "stdin": subprocess.DEVNULL}
+        with self.lock:
+            if self.is_stopped:
+                raise KeyboardInterrupt
+            ran = subprocess.Popen(words, cwd=folder, text=True, errors="replace", start_new_session=True, **how)
+            self.running.add(ran)
+        text, _ = ran.communicate()
+        with self.lock:
+            self.running.discard(ran)
+        if self.is_stopped:
+            raise KeyboardInterrupt
+        return Outcome(ran.returncode, text.splitlines())
+
+    def stop(self):
+        """Stops each run, and all that would follow."""
+        self.is_stopped = True
+        for ran in list(self.running):
+            os.killpg(ran.pid, signal.SIGTERM)
+
+
 def link(source, target):
     """A second name for a file that is never changed, or only replaced; a copy if the disk has no such names."""
     try:
@@ -61,13 +89,13 @@ def without_proofs(folder, names):
     return ["incremental"] if folder.endswith("/out") and "rlib" in names else []
 
 
-class Trials:
+class Trials(Checks):
     """A copy of the crates, with what their proofs keep, and a folder of each lane, with one crate edited at a time.
     Each lane has all crates in its folder, since a check locks the crates that it uses."""
 
     def __init__(self, jobs):
+        super().__init__()
         self.top, self.jobs = pathlib.Path(tempfile.mkdtemp(prefix="more-edits-")), jobs
-        self.running, self.lock, self.is_stopped = set(), threading.Lock(), False
         self.proved = self.top / "proved/crates"
         self.copy_top(self.top / "proved")
         for crate in CRATES.iterdir():
@@ -102,19 +130,7 @@ class Trials:
 
     def check(self, folder):
         """Checks the crate in this folder."""
-        words = ["rt", "check", "--jobs", str(self.jobs)]
-        how = {"stdout": subprocess.PIPE, "stderr": subprocess.STDOUT, "stdin": subprocess.DEVNULL}
-        with self.lock:
-            if self.is_stopped:
-                raise KeyboardInterrupt
-            ran = subprocess.Popen(words, cwd=folder, text=True, errors="replace", start_new_session=True, **how)
-            self.running.add(ran)
-        text, _ = ran.communicate()
-        with self.lock:
-            self.running.discard(ran)
-        if self.is_stopped:
-            raise KeyboardInterrupt
-        return Outcome(ran.returncode, text.splitlines())
+        return self.run(["rt", "check", "--jobs", str(self.jobs)], folder)
 
     def prove(self, crate, lane):
         """Proves a crate as it is, and keeps the proof, and the libraries that were built for it."""
@@ -134,12 +150,6 @@ class Trials:
         for name, text in texts.items():
             (here / name).write_text(text, encoding="utf-8")
         return self.check(here)
-
-    def stop(self):
-        """Ends each check that runs."""
-        self.is_stopped = True
-        for ran in list(self.running):
-            os.killpg(ran.pid, signal.SIGTERM)
 
     def remove(self):
         """Removes the copies."""
