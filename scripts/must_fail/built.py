@@ -1,20 +1,13 @@
 """Checks of edited crates over the libraries that `rt ci` built, of those functions alone that edits name."""
 
 import pathlib
-import re
 import shutil
 import subprocess
 import tempfile
 
 from .claims import is_file, is_same_place
-from .sources import CRATES, TOP, functions_in, module_of
+from .sources import CRATES, functions_in, module_of, uses_by_crate
 from .trials import PARTS, Checks
-
-
-def uses_by_crate():
-    """The crates of crates.txt, lowest first, each with the libraries that it uses."""
-    text = (TOP / "crates.txt").read_text(encoding="utf-8")
-    return {name: uses.split() for name, uses in re.findall(r"^(\w+)[^:#\n]*:(.*)", text, re.M)}
 
 
 def kit():

@@ -37,6 +37,12 @@ class Function:
         return name.removeprefix("+") == self.name and (is_of_trait or owner.split("+")[0] == self.owner)
 
 
+def uses_by_crate():
+    """The crates of crates.txt, lowest first, each with the libraries that it uses."""
+    text = (TOP / "crates.txt").read_text(encoding="utf-8")
+    return {name: uses.split() for name, uses in re.findall(r"^(\w+)[^:#\n]*:(.*)", text, re.M)}
+
+
 def owners_of(header):
     """The type that an impl is of, and its trait; of a trait its own name."""
     if found := re.match(r"(?:pub )?trait (\w+)", header):

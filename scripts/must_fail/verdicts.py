@@ -21,6 +21,13 @@ def is_refused(edit, refusals, targets):
     )
 
 
+def is_refused_first(edit, refusals, targets):
+    """Whether the first of these that is of a target, or the first of all, is of what the edit names."""
+    if targets is not None:
+        refusals = [each for each in refusals if each.function and (each.file, each.function.first) in targets]
+    return is_refused(edit, refusals[:1], targets)
+
+
 def sorted_out(texts, outcome, tried):
     """The edits of a round that are refused as they say, and the others."""
     refusals = refusals_in(Sources(tried[0][0].crate, texts), outcome.lines) if outcome.is_read else []
@@ -38,15 +45,16 @@ def blamed(texts, outcome, tried):
     return [edit for edit, targets in tried if targets & found]
 
 
-def verdict_of(edit, outcome):
-    """The verdict of a check on its only edit: None if it is refused as it says, else how it is not."""
+def verdict_of(edit, outcome, by_first=False):
+    """The verdict of a check on its only edit: None if it is refused as it says, by the first message or by any, else
+    how it is not."""
     if outcome.status == 0:
         return "not refused"
     bad = next((line for line in outcome.lines if COMPILER.match(line)), "")
     if bad and not (outcome.is_read and bad.startswith(("proofs/", "./proofs/"))):
         return f"not tried: it is not read: {bad[:200]}"
     refusals = refusals_in(edit.sources, outcome.lines)
-    if is_refused(edit, refusals, None):
+    if is_refused(edit, refusals[:1] if by_first else refusals, None):
         return None
     if not refusals:
         last = next((line for line in reversed(outcome.lines) if not line.startswith("rt: ")), "")

@@ -220,7 +220,7 @@ impl<A: Allocator> Receiver<A> {
         requires bodiless { drop 4 self.old.held ≡ [] }
         ensures { StartsFrame self.old level self.old.held self.new }
     {
-        // After a frame at this level all is at its start already (`clear`).
+        // `new` and `clear` have started reader and scan at the level that is kept.
         if self.level == level {
             return;
         }
