@@ -39,7 +39,8 @@ class Checks:
         with self.lock:
             if self.is_stopped:
                 raise KeyboardInterrupt
-            ran = subprocess.Popen(words, cwd=folder, text=True, errors="replace", start_new_session=True, **how)
+            # (a group and no session: in one of its own its priority would not count against other runs)
+            ran = subprocess.Popen(words, cwd=folder, text=True, errors="replace", process_group=0, **how)
             self.running.add(ran)
         text, _ = ran.communicate()
         with self.lock:
