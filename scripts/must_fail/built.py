@@ -7,7 +7,7 @@ import tempfile
 
 from .claims import is_file, is_same_place
 from .sources import CRATES, functions_in, module_of, uses_by_crate
-from .trials import PARTS, Checks
+from .trials import PARTS, Checks, link_proofs
 
 
 def kit():
@@ -33,8 +33,7 @@ def paths_of(edit):
 
 
 class Built(Checks):
-    """Checks over the libraries below a folder in which `rt ci` proved all crates. A check keeps what it proved for the
-    next one of its crate, so there is one at a time of each crate."""
+    """Checks over the libraries below a folder in which `rt ci` proved all crates. One check at a time of each crate."""
 
     def __init__(self, folder):
         super().__init__()
@@ -59,29 +58,34 @@ class Built(Checks):
         """Whether each library that a crate uses is where `rt ci` builds it."""
         return all(self.library(name).exists() for name in {*self.uses[crate], *self.below(crate)})
 
-    def words(self, crate, paths):
-        """The command that checks these functions of a crate, or all if there are none."""
+    def words(self, crate, paths, kept):
+        """The command that checks these functions of a crate, or all if there are none, over the proofs in a folder, where
+        it keeps its own."""
         words = [self.kit / "bin/rattle", "check", "--crate-name", crate, "src/lib.rt"]
         for name in dict.fromkeys(["std", *self.uses[crate]]):
             words += ["--extern", f"{name}={self.library(name)}"]
         for folder in (self.kit / "rlibs", *(self.library(name).parent for name in self.below(crate))):
             words += ["-L", f"dependency={folder}"]
         words += ["--antt-project", self.kit / "rattle/logic/antt-project.json"]
-        words += ["--logic-built", self.kit / "logic_built", "--incremental", self.top / crate / "kept"]
+        words += ["--logic-built", self.kit / "logic_built", "--incremental", kept]
         words += ["--links", f"{crate}=", "--jobs", "1"]
         return [*words, *(word for path in sorted(paths) for word in ("--only", path))]
 
     def try_texts(self, crate, texts, paths=()):
-        """Checks these functions of a crate, or all, with these texts in place of its own."""
-        room = self.top / crate / "edited"
-        shutil.rmtree(room, ignore_errors=True)
+        """Checks these functions of a crate, or all, with these texts in place of its own. A check without such texts
+        keeps what it proves, and each with them begins with that."""
+        room, proved, kept = (self.top / crate / name for name in ("edited", "proved", "kept"))
+        for folder in (room, kept):
+            shutil.rmtree(folder, ignore_errors=True)
         for part in PARTS:
             if (CRATES / crate / part).is_dir():
                 shutil.copytree(CRATES / crate / part, room / part)
         for name, text in texts.items():
             (room / name).write_text(text, encoding="utf-8")
-        (self.top / crate / "kept").mkdir(exist_ok=True)
-        return self.run(self.words(crate, paths), room)
+        proved.mkdir(exist_ok=True)
+        if texts:
+            shutil.copytree(proved, kept, symlinks=True, copy_function=link_proofs)
+        return self.run(self.words(crate, paths, kept if texts else proved), room)
 
     def remove(self):
         """Removes the copies."""

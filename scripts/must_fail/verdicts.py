@@ -22,9 +22,12 @@ def is_refused(edit, refusals, targets):
 
 
 def is_refused_first(edit, refusals, targets):
-    """Whether the first of these that is of a target, or the first of all, is of what the edit names."""
+    """Whether the first of these that is of a target is of what the edit names. Without targets it is the first of all;
+    of an edit that names a lemma the first on its file, since a changed definition breaks lemmas of many files."""
     if targets is not None:
         refusals = [each for each in refusals if each.function and (each.file, each.function.first) in targets]
+    elif is_file(edit.claim.place):
+        refusals = [each for each in refusals if each.claim.place == edit.claim.place]
     return is_refused(edit, refusals[:1], targets)
 
 

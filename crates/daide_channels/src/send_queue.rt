@@ -13,7 +13,7 @@ use std::marker::Model;
 const MOST_QUEUED: usize = 3;
 
 /// A frame queued for a wire.
-#[derive(Clone, Copy, Debug, PartialEq, Eq)]
+#[derive(Clone, Copy)]
 pub enum QueuedFrame {
     /// The answer to a side's last frame. The frame is held until its answer is sent.
     Answer(Side),

@@ -1,10 +1,45 @@
 -- The effect of the program's arguments: the order that they give, and how that ends. (own)
-use Rattle.std.specs.Prelude.{◌≡◌, ℕ, List, Option, Result, Ok, Err}
+use Rattle.std.specs.Prelude.{◌≡◌, ◌≢◌, ◌⊎◌, ◌≤◌, ℕ, List, Option, Result, Ok, Err}
 use Rattle.clap.specs.Words.{Row, Text}
 use Rattle.clap.specs.declared.error.kind.ErrorKind.{ErrorKind}
-use Rattle.daide_commands.specs.declared.arguments.Order.{Order}
-use Rattle.daide_commands.specs.CommandLine.{ParsesTo, IsOrderOf}
-use Rattle.daide_commands.specs.Endings.{OrderEnds, UsageEnds}
+use Rattle.clap.specs.declared.error.kind.ErrorKind.TheVariants.{DisplayHelp, DisplayVersion, OutOfMemory}
+use Rattle.daide_command_line.specs.declared.arguments.Order.{Order}
+use Rattle.daide_command_line.specs.declared.arguments.Order.TheVariants.{Show, Check, Frame, Settings, Run, BadSide}
+use Rattle.daide_command_line.specs.declared.arguments.Order.TheVariants.{BadLevel, Status, Stop, BadFormat, BadTimeout}
+use Rattle.daide_command_line.specs.CommandLine.{ParsesTo, IsOrderOf}
+use Rattle.daide_run.specs.Gateway.{Announces}
+use Rattle.daide_tools.specs.Controlling.{IsAnswerPrinted}
+use Rattle.daide_tools.specs.Endings.{ShowRuns, CheckRuns, FrameRuns, SettingsRuns}
+
+-- ---- an order
+
+-- The end of an order, by the bytes of standard input and by the rest of them that is unread. No clause knows the contents
+-- of a file or the results of the operating system.
+-- `failed` says that a write of the output failed
+abbrev pub OrderEnds : Type 0 → Order → Option (List ℕ) → Option (List ℕ) → Option (List ℕ) → Option (List ℕ) → ℕ →
+    Type 0
+OrderEnds failed (Show order) known rest old new status = ShowRuns order known old new status
+OrderEnds failed (Check order) known rest old new status = CheckRuns order known rest old new status
+OrderEnds failed (Frame order) known rest old new status = FrameRuns order known old new status
+OrderEnds failed (Settings order) known rest old new status = SettingsRuns order known status
+OrderEnds failed (Run order) known rest old new status = (status ≤ 1) × (status ≡ 0 → Announces failed old new)
+OrderEnds failed BadSide known rest old new status = (status ≡ 2) × (new ≡ old)
+OrderEnds failed BadLevel known rest old new status = (status ≡ 2) × (new ≡ old)
+OrderEnds failed (Status order) known rest old new status = (status ≤ 1) × (status ≡ 0 → IsAnswerPrinted old new)
+OrderEnds failed (Stop order) known rest old new status = (status ≤ 1) × (new ≡ old)
+OrderEnds failed BadFormat known rest old new status = (status ≡ 2) × (new ≡ old)
+OrderEnds failed BadTimeout known rest old new status = (status ≡ 2) × (new ≡ old)
+
+-- ---- arguments that give no order
+
+-- The end by the error that clap returned. Refused memory is a fault. Help and version are written to the output, which
+-- may fail. With a usage error nothing is written there.
+pub record UsageEnds (why : ErrorKind) (old new : Option (List ℕ)) (status : ℕ) : Type 0 where
+  pub memory : why ≡ OutOfMemory → (status ≡ 1) × (new ≡ old)
+  pub shown : (why ≡ DisplayHelp) ⊎ (why ≡ DisplayVersion) → status ≤ 1
+  pub mistaken : why ≢ OutOfMemory → why ≢ DisplayHelp → why ≢ DisplayVersion → (status ≡ 2) × (new ≡ old)
+
+-- ---- the arguments
 
 -- the end of the program: that of the order for this parse, or a usage error, which reads nothing of standard input
 abbrev pub GivenEnds : Type 0 → Result (Option (Text × List Row)) ErrorKind → Option (List ℕ) → Option (List ℕ) →

@@ -4,9 +4,9 @@
 ghost use Rattle.std.specs.Prelude.{◌≡◌};
 ghost use Rattle.daide_commands.specs.FaultSubject.{subject_of_settings, subject_by};
 
-use crate::arguments::RunOrder;
-use crate::gateway::GatewayFault;
-use crate::running::RunFault;
+use daide_command_line::arguments::RunOrder;
+use daide_run::gateway::GatewayFault;
+use daide_run::running::RunFault;
 use daide_settings::{Key, Settings, SettingsError, judge_settings, read_settings};
 use std::alloc::Global;
 use std::io::{ErrorKind, Write};

@@ -7,7 +7,7 @@ use daide_io::system::Orders;
 
 /// The limits of a run: sessions at once, bots in all (`sessions`), turns a session. Its counts: bots with a connect to
 /// the server under way, and bots accepted. The count of bots never exceeds its limit, so it does not wrap.
-#[derive(Clone, Copy, Debug)]
+#[derive(Clone, Copy)]
 pub struct AdmissionCounters {
     pub max_sessions: usize,
     pub sessions: u32,

@@ -2,8 +2,8 @@
 //!
 //! This crate has names only: tokens, frames, the grammar and the reader; a session, its driver, and the event loop;
 //! and the commands on their inputs. It opens no file and no socket: readers, writers, ports and the allocator are
-//! parameters. So the output can be stated as a function of the input, and tests can try each refusal. `daide_commands`
-//! has the gateway over sockets.
+//! parameters. So the output can be stated as a function of the input, and tests can try each refusal. `daide_run` has the
+//! gateway over sockets.
 #![tactic(auto)]
 
 // Tokens, and their text.

@@ -5,8 +5,8 @@
 #![tactic(auto)]
 
 use daide_commands::answer;
-use daide_commands::faults::{FAULT, USAGE};
 use daide_commands::terminal::Asking;
+use daide_tools::faults::{FAULT, USAGE};
 use std::io::ErrorKind;
 use std::process::ExitCode;
 use std::{env, io};

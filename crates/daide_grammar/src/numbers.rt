@@ -1,4 +1,4 @@
-//! The numbers that definitions and table give out, by name. Printed by `daide_table_printer`; the check is what is
+//! The numbers that definitions and table give out, by name. Printed by `scripts/print-table`; the check is what is
 //! trusted.
 
 /// How many classes there are beside an operator's words, whose numbers follow theirs.

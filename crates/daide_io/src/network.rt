@@ -13,7 +13,7 @@ use std::net::SocketAddr;
 use std::time::{Duration, Instant};
 
 /// What a poll reports of one socket. A report may be spurious: the call that follows may still block.
-#[derive(Clone, Copy, Debug, PartialEq, Eq)]
+#[derive(Clone, Copy)]
 pub struct SocketEvent {
     /// The key of the socket.
     pub key: usize,
@@ -26,7 +26,7 @@ pub struct SocketEvent {
 }
 
 /// The state of a connect.
-#[derive(Clone, Copy, Debug, PartialEq, Eq)]
+#[derive(Clone, Copy)]
 pub enum ConnectStatus {
     /// The peer is connected.
     Connected,

@@ -7,7 +7,7 @@ use std::io;
 use std::io::ErrorKind;
 
 /// The result of one read or write.
-#[derive(Clone, Copy, Debug, PartialEq, Eq)]
+#[derive(Clone, Copy)]
 pub enum IoResult {
     /// The call moved this number of bytes. 0 from a read is the end of the stream.
     Moved(usize),

@@ -55,7 +55,7 @@ use std::io;
 use std::io::{Read, Write};
 
 /// The result for a log without a fault.
-#[derive(Clone, Copy, Debug, PartialEq, Eq)]
+#[derive(Clone, Copy)]
 pub struct Explained {
     /// The counts of the moves, as in the last line of the report.
     pub counts: Summary,

@@ -6,7 +6,7 @@ ghost use Rattle.std.specs.Prelude.{◌≡◌, ◌≤◌, IfSome, IsSome};
 const LAST: u64 = 253_402_300_799_999;
 
 /// A moment: whole milliseconds since 1970-01-01T00:00:00 in UTC, without leap seconds, up to the year 9999.
-#[derive(Clone, Copy, Debug)]
+#[derive(Clone, Copy)]
 pub struct Moment {
     pub(crate) millisecond: u64,
     ghost in_range: { millisecond ≤ 253_402_300_799_999 },

@@ -14,7 +14,7 @@ use daide_log_lines::event_line::MOST;
 use std::marker::Model;
 
 /// Whether bytes move between the two sides, by what the ports returned last.
-#[derive(Clone, Copy, Debug, PartialEq, Eq)]
+#[derive(Clone, Copy)]
 pub enum Activity {
     /// The last pull returned bytes, or none was made yet.
     Moving,

@@ -20,7 +20,7 @@ pub enum Phase {
 }
 
 /// The phase of a session with what is known in it: the press level of an open session, the ending of one that is over.
-#[derive(Clone, Copy, Debug, PartialEq, Eq)]
+#[derive(Clone, Copy)]
 pub enum SessionPhase {
     /// As `Phase::WaitIm`.
     WaitIm,

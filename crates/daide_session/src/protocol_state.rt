@@ -28,7 +28,7 @@ use daide_protocol::transitions::may_reach;
 use std::alloc::Allocator;
 
 /// The phase of a session with its level or its ending, the highest level that an HLO may set, and its account.
-#[derive(Clone, Copy, Debug, PartialEq, Eq)]
+#[derive(Clone, Copy)]
 pub struct ProtocolState {
     /// The highest level that an HLO may set.
     pub top_level: Level,

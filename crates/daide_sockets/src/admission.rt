@@ -43,7 +43,7 @@ const NO_ROW: usize = usize::MAX;
 pub(crate) const ACCEPT_PAUSE: u64 = 100;
 
 /// Why no bot was accepted.
-#[derive(Clone, Copy, PartialEq, Eq)]
+#[derive(Clone, Copy)]
 pub(crate) enum Declined {
     /// No accept was made: the pause after a failed one is not over, or the listener is not ready.
     NotMade,

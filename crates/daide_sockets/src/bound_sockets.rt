@@ -26,7 +26,7 @@ use thiserror::Error;
 const CONNECT_SECONDS: u64 = 5;
 
 /// Why the resources of a run could not be created.
-#[derive(Clone, Copy, Debug, PartialEq, Eq, Error)]
+#[derive(Clone, Copy, Debug, Error)]
 pub enum BindError {
     /// The address cannot be bound, or the system has no descriptor for the network, with the system's error.
     #[error("cannot listen")]

@@ -8,7 +8,7 @@ use std::io::Write;
 use thiserror::Error;
 
 /// Whether a run can accept a further bot, as it was logged last.
-#[derive(Clone, Copy, Debug, PartialEq, Eq)]
+#[derive(Clone, Copy)]
 pub struct Capacity {
     /// Whether as many bots are present as may be at once.
     pub is_full: bool,

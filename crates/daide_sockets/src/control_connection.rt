@@ -19,7 +19,7 @@ use std::alloc::Global;
 use std::time::Instant;
 
 /// What a control connection does.
-#[derive(Clone, Copy, PartialEq, Eq)]
+#[derive(Clone, Copy)]
 pub(crate) enum Stage {
     /// It reads a request.
     Reads,

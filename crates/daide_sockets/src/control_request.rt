@@ -10,7 +10,7 @@ use daide_status::ControlRequest;
 pub const LONGEST_REQUEST: usize = 64;
 
 /// What the bytes received so far are.
-#[derive(Clone, Copy, PartialEq, Eq)]
+#[derive(Clone, Copy)]
 pub(crate) enum Judgement {
     /// Their first line is this request.
     Requests(ControlRequest),

@@ -34,7 +34,7 @@ pub struct OsNetwork<'r, R: Clock + Net> {
 }
 
 /// Why there is no network.
-#[derive(Clone, Copy, Debug)]
+#[derive(Clone, Copy)]
 pub enum NetworkError {
     /// The system has no descriptor for it, with its error.
     System(ErrorKind),

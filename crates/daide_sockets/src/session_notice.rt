@@ -47,7 +47,7 @@ pub enum SessionNotice {
 }
 
 /// The time from the connect of a session's bot to its end.
-#[derive(Clone, Copy, Debug, PartialEq, Eq)]
+#[derive(Clone, Copy, Debug)]
 pub struct Lasted {
     /// `None` without a clock.
     pub milliseconds: Option<u128>,

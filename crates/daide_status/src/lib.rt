@@ -11,7 +11,9 @@ pub mod request;
 pub mod snapshot;
 mod table;
 pub mod text;
+pub mod version;
 
 pub use request::{ControlRequest, Format};
 pub use snapshot::{RunStatus, SessionRow};
 pub use text::StatusText;
+pub use version::VERSION;

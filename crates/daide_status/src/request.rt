@@ -4,7 +4,7 @@ ghost use Rattle.std.specs.Prelude.{◌≡◌, ◌≤◌, length};
 ghost use Rattle.daide_status.specs.Requests.{longest_request, requested_by, request_text};
 
 /// The form of a status.
-#[derive(Clone, Copy, Debug, PartialEq, Eq)]
+#[derive(Clone, Copy)]
 pub enum Format {
     /// Aligned columns.
     Table,
@@ -15,7 +15,7 @@ pub enum Format {
 }
 
 /// What an operator requests of a run over its control socket.
-#[derive(Clone, Copy, Debug, PartialEq, Eq)]
+#[derive(Clone, Copy)]
 pub enum ControlRequest {
     /// The status of the run and of each session, in this form.
     Status(Format),

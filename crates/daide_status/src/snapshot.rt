@@ -5,7 +5,7 @@ use daide_protocol::{Account, Phase};
 use std::net::SocketAddr;
 
 /// The status of a run.
-#[derive(Clone, Copy, Debug, PartialEq, Eq)]
+#[derive(Clone, Copy)]
 pub struct RunStatus {
     /// The number of open sessions.
     pub open: u32,
@@ -24,7 +24,7 @@ pub struct RunStatus {
 }
 
 /// The status of a session, with what its sockets know of it.
-#[derive(Clone, Copy, Debug)]
+#[derive(Clone, Copy)]
 pub struct SessionRow {
     /// The number of the session.
     pub number: u32,

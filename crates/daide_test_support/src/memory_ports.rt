@@ -14,7 +14,7 @@ use daide_io::ports::{ClockEvent, Ports, Pull, Put};
 use std::alloc::{AllocError, Allocator, Global};
 
 /// The result of one pull from a side.
-#[derive(Clone, Copy, Debug)]
+#[derive(Clone, Copy)]
 pub enum ScriptedRead<'a> {
     /// These bytes; the next pull returns those that do not fit the buffer.
     Bytes(&'a [u8]),
@@ -25,7 +25,7 @@ pub enum ScriptedRead<'a> {
 }
 
 /// The result of one put to a side.
-#[derive(Clone, Copy, Debug)]
+#[derive(Clone, Copy)]
 pub enum Acceptance {
     /// At most this many bytes are accepted.
     Takes(usize),
@@ -35,7 +35,7 @@ pub enum Acceptance {
 
 /// One side's reads and acceptances. After the last read nothing more is received. After the last acceptance each put
 /// is accepted whole.
-#[derive(Clone, Copy, Debug)]
+#[derive(Clone, Copy)]
 pub struct Script<'a> {
     pub pulls: &'a [ScriptedRead<'a>],
     pub puts: &'a [Acceptance],
@@ -55,7 +55,7 @@ pub enum Call<A: Allocator = Global> {
 }
 
 /// The position in one side's script.
-#[derive(Clone, Copy, Debug)]
+#[derive(Clone, Copy)]
 struct Player<'a> {
     script: Script<'a>,
     /// The number of reads and of acceptances that were used.

@@ -12,7 +12,7 @@ use daide_words::Words;
 use std::alloc::Allocator;
 
 /// Why a line has no tokens.
-#[derive(Clone, Copy, Debug, PartialEq, Eq)]
+#[derive(Clone, Copy)]
 pub enum LineFault {
     /// The text at this column, counted from 1 in bytes, is not an item.
     NotItem(usize),

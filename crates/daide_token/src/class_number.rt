@@ -1,4 +1,4 @@
-//! A number for each class of tokens. Printed by `daide_table_printer`; the check is what is trusted.
+//! A number for each class of tokens. Printed by `scripts/print-table`; the check is what is trusted.
 //!
 //! The table compares two classes by these numbers.
 

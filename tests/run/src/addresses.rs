@@ -3,7 +3,7 @@
 
 use crate::doors::any_port;
 use crate::frames::{FM, IM};
-use daide_commands::running::run_text;
+use daide_run::run_text;
 use daide_test_support::rows::holds;
 use std::alloc::{Allocator, Global};
 use std::fs::{Metadata, OpenOptions};

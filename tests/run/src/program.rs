@@ -1,11 +1,10 @@
 //! The program's error messages, its exit status, and the hint to a person who types.
 
 use daide_commands::answer;
-use daide_commands::gateway::GatewayFault;
-use daide_commands::running::RunFault;
 use daide_commands::terminal::Asking;
 use daide_gate::ServeFault;
 use daide_gate::settings::{Key, SettingsError};
+use daide_run::{GatewayFault, RunFault};
 use daide_test_support::fakes::FailsAtWrite;
 use daide_test_support::rows::{holds, same};
 use std::alloc::AllocError;

@@ -1,11 +1,11 @@
 //! The log lines of sessions, of a run's capacity, and of faults of records: the text of each.
 
-use daide_commands::RecordNotice;
 use daide_frame::code::Code;
 use daide_frame::side::Side;
 use daide_gate::{Account, Cause, FaultField, Level, SessionEnd, SideCounts};
 use daide_protocol::BotName;
 use daide_protocol::ending::Ending;
+use daide_run::RecordNotice;
 use daide_sockets::capacity::{Capacity, CapacityNotice, full_notice, pause_notice};
 use daide_sockets::session_notice::{Lasted, SessionNotice, Why, why_of};
 use daide_sockets::timed::Timed;

@@ -1,8 +1,7 @@
 //! The text of a settings file: its greatest length, and texts that can't be read.
 
-use daide_commands::running::{RunFault, text_of};
-use daide_commands::text::{SettingsTextFault, read_text};
 use daide_test_support::rows::{holds, same};
+use daide_tools::settings_file::{SettingsFileFault, read_text};
 use linked_list_allocator::LocalHeap;
 use std::alloc::Global;
 use std::io;
@@ -40,17 +39,17 @@ impl Read for Halting {
 }
 
 /// Returns why a settings text is refused, if it is.
-fn refusal(alloc: Global, input: &mut impl Read) -> Option<SettingsTextFault> {
+fn refusal(alloc: Global, input: &mut impl Read) -> Option<SettingsFileFault> {
     read_text(alloc, input).err()
 }
 
 /// A text that is refused for this reason.
-fn unreadable(kind: ErrorKind) -> Option<SettingsTextFault> {
-    Some(SettingsTextFault::Unreadable(kind))
+fn unreadable(kind: ErrorKind) -> Option<SettingsFileFault> {
+    Some(SettingsFileFault::Unreadable(kind))
 }
 
 /// Returns why a settings text is refused if a read fails with this kind of error.
-fn refusal_at(alloc: Global, kind: ErrorKind) -> Option<SettingsTextFault> {
+fn refusal_at(alloc: Global, kind: ErrorKind) -> Option<SettingsFileFault> {
     refusal(alloc, &mut Fails(kind))
 }
 
@@ -79,33 +78,21 @@ fn settings_that_cannot_be_read(rt: HostRuntime) -> Result<(), Fail> {
         same(&refusal_at(rt.alloc(), kind), &unreadable(kind), &kind)?;
     }
     let memory = refusal_at(rt.alloc(), ErrorKind::OutOfMemory);
-    same(&memory, &Some(SettingsTextFault::Memory), &"want of memory")
+    same(&memory, &Some(SettingsFileFault::Memory), &"want of memory")
 }
 
-/// Returns the fault of a run if a read of its settings fails with this kind of error.
-fn told_at(alloc: Global, kind: ErrorKind) -> Option<RunFault> {
-    text_of(alloc, &mut Fails(kind)).err()
-}
-
-/// Returns the fault of a run if the text of its settings is allocated on a heap of this size.
-fn told_within(alloc: Global, size: usize) -> Result<Option<RunFault>, Fail> {
+/// Returns why a settings text is refused if it is allocated on a heap of this size.
+fn refusal_within(alloc: Global, size: usize) -> Result<Option<SettingsFileFault>, Fail> {
     let heap = LocalHeap::new(alloc, size)?;
-    Ok(text_of(&heap, &mut b"listen = ".as_slice()).err())
+    Ok(read_text(&heap, &mut b"listen = ".as_slice()).err())
 }
 
-/// A run reports a refused allocation for its settings text as such.
+/// A refused allocation for a settings text is reported as such.
 #[test]
 fn want_of_memory_for_settings_is_told(rt: HostRuntime) -> Result<(), Fail> {
-    let other = told_at(rt.alloc(), ErrorKind::Other);
-    same(
-        &other,
-        &Some(RunFault::Unreadable(ErrorKind::Other)),
-        &"another error",
-    )?;
-    let memory = told_at(rt.alloc(), ErrorKind::OutOfMemory);
-    same(&memory, &Some(RunFault::Memory), &"want of memory")?;
-    same(&told_within(rt.alloc(), 0)?, &Some(RunFault::Memory), &0)?;
-    same(&told_within(rt.alloc(), 4096)?, &None, &4096)
+    let memory = Some(SettingsFileFault::Memory);
+    same(&refusal_within(rt.alloc(), 0)?, &memory, &0)?;
+    same(&refusal_within(rt.alloc(), 4096)?, &None, &4096)
 }
 
 #[test]

@@ -1,5 +1,5 @@
 //! What a class adds to the open brackets, and the class of each token, by the class's number: code by code, and there
-//! category by category. Printed by `daide_table_printer`; the check is what is trusted.
+//! category by category. Printed by `scripts/print-table`; the check is what is trusted.
 //!
 //! A category whose codes have classes of their own lists them by a macro of its number.
 

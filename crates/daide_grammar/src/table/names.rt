@@ -1,4 +1,4 @@
-//! The symbols and classes in the order of their numbers, and a symbol's number. Printed by `daide_table_printer`; the
+//! The symbols and classes in the order of their numbers, and a symbol's number. Printed by `scripts/print-table`; the
 //! check is what is trusted.
 
 ghost use Rattle.std.specs.Prelude.{◌≡◌, ◌+◌, ◌≤◌};

@@ -1,4 +1,4 @@
-//! What each class of tokens means to each symbol. Printed by `daide_table_printer`; the check is what is trusted.
+//! What each class of tokens means to each symbol. Printed by `scripts/print-table`; the check is what is trusted.
 //!
 //! A row has a symbol's name. It lists classes, each with a cell, and last what every other class means. A cell has two
 //! bytes: the number of the first symbol that the rule leaves, or 0 if it leaves none, and then the number of the rule. A

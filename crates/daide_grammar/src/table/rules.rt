@@ -1,5 +1,5 @@
 //! The rules of the table: what a token may mean to a symbol, each meaning by its number. Printed by
-//! `daide_table_printer`; the check is what is trusted.
+//! `scripts/print-table`; the check is what is trusted.
 //!
 //! Rule 0 stops and rule 1 skips; every other takes the token and leaves the symbols of its rest, the next one first.
 //! A rest that names a level has seven rules, one for each level, and stands here once.

@@ -1,0 +1,67 @@
+-- The parse of some complete command lines. The expected values follow the help.
+use Rattle.std.proofs.Common.{◌≡◌, true, List, [], ◌∷◌, Some, None, option_map, refl, codes}
+use Rattle.clap.specs.Words.{Text, all_of, fault_of, first_of, subcommand_of}
+use Rattle.clap.specs.declared.error.kind.ErrorKind.TheVariants.{MissingRequiredArgument, UnknownArgument}
+use Rattle.clap.proofs.OnLiterals.{clap_on_literals}
+use Rattle.daide_command_line.specs.CommandLine.{gate_app, is_set}
+
+-- a frame of the server, with words and an explanation
+abbrev shown : List Text
+shown = codes "daide-gate" ∷ codes "show" ∷ codes "--side" ∷ codes "server" ∷ codes "--words=a.toml" ∷ codes "--explain"
+    ∷ codes "02" ∷ codes "00" ∷ []
+
+shown_command : option_map (λ p. p.0) (subcommand_of gate_app shown) ≡ Some (codes "show")
+unfolding clap_on_literals
+shown_command = refl
+
+shown_side : option_map (λ p. first_of (codes "side") p.1) (subcommand_of gate_app shown) ≡ Some (Some (codes "server"))
+unfolding clap_on_literals
+shown_side = refl
+
+shown_level : option_map (λ p. first_of (codes "level") p.1) (subcommand_of gate_app shown) ≡ Some None
+unfolding clap_on_literals
+shown_level = refl
+
+shown_words : option_map (λ p. first_of (codes "words") p.1) (subcommand_of gate_app shown) ≡ Some (Some (codes "a.toml"))
+unfolding clap_on_literals
+shown_words = refl
+
+shown_explained : option_map (λ p. is_set (codes "explain") p.1) (subcommand_of gate_app shown) ≡ Some true
+unfolding clap_on_literals
+shown_explained = refl
+
+shown_typed : option_map (λ p. all_of (codes "HEX") p.1) (subcommand_of gate_app shown)
+    ≡ Some (Some (codes "02" ∷ codes "00" ∷ []))
+unfolding clap_on_literals
+shown_typed = refl
+
+shown_is_taken : fault_of gate_app shown ≡ []
+unfolding clap_on_literals
+shown_is_taken = refl
+
+-- a run with records
+abbrev recorded : List Text
+recorded = codes "daide-gate" ∷ codes "run" ∷ codes "--record" ∷ codes "logs" ∷ codes "a.toml" ∷ []
+
+recorded_settings : option_map (λ p. first_of (codes "SETTINGS") p.1) (subcommand_of gate_app recorded)
+    ≡ Some (Some (codes "a.toml"))
+unfolding clap_on_literals
+recorded_settings = refl
+
+recorded_folder : option_map (λ p. first_of (codes "record") p.1) (subcommand_of gate_app recorded)
+    ≡ Some (Some (codes "logs"))
+unfolding clap_on_literals
+recorded_folder = refl
+
+-- no command; a run without settings; an unknown option
+nothing_asked : subcommand_of gate_app (codes "daide-gate" ∷ []) ≡ None
+unfolding clap_on_literals
+nothing_asked = refl
+
+settings_missing : fault_of gate_app (codes "daide-gate" ∷ codes "run" ∷ []) ≡ MissingRequiredArgument ∷ []
+unfolding clap_on_literals
+settings_missing = refl
+
+unknown_option : fault_of gate_app (codes "daide-gate" ∷ codes "check" ∷ codes "--loud" ∷ []) ≡ UnknownArgument ∷ []
+unfolding clap_on_literals
+unknown_option = refl

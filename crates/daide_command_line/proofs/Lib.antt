@@ -1,0 +1,2 @@
+mod CommandLemmas
+mod CommandFacts

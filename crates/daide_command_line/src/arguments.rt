@@ -1,0 +1,351 @@
+//! The arguments of the command line, and the order that they give.
+
+ghost use Rattle.std.specs.Prelude.{◌≡◌, map, option_map, unwrap_or, codes};
+ghost use Rattle.std.specs.List.{list_any};
+ghost use Rattle.clap.specs.Words.{rows_of, found_of, subcommand_rows_of, first_of, all_of};
+ghost use Rattle.daide_command_line.specs.CommandLine.{format_named, IsTimeout, IsStatusOrder, IsStopWithin, IsStopOrder};
+ghost use Rattle.daide_command_line.specs.CommandLine.{begins_negative, side_named, level_named, is_set};
+ghost use Rattle.daide_command_line.specs.CommandLine.{IsRunOrder, IsCheckOrder, IsFrameOrder, IsSettingsOrder, IsShowOrder, IsOrderFor, IsOrderOf, subcommand_named, ParsesTo, parsed_by};
+
+use crate::command_line::command;
+use clap::ArgMatches;
+use clap::error::Error;
+use daide_frame::side::Side;
+use daide_grammar::level::Level;
+use daide_status::Format;
+use std::alloc::Global;
+use std::convert::AsStr;
+
+/// The order that the arguments give. The slices of arguments are borrowed for `'m`, their texts for `'a`.
+#[derive(Clone, Copy)]
+pub enum Order<'m, 'a> {
+    /// Show one frame.
+    Show(ShowOrder<'m, 'a>),
+    /// Report a log.
+    Check(CheckOrder<'a>),
+    /// Write the frames of messages.
+    Frame(FrameOrder<'m, 'a>),
+    /// Judge a file of settings.
+    Settings(SettingsOrder<'a>),
+    /// Serve.
+    Run(RunOrder<'a>),
+    /// Print the status of a run.
+    Status(StatusOrder<'a>),
+    /// Stop a run.
+    Stop(StopOrder<'a>),
+    /// The value of `--side` is not a side.
+    BadSide,
+    /// The value of `--level` is not a level.
+    BadLevel,
+    /// The value of `--format` is not a form of a status.
+    BadFormat,
+    /// The value of `--timeout` is not a number of seconds.
+    BadTimeout,
+}
+
+/// The order to show a frame.
+#[derive(Clone, Copy)]
+pub struct ShowOrder<'m, 'a> {
+    /// The side that sends the frame.
+    pub side: Side,
+    /// The level at which it is judged.
+    pub level: Level,
+    /// The path of the settings with the words of press, if it was given.
+    pub words: Option<&'a str>,
+    /// Whether the verdict is explained.
+    pub is_explained: bool,
+    /// The frame, as arguments; `None` if it is read from standard input.
+    pub typed: Option<&'m [&'a str]>,
+}
+
+/// The order to report a log.
+#[derive(Clone, Copy)]
+pub struct CheckOrder<'a> {
+    /// The path of the log, or `-` for standard input.
+    pub path: &'a str,
+    /// Whether each message is printed and each verdict explained.
+    pub is_explained: bool,
+}
+
+/// The order to write the frames of messages.
+#[derive(Clone, Copy)]
+pub struct FrameOrder<'m, 'a> {
+    /// The path of the settings with the words of press, if it was given.
+    pub words: Option<&'a str>,
+    /// One message, as arguments; `None` if standard input has a message on each line.
+    pub typed: Option<&'m [&'a str]>,
+}
+
+/// The order to judge a file of settings.
+#[derive(Clone, Copy)]
+pub struct SettingsOrder<'a> {
+    /// The path of the settings, or `-` for standard input.
+    pub path: &'a str,
+}
+
+/// The order to serve.
+#[derive(Clone, Copy)]
+pub struct RunOrder<'a> {
+    /// The path of the file of settings.
+    pub settings: &'a str,
+    /// Whether the beginning and the end of each session are logged.
+    pub is_verbose: bool,
+    /// The folder for the records of sessions, if they are kept.
+    pub record: Option<&'a str>,
+}
+
+/// The order to print the status of a run.
+#[derive(Clone, Copy)]
+pub struct StatusOrder<'a> {
+    /// The path of the settings of the run.
+    pub settings: &'a str,
+    /// The form of the status.
+    pub format: Format,
+}
+
+/// The order to stop a run.
+#[derive(Clone, Copy)]
+pub struct StopOrder<'a> {
+    /// The path of the settings of the run.
+    pub settings: &'a str,
+    /// Whether the sessions are ended at once.
+    pub is_now: bool,
+    /// The seconds after which the command gives up waiting; `None` if it waits until the run is over.
+    pub timeout: Option<u32>,
+}
+
+/// Returns the side with this name.
+fn side_of(word: &str) -> Option<Side>
+    ensures { result ≡ side_named word.now }
+{
+    match word {
+        "bot" => Some(Side::Bot),
+        "server" => Some(Side::Server),
+        _ => None,
+    }
+}
+
+/// Returns the level with this name, in decimal digits.
+fn level_named(word: &str) -> Option<Level>
+    ensures { result ≡ level_named word.now }
+{
+    match word {
+        "0" => Some(Level::L0),
+        "10" => Some(Level::L10),
+        "20" => Some(Level::L20),
+        "30" => Some(Level::L30),
+        "40" => Some(Level::L40),
+        "50" => Some(Level::L50),
+        "60" => Some(Level::L60),
+        _ => None,
+    }
+}
+
+/// Returns the form of a status with this name.
+fn format_named(word: &str) -> Option<Format>
+    ensures { result ≡ format_named word.now }
+{
+    match word {
+        "table" => Some(Format::Table),
+        "json" => Some(Format::Json),
+        "prometheus" => Some(Format::Prometheus),
+        _ => None,
+    }
+}
+
+/// Returns the seconds of a timeout: 1 to 86,400, in decimal digits.
+fn seconds_named(word: &str) -> Option<u32>
+    ensures { IsTimeout word.now result }
+{
+    match word.parse::<u32>() {
+        Ok(seconds) if 1 <= seconds && seconds <= 86_400 => Some(seconds),
+        _ => None,
+    }
+}
+
+/// Returns what the words give, by the command line that the program understands (`gate_app`). The first word is the
+/// program's name. They give what `clap`'s contracts compute: a subcommand with its values (`subcommand_of`), a reason
+/// for an error (`fault_of`), or no memory. So without negative numbers the order is a function of the words.
+pub fn parse<'a, S: AsStr>(alloc: Global, words: &'a [S]) -> Result<ArgMatches<'a>, Error>
+    ensures { ParsesTo (map S.text words.now) (parsed_by result) }
+{
+    let command = command(alloc, has_negative(words))?;
+    command.try_get_matches_from(words)
+}
+
+/// Returns true if a flag was given.
+fn is_given(matches: &ArgMatches<'_>, name: &str) -> bool
+    ensures { result ≡ is_set name.now (rows_of (found_of matches.now)) }
+{
+    match value_of(matches, name) {
+        Some(value) => value == "true",
+        None => false,
+    }
+}
+
+/// Returns a value as text, if there is one.
+fn value_of<'a>(matches: &ArgMatches<'a>, name: &str) -> Option<&'a str>
+    ensures { option_map (λ text. text.now) result ≡ first_of name.now (rows_of (found_of matches.now)) }
+{
+    matches.get_str(name)
+}
+
+/// Returns the values of an argument, if there are any.
+fn values_of<'m, 'a>(matches: &'m ArgMatches<'a>, name: &str) -> Option<&'m [&'a str]>
+    ensures { option_map (λ typed. map (λ word. word.now) typed.now) result
+        ≡ all_of name.now (rows_of (found_of matches.now)) }
+{
+    matches.get_strs(name)
+}
+
+/// Returns true if an argument begins as a negative number.
+fn begins_negative(word: &str) -> bool
+    ensures { result ≡ begins_negative word.now }
+{
+    matches!(word.as_bytes(), [b'-', b'0'..=b'9', ..])
+}
+
+/// Returns true if any of the arguments begins as a negative number.
+fn has_negative<S: AsStr>(words: &[S]) -> bool
+    ensures { result ≡ list_any begins_negative (map S.text words.now) }
+{
+    let mut rest = words;
+    while let [word, others @ ..] = rest {
+        if begins_negative(word.as_str()) {
+            return true;
+        }
+        rest = others;
+    }
+    false
+}
+
+/// Returns the order of `run`.
+fn run_order<'a>(run: &ArgMatches<'a>) -> RunOrder<'a>
+    ensures { IsRunOrder (rows_of (found_of run.now)) result }
+{
+    RunOrder {
+        settings: value_of(run, "SETTINGS").unwrap_or(""),
+        is_verbose: is_given(run, "verbose"),
+        record: value_of(run, "record"),
+    }
+}
+
+/// Returns the order of `check`.
+fn check_order<'a>(check: &ArgMatches<'a>) -> CheckOrder<'a>
+    ensures { IsCheckOrder (rows_of (found_of check.now)) result }
+{
+    CheckOrder {
+        path: value_of(check, "FILE").unwrap_or("-"),
+        is_explained: is_given(check, "explain"),
+    }
+}
+
+/// Returns the order of `frame`.
+fn frame_order<'m, 'a>(frame: &'m ArgMatches<'a>) -> FrameOrder<'m, 'a>
+    ensures { IsFrameOrder (rows_of (found_of frame.now)) result }
+{
+    FrameOrder {
+        words: value_of(frame, "words"),
+        typed: values_of(frame, "TEXT"),
+    }
+}
+
+/// Returns the order of `settings`.
+fn settings_order<'a>(settings: &ArgMatches<'a>) -> SettingsOrder<'a>
+    ensures { IsSettingsOrder (rows_of (found_of settings.now)) result }
+{
+    SettingsOrder {
+        path: value_of(settings, "FILE").unwrap_or("-"),
+    }
+}
+
+/// Returns the order of `status`.
+fn status_order<'m, 'a>(status: &ArgMatches<'a>) -> Order<'m, 'a>
+    ensures { IsStatusOrder (format_named (unwrap_or (first_of (codes "format") (rows_of (found_of status.now))) (codes "table")))
+        (rows_of (found_of status.now)) result }
+{
+    let Some(format) = format_named(value_of(status, "format").unwrap_or("table")) else {
+        return Order::BadFormat;
+    };
+    Order::Status(StatusOrder {
+        settings: value_of(status, "SETTINGS").unwrap_or(""),
+        format,
+    })
+}
+
+/// Returns the order of `stop` with this timeout.
+fn stop_within<'m, 'a>(stop: &ArgMatches<'a>, timeout: Option<u32>) -> Order<'m, 'a>
+    ensures { IsStopWithin timeout (rows_of (found_of stop.now)) result }
+{
+    Order::Stop(StopOrder {
+        settings: value_of(stop, "SETTINGS").unwrap_or(""),
+        is_now: is_given(stop, "now"),
+        timeout,
+    })
+}
+
+/// Returns the order of `stop`.
+fn stop_order<'m, 'a>(stop: &ArgMatches<'a>) -> Order<'m, 'a>
+    ensures { IsStopOrder (first_of (codes "timeout") (rows_of (found_of stop.now))) (rows_of (found_of stop.now)) result }
+{
+    let Some(word) = value_of(stop, "timeout") else {
+        return stop_within(stop, None);
+    };
+    match seconds_named(word) {
+        Some(seconds) => stop_within(stop, Some(seconds)),
+        None => Order::BadTimeout,
+    }
+}
+
+/// Returns the order of `show`. A bad side is refused before a bad level.
+fn show_order<'m, 'a>(show: &'m ArgMatches<'a>) -> Order<'m, 'a>
+    ensures { IsShowOrder (side_named (unwrap_or (first_of (codes "side") (rows_of (found_of show.now))) (codes "bot")))
+        (level_named (unwrap_or (first_of (codes "level") (rows_of (found_of show.now))) (codes "0")))
+        (rows_of (found_of show.now)) result }
+{
+    let Some(side) = side_of(value_of(show, "side").unwrap_or("bot")) else {
+        return Order::BadSide;
+    };
+    let Some(level) = level_named(value_of(show, "level").unwrap_or("0")) else {
+        return Order::BadLevel;
+    };
+    Order::Show(ShowOrder {
+        side,
+        level,
+        words: value_of(show, "words"),
+        is_explained: is_given(show, "explain"),
+        typed: values_of(show, "HEX"),
+    })
+}
+
+/// Returns the order of the command with this name.
+fn order_for<'m, 'a>(name: &str, given: &'m ArgMatches<'a>) -> Order<'m, 'a>
+    ensures { IsOrderFor (subcommand_named name.now) (rows_of (found_of given.now)) result }
+{
+    match name {
+        "run" => Order::Run(run_order(given)),
+        "check" => Order::Check(check_order(given)),
+        "frame" => Order::Frame(frame_order(given)),
+        "settings" => Order::Settings(settings_order(given)),
+        "status" => status_order(given),
+        "stop" => stop_order(given),
+        _ => show_order(given),
+    }
+}
+
+/// Returns the order of a subcommand with its values: side, level, words, explanation, path and typed words
+/// (`IsOrderOf`). Without a subcommand it is `show` with its defaults.
+pub fn order_of<'m, 'a>(matches: &'m ArgMatches<'a>) -> Order<'m, 'a>
+    ensures { IsOrderOf (subcommand_rows_of matches.now) result }
+{
+    match matches.subcommand() {
+        Some((name, given)) => order_for(name, given),
+        None => Order::Show(ShowOrder {
+            side: Side::Bot,
+            level: Level::L0,
+            words: None,
+            is_explained: false,
+            typed: None,
+        }),
+    }
+}

@@ -1,5 +1,0 @@
-use Rattle.daide_commands.proofs.AcceptedLemmas.{all_counted}
-use Rattle.daide_commands.proofs.laws.bots_are_counted.Goals as goal
-
-pub returns : goal.returns
-returns g c = λ pair old new answers h. all_counted g.S.Duplex.to_give g.S.Duplex.taken g.S.Duplex.calls pair answers old new h

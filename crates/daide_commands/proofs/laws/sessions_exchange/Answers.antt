@@ -1,6 +1,0 @@
-use Rattle.daide_commands.proofs.StreamLemmas.{exchanged}
-use Rattle.daide_commands.proofs.laws.sessions_exchange.Goals as goal
-
-pub returns : goal.returns
-returns g c = λ limits history first now gateway moves h.
-    exchanged g.S.Duplex.to_give g.S.Duplex.taken limits history first now gateway moves h

@@ -1,0 +1,134 @@
+-- How a run ends, by the calls that the loop made of a system over sockets.
+use Rattle.std.proofs.Common.{◌≡◌, ℕ, List, [], ◌∷◌, Option, None, Some, Result, Ok, Err, refl, inl, inr, ap, ◌∙◌}
+use Rattle.std.specs.Prelude.{IfSome}
+use Rattle.std.specs.Result.{OnOk, IfErr}
+use Rattle.std.specs.declared.time.Duration.{Duration}
+use Rattle.daide_io.specs.Ports.{PortCall}
+use Rattle.daide_io.specs.System.{SystemCall, TransitsBy}
+use Rattle.daide_settings.specs.declared.settings.Settings.{Settings}
+use Rattle.daide_event_loop.specs.declared.serving.ServeFault.{ServeFault}
+use Rattle.daide_event_loop.specs.Served.{IsWholeRun}
+use Rattle.daide_event_loop.specs.Serving.{GivesUp}
+use Rattle.daide_io.specs.Streams.{StreamCall}
+use Rattle.daide_sockets.specs.Lingering.{ClosingList, no_closing}
+use Rattle.daide_sockets.specs.Pairing.{Arriving, Paired, RunSockets, Transits}
+use Rattle.daide_sockets.specs.Times.{IsIdleTime}
+use Rattle.daide_run.specs.declared.gateway.GatewayFault.{GatewayFault}
+use Rattle.daide_run.specs.declared.gateway.GatewayFault.TheVariants as gateway_faults
+use Rattle.daide_run.specs.declared.running.RunFault.{RunFault}
+use Rattle.daide_run.specs.declared.running.RunFault.TheVariants.{Gateway}
+use Rattle.daide_run.specs.declared.running.RunFault.TheVariants as run_faults
+use Rattle.daide_run.specs.Gateway.{Announces, IsBeforeServing}
+use Rattle.daide_run.specs.Running.{HasNoSockets, RunsBy, RunsOn, RunEnds, TextRuns, RecordedTextRuns, IsOfText, ending_by}
+
+-- a run on a system ends by the result of its loop
+pub ran_on : {P T : Type 0} (transition : T → SystemCall P → T → Type 0) (port_transition : P → PortCall → P → Type 0)
+    (settings : Settings) (failed : Type 0) (before after : Option (List ℕ)) (begun last : T)
+    (served : Result (Unit {0}) ServeFault) → Announces failed before after →
+    OnOk served ((answers : List (SystemCall P)) × TransitsBy transition begun answers last
+    × IsWholeRun port_transition settings answers) →
+    IfErr served (λ fault. (answers : List (SystemCall P)) × TransitsBy transition begun answers last
+    × GivesUp (λ n. Unit {0}) port_transition settings fault answers) →
+    RunsOn transition port_transition settings failed before after begun (ending_by served)
+ran_on transition port_transition settings failed before after begun last (Ok done) said whole given_up =
+    (said, last, whole.0, whole.1, whole.2)
+ran_on transition port_transition settings failed before after begun last (Err fault) said whole given_up =
+    (said, last, given_up.0, given_up.1, given_up.2)
+
+-- sockets to which no bot came, part by part
+pub none_yet : {S : Type 0} (seconds : ℕ) (time : Option Duration) (came : ℕ) (arrivals : List (Arriving S))
+    (closing : ClosingList S) → IsIdleTime seconds time → came ≡ 0 → arrivals ≡ [] → closing ≡ no_closing time →
+    HasNoSockets seconds (record { came = came; arrivals = arrivals; closing = closing })
+none_yet seconds time came arrivals closing idle e f g = (time, idle, cc)
+
+-- a system that is the same has the same sockets
+pub still_none : {S T : Type 0} (sockets_of : T → RunSockets S) (seconds : ℕ) (now before : T) → now ≡ before →
+    HasNoSockets seconds (sockets_of before) → HasNoSockets seconds (sockets_of now)
+still_none sockets_of seconds now before e h = (h.0, h.1, ap sockets_of e ∙ h.2)
+
+-- what holds of whatever value there is
+pub of_whatever : {T : Type 0} (X : Type 0) (value : Option T) → X → IfSome value (λ t. X)
+of_whatever X None h = tt
+of_whatever X (Some t) h = h
+
+-- A run on a system of which sockets are a part. Each call has its effect on them, whatever else it does.
+module _ {P S T : Type 0} (to_give taken : S → Option (List ℕ)) (calls : S → Option (List StreamCall))
+    (pair : P → Paired S) (transition : P → PortCall → P → Type 0) (sockets_of : T → RunSockets S)
+    (step : T → SystemCall P → T → Type 0) (moves : (old : T) (answer : SystemCall P) (new : T) → step old answer new →
+    Transits to_give taken calls pair (sockets_of old) answer (sockets_of new)) where
+  -- the sockets of a system follow its calls
+  sockets_go : (answers : List (SystemCall P)) (old new : T) → TransitsBy step old answers new →
+      TransitsBy (Transits to_give taken calls pair) (sockets_of old) answers (sockets_of new)
+  sockets_go [] old new e = ap sockets_of e
+  sockets_go (answer ∷ answers) old new h = (sockets_of h.0, moves old answer h.0 h.1, sockets_go answers h.0 new h.2)
+
+  runs : (seconds : ℕ) (Kind : List (SystemCall P) → Type 0) (old last : T) → HasNoSockets seconds (sockets_of old) →
+      ((answers : List (SystemCall P)) × TransitsBy step old answers last × Kind answers) →
+      RunsBy to_give taken calls pair seconds Kind
+  runs seconds Kind old last begun h =
+      (h.0, sockets_of old, sockets_of last, begun, sockets_go h.0 old last h.1, h.2)
+
+  pub run_ends : (settings : Settings) (failed : Type 0) (before after : Option (List ℕ)) (begun : T)
+      (result : Result (Unit {0}) RunFault) → RunsOn step transition settings failed before after begun result →
+      HasNoSockets settings.stall_seconds (sockets_of begun) →
+      RunEnds to_give taken calls pair transition settings failed before after result
+  run_ends settings failed before after begun (Ok done) h none =
+      (h.0, runs settings.stall_seconds (IsWholeRun transition settings) begun h.1 none (h.2, h.3, h.4))
+  run_ends settings failed before after begun (Err (Gateway (gateway_faults.Serve fault))) h none =
+      (h.0, runs settings.stall_seconds (GivesUp (λ n. Unit {0}) transition settings fault) begun h.1 none (h.2, h.3, h.4))
+  run_ends settings failed before after begun (Err (Gateway (gateway_faults.Listen key cause))) h none = absurd h
+  run_ends settings failed before after begun (Err (Gateway gateway_faults.Memory)) h none = absurd h
+  run_ends settings failed before after begun (Err run_faults.Memory) h none = absurd h
+  run_ends settings failed before after begun (Err (run_faults.Unreadable cause)) h none = absurd h
+  run_ends settings failed before after begun (Err (run_faults.Record cause)) h none = absurd h
+  run_ends settings failed before after begun (Err (run_faults.Settings fault)) h none = absurd h
+
+module _ {P S : Type 0} (to_give taken : S → Option (List ℕ)) (calls : S → Option (List StreamCall)) (pair : P → Paired S)
+    (transition : P → PortCall → P → Type 0) where
+  -- a run that does not begin leaves the output unchanged
+  pub unbegun : (settings : Settings) (failed : Type 0) (known : Option (List ℕ)) (fault : GatewayFault) →
+      IsBeforeServing fault → RunEnds to_give taken calls pair transition settings failed known known (Err (Gateway fault))
+  unbegun settings failed known (gateway_faults.Listen key cause) before = refl
+  unbegun settings failed known gateway_faults.Memory before = refl
+  unbegun settings failed known (gateway_faults.Serve fault) before = absurd before
+
+  -- a run of settings has no fault of a text
+  pub unrefused : (settings : Settings) (failed : Type 0) (before after : Option (List ℕ)) (X : Type 0)
+      (result : Result (Unit {0}) RunFault) → RunEnds to_give taken calls pair transition settings failed before after result →
+      IfErr result (λ fault. IsOfText fault → X)
+  unrefused settings failed before after X (Ok done) ends = tt
+  unrefused settings failed before after X (Err (run_faults.Settings fault)) ends = absurd ends
+  unrefused settings failed before after X (Err (run_faults.Unreadable cause)) ends = λ h. absurd h
+  unrefused settings failed before after X (Err run_faults.Memory) ends = λ h. absurd h
+  unrefused settings failed before after X (Err (run_faults.Record cause)) ends = λ h. absurd h
+  unrefused settings failed before after X (Err (Gateway fault)) ends = λ h. absurd h
+
+  -- a run that ends well has printed `listening`
+  pub said : (settings : Settings) (failed : Type 0) (before after : Option (List ℕ))
+      (result : Result (Unit {0}) RunFault) → RunEnds to_give taken calls pair transition settings failed before after result →
+      OnOk result (Announces failed before after)
+  said settings failed before after (Ok done) ends = ends.0
+  said settings failed before after (Err fault) ends = tt
+
+  -- a run that did not begin has not ended well
+  ends_early : (failed : Type 0) (before after : Option (List ℕ)) (fault : RunFault) (result : Result (Unit {0}) RunFault) →
+      result ≡ Err fault → OnOk result (Announces failed before after)
+  ends_early failed before after fault (Ok done) e = absurd (cc)
+  ends_early failed before after fault (Err other) e = tt
+
+  pub text_said : (text : List ℕ) (failed : Type 0) (before after : Option (List ℕ))
+      (result : Result (Unit {0}) RunFault) → TextRuns to_give taken calls pair transition text failed before after result →
+      OnOk result (Announces failed before after)
+  text_said text failed before after result (inl h) = ends_early failed before after (run_faults.Settings h.0) result h.1
+  text_said text failed before after result (inr h) = said h.0 failed before after result h.2
+
+  pub recorded_text_said : (text : List ℕ) (failed : Type 0) (before after : Option (List ℕ))
+      (result : Result (Unit {0}) RunFault) →
+      RecordedTextRuns to_give taken calls pair transition text failed before after result →
+      OnOk result (Announces failed before after)
+  recorded_text_said text failed before after result (inl h) =
+      ends_early failed before after (run_faults.Settings h.0) result h.1
+  recorded_text_said text failed before after result (inr (settings, reads, inl h)) =
+      ends_early failed before after (run_faults.Record h.0) result h.1
+  recorded_text_said text failed before after result (inr (settings, reads, inr ends)) =
+      said settings failed before after result ends

@@ -1,0 +1,67 @@
+-- The files with the records of the sessions of a run. (own)
+use Rattle.std.specs.Prelude.{◌≡◌, ⊤, ℕ, ◌-◌, ◌^◌, false, List, [], ◌++◌, Option, Some, None, codes}
+use Rattle.std.specs.Fmt.{decimal, padded_integral, format_spec}
+use Rattle.std.specs.Io.KnownBytes.{append_known}
+use Rattle.std.specs.Net.Text.{socket_text}
+use Rattle.std.specs.declared.net.socket_addr.SocketAddr.{SocketAddr}
+use Rattle.jiff_core.specs.declared.civil.datetime.DateTime.{DateTime}
+use Rattle.daide_words.specs.declared.word.Word.{Word}
+use Rattle.daide_protocol.specs.declared.config.Config.{Config}
+use Rattle.daide_log.specs.declared.moment.Moment.{Moment}
+use Rattle.daide_log.specs.declared.record.RecordEnd.TheVariants.{Whole}
+use Rattle.daide_log.specs.RecordItem.{Begun, line_of_item}
+use Rattle.daide_log.specs.RecordText.{head_text, head_count}
+use Rattle.daide_log.specs.Recording.{Written, GetsText}
+use Rattle.daide_log.specs.UtcText.{IsUtcOf}
+use Rattle.daide_run.specs.declared.folder.RecordNotice.{RecordNotice}
+use Rattle.daide_run.specs.declared.folder.RecordNotice.TheVariants.{IsThere, Unmade, Unwritten, Full}
+
+-- a number as `{:06}` prints it: in six digits with leading zeros, or in more if it needs more
+abbrev pub six_digits : ℕ → List ℕ
+six_digits n = padded_integral (format_spec 32 0 4 6 (2 ^ 64 - 1)) false [] (decimal n)
+
+-- the path of a session's file in a folder
+abbrev pub path_in : List ℕ → ℕ → List ℕ
+path_in folder number = folder ++ (codes "/session-" ++ (six_digits number ++ codes ".log"))
+
+-- the contents of a session's file; nothing is known without a file
+abbrev pub file_contents : {F : Type 0} → (F → Option (List ℕ)) → Option F → Option (List ℕ)
+file_contents contents None = None
+file_contents contents (Some file) = contents file
+
+-- ---- the beginning of a record
+
+-- a record that has its head alone, for these settings, behind what its file had before
+abbrev pub headed : Option (List ℕ) → Config → List Word → Written
+headed before config words = record {
+  text = append_known before (head_text config words);
+  unwritten = head_text config words;
+  lines = head_count words;
+  ending = Whole;
+}
+
+-- the text of a bot's address, or none
+abbrev pub IsAddressOf : Option SocketAddr → Option (List ℕ) → Type 0
+IsAddressOf None text = text ≡ None
+IsAddressOf (Some bot) None = ⊤
+IsAddressOf (Some bot) (Some text) = text ≡ socket_text bot
+
+-- The record gets a comment with the session's number, its bot's address and the time, or nothing if the address or the
+-- time is unknown.
+abbrev pub BeginsRecord : Type 0 → ℕ → Option (List ℕ) → Option Moment → Written → Written → Type 0
+BeginsRecord failed number None now old new = new ≡ old
+BeginsRecord failed number (Some address) None old new = new ≡ old
+BeginsRecord failed number (Some address) (Some now) old new =
+    (at : DateTime) × IsUtcOf now at × GetsText failed old.ending old (line_of_item (Begun number address at)) new
+
+-- the last time in the record then
+abbrev pub time_begun : Option (List ℕ) → Option Moment → Option Moment
+time_begun None now = None
+time_begun (Some address) now = now
+
+-- a notice that this session has no file
+abbrev pub IsNoFileOf : ℕ → RecordNotice → Type 0
+IsNoFileOf number (IsThere session) = session ≡ number
+IsNoFileOf number (Unmade session kind) = session ≡ number
+IsNoFileOf number (Unwritten session kind) = ⊥
+IsNoFileOf number (Full session) = ⊥

@@ -1,0 +1,5 @@
+pub mod Exchanged
+pub mod Gateway
+pub mod Folder
+pub mod Running
+pub mod Accepted

@@ -1,0 +1,323 @@
+//! A folder with a record of each session: a log that `check` reads.
+//!
+//! The operating system decides whether a file exists, whether one can be created, and which written bytes it keeps. No
+//! contract is about that.
+
+ghost use Rattle.std.specs.Prelude.{◌≡◌, ◌+◌, ℕ, List, Option, Some, IfOk, IfErr, IfSome, option_map, string_bytes};
+ghost use Rattle.std.specs.Net.Text.{socket_text};
+ghost use Rattle.daide_log.specs.Recording.{HasFailed};
+ghost use Rattle.daide_words.specs.Words.{words_of};
+ghost use Rattle.daide_run.specs.Folder.{path_in, IsNoFileOf, IsAddressOf, BeginsRecord, headed, time_begun};
+
+use daide_io::Ports;
+use daide_log::record::MOST_LINES;
+use daide_log::{Activity, Comment, Moment, Record, RecordEnd, Sink, TimedRecording};
+use daide_protocol::Config;
+use daide_settings::Settings;
+use daide_words::Words;
+use std::alloc::{AllocError, Global};
+use std::fs::OpenOptions;
+use std::io::{ErrorKind, Write};
+use std::net::SocketAddr;
+use std::rt::Files;
+use std::{fs, io};
+use thiserror::Error;
+
+/// Why a session has no complete record, with its number. The session goes on.
+#[derive(Clone, Copy, Debug, Error)]
+pub enum RecordNotice {
+    /// A file with its name exists already, and is not overwritten.
+    #[error("session {0} is not recorded: its file is there already")]
+    IsThere(u32),
+    /// Its file could not be created, with the system's error.
+    #[error("session {0} is not recorded: its file could not be made ({1})")]
+    Unmade(u32, ErrorKind),
+    /// Its file accepted no more bytes, with the system's error, for example because the disk is full.
+    #[error("record of session {0} broke off: it could not be written ({1})")]
+    Unwritten(u32, ErrorKind),
+    /// It has as many lines as a log may have.
+    #[error("record of session {0} broke off: it has {lines} lines", lines = MOST_LINES)]
+    Full(u32),
+}
+
+/// The file of a session's record. Without a file, each write fails. Its contents are those of the file.
+#[derive(Drop)]
+pub struct SessionFile<F: Drop> {
+    number: u32,
+    file: Option<F>,
+    /// The kind of the error of the last write that failed.
+    cause: ErrorKind,
+}
+
+/// Returns the result of a write, and stores the kind of its error.
+fn noted(written: io::Result<usize>, cause: &mut ErrorKind) -> io::Result<usize>
+    ensures { result ≡ written }
+{
+    if let Err(error) = &written {
+        *cause = error.kind();
+    }
+    written
+}
+
+impl<F: Write + Drop> Write for SessionFile<F> {
+    ghost use Rattle.daide_run.specs.Folder.{file_contents};
+
+    ghost contents = { λ f. file_contents F.contents f.file };
+
+    fn write(&mut self, bytes: &[u8]) -> io::Result<usize> {
+        match &mut self.file {
+            Some(file) => noted(file.write(bytes), &mut self.cause),
+            None => Err(ErrorKind::NotFound.into()),
+        }
+    }
+
+    fn flush(&mut self) -> io::Result<()> {
+        match &mut self.file {
+            Some(file) => file.flush(),
+            None => Err(ErrorKind::NotFound.into()),
+        }
+    }
+}
+
+/// Reports a notice on standard error. The run goes on if the line cannot be written.
+fn tell<E: Write>(errors: &mut E, notice: RecordNotice) {
+    let _ = writeln!(errors, "daide-gate: {notice}");
+}
+
+/// A folder, with the configuration and the words that head each record in it.
+#[derive(Drop)]
+pub(crate) struct Folder<'a, R: Files> {
+    rt: &'a R,
+    path: &'a str,
+    /// The highest number of a record that was in the folder before the run.
+    highest: u32,
+    config: Config,
+    words: Words,
+}
+
+/// Returns the path of the record with this number in a folder.
+fn path_of(alloc: Global, folder: &str, number: u64) -> Result<String, AllocError>
+    ensures { IfOk result (λ path. string_bytes path ≡ path_in folder.now number) }
+{
+    format!(in alloc; "{folder}/session-{number:06}.log")
+}
+
+/// Returns the text of an address; `None` if memory for it is refused.
+fn text_of(alloc: Global, address: SocketAddr) -> Option<String>
+    ensures { IfSome result (λ text. string_bytes text ≡ socket_text address) }
+{
+    format!(in alloc; "{address}").ok()
+}
+
+/// Returns the text of a bot's address; `None` without an address, or if memory for it is refused.
+fn address_text(alloc: Global, bot: Option<SocketAddr>) -> Option<String>
+    ensures { IsAddressOf bot (option_map (λ text. string_bytes text) result) }
+{
+    match bot {
+        Some(bot) => text_of(alloc, bot),
+        None => None,
+    }
+}
+
+/// Adds a comment to a record: the number of its session, the address of its bot, and when the session began.
+fn put_beginning<W: Sink + Drop>(log: &mut Record<W>, number: u32, address: &str, began: Moment)
+    ensures { BeginsRecord (HasFailed W.Fails) number (Some address.now) (Some began) log.old log.new }
+{
+    log.comment(Comment::Begun(number, address, began.utc()));
+}
+
+/// Adds this comment to a record if the address and the time are known. Returns the time if it did.
+fn begin_record<W: Sink + Drop>(
+    log: &mut Record<W>,
+    number: u32,
+    address: &Option<String>,
+    now: Option<Moment>,
+) -> Option<Moment>
+    ensures record_of { BeginsRecord (HasFailed W.Fails) number (option_map (λ text. string_bytes text) address.now) now
+        log.old log.new }
+    ensures last { result ≡ time_begun (option_map (λ text. string_bytes text) address.now) now }
+{
+    match (address, now) {
+        (Some(text), Some(now)) => {
+            put_beginning(log, number, text.as_str(), now);
+            Some(now)
+        }
+        _ => None,
+    }
+}
+
+/// Returns the number in the name of a record's file; `None` if no record has this name.
+fn number_in(name: &str) -> Option<u32> {
+    let digits = name.strip_prefix("session-")?.strip_suffix(".log")?;
+    digits.parse().ok()
+}
+
+/// Returns the highest number of the records in a folder; 0 if there is none.
+fn highest_in<R: AllocGlobal + Files>(rt: &R, path: &str) -> io::Result<u32> {
+    let mut highest = 0;
+    for entry in fs::read_dir(&rt, path)? {
+        if let Some(number) = number_in(entry?.file_name()) {
+            highest = number.max(highest);
+        }
+    }
+    Ok(highest)
+}
+
+/// Creates a folder if it does not exist. Returns the highest number of the records in it.
+fn highest_made<R: AllocGlobal + Files>(rt: &R, path: &str) -> io::Result<u32> {
+    fs::create_dir_all(rt, path)?;
+    highest_in(rt, path)
+}
+
+impl<'a, R: AllocGlobal + Files> Folder<'a, R> {
+    /// Opens a folder for the records of sessions with these settings, and creates it if it does not exist. Fails with
+    /// the system's error if the folder can't be created or read, or if no file can be created in it, and with
+    /// `InvalidInput` if the path is empty. To test that, a file with the number 0, which no record has, is created and
+    /// removed.
+    pub(crate) fn at(
+        rt: &'a R,
+        path: &'a str,
+        settings: &Settings,
+    ) -> Result<Folder<'a, R>, ErrorKind>
+        ensures { IfOk result (λ folder. (folder.config ≡ settings.now.config) × (folder.words ≡ settings.now.words)) }
+    {
+        if path.is_empty() {
+            return Err(ErrorKind::InvalidInput);
+        }
+        let highest = match highest_made(rt, path) {
+            Ok(highest) => highest,
+            Err(error) => return Err(error.kind()),
+        };
+        let folder = Folder {
+            rt,
+            path,
+            highest,
+            config: settings.config,
+            words: settings.words,
+        };
+        match folder.try_file() {
+            Ok(()) => Ok(folder),
+            Err(error) => Err(error.kind()),
+        }
+    }
+
+    /// Creates the file with the number 0, and removes it.
+    fn try_file(&self) -> io::Result<()> {
+        let name = path_of(self.rt.alloc(), self.path, 0)?;
+        let _file = self.make(name.as_str())?;
+        self.rt.remove_file(name.as_str())
+    }
+
+    /// Creates a file, which must not exist yet.
+    fn make(&self, name: &str) -> io::Result<R::File> {
+        OpenOptions::new()
+            .write(true)
+            .create_new(true)
+            .open(self.rt, name)
+    }
+
+    /// Returns the number of a session's record: the records of a run follow those that were in the folder before.
+    fn record_number(&self, session: u32) -> u64
+        ensures { result ≡ self.now.highest + session }
+    {
+        self.highest as u64 + session as u64
+    }
+
+    /// Creates the file of a session's record, or returns why there is none.
+    fn file_of(&self, number: u32) -> Result<R::File, RecordNotice>
+        ensures { IfErr result (IsNoFileOf number) }
+    {
+        let Ok(name) = path_of(self.rt.alloc(), self.path, self.record_number(number)) else {
+            return Err(RecordNotice::Unmade(number, ErrorKind::OutOfMemory));
+        };
+        self.make(name.as_str())
+            .map_err(|error| match error.kind() {
+                ErrorKind::AlreadyExists => RecordNotice::IsThere(number),
+                kind => RecordNotice::Unmade(number, kind),
+            })
+    }
+
+    /// Opens the file of a session's record. Reports a failure to create it.
+    fn open_file<E: Write>(&self, number: u32, errors: &mut E) -> SessionFile<R::File>
+        ensures { result.number ≡ number }
+    {
+        let file = match self.file_of(number) {
+            Ok(file) => Some(file),
+            Err(notice) => {
+                tell(errors, notice);
+                None
+            }
+        };
+        SessionFile {
+            number,
+            file,
+            cause: ErrorKind::Other,
+        }
+    }
+
+    /// Starts the record of a session with this number and with a bot at this address, and returns its ports with the
+    /// record. The head for these settings is appended to the file, and then a comment with the address and the present
+    /// time, if both are known. The record is whole so far, unless its file did not take the head. Reports a failure to
+    /// create the file.
+    ///
+    /// Not said: that memory for the text of the address was refused if the comment is missing.
+    pub(crate) fn begin<P: Ports, E: Write>(
+        &self,
+        session: (u32, Option<SocketAddr>),
+        ports: P,
+        now: Option<Moment>,
+        errors: &mut E,
+    ) -> TimedRecording<P, SessionFile<R::File>>
+        ensures ports { result.ports ≡ ports }
+        ensures record { (before : Option (List ℕ)) × (address : Option (List ℕ)) × IsAddressOf session.1 address
+            × BeginsRecord (HasFailed ⟦<SessionFile<R::File> as Sink>⟧.Fails) session.0 address now
+            (headed before self.now.config (words_of self.now.words)) result.record_of
+            × (result.last ≡ time_begun address now) }
+        ensures activity { result.activity ≡ Activity.Moving }
+    {
+        let (number, bot) = session;
+        let mut log = Record::new(self.open_file(number, errors), self.config, self.words);
+        let address = address_text(self.rt.alloc(), bot);
+        let began = begin_record(&mut log, number, &address, now);
+        TimedRecording::new(ports, log, began)
+    }
+}
+
+/// Reports why the record in a file is not whole, if it is not. A missing file was reported at the beginning.
+fn tell_end<F: Drop, E: Write>(file: &SessionFile<F>, end: RecordEnd, errors: &mut E) {
+    if file.file.is_none() {
+        return;
+    }
+    match end {
+        RecordEnd::Whole => {}
+        RecordEnd::Failed => tell(errors, RecordNotice::Unwritten(file.number, file.cause)),
+        RecordEnd::Full => tell(errors, RecordNotice::Full(file.number)),
+    }
+}
+
+/// Reports that a session's record has just broken off, if it has.
+pub(crate) fn tell_if_ended<P: Ports, F: Write + Drop, E: Write>(
+    recorded: &TimedRecording<P, SessionFile<F>>,
+    errors: &mut E,
+) {
+    if recorded.has_just_ended() {
+        let record = recorded.record();
+        tell_end(record.writer(), record.ending(), errors);
+    }
+}
+
+/// Ends a session's record. Reports why it is not whole, if that was not reported before. Returns the ports.
+pub(crate) fn end<P: Ports, F: Write + Drop, E: Write>(
+    recorded: TimedRecording<P, SessionFile<F>>,
+    errors: &mut E,
+) -> P
+    ensures { result ≡ recorded.ports }
+{
+    let (ports, record) = recorded.into_parts();
+    let before = record.ending();
+    let (file, end) = record.finish();
+    if end != before {
+        tell_end(&file, end, errors);
+    }
+    ports
+}

@@ -1,0 +1,131 @@
+//! The gateway at the addresses of its settings.
+
+ghost use Rattle.std.specs.Prelude.{◌≡◌, List, IfErr, OnOk};
+ghost use Rattle.daide_io.specs.System.{SystemCall, TransitsBy};
+ghost use Rattle.daide_event_loop.specs.Served.{IsWholeRun};
+ghost use Rattle.daide_event_loop.specs.Serving.{IsServeCause, GivesUp};
+ghost use Rattle.daide_run.specs.Gateway.{IsBeforeServing, fault_by, Announces};
+ghost use Rattle.daide_log.specs.Recording.{HasFailed};
+
+use daide_event_loop::{ServeFault, serve};
+use daide_frame::Memory;
+use daide_io::{Ports, System};
+use daide_log::Sink;
+use daide_settings::{Key, Settings};
+use daide_sockets::bound_sockets::{BindError, BoundSockets, bind_sockets};
+use daide_sockets::control_listener::bind_control;
+use daide_status::VERSION;
+use std::io::{ErrorKind, Write};
+use std::net::Net;
+use std::rt::{Clock, Files};
+use thiserror::Error;
+
+/// A log line about the beginning of a run: its addresses, as in the settings, and how many sessions it serves at once.
+#[derive(Clone, Copy, Debug, Error)]
+#[error("listening on {listen}, server {server}, {max_sessions} sessions, version {VERSION}")]
+struct BeginningNotice<'a> {
+    listen: &'a str,
+    server: &'a str,
+    max_sessions: usize,
+}
+
+/// Logs the beginning of a run if its sessions are logged. The run goes on if the line cannot be written.
+pub(crate) fn log_beginning<E: Write>(is_verbose: bool, settings: &Settings, errors: &mut E) {
+    if !is_verbose {
+        return;
+    }
+    let notice = BeginningNotice {
+        listen: settings.listen.as_str(),
+        server: settings.server.as_str(),
+        max_sessions: settings.max_sessions,
+    };
+    let _ = writeln!(errors, "daide-gate: {notice}");
+}
+
+/// Why a gateway does not begin, or ends early.
+#[derive(Clone, Copy, Debug, PartialEq, Eq, Error)]
+pub enum GatewayFault {
+    /// The value of this key, an address or the path of the control socket, cannot be bound, or the system has no
+    /// descriptor for the network. With the system's error.
+    #[error("cannot listen")]
+    Listen(Key, ErrorKind),
+    /// The allocator refused the server's addresses or the table of sockets.
+    #[error("out of memory")]
+    Memory,
+    /// The run ended before all its bots were served.
+    #[error("{0}")]
+    Serve(ServeFault),
+}
+
+/// Converts an error of the sockets to a fault of the gateway.
+fn fault_of(fault: BindError) -> GatewayFault
+    ensures before { IsBeforeServing result }
+    ensures cause { result ≡ fault_by fault }
+{
+    match fault {
+        BindError::Listen(cause) => GatewayFault::Listen(Key::Listen, cause),
+        BindError::Memory => GatewayFault::Memory,
+    }
+}
+
+/// Binds the address of the settings, resolves the server's, and creates the table of sockets. Then binds the control
+/// socket, if the settings have one. Serves no bot yet.
+pub fn bind<'r, R: AllocGlobal + Files + Clock + Net>(
+    rt: &'r R,
+    settings: &Settings,
+) -> Result<BoundSockets<'r, R>, GatewayFault>
+    ensures { IfErr result IsBeforeServing }
+{
+    let mut bound = match bind_sockets(rt, settings) {
+        Ok(bound) => bound,
+        Err(fault) => return Err(fault_of(fault)),
+    };
+    if let Some(path) = &settings.control {
+        match bind_control(rt, path.as_str()) {
+            Ok(listener) => bound.network.set_control(listener),
+            Err(error) => return Err(GatewayFault::Listen(Key::Control, error.kind())),
+        }
+    }
+    Ok(bound)
+}
+
+/// Prints `listening`. The run goes on if it cannot be written.
+fn announce<O: Sink>(output: &mut O)
+    ensures { Announces (HasFailed O.Fails) (O.contents output.old) (O.contents output.new) }
+{
+    match output.write_whole(b"listening\n") {
+        Ok(()) => {
+            let _ = output.flush();
+        }
+        Err(_) => {}
+    }
+}
+
+/// Writes that it listens, and serves until all bots were served. The caller keeps the system, so the clauses name its
+/// old and new value. If sessions are recorded, the system is one around the sockets (`RecordedSockets`), with the same
+/// relation.
+///
+/// `announced`: it writes `listening` and a line feed to the output, and nothing else, unless a write failed.
+///
+/// `served`: if it returns `Ok`, the calls that took the system from its old to its new value are those of a whole run.
+///
+/// `given_up`: else they are those of a run that was given up for its fault.
+///
+/// `refused`: it returns `Memory` as `serve` does, only after the allocator refused room.
+pub fn serve_on<A: Memory + Copy, P: Ports, S: System<P>, O: Sink>(
+    alloc: A,
+    settings: &Settings,
+    system: &mut S,
+    output: &mut O,
+) -> Result<(), ServeFault>
+    ensures announced { Announces (HasFailed O.Fails) (O.contents output.old) (O.contents output.new) }
+    ensures refused { IfErr result (IsServeCause A.Refuses settings.now) }
+    ensures served { OnOk result ((answers : List (SystemCall P))
+        × TransitsBy S.transition system.old answers system.new × IsWholeRun P.transition settings.now answers) }
+    ensures given_up { IfErr result (λ fault. (answers : List (SystemCall P))
+        × TransitsBy S.transition system.old answers system.new
+        × GivesUp A.Refuses P.transition settings.now fault answers) }
+{
+    announce(output);
+    serve(alloc, settings, system)
+}

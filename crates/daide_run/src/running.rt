@@ -1,0 +1,308 @@
+//! A run of a text of settings: binds, serves until all bots were served, and finishes closing.
+
+ghost use Rattle.std.specs.Prelude.{◌≡◌, None, IfErr, IfSome};
+ghost use Rattle.daide_log.specs.Recording.{HasFailed};
+ghost use Rattle.daide_run.specs.Running.{HasNoSockets, RunEnds, RunsOn, TextRuns, RecordedRunEnds, RecordedTextRuns, IsOfText, ending_by};
+ghost use Rattle.daide_sockets.specs.Scheduling.{pair_of};
+
+use crate::folder::{Folder, SessionFile};
+use crate::gateway::{GatewayFault, bind, log_beginning, serve_on};
+use crate::recorded::RecordedSockets;
+use daide_event_loop::ServeFault;
+use daide_io::duplex::Duplex;
+use daide_io::{Network, Ports, System};
+use daide_log::{Sink, TimedRecording};
+use daide_settings::{Settings, SettingsError, read_settings};
+use daide_sockets::bound_sockets::{BoundSockets, sockets_on};
+use daide_sockets::connection::Connection;
+use daide_sockets::control_listener::ControlFile;
+use daide_sockets::ports::SocketPorts;
+use daide_sockets::system::Sockets;
+use std::alloc::Global;
+use std::io::{ErrorKind, Write};
+use std::net::Net;
+use std::rt::{Clock, Files, LibcRuntime};
+use thiserror::Error;
+
+/// Why a run does not begin, or ends early.
+#[derive(Clone, Copy, Debug, PartialEq, Eq, Error)]
+pub enum RunFault {
+    /// The file cannot be read, is too long, or is not UTF-8, with the system's error. A run of a text never returns it.
+    #[error("settings could not be read")]
+    Unreadable(ErrorKind),
+    /// The text of the file has no settings.
+    #[error("{0}")]
+    Settings(SettingsError),
+    /// The allocator refused the file's text or the sockets, or the listener cannot be registered.
+    #[error("out of memory")]
+    Memory,
+    /// No file can be created in the folder of the records, with the system's error.
+    #[error("record could not be written")]
+    Record(ErrorKind),
+    /// The gateway does not begin, or ends early.
+    #[error("{0}")]
+    Gateway(GatewayFault),
+}
+
+/// The system of a run, which can end: it waits until its last sockets are closed.
+pub(crate) trait Finish {
+    /// Waits until the last sockets are closed.
+    fn finish(&mut self);
+}
+
+impl<N: Network, E: Write + Drop> Finish for Sockets<'_, N, E> {
+    fn finish(&mut self) {
+        Sockets::finish(self);
+    }
+}
+
+/// Returns the result of a run from the result of its loop.
+fn ending_of(served: Result<(), ServeFault>) -> Result<(), RunFault>
+    ensures { result ≡ ending_by served }
+{
+    match served {
+        Ok(()) => Ok(()),
+        Err(fault) => Err(RunFault::Gateway(GatewayFault::Serve(fault))),
+    }
+}
+
+/// Serves on a system, and waits until the last sockets are closed.
+fn run_on<P: Ports, S: System<P> + Finish, O: Sink>(
+    alloc: Global,
+    settings: &Settings,
+    system: &mut S,
+    output: &mut O,
+) -> Result<(), RunFault>
+    ensures { RunsOn S.transition P.transition settings.now (HasFailed O.Fails) (O.contents output.old)
+        (O.contents output.new) system.old result }
+{
+    let served = serve_on(alloc, settings, system, output);
+    system.finish();
+    ending_of(served)
+}
+
+/// What a run reports of its sessions beside their counts.
+#[derive(Clone, Copy)]
+struct SessionReports<'f, F: Files> {
+    /// Whether the beginning and the end of each session are logged.
+    is_verbose: bool,
+    /// The folder of the records, if sessions are recorded.
+    folder: Option<&'f Folder<'f, F>>,
+}
+
+/// Returns the file of the control socket that was bound, if the settings have one.
+fn control_file<'a, R: Files>(rt: &'a R, settings: &'a Settings) -> Option<ControlFile<'a, R>> {
+    match &settings.control {
+        Some(path) => Some(ControlFile::at(rt, path.as_str())),
+        None => None,
+    }
+}
+
+/// Serves on sockets to which no bot came, and waits until the last sockets are closed.
+fn run_plain<N: Network<Connection = Connection>, O: Sink, E: Write + Drop>(
+    alloc: Global,
+    settings: &Settings,
+    sockets: &mut Sockets<'_, N, E>,
+    output: &mut O,
+) -> Result<(), RunFault>
+    requires { HasNoSockets settings.now.stall_seconds (record {
+      came = sockets.old.acceptor.came;
+      arrivals = sockets.old.arrivals.items;
+      closing = sockets.old.closings;
+    }) }
+    ensures { RunEnds ⟦<Connection as Duplex>⟧.to_give ⟦<Connection as Duplex>⟧.taken ⟦<Connection as Duplex>⟧.calls
+        (λ ports. pair_of ports)
+        ⟦<SocketPorts<'static, Connection> as Ports>⟧.transition settings.now (HasFailed O.Fails)
+        (O.contents output.old) (O.contents output.new) result }
+{
+    run_on(alloc, settings, sockets, output)
+}
+
+/// Serves on sockets to which no bot came, with a system around them that keeps a record of each session in a folder.
+fn run_recording<
+    N: Network<Connection = Connection>,
+    R: AllocGlobal + Clock,
+    F: AllocGlobal + Files,
+    O: Sink,
+    E: Write + Drop,
+>(
+    rt: &R,
+    settings: &Settings,
+    sockets: Sockets<'_, N, E>,
+    folder: &Folder<'_, F>,
+    output: &mut O,
+) -> Result<(), RunFault>
+    requires { HasNoSockets settings.now.stall_seconds (record {
+      came = sockets.acceptor.came;
+      arrivals = sockets.arrivals.items;
+      closing = sockets.closings;
+    }) }
+    ensures { RunEnds ⟦<Connection as Duplex>⟧.to_give ⟦<Connection as Duplex>⟧.taken ⟦<Connection as Duplex>⟧.calls
+        (λ ports. pair_of ports.ports)
+        ⟦<TimedRecording<SocketPorts<'static, Connection>, SessionFile<F::File>> as Ports>⟧.transition settings.now
+        (HasFailed O.Fails) (O.contents output.old) (O.contents output.new) result }
+{
+    let mut system = RecordedSockets::new(sockets, folder, rt);
+    run_on(rt.alloc(), settings, &mut system, output)
+}
+
+/// Serves over sockets that are bound, with these settings: opens the sockets, serves on them, and finishes closing. If
+/// there is a folder, the system is one around the sockets, which keeps a record of each session there.
+fn serve_bound<'r, R: AllocGlobal + Clock + Net, F: AllocGlobal + Files, O: Sink, E: Write + Drop>(
+    rt: &'r R,
+    settings: &Settings,
+    reports: SessionReports<'r, F>,
+    bound: BoundSockets<'r, R>,
+    output: &mut O,
+    mut errors: E,
+) -> Result<(), RunFault>
+    ensures plain { reports.entry.folder ≡ None →
+        RunEnds ⟦<Connection as Duplex>⟧.to_give ⟦<Connection as Duplex>⟧.taken ⟦<Connection as Duplex>⟧.calls
+        (λ ports. pair_of ports)
+        ⟦<SocketPorts<'static, Connection> as Ports>⟧.transition settings.now (HasFailed O.Fails)
+        (O.contents output.old) (O.contents output.new) result }
+    ensures recorded { IfSome reports.entry.folder (λ folder.
+        RunEnds ⟦<Connection as Duplex>⟧.to_give ⟦<Connection as Duplex>⟧.taken ⟦<Connection as Duplex>⟧.calls
+        (λ ports. pair_of ports.ports)
+        ⟦<TimedRecording<SocketPorts<'static, Connection>, SessionFile<F::File>> as Ports>⟧.transition settings.now
+        (HasFailed O.Fails) (O.contents output.old) (O.contents output.new) result) }
+{
+    let BoundSockets {
+        mut network,
+        servers,
+        table,
+        pool,
+    } = bound;
+    if reports.folder.is_some() {
+        network.set_recorded();
+    }
+    log_beginning(reports.is_verbose, settings, &mut errors);
+    let ground = (network, servers.as_slice(), table, &pool);
+    let Some(mut sockets) = sockets_on(rt.alloc(), settings, ground, errors) else {
+        return Err(RunFault::Memory);
+    };
+    sockets.set_verbose(reports.is_verbose);
+    match reports.folder {
+        None => run_plain(rt.alloc(), settings, &mut sockets, output),
+        Some(folder) => run_recording(rt, settings, sockets, folder, output),
+    }
+}
+
+/// Serves over sockets at the addresses of the settings: binds, and serves on what is bound (`serve_bound`). The file of
+/// the control socket is removed at the end, if there is one.
+fn serve_sockets<
+    'r,
+    R: AllocGlobal + Files + Clock + Net,
+    F: AllocGlobal + Files,
+    O: Sink,
+    E: Write,
+>(
+    rt: &'r R,
+    settings: &Settings,
+    reports: SessionReports<'r, F>,
+    output: &mut O,
+    errors: &mut E,
+) -> Result<(), RunFault>
+    ensures plain { reports.entry.folder ≡ None →
+        RunEnds ⟦<Connection as Duplex>⟧.to_give ⟦<Connection as Duplex>⟧.taken ⟦<Connection as Duplex>⟧.calls
+        (λ ports. pair_of ports)
+        ⟦<SocketPorts<'static, Connection> as Ports>⟧.transition settings.now (HasFailed O.Fails)
+        (O.contents output.old) (O.contents output.new) result }
+    ensures recorded { IfSome reports.entry.folder (λ folder.
+        RunEnds ⟦<Connection as Duplex>⟧.to_give ⟦<Connection as Duplex>⟧.taken ⟦<Connection as Duplex>⟧.calls
+        (λ ports. pair_of ports.ports)
+        ⟦<TimedRecording<SocketPorts<'static, Connection>, SessionFile<F::File>> as Ports>⟧.transition settings.now
+        (HasFailed O.Fails) (O.contents output.old) (O.contents output.new) result) }
+{
+    let bound = bind(rt, settings).map_err(RunFault::Gateway)?;
+    let _file = control_file(rt, settings);
+    serve_bound(rt, settings, reports, bound, output, errors)
+}
+
+/// Serves with the settings of a text: binds, opens the sockets, serves on them (`serve_on`), and finishes closing. If
+/// sessions are recorded, the same is proved of the settings of the text, unless no file can be made in the folder of the
+/// records (`run_recorded`).
+///
+/// `runs`: if it returns `Ok`, sockets to which no bot had come, and of which none closed, evolved by the calls of a
+/// whole run. If it returns a fault of serving, they are the calls of a run that was given up for it. In both cases it
+/// wrote that it listens, and `sessions_come_once` and `bots_are_counted` hold. After a fault before that it wrote
+/// nothing.
+///
+/// `untouched`: if the text gives no settings, it returns their fault, and output and standard error are unchanged.
+///
+/// Not said: which sockets and calls they are, since the run opens its sockets itself. Two causes depend on the
+/// operating system: that the address can't be listened on if `Listen` is returned, and that memory was refused if
+/// `Memory` is.
+pub fn run_text<R: AllocGlobal + Files + Clock + Net, O: Sink, E: Write>(
+    rt: &R,
+    text: &str,
+    is_verbose: bool,
+    output: &mut O,
+    errors: &mut E,
+) -> Result<(), RunFault>
+    ensures runs { TextRuns ⟦<Connection as Duplex>⟧.to_give ⟦<Connection as Duplex>⟧.taken ⟦<Connection as Duplex>⟧.calls
+        (λ ports. pair_of ports)
+        ⟦<SocketPorts<'static, Connection> as Ports>⟧.transition text.now (HasFailed O.Fails)
+        (O.contents output.old) (O.contents output.new) result }
+    ensures untouched { IfErr result (λ fault. IsOfText fault →
+        (output.new ≡ output.old) × (errors.new ≡ errors.old)) }
+{
+    match read_settings(rt.alloc(), text) {
+        Ok(settings) => {
+            let reports = SessionReports::<LibcRuntime> {
+                is_verbose,
+                folder: None,
+            };
+            serve_sockets(rt, &settings, reports, output, errors)
+        }
+        Err(fault) => Err(RunFault::Settings(fault)),
+    }
+}
+
+/// Serves with settings, and keeps a record of each session in a folder. `records` is the folder, and whether sessions are
+/// logged.
+fn serve_recorded<'r, R: AllocGlobal + Files + Clock + Net, O: Sink, E: Write>(
+    rt: &'r R,
+    settings: &Settings,
+    records: (&'r str, bool),
+    output: &mut O,
+    errors: &mut E,
+) -> Result<(), RunFault>
+    ensures { RecordedRunEnds ⟦<Connection as Duplex>⟧.to_give ⟦<Connection as Duplex>⟧.taken
+        ⟦<Connection as Duplex>⟧.calls
+        (λ ports. pair_of ports.ports)
+        ⟦<TimedRecording<SocketPorts<'static, Connection>, SessionFile<R::File>> as Ports>⟧.transition settings.now
+        (HasFailed O.Fails) (O.contents output.old) (O.contents output.new) result }
+{
+    let (folder, is_verbose) = records;
+    match Folder::at(rt, folder, settings) {
+        Ok(folder) => {
+            let reports = SessionReports {
+                is_verbose,
+                folder: Some(&folder),
+            };
+            serve_sockets(rt, settings, reports, output, errors)
+        }
+        Err(cause) => Err(RunFault::Record(cause)),
+    }
+}
+
+/// Serves with the settings of a text, and keeps a record of each session in a folder. `records` is the folder, and
+/// whether sessions are logged.
+pub fn run_recorded<'r, R: AllocGlobal + Files + Clock + Net, O: Sink, E: Write>(
+    rt: &'r R,
+    settings_text: &str,
+    records: (&'r str, bool),
+    output: &mut O,
+    errors: &mut E,
+) -> Result<(), RunFault>
+    ensures { RecordedTextRuns ⟦<Connection as Duplex>⟧.to_give ⟦<Connection as Duplex>⟧.taken ⟦<Connection as Duplex>⟧.calls
+        (λ ports. pair_of ports.ports)
+        ⟦<TimedRecording<SocketPorts<'static, Connection>, SessionFile<R::File>> as Ports>⟧.transition settings_text.now
+        (HasFailed O.Fails) (O.contents output.old) (O.contents output.new) result }
+{
+    match read_settings(rt.alloc(), settings_text) {
+        Ok(settings) => serve_recorded(rt, &settings, records, output, errors),
+        Err(error) => Err(RunFault::Settings(error)),
+    }
+}

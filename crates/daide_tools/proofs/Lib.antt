@@ -1,0 +1,3 @@
+mod EndingLemmas
+mod Reading
+mod JudgingLemmas

@@ -1,0 +1,146 @@
+-- The end of `show`, `check`, `frame` and `settings`: the exit status by the result of their libraries, and the output.
+-- (own)
+use Rattle.std.specs.Prelude.{◌≡◌, ◌≢◌, ℕ, ◌==◌, ◌&&◌, Bool, true, false, if◌then◌else◌, codes}
+use Rattle.std.specs.Prelude.{List, [], ◌∷◌, ◌++◌, map, Option, Some, None, IfSome, option_map, Result, Ok, Err}
+use Rattle.std.specs.Prelude.{IfOk, is_ok}
+use Rattle.std.specs.List.{join_with_byte}
+use Rattle.std.specs.Io.KnownBytes.{Keeps}
+use Rattle.daide_words.specs.declared.word.Word.{Word}
+use Rattle.daide_words.specs.Word.{names_of}
+use Rattle.daide_token.specs.Names.{Named}
+use Rattle.daide_protocol.specs.declared.summary.Summary.{Summary}
+use Rattle.daide_protocol.specs.Summary.{is_clean}
+use Rattle.daide_log_lines.specs.declared.fault.LogFault.{LogFault}
+use Rattle.daide_log_lines.specs.Reader.{silent}
+use Rattle.daide_log.specs.declared.explained.Explained.{Explained}
+use Rattle.daide_log.specs.Explained.{explained}
+use Rattle.daide_log.specs.Log.{plain}
+use Rattle.daide_log.specs.Progress.{IsAnswered}
+use Rattle.daide_show.specs.Shown.{ShowRequest, Shows}
+use Rattle.daide_show.specs.Shown as shown
+use Rattle.daide_show.specs.declared.frame_view.ShowFault.{ShowFault}
+use Rattle.daide_show.specs.declared.frame_view.ShowFault.TheVariants as show_faults
+use Rattle.daide_text.specs.Frames.{Writes, WritesUpTo}
+use Rattle.daide_text.specs.declared.frames.TextFault.{TextFault}
+use Rattle.daide_command_line.specs.declared.arguments.ShowOrder.{ShowOrder}
+use Rattle.daide_command_line.specs.declared.arguments.CheckOrder.{CheckOrder}
+use Rattle.daide_command_line.specs.declared.arguments.FrameOrder.{FrameOrder}
+use Rattle.daide_command_line.specs.declared.arguments.SettingsOrder.{SettingsOrder}
+use Rattle.toml.specs.Parse.{parse_document}
+use Rattle.daide_settings.specs.Settings.{judged_settings}
+use Rattle.daide_tools.specs.declared.judging.SettingsFault.{SettingsFault}
+
+-- the arguments as one text, if there are any, with a space between each two; otherwise the bytes of standard input
+abbrev pub given_by : Option (List (List ℕ)) → Option (List ℕ) → Option (List ℕ)
+given_by None known = known
+given_by (Some words) known = Some (join_with_byte 32 words)
+
+-- the same, with the arguments as a line
+abbrev pub lines_by : Option (List (List ℕ)) → Option (List ℕ) → Option (List ℕ)
+lines_by None known = known
+lines_by (Some words) known = Some (join_with_byte 32 words ++ 10 ∷ [])
+
+-- ---- `show`
+
+-- the status by the result of `show_input`: whether the frame would be relayed, or a fault
+abbrev pub show_status : Result Bool ShowFault → ℕ
+show_status (Ok true) = 0
+show_status (Ok false) = 3
+show_status (Err fault) = 1
+
+-- the relation of a result to an input, and to the output before and after
+abbrev pub IsShowAnswer : ShowRequest → Option (List ℕ) → Option (List ℕ) → Option (List ℕ) → Result Bool ShowFault → Type 0
+IsShowAnswer asked input old new (Ok relayed) = IfSome input (λ bytes. Shows asked bytes relayed old new)
+IsShowAnswer asked input old new (Err fault) =
+    IfSome input (λ bytes. shown.IsFaultAt asked bytes fault) × (fault ≢ show_faults.Write → Keeps old new)
+
+-- the status is that of a result for this input
+abbrev pub ShowEnds : ShowRequest → Option (List ℕ) → Option (List ℕ) → Option (List ℕ) → ℕ → Type 0
+ShowEnds asked input old new status =
+    (answer : Result Bool ShowFault) × IsShowAnswer asked input old new answer × (status ≡ show_status answer)
+
+-- ---- `check`
+
+abbrev pub check_status : Result Summary LogFault → ℕ
+check_status (Ok counts) = if is_clean counts then 0 else 3
+check_status (Err fault) = 1
+
+-- with explanations an incomplete frame is a fault too
+abbrev pub explained_status : Result Explained LogFault → ℕ
+explained_status (Ok report) = if is_clean report.counts && report.unfinished == 0 then 0 else 3
+explained_status (Err fault) = 1
+
+-- the status is that of the plain report of this log; `rest` is the unread rest of the log
+abbrev pub CheckEnds : Option (List ℕ) → Option (List ℕ) → Option (List ℕ) → Option (List ℕ) → ℕ → Type 0
+CheckEnds log rest old new status =
+    (answer : Result Summary LogFault) × IsAnswered plain (silent log) (silent rest) old new answer
+    × (status ≡ check_status answer)
+
+-- the same for the report with explanations
+abbrev pub ExplainedEnds : Option (List ℕ) → Option (List ℕ) → Option (List ℕ) → Option (List ℕ) → ℕ → Type 0
+ExplainedEnds log rest old new status =
+    (words : List Word) × (answer : Result Explained LogFault)
+    × IsAnswered (explained words) (silent log) (silent rest) old new answer × (status ≡ explained_status answer)
+
+abbrev pub ReportEnds : Bool → Option (List ℕ) → Option (List ℕ) → Option (List ℕ) → Option (List ℕ) → ℕ → Type 0
+ReportEnds false log rest old new status = CheckEnds log rest old new status
+ReportEnds true log rest old new status = ExplainedEnds log rest old new status
+
+-- ---- `frame`
+
+abbrev pub frame_status : Result (Unit {0}) TextFault → ℕ
+frame_status (Ok done) = 0
+frame_status (Err fault) = 1
+
+-- the relation of a result to lines of text, and to the output before and after
+abbrev pub IsFrameAnswer : List Named → Option (List ℕ) → Option (List ℕ) → Option (List ℕ) → Result (Unit {0}) TextFault →
+    Type 0
+IsFrameAnswer added input old new (Ok done) = Writes added input old new
+IsFrameAnswer added input old new (Err fault) = WritesUpTo added input old new fault
+
+abbrev pub FrameEnds : List Named → Option (List ℕ) → Option (List ℕ) → Option (List ℕ) → ℕ → Type 0
+FrameEnds added input old new status =
+    (answer : Result (Unit {0}) TextFault) × IsFrameAnswer added input old new answer × (status ≡ frame_status answer)
+
+-- ---- `settings`
+
+-- the status by the judgement: whether the text has settings, or a fault
+abbrev pub settings_status : Result Bool SettingsFault → ℕ
+settings_status (Ok true) = 0
+settings_status (Ok false) = 1
+settings_status (Err fault) = 1
+
+-- the judgement of a text: whether it has settings
+abbrev pub IsJudgement : List ℕ → Bool → Type 0
+IsJudgement text good = good ≡ is_ok (judged_settings (parse_document text))
+
+-- the status is that of a judgement, which is the one of a known text
+abbrev pub SettingsEnds : Option (List ℕ) → ℕ → Type 0
+SettingsEnds known status = (answer : Result Bool SettingsFault)
+    × IfOk answer (λ good. IfSome known (λ text. IsJudgement text good)) × (status ≡ settings_status answer)
+
+-- ---- an order
+
+-- The same for an order, by the bytes of standard input and by the rest of them that is unread. No clause knows the
+-- contents of a file or the results of the operating system. So the words of settings are any words, and a file's log
+-- is any log.
+
+abbrev pub ShowRuns : ShowOrder → Option (List ℕ) → Option (List ℕ) → Option (List ℕ) → ℕ → Type 0
+ShowRuns order known old new status =
+    (words : List Word) × (order.words ≡ None → words ≡ [])
+    × ShowEnds
+    (record { words = words; side = order.side; level = order.level; explained = order.is_explained })
+    (given_by (option_map (λ typed. map (λ word. word.now) typed.now) order.typed) known) old new status
+
+abbrev pub CheckRuns : CheckOrder → Option (List ℕ) → Option (List ℕ) → Option (List ℕ) → Option (List ℕ) → ℕ → Type 0
+CheckRuns order known rest old new status =
+    order.path.now ≡ codes "-" → ReportEnds order.is_explained known rest old new status
+
+abbrev pub FrameRuns : FrameOrder → Option (List ℕ) → Option (List ℕ) → Option (List ℕ) → ℕ → Type 0
+FrameRuns order known old new status =
+    (words : List Word) × (order.words ≡ None → words ≡ [])
+    × FrameEnds (names_of words)
+    (lines_by (option_map (λ typed. map (λ word. word.now) typed.now) order.typed) known) old new status
+
+abbrev pub SettingsRuns : SettingsOrder → Option (List ℕ) → ℕ → Type 0
+SettingsRuns order known status = order.path.now ≡ codes "-" → SettingsEnds known status

@@ -1,0 +1,2 @@
+pub mod Controlling
+pub mod Endings

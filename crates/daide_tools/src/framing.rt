@@ -1,0 +1,93 @@
+//! `frame`: the frames of messages, from arguments or from standard input.
+
+ghost use Rattle.std.specs.Prelude.{◌≡◌, ◌≤◌, ◌++◌, ◌∷◌, [], Some, map, IfOk};
+ghost use Rattle.std.specs.List.{join_with_byte};
+ghost use Rattle.daide_words.specs.Word.{names_of};
+ghost use Rattle.daide_words.specs.Words.{words_of};
+ghost use Rattle.daide_tools.specs.Endings.{frame_status, FrameEnds, FrameRuns};
+
+use crate::faults::{CLEAN, FAULT, tell};
+use crate::settings_file::words_at;
+use crate::typed::joined;
+use daide_command_line::arguments::FrameOrder;
+use daide_text::{TextFault, write_frames};
+use daide_words::Words;
+use std::alloc::{AllocError, Allocator};
+use std::io;
+use std::io::{Read, Write};
+use std::rt::Files;
+
+/// Reports a fault of a message on standard error. Returns the status.
+fn end_frame<E: Write>(answer: Result<(), TextFault>, errors: &mut E) -> io::Result<u8>
+    ensures { IfOk result (λ status. status ≡ frame_status answer) }
+{
+    match answer {
+        Ok(()) => Ok(CLEAN),
+        Err(fault) => tell(errors, fault, FAULT),
+    }
+}
+
+/// Writes the frames of the messages in a reader, one a line.
+fn frame_read<A: Allocator + Copy, I: Read, O: Write, E: Write>(
+    alloc: A,
+    words: &Words,
+    input: &mut I,
+    output: &mut O,
+    errors: &mut E,
+) -> io::Result<u8>
+    ensures { IfOk result (FrameEnds (names_of (words_of words.now)) (I.remaining input.old)
+        (O.contents output.old) (O.contents output.new)) }
+{
+    let answer = write_frames(alloc, words, input, output);
+    end_frame(answer, errors)
+}
+
+/// Writes the frame of the message in the arguments. A line feed within an argument ends a message.
+fn frame_words<A: Allocator + Copy, O: Write, E: Write>(
+    alloc: A,
+    words: &Words,
+    typed: &[&str],
+    output: &mut O,
+    errors: &mut E,
+) -> io::Result<u8>
+    ensures { IfOk result (FrameEnds (names_of (words_of words.now))
+        (Some (join_with_byte 32 (map (λ word. word.now) typed.now) ++ 10 ∷ []))
+        (O.contents output.old) (O.contents output.new)) }
+{
+    let Ok(text) = line_of(alloc, typed) else {
+        return tell(errors, TextFault::Memory, FAULT);
+    };
+    let mut input = text.as_slice();
+    frame_read(alloc, words, &mut input, output, errors)
+}
+
+/// Returns the arguments as a line.
+fn line_of<A: Allocator>(alloc: A, words: &[&str]) -> Result<Vec<u8, A>, AllocError>
+    ensures { IfOk result (λ line. line.items ≡ join_with_byte 32 (map (λ word. word.now) words.now) ++ 10 ∷ []) }
+{
+    let mut line = joined(alloc, words)?;
+    line.push(b'\n')?;
+    Ok(line)
+}
+
+/// Writes the frames of messages, with the words of the settings at a path. The settings are read before the input.
+pub fn run_frame<R: AllocGlobal + Files, I: Read, O: Write, E: Write>(
+    rt: &R,
+    order: FrameOrder<'_, '_>,
+    input: &mut I,
+    output: &mut O,
+    errors: &mut E,
+) -> io::Result<u8>
+    ensures bounded { IfOk result (λ status. status ≤ FAULT) }
+    ensures framed { IfOk result (FrameRuns order.entry (I.remaining input.old)
+        (O.contents output.old) (O.contents output.new)) }
+{
+    let words = match words_at(rt, order.words) {
+        Ok(words) => words,
+        Err(fault) => return tell(errors, fault, FAULT),
+    };
+    match order.typed {
+        Some(typed) => frame_words(rt.alloc(), &words, typed, output, errors),
+        None => frame_read(rt.alloc(), &words, input, output, errors),
+    }
+}

@@ -1,0 +1,179 @@
+//! `settings`: the faults of a file of settings, or its values and what its run needs.
+
+ghost use Rattle.std.specs.Prelude.{◌≡◌, ◌≤◌, [], false, IfOk, IfSome, is_ok};
+ghost use Rattle.std.specs.Io.KnownBytes.{Appends};
+ghost use Rattle.toml.specs.Parse.{parse_document};
+ghost use Rattle.daide_driver.specs.Hub.{session_bound};
+ghost use Rattle.daide_event_loop.specs.Served.{run_limits};
+ghost use Rattle.daide_settings.specs.Settings.{judged_settings};
+ghost use Rattle.daide_tools.specs.Endings.{IsJudgement, settings_status, SettingsEnds, SettingsRuns};
+
+use crate::faults::{CLEAN, FAULT, tell};
+use crate::settings_file::{SettingsFileFault, read_text};
+use daide_command_line::arguments::SettingsOrder;
+use daide_settings::{JudgeFault, Settings, SettingsError, judge_settings, read_settings};
+use daide_sockets::lingering_close::MOST_CLOSING;
+use std::alloc::Global;
+use std::io::{Read, Write};
+use std::rt::Files;
+use std::{fs, io};
+use thiserror::Error;
+
+/// The descriptors of the listener and the poller.
+const OWN_DESCRIPTORS: usize = 4;
+
+/// The descriptors of a control socket: its listener and its four connections.
+const CONTROL_DESCRIPTORS: usize = 5;
+
+/// Why settings were not judged.
+#[derive(Clone, Copy, Debug, Error)]
+pub(crate) enum SettingsFault {
+    /// The file cannot be read, is too long or is not UTF-8, or the allocator refused its text.
+    #[error("{0}")]
+    Text(SettingsFileFault),
+    /// The output failed, or the allocator refused the settings.
+    #[error("{0}")]
+    Judge(JudgeFault),
+}
+
+/// Returns the most bytes that the bodies, stack entries and queued frames of a session take.
+fn session_bytes(settings: &Settings) -> usize
+    ensures { result ≡ session_bound (run_limits settings.now) }
+{
+    let body = settings.config.max_body;
+    let depth = settings.config.max_depth;
+    2 * body as usize + 16 * depth as usize + 96
+}
+
+/// Writes the descriptors that a run needs, as comments of TOML.
+fn write_descriptors(settings: &Settings, text: &mut Vec<u8>) -> io::Result<()> {
+    let has_control = settings.control.is_some();
+    let descriptors = settings
+        .max_sessions
+        .saturating_mul(2)
+        .saturating_add(OWN_DESCRIPTORS + MOST_CLOSING)
+        .saturating_add(if has_control { CONTROL_DESCRIPTORS } else { 0 });
+    writeln!(
+        text,
+        "# descriptors: at most {descriptors}: {OWN_DESCRIPTORS}, 2 a session, and 1 for each of {MOST_CLOSING} sockets that close;"
+    )?;
+    if has_control {
+        writeln!(
+            text,
+            "#   {CONTROL_DESCRIPTORS} of these are for the control socket;"
+        )?;
+    }
+    writeln!(text, "#   1 a session more with --record")
+}
+
+/// Returns the memory and the descriptors that a run needs, as comments of TOML.
+fn needs_of(alloc: Global, settings: &Settings) -> io::Result<Vec<u8>> {
+    let one = session_bytes(settings);
+    let count = settings.max_sessions;
+    let all = one.saturating_mul(count);
+    let mut text = Vec::new(alloc);
+    writeln!(
+        text,
+        "# memory: at most {all} bytes for bodies, brackets and queued frames, {one} for each of {count} sessions;"
+    )?;
+    writeln!(
+        text,
+        "#   about 71000 a session for its other fields and its buffers, and 3 MB for the program"
+    )?;
+    write_descriptors(settings, &mut text)?;
+    Ok(text)
+}
+
+/// Returns what the run of a text needs; nothing if the text has no settings.
+fn needs_of_text(alloc: Global, text: &str) -> Result<Vec<u8>, SettingsFault>
+    ensures { IfOk result (λ needs. is_ok (judged_settings (parse_document text.now)) ≡ false → needs.items ≡ []) }
+{
+    match read_settings(alloc, text) {
+        Ok(settings) => {
+            needs_of(alloc, &settings).map_err(|_| SettingsFault::Judge(JudgeFault::Memory))
+        }
+        Err(SettingsError::Memory) => Err(SettingsFault::Judge(JudgeFault::Memory)),
+        Err(_) => Ok(Vec::new(alloc)),
+    }
+}
+
+/// Writes what a run needs, after a judgement. Returns the judgement.
+fn write_needs<O: Write>(good: bool, needs: &[u8], output: &mut O) -> Result<bool, SettingsFault>
+    ensures { IfOk result (λ same. (same ≡ good) × Appends (O.contents output.old) (O.contents output.new) needs.now) }
+{
+    match output.write_all(needs) {
+        Ok(()) => Ok(good),
+        Err(_) => Err(SettingsFault::Judge(JudgeFault::Write)),
+    }
+}
+
+/// Judges a text of settings. Returns true if it has settings. All memory is allocated before anything is written.
+fn judge_text<O: Write>(alloc: Global, text: &str, output: &mut O) -> Result<bool, SettingsFault>
+    ensures { IfOk result (λ good. IsJudgement text.now good) }
+{
+    let needs = needs_of_text(alloc, text)?;
+    match judge_settings(alloc, text, output) {
+        Ok(good) => write_needs(good, needs.as_slice(), output),
+        Err(fault) => Err(SettingsFault::Judge(fault)),
+    }
+}
+
+/// Judges the settings in a reader.
+fn judge_input<I: Read, O: Write>(
+    alloc: Global,
+    input: &mut I,
+    output: &mut O,
+) -> Result<bool, SettingsFault>
+    ensures { IfOk result (λ good. IfSome (I.remaining input.old) (λ text. IsJudgement text good)) }
+{
+    match read_text(alloc, input) {
+        Ok(text) => judge_text(alloc, text.as_str(), output),
+        Err(fault) => Err(SettingsFault::Text(fault)),
+    }
+}
+
+/// Returns the status of a judgement. Reports a fault on standard error.
+fn end_judged<E: Write>(answer: Result<bool, SettingsFault>, errors: &mut E) -> io::Result<u8>
+    ensures { IfOk result (λ status. status ≡ settings_status answer) }
+{
+    match answer {
+        Ok(true) => Ok(CLEAN),
+        Ok(false) => Ok(FAULT),
+        Err(fault) => tell(errors, fault, FAULT),
+    }
+}
+
+/// Judges the settings in a reader. Returns the status.
+fn judge_read<I: Read, O: Write, E: Write>(
+    alloc: Global,
+    input: &mut I,
+    output: &mut O,
+    errors: &mut E,
+) -> io::Result<u8>
+    ensures bounded { IfOk result (λ status. status ≤ FAULT) }
+    ensures judged { IfOk result (SettingsEnds (I.remaining input.old)) }
+{
+    let answer = judge_input(alloc, input, output);
+    end_judged(answer, errors)
+}
+
+/// Judges the settings at a path, or of standard input. No contract is about the contents of a file.
+pub fn run_settings<R: AllocGlobal + Files, I: Read, O: Write, E: Write>(
+    rt: &R,
+    order: SettingsOrder<'_>,
+    input: &mut I,
+    output: &mut O,
+    errors: &mut E,
+) -> io::Result<u8>
+    ensures bounded { IfOk result (λ status. status ≤ FAULT) }
+    ensures judged { IfOk result (SettingsRuns order.entry (I.remaining input.old)) }
+{
+    let SettingsOrder { path } = order;
+    if path == "-" {
+        return judge_read(rt.alloc(), input, output, errors);
+    }
+    match fs::open(rt, path) {
+        Ok(mut file) => judge_read(rt.alloc(), &mut file, output, errors),
+        Err(error) => tell(errors, SettingsFileFault::Unreadable(error.kind()), FAULT),
+    }
+}

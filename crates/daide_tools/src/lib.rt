@@ -1,0 +1,15 @@
+//! The commands of `daide-gate` that need no run of their own, over any streams.
+//!
+//! `showing`, `checking` and `framing` take their input from the arguments (`typed`), a file or a reader. `judging` judges
+//! a file of settings, and `controlling` sends a request to a run and prints its answer. `settings_file` reads a file of
+//! settings. `faults` has the line that reports a fault and the exit statuses.
+#![tactic(auto)]
+
+pub mod checking;
+pub mod controlling;
+pub mod faults;
+pub mod framing;
+pub mod judging;
+pub mod settings_file;
+pub mod showing;
+mod typed;
