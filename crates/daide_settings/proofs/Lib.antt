@@ -1,6 +1,7 @@
 pub mod Members
 pub mod Named
 pub mod RangeItems
+pub mod LimitLemmas
 pub mod JudgedLemmas
 pub mod ReportLemmas
 mod ReportFacts

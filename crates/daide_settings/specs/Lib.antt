@@ -5,3 +5,4 @@ pub mod Given
 pub mod BotsInAll
 pub mod Judged
 pub mod Report
+pub mod LimitSettings

@@ -7,7 +7,10 @@ ghost use Rattle.std.specs.BTreeMap.{keys};
 ghost use Rattle.toml.specs.Data.{get_member};
 ghost use Rattle.toml.specs.View.{view, table_view};
 ghost use Rattle.toml.specs.Parse.{parse_document};
+ghost use Rattle.daide_protocol.specs.Bounds.{IsSessionCount};
+ghost use Rattle.daide_protocol.specs.Config.{config_fault};
 ghost use Rattle.daide_settings.specs.Given.{given_of};
+ghost use Rattle.daide_settings.specs.LimitSettings.{config_judged, run_limits_judged};
 ghost use Rattle.daide_settings.specs.Settings.{key_text, is_known as is_known_key, is_in_range};
 ghost use Rattle.daide_settings.specs.Settings.{address_of, read_flag, read_number as judged_number, read_text, has_only_known as knows_all};
 ghost use Rattle.daide_settings.specs.Settings.{judged_members, judged_settings};
@@ -21,6 +24,16 @@ use crate::settings::{Settings, SettingsError};
 use daide_protocol::config::Config;
 use std::alloc::Global;
 use toml::{Table, Value};
+
+/// The limits of a whole run.
+#[derive(Clone, Copy)]
+struct RunLimits {
+    im_seconds: u32,
+    max_sessions: usize,
+    sessions: u32,
+    turns: u64,
+    idle_seconds: u32,
+}
 
 /// Returns true if all keys of a table are known.
 fn keys_are_known(table: &Table) -> bool
@@ -142,8 +155,33 @@ pub(super) fn text_fault(table: &Table, key: Key) -> Option<SettingsError>
     }
 }
 
+/// Returns the limits of each session. Fails with the first fault of their keys.
+fn config_at(table: &Table) -> Result<Config, SettingsError>
+    ensures judged { result ≡ config_judged (table_view table.now) }
+    ensures right { IfOk result (λ config. config_fault config ≡ Ok tt) }
+{
+    Ok(Config {
+        top_level: number_at(table, Key::TopLevel)? as u16,
+        max_body: number_at(table, Key::MaxBody)? as u16,
+        max_depth: number_at(table, Key::MaxDepth)? as u16,
+    })
+}
+
+/// Returns the limits of the whole run. Fails with the first fault of their keys.
+fn run_limits_at(table: &Table) -> Result<RunLimits, SettingsError>
+    ensures judged { result ≡ run_limits_judged (table_view table.now) }
+    ensures some { IfOk result (λ limits. IsSessionCount limits.max_sessions) }
+{
+    Ok(RunLimits {
+        im_seconds: number_at(table, Key::ImSeconds)? as u32,
+        max_sessions: number_at(table, Key::MaxSessions)? as usize,
+        sessions: number_at(table, Key::Sessions)? as u32,
+        turns: number_at(table, Key::Turns)?,
+        idle_seconds: number_at(table, Key::IdleSeconds)? as u32,
+    })
+}
+
 /// Reads the settings of a document.
-#[tactic(auto, unfolding(crate::specs::Settings::judged_members))]
 fn settings_of(alloc: Global, table: &Table) -> Result<Settings, SettingsError>
     ensures judged { IfOk result (λ settings. judged_members (table_view table.now) ≡ Ok (given_of settings)) }
     ensures refused { IfErr result (λ fault. fault ≢ SettingsError.Memory →
@@ -154,14 +192,8 @@ fn settings_of(alloc: Global, table: &Table) -> Result<Settings, SettingsError>
     }
     let listen = address_at(table, Key::Listen)?;
     let server = address_at(table, Key::Server)?;
-    let top_level = number_at(table, Key::TopLevel)?;
-    let max_body = number_at(table, Key::MaxBody)?;
-    let max_depth = number_at(table, Key::MaxDepth)?;
-    let im_seconds = number_at(table, Key::ImSeconds)?;
-    let max_sessions = number_at(table, Key::MaxSessions)?;
-    let sessions = number_at(table, Key::Sessions)?;
-    let turns = number_at(table, Key::Turns)?;
-    let idle_seconds = number_at(table, Key::IdleSeconds)?;
+    let config = config_at(table)?;
+    let limits = run_limits_at(table)?;
     let words = words_at(found(table, Key::Words))?;
     let stall_seconds = number_at(table, Key::StallSeconds)?;
     let endless = flag_at(table, Key::Endless)?;
@@ -180,16 +212,12 @@ fn settings_of(alloc: Global, table: &Table) -> Result<Settings, SettingsError>
     Ok(Settings {
         listen,
         server,
-        config: Config {
-            top_level: top_level as u16,
-            max_body: max_body as u16,
-            max_depth: max_depth as u16,
-        },
-        im_seconds: im_seconds as u32,
-        max_sessions: max_sessions as usize,
-        sessions: sessions as u32,
-        turns,
-        idle_seconds: idle_seconds as u32,
+        config,
+        im_seconds: limits.im_seconds,
+        max_sessions: limits.max_sessions,
+        sessions: limits.sessions,
+        turns: limits.turns,
+        idle_seconds: limits.idle_seconds,
         words,
         stall_seconds: stall_seconds as u32,
         endless,
