@@ -29,6 +29,7 @@ fn moment_by<C: Clock>(clock: &C) -> Option<Moment> {
 /// Not said: that the times of a record are readings of this clock. A scene of tests/records.py compares them.
 #[derive(Drop)]
 pub(crate) struct RecordedSockets<
+    's,
     'w,
     'f,
     N: Network,
@@ -36,14 +37,15 @@ pub(crate) struct RecordedSockets<
     C: Clock,
     E: Write + Drop,
 > {
-    sockets: Sockets<'w, N, E>,
+    sockets: &'s mut Sockets<'w, N, E>,
     folder: &'f Folder<'f, R>,
     clock: &'f C,
     /// When the round began.
     now: Option<Moment>,
 }
 
-impl<'w, 'f, N: Network, R: AllocGlobal + Files, C: Clock, E: Write + Drop> RecordedSockets<
+impl<'s, 'w, 'f, N: Network, R: AllocGlobal + Files, C: Clock, E: Write + Drop> RecordedSockets<
+    's,
     'w,
     'f,
     N,
@@ -53,10 +55,10 @@ impl<'w, 'f, N: Network, R: AllocGlobal + Files, C: Clock, E: Write + Drop> Reco
 > {
     /// Has a folder keep a record of each session over these sockets.
     pub fn new(
-        sockets: Sockets<'w, N, E>,
+        sockets: &'s mut Sockets<'w, N, E>,
         folder: &'f Folder<'f, R>,
         clock: &'f C,
-    ) -> RecordedSockets<'w, 'f, N, R, C, E>
+    ) -> RecordedSockets<'s, 'w, 'f, N, R, C, E>
         ensures { result.sockets ≡ sockets.entry }
     {
         RecordedSockets {
@@ -69,12 +71,12 @@ impl<'w, 'f, N: Network, R: AllocGlobal + Files, C: Clock, E: Write + Drop> Reco
 }
 
 impl<N: Network, R: AllocGlobal + Files, C: Clock, E: Write + Drop> Finish
-    for RecordedSockets<'_, '_, N, R, C, E> {
+    for RecordedSockets<'_, '_, '_, N, R, C, E> {
     /// Waits until the last sockets are closed. The closing sockets are advanced by rounds.
     fn finish(&mut self)
         ensures { (rounds : ℕ) × GoOnFor N.Connection.to_give N.Connection.taken
-            N.Connection.calls rounds self.old.sockets.closings self.new.sockets.closings
-            × ((self.new.sockets.closings.streams ≡ []) ⊎ (rounds ≡ u64.MAX)) }
+            N.Connection.calls rounds self.old.sockets.now.closings self.new.sockets.now.closings
+            × ((self.new.sockets.now.closings.streams ≡ []) ⊎ (rounds ≡ u64.MAX)) }
     {
         self.sockets.finish();
     }
@@ -82,13 +84,13 @@ impl<N: Network, R: AllocGlobal + Files, C: Clock, E: Write + Drop> Finish
 
 impl<'w, N: Network, R: AllocGlobal + Files, C: Clock, E: Write + Drop> System<
     TimedRecording<SocketPorts<'w, N::Connection>, SessionFile<R::File>>,
-> for RecordedSockets<'w, '_, N, R, C, E> {
+> for RecordedSockets<'_, 'w, '_, N, R, C, E> {
     ghost transition = { λ old answer new. RunEvolves N.transition N.Connection.to_give N.Connection.taken
         N.Connection.calls (λ ports. ports.ports)
-        (run_state (old.sockets.poller.network, old.sockets.poller.table) (old.sockets.idle_time, old.sockets.stall_time)
-        old.sockets.acceptor old.sockets.control (vec_capacity old.sockets.arrivals) old.sockets.arrivals.items old.sockets.closings) answer
-        (run_state (new.sockets.poller.network, new.sockets.poller.table) (new.sockets.idle_time, new.sockets.stall_time)
-        new.sockets.acceptor new.sockets.control (vec_capacity new.sockets.arrivals) new.sockets.arrivals.items new.sockets.closings) };
+        (run_state (old.sockets.now.poller.network, old.sockets.now.poller.table) (old.sockets.now.idle_time, old.sockets.now.stall_time)
+        old.sockets.now.acceptor old.sockets.now.control (vec_capacity old.sockets.now.arrivals) old.sockets.now.arrivals.items old.sockets.now.closings) answer
+        (run_state (new.sockets.now.poller.network, new.sockets.now.poller.table) (new.sockets.now.idle_time, new.sockets.now.stall_time)
+        new.sockets.now.acceptor new.sockets.now.control (vec_capacity new.sockets.now.arrivals) new.sockets.now.arrivals.items new.sockets.now.closings) };
 
     /// The times that are recorded in the round are that of its beginning.
     fn begin_round(&mut self) -> Orders {
@@ -122,7 +124,7 @@ impl<'w, N: Network, R: AllocGlobal + Files, C: Clock, E: Write + Drop> System<
         ports: &mut TimedRecording<SocketPorts<'w, N::Connection>, SessionFile<R::File>>,
     ) {
         tell_if_ended(ports, &mut self.sockets.errors);
-        ports.begin_turn(&mut self.sockets, self.now);
+        ports.begin_turn(self.sockets, self.now);
     }
 
     fn watch(&mut self, interest: &Interest) {

@@ -8,6 +8,7 @@ ghost use Rattle.daide_sockets.specs.Scheduling.{pair_of};
 use crate::folder::{Folder, SessionFile};
 use crate::gateway::{GatewayFault, bind, log_beginning, serve_on};
 use crate::recorded::RecordedSockets;
+use daide_buffered_io::pool::Pool;
 use daide_event_loop::ServeFault;
 use daide_io::duplex::Duplex;
 use daide_io::{Network, Ports, System};
@@ -16,11 +17,13 @@ use daide_settings::{Settings, SettingsError, read_settings};
 use daide_sockets::bound_sockets::{BoundSockets, sockets_on};
 use daide_sockets::connection::Connection;
 use daide_sockets::control_listener::ControlFile;
+use daide_sockets::os_network::OsNetwork;
 use daide_sockets::ports::SocketPorts;
 use daide_sockets::system::Sockets;
+use daide_sockets::table::SocketTable;
 use std::alloc::Global;
 use std::io::{ErrorKind, Write};
-use std::net::Net;
+use std::net::{Net, SocketAddr};
 use std::rt::{Clock, Files, LibcRuntime};
 use thiserror::Error;
 
@@ -128,14 +131,14 @@ fn run_recording<
 >(
     rt: &R,
     settings: &Settings,
-    sockets: Sockets<'_, N, E>,
+    sockets: &mut Sockets<'_, N, E>,
     folder: &Folder<'_, F>,
     output: &mut O,
 ) -> Result<(), RunFault>
     requires { HasNoSockets settings.now.stall_seconds (record {
-      came = sockets.acceptor.came;
-      arrivals = sockets.arrivals.items;
-      closing = sockets.closings;
+      came = sockets.old.acceptor.came;
+      arrivals = sockets.old.arrivals.items;
+      closing = sockets.old.closings;
     }) }
     ensures { RunEnds ⟦<Connection as Duplex>⟧.to_give ⟦<Connection as Duplex>⟧.taken ⟦<Connection as Duplex>⟧.calls
         (λ ports. pair_of ports.ports)
@@ -146,15 +149,58 @@ fn run_recording<
     run_on(rt.alloc(), settings, &mut system, output)
 }
 
-/// Serves over sockets that are bound, with these settings: opens the sockets, serves on them, and finishes closing. If
-/// there is a folder, the system is one around the sockets, which keeps a record of each session there.
-fn serve_bound<'r, R: AllocGlobal + Clock + Net, F: AllocGlobal + Files, O: Sink, E: Write + Drop>(
-    rt: &'r R,
+/// Serves on sockets to which no bot came. If there is a folder, the system is one around the sockets, which keeps a
+/// record of each session there.
+fn serve_opened<
+    N: Network<Connection = Connection>,
+    R: AllocGlobal + Clock,
+    F: AllocGlobal + Files,
+    O: Sink,
+    E: Write + Drop,
+>(
+    rt: &R,
     settings: &Settings,
-    reports: SessionReports<'r, F>,
-    bound: BoundSockets<'r, R>,
+    folder: Option<&Folder<'_, F>>,
+    sockets: &mut Sockets<'_, N, E>,
     output: &mut O,
-    mut errors: E,
+) -> Result<(), RunFault>
+    requires { HasNoSockets settings.now.stall_seconds (record {
+      came = sockets.old.acceptor.came;
+      arrivals = sockets.old.arrivals.items;
+      closing = sockets.old.closings;
+    }) }
+    ensures plain { folder.entry ≡ None →
+        RunEnds ⟦<Connection as Duplex>⟧.to_give ⟦<Connection as Duplex>⟧.taken ⟦<Connection as Duplex>⟧.calls
+        (λ ports. pair_of ports)
+        ⟦<SocketPorts<'static, Connection> as Ports>⟧.transition settings.now (HasFailed O.Fails)
+        (O.contents output.old) (O.contents output.new) result }
+    ensures recorded { IfSome folder.entry (λ folder.
+        RunEnds ⟦<Connection as Duplex>⟧.to_give ⟦<Connection as Duplex>⟧.taken ⟦<Connection as Duplex>⟧.calls
+        (λ ports. pair_of ports.ports)
+        ⟦<TimedRecording<SocketPorts<'static, Connection>, SessionFile<F::File>> as Ports>⟧.transition settings.now
+        (HasFailed O.Fails) (O.contents output.old) (O.contents output.new) result) }
+{
+    match folder {
+        None => run_plain(rt.alloc(), settings, sockets, output),
+        Some(folder) => run_recording(rt, settings, sockets, folder, output),
+    }
+}
+
+/// Serves over what was bound, with these settings: opens the sockets, serves on them, and finishes closing.
+fn serve_bound<
+    'w,
+    N: Network<Connection = Connection>,
+    R: AllocGlobal + Clock,
+    F: AllocGlobal + Files,
+    O: Sink,
+    E: Write + Drop,
+>(
+    rt: &R,
+    settings: &'w Settings,
+    reports: SessionReports<'_, F>,
+    ground: (N, &'w [SocketAddr], SocketTable, &'w Pool),
+    output: &mut O,
+    errors: E,
 ) -> Result<(), RunFault>
     ensures plain { reports.entry.folder ≡ None →
         RunEnds ⟦<Connection as Duplex>⟧.to_give ⟦<Connection as Duplex>⟧.taken ⟦<Connection as Duplex>⟧.calls
@@ -167,25 +213,25 @@ fn serve_bound<'r, R: AllocGlobal + Clock + Net, F: AllocGlobal + Files, O: Sink
         ⟦<TimedRecording<SocketPorts<'static, Connection>, SessionFile<F::File>> as Ports>⟧.transition settings.now
         (HasFailed O.Fails) (O.contents output.old) (O.contents output.new) result) }
 {
-    let BoundSockets {
-        mut network,
-        servers,
-        table,
-        pool,
-    } = bound;
-    if reports.folder.is_some() {
-        network.set_recorded();
-    }
-    log_beginning(reports.is_verbose, settings, &mut errors);
-    let ground = (network, servers.as_slice(), table, &pool);
     let Some(mut sockets) = sockets_on(rt.alloc(), settings, ground, errors) else {
         return Err(RunFault::Memory);
     };
     sockets.set_verbose(reports.is_verbose);
-    match reports.folder {
-        None => run_plain(rt.alloc(), settings, &mut sockets, output),
-        Some(folder) => run_recording(rt, settings, sockets, folder, output),
+    serve_opened(rt, settings, reports.folder, &mut sockets, output)
+}
+
+/// Logs the beginning of a run (`log_beginning`). If its sessions are recorded, the network also makes sure of a
+/// descriptor for the file of each record.
+fn begin<R: Clock + Net, F: Files, E: Write>(
+    settings: &Settings,
+    reports: &SessionReports<'_, F>,
+    network: &mut OsNetwork<'_, R>,
+    errors: &mut E,
+) {
+    if reports.folder.is_some() {
+        network.set_recorded();
     }
+    log_beginning(reports.is_verbose, settings, errors);
 }
 
 /// Serves over sockets at the addresses of the settings: binds, and serves on what is bound (`serve_bound`). The file of
@@ -216,7 +262,15 @@ fn serve_sockets<
 {
     let bound = bind(rt, settings).map_err(RunFault::Gateway)?;
     let _file = control_file(rt, settings);
-    serve_bound(rt, settings, reports, bound, output, errors)
+    let BoundSockets {
+        mut network,
+        servers,
+        table,
+        pool,
+    } = bound;
+    begin(settings, &reports, &mut network, errors);
+    let ground = (network, servers.as_slice(), table, &pool);
+    serve_bound(rt, settings, reports, ground, output, errors)
 }
 
 /// Serves with the settings of a text: binds, opens the sockets, serves on them (`serve_on`), and finishes closing. If

@@ -9,7 +9,7 @@ use Rattle.daide_run.proofs.recorded.RecordedSocketsSystemTimedRecordingSocketPo
 pub returns : goal.returns
 returns g c = λ ports h.
     let interest = c.args.interest.now in
-    let old = c.args.self.now.sockets.poller in
+    let old = c.args.self.now.sockets.now.poller in
     let e = c.watch.ensures.transition (busier ports.ports h.1) (is_of_busier ports.ports interest h) in
     let table = c.watch.ensures.watched
     ∙ (ap (λ b. watching old.table b interest.due) (goes_on_for old.table ports.ports interest h)
