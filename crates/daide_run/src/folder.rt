@@ -16,7 +16,7 @@ use daide_protocol::Config;
 use daide_settings::Settings;
 use daide_words::Words;
 use std::alloc::{AllocError, Global};
-use std::fs::OpenOptions;
+use std::fs::{DirEntry, OpenOptions};
 use std::io::{ErrorKind, Write};
 use std::net::SocketAddr;
 use std::rt::Files;
@@ -152,13 +152,16 @@ fn number_in(name: &str) -> Option<u32> {
     digits.parse().ok()
 }
 
+/// Returns the number of the record that an entry of a folder is; 0 if it is none.
+fn number_of<R: Files + Drop>(entry: io::Result<DirEntry<R>>) -> io::Result<u32> {
+    Ok(number_in(entry?.file_name()).unwrap_or(0))
+}
+
 /// Returns the highest number of the records in a folder; 0 if there is none.
 fn highest_in<R: AllocGlobal + Files>(rt: &R, path: &str) -> io::Result<u32> {
     let mut highest = 0;
     for entry in fs::read_dir(&rt, path)? {
-        if let Some(number) = number_in(entry?.file_name()) {
-            highest = number.max(highest);
-        }
+        highest = number_of(entry)?.max(highest);
     }
     Ok(highest)
 }
