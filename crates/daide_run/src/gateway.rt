@@ -14,6 +14,7 @@ use daide_log::Sink;
 use daide_settings::{Key, Settings};
 use daide_sockets::bound_sockets::{BindError, BoundSockets, bind_sockets};
 use daide_sockets::control_listener::bind_control;
+use daide_sockets::os_network::OsNetwork;
 use daide_status::VERSION;
 use std::io::{ErrorKind, Write};
 use std::net::Net;
@@ -68,6 +69,26 @@ fn fault_of(fault: BindError) -> GatewayFault
     }
 }
 
+/// Binds the control socket, if the settings have one, and adds its listener to the network.
+fn add_control<R: Files + Clock + Net>(
+    rt: &R,
+    settings: &Settings,
+    network: &mut OsNetwork<'_, R>,
+) -> Result<(), GatewayFault>
+    ensures { IfErr result IsBeforeServing }
+{
+    let Some(path) = &settings.control else {
+        return Ok(());
+    };
+    match bind_control(rt, path.as_str()) {
+        Ok(listener) => {
+            network.set_control(listener);
+            Ok(())
+        }
+        Err(error) => Err(GatewayFault::Listen(Key::Control, error.kind())),
+    }
+}
+
 /// Binds the address of the settings, resolves the server's, and creates the table of sockets. Then binds the control
 /// socket, if the settings have one. Serves no bot yet.
 pub fn bind<'r, R: AllocGlobal + Files + Clock + Net>(
@@ -80,12 +101,7 @@ pub fn bind<'r, R: AllocGlobal + Files + Clock + Net>(
         Ok(bound) => bound,
         Err(fault) => return Err(fault_of(fault)),
     };
-    if let Some(path) = &settings.control {
-        match bind_control(rt, path.as_str()) {
-            Ok(listener) => bound.network.set_control(listener),
-            Err(error) => return Err(GatewayFault::Listen(Key::Control, error.kind())),
-        }
-    }
+    add_control(rt, settings, &mut bound.network)?;
     Ok(bound)
 }
 
