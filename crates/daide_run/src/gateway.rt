@@ -21,26 +21,19 @@ use std::net::Net;
 use std::rt::{Clock, Files};
 use thiserror::Error;
 
-/// A log line about the beginning of a run: its addresses, as in the settings, and how many sessions it serves at once.
-#[derive(Clone, Copy, Debug, Error)]
-#[error("listening on {listen}, server {server}, {max_sessions} sessions, version {VERSION}")]
-struct BeginningNotice<'a> {
-    listen: &'a str,
-    server: &'a str,
-    max_sessions: usize,
-}
-
-/// Logs the beginning of a run if its sessions are logged. The run goes on if the line cannot be written.
+/// Logs the beginning of a run if its sessions are logged: its addresses, as in the settings, and how many sessions it
+/// serves at once. The run goes on if the line cannot be written.
 pub(crate) fn log_beginning<E: Write>(is_verbose: bool, settings: &Settings, errors: &mut E) {
     if !is_verbose {
         return;
     }
-    let notice = BeginningNotice {
-        listen: settings.listen.as_str(),
-        server: settings.server.as_str(),
-        max_sessions: settings.max_sessions,
-    };
-    let _ = writeln!(errors, "daide-gate: {notice}");
+    let _ = writeln!(
+        errors,
+        "daide-gate: listening on {}, server {}, {} sessions, version {VERSION}",
+        settings.listen.as_str(),
+        settings.server.as_str(),
+        settings.max_sessions,
+    );
 }
 
 /// Why a gateway does not begin, or ends early.
