@@ -37,7 +37,7 @@ pub(crate) fn log_beginning<E: Write>(is_verbose: bool, settings: &Settings, err
 }
 
 /// Why a gateway does not begin, or ends early.
-#[derive(Clone, Copy, Debug, PartialEq, Eq, Error)]
+#[derive(Clone, Copy, Debug, Error)]
 pub enum GatewayFault {
     /// The value of this key, an address or the path of the control socket, cannot be bound, or the system has no
     /// descriptor for the network. With the system's error.

@@ -149,10 +149,7 @@ fn serves_one<R: AllocGlobal + Files + Clock + Net>(
     let mut errors = Vec::new(rt.alloc());
     let ended = run_text(rt, settings.as_str(), false, &mut output, &mut errors);
     let is_quiet = errors.is_empty() && output.text.as_slice() == b"listening\n".as_slice();
-    holds(
-        ended == Ok(()) && is_quiet && output.bot.is_some(),
-        "the run",
-    )
+    holds(ended.is_ok() && is_quiet && output.bot.is_some(), "the run")
 }
 
 /// Accepts a connection that waits at the server, and returns whether it sent an IM and an FM.
