@@ -12,7 +12,7 @@ use crate::faults::{CLEAN, FAULT, tell};
 use crate::settings_file::{SettingsFileFault, settings_at};
 use daide_command_line::arguments::{StatusOrder, StopOrder};
 use daide_settings::ControlPath;
-use daide_status::ControlRequest;
+use daide_status::{ControlRequest, Format};
 use std::alloc::Global;
 use std::io::{ErrorKind, Read, Write};
 use std::net::Net;
@@ -205,6 +205,28 @@ fn end_without_path<E: Write>(fault: Option<SettingsFileFault>, errors: &mut E) 
     }
 }
 
+/// Prints the status of the run with this control socket. Returns the status of the program.
+fn status_of<R: AllocGlobal + Net, O: Write, E: Write>(
+    rt: &R,
+    control: &Option<ControlPath>,
+    format: Format,
+    output: &mut O,
+    errors: &mut E,
+) -> io::Result<u8>
+    ensures bounded { IfOk result (λ status. status ≤ FAULT) }
+    ensures printed { IfOk result (λ status. status ≡ CLEAN →
+        IsAnswerPrinted (O.contents output.old) (O.contents output.new)) }
+{
+    let Some(path) = control else {
+        return end_without_path(None, errors);
+    };
+    let request = ControlRequest::Status(format);
+    match print_status(rt, path, request, output) {
+        Ok(()) => Ok(CLEAN),
+        Err(fault) => end_refused(fault, path, errors),
+    }
+}
+
 /// Prints the status of the run with the settings of a file. Returns the status of the program.
 pub fn run_status<R: AllocGlobal + Files + Net, O: Write, E: Write>(
     rt: &R,
@@ -216,15 +238,25 @@ pub fn run_status<R: AllocGlobal + Files + Net, O: Write, E: Write>(
     ensures printed { IfOk result (λ status. status ≡ CLEAN →
         IsAnswerPrinted (O.contents output.old) (O.contents output.new)) }
 {
-    let settings = match settings_at(rt, order.settings) {
-        Ok(settings) => settings,
-        Err(fault) => return end_without_path(Some(fault), errors),
-    };
-    let Some(path) = &settings.control else {
+    match settings_at(rt, order.settings) {
+        Ok(settings) => status_of(rt, &settings.control, order.format, output, errors),
+        Err(fault) => end_without_path(Some(fault), errors),
+    }
+}
+
+/// Stops the run with this control socket, and waits until it is over. Returns the status of the program.
+fn stop_of<R: Net, E: Write>(
+    rt: &R,
+    control: &Option<ControlPath>,
+    order: StopOrder<'_>,
+    errors: &mut E,
+) -> io::Result<u8>
+    ensures { IfOk result (λ status. status ≤ FAULT) }
+{
+    let Some(path) = control else {
         return end_without_path(None, errors);
     };
-    let request = ControlRequest::Status(order.format);
-    match print_status(rt, path, request, output) {
+    match stop_run(rt, path, order) {
         Ok(()) => Ok(CLEAN),
         Err(fault) => end_refused(fault, path, errors),
     }
@@ -239,15 +271,8 @@ pub fn run_stop<R: AllocGlobal + Files + Net, E: Write>(
 ) -> io::Result<u8>
     ensures { IfOk result (λ status. status ≤ FAULT) }
 {
-    let settings = match settings_at(rt, order.settings) {
-        Ok(settings) => settings,
-        Err(fault) => return end_without_path(Some(fault), errors),
-    };
-    let Some(path) = &settings.control else {
-        return end_without_path(None, errors);
-    };
-    match stop_run(rt, path, order) {
-        Ok(()) => Ok(CLEAN),
-        Err(fault) => end_refused(fault, path, errors),
+    match settings_at(rt, order.settings) {
+        Ok(settings) => stop_of(rt, &settings.control, order, errors),
+        Err(fault) => end_without_path(Some(fault), errors),
     }
 }
