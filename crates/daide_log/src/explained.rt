@@ -1,9 +1,11 @@
 //! The report of a log with explanations.
 
-ghost use Rattle.std.specs.Prelude.{◌≡◌, ◌+◌, ◌*◌, ◌≤◌, ℕ, ◌++◌, ◌%◌, false, All, List, Option, drop, length, IfOk, IfSome, OnOk};
+ghost use Rattle.std.specs.Prelude.{◌≡◌, ◌+◌, ◌*◌, ◌≤◌, ℕ, ◌++◌, ◌%◌, codes, false, All, List, Option, drop, length, IfOk, IfSome, OnOk};
+ghost use Rattle.std.specs.Fmt.{decimal};
 ghost use Rattle.std.specs.Io.KnownBytes.{Appends};
 ghost use Rattle.daide_token.specs.Token.{tokens_of};
 ghost use Rattle.daide_token.specs.HexDigits.{digits_of_byte as digits_in};
+ghost use Rattle.daide_explain.specs.Explained.{IsExplained};
 ghost use Rattle.daide_grammar.specs.SideMessages.{IsMessageOver};
 ghost use Rattle.daide_words.specs.Word.{grammar_words};
 ghost use Rattle.daide_words.specs.declared.word.Word.{Word};
@@ -50,8 +52,7 @@ use daide_reader::Verdict;
 use daide_session::{Ending, Session};
 use daide_token::{digits_of_byte, write_text_with};
 use daide_words::Words;
-use std::alloc::Allocator;
-use std::io;
+use std::alloc::{AllocError, Allocator};
 use std::io::{Read, Write};
 
 /// The result for a log without a fault.
@@ -72,13 +73,51 @@ struct Explaining<B: Allocator> {
 }
 
 /// Writes tokens on a line of their own, with the operator's words by their names.
-fn write_tokens<B: Allocator>(words: &Words, tokens: &[u8], text: &mut Vec<u8, B>) -> io::Result<()>
+fn write_tokens<B: Allocator>(
+    words: &Words,
+    tokens: &[u8],
+    text: &mut Vec<u8, B>,
+) -> Result<(), AllocError>
     requires { length tokens.now % 2 ≡ 0 }
     ensures { OnOk result (text.new.items ≡ text.old.items
         ++ with_line_feed (message_text (words_of words.now) (tokens_of tokens.now))) }
 {
-    write_text_with(words.names(), tokens, text)?;
-    text.write_all(b"\n")
+    match write_text_with(words.names(), tokens, text) {
+        Ok(()) => text.extend_from_slice(b"\n"),
+        Err(_) => Err(AllocError),
+    }
+}
+
+/// Writes the number of the level at which a message was judged.
+fn write_level<B: Allocator>(level: u16, text: &mut Vec<u8, B>) -> Result<(), AllocError>
+    ensures { OnOk result (text.new.items ≡ text.old.items
+        ++ with_line_feed (codes "judged at level " ++ decimal level)) }
+{
+    match writeln!(text, "judged at level {level}") {
+        Ok(()) => Ok(()),
+        Err(_) => Err(AllocError),
+    }
+}
+
+/// Writes why a message is refused.
+fn write_reason<B: Allocator + Copy>(
+    alloc: B,
+    rules: &Rules<'_>,
+    verdict: Verdict,
+    body: &[u8],
+    text: &mut Vec<u8, B>,
+) -> Result<(), AllocError>
+    requires ruled { IsRuled rules.now.max_depth body.now }
+    requires verdict { HasVerdict (IsMessageOver (grammar_words (words_of rules.now.words.now)) rules.now.end
+        rules.now.level) rules.now.max_depth (tokens_of body.now) verdict }
+    ensures { OnOk result ((lines : List ℕ) × IsExplained (words_of rules.now.words.now) rules.now.end
+        rules.now.level rules.now.max_depth (tokens_of body.now) verdict lines
+        × (text.new.items ≡ text.old.items ++ lines)) }
+{
+    match write_explained(alloc, rules, verdict, body, text) {
+        Ok(()) => Ok(()),
+        Err(_) => Err(AllocError),
+    }
 }
 
 /// Writes the text of a refused message, its level, its answer and the reason.
@@ -88,7 +127,7 @@ fn write_refused<B: Allocator + Copy>(
     verdict: Verdict,
     body: &[u8],
     text: &mut Vec<u8, B>,
-) -> io::Result<()>
+) -> Result<(), AllocError>
     requires ruled { IsRuled rules.now.max_depth body.now }
     requires within { IsPlaceIn body.now verdict }
     requires verdict { HasVerdict (IsMessageOver (grammar_words (words_of rules.now.words.now)) rules.now.end
@@ -100,9 +139,9 @@ fn write_refused<B: Allocator + Copy>(
     let answer = answer_of(alloc, verdict, body)?;
     write_tokens(rules.words, body, text)?;
     let level = rules.level.number();
-    writeln!(text, "judged at level {level}")?;
+    write_level(level, text)?;
     write_tokens(rules.words, answer.as_slice(), text)?;
-    write_explained(alloc, rules, verdict, body, text)
+    write_reason(alloc, rules, verdict, body, text)
 }
 
 /// Writes the lines that explain a message.
@@ -112,7 +151,7 @@ fn write_message<B: Allocator + Copy>(
     verdict: Verdict,
     body: &[u8],
     text: &mut Vec<u8, B>,
-) -> io::Result<()>
+) -> Result<(), AllocError>
     requires ruled { IsRuled rules.now.max_depth body.now }
     requires within { IsPlaceIn body.now verdict }
     requires verdict { HasVerdict (IsMessageOver (grammar_words (words_of rules.now.words.now)) rules.now.end
@@ -140,55 +179,69 @@ fn verdict_by(deed: Deed) -> Verdict
 }
 
 /// Writes a byte as two upper-case hexadecimal digits.
-fn write_pair<B: Allocator>(byte: u8, text: &mut Vec<u8, B>) -> io::Result<()>
+fn write_pair<B: Allocator>(byte: u8, text: &mut Vec<u8, B>) -> Result<(), AllocError>
     ensures { OnOk result (text.new.items ≡ text.old.items ++ digits_in byte) }
 {
-    text.write_all(&digits_of_byte(byte))
+    text.extend_from_slice(&digits_of_byte(byte))
 }
 
 /// Writes bytes as pairs of upper-case digits, separated by spaces.
-fn write_pairs<B: Allocator>(bytes: &[u8], text: &mut Vec<u8, B>) -> io::Result<()>
+fn write_pairs<B: Allocator>(bytes: &[u8], text: &mut Vec<u8, B>) -> Result<(), AllocError>
     ensures { OnOk result (text.new.items ≡ text.old.items ++ pairs bytes.now) }
 {
     let mut rest = bytes;
     'bytes: while let [byte, more @ ..] = rest {
         write_pair(*byte, text)?;
         if !more.is_empty() {
-            text.write_all(b" ")?;
+            text.extend_from_slice(b" ")?;
         }
         rest = more;
     }
     Ok(())
 }
 
+/// Writes the index of an invalid token in the message, at the end of a line.
+fn write_place<B: Allocator>(place: usize, text: &mut Vec<u8, B>) -> Result<(), AllocError>
+    ensures { OnOk result (text.new.items ≡ text.old.items ++ with_line_feed (codes " at token " ++ decimal place)) }
+{
+    match writeln!(text, " at token {place}") {
+        Ok(()) => Ok(()),
+        Err(_) => Err(AllocError),
+    }
+}
+
 /// Writes the last two bytes, which are an invalid token, and its index in the message.
-fn write_token<B: Allocator>(bytes: &[u8], text: &mut Vec<u8, B>) -> io::Result<()>
+fn write_token<B: Allocator>(bytes: &[u8], text: &mut Vec<u8, B>) -> Result<(), AllocError>
     ensures { OnOk result (text.new.items ≡ text.old.items ++ token_line bytes.now) }
 {
-    text.write_all(b"bytes: ")?;
+    text.extend_from_slice(b"bytes: ")?;
     write_pairs(&bytes[bytes.len().saturating_sub(2)..], text)?;
     let place = bytes.len().saturating_sub(6) / 2;
-    writeln!(text, " at token {place}")
+    write_place(place, text)
 }
 
 /// Writes the bytes of a fault on a line, if there are any.
-fn write_bytes<B: Allocator>(bytes: &[u8], text: &mut Vec<u8, B>) -> io::Result<()>
+fn write_bytes<B: Allocator>(bytes: &[u8], text: &mut Vec<u8, B>) -> Result<(), AllocError>
     ensures { OnOk result (text.new.items ≡ text.old.items ++ bytes_line bytes.now) }
 {
     if bytes.is_empty() {
         return Ok(());
     }
-    text.write_all(b"bytes: ")?;
+    text.extend_from_slice(b"bytes: ")?;
     write_pairs(bytes, text)?;
-    text.write_all(b"\n")
+    text.extend_from_slice(b"\n")
 }
 
 /// Writes the lines for a fault, from the bytes since the last complete frame.
-fn write_fault<B: Allocator>(code: Code, bytes: &[u8], text: &mut Vec<u8, B>) -> io::Result<()>
+fn write_fault<B: Allocator>(
+    code: Code,
+    bytes: &[u8],
+    text: &mut Vec<u8, B>,
+) -> Result<(), AllocError>
     ensures { OnOk result (text.new.items ≡ text.old.items ++ fault_lines code bytes.now) }
 {
-    let name = code.name();
-    writeln!(text, "{name}")?;
+    text.extend_from_slice(code.name().as_bytes())?;
+    text.extend_from_slice(b"\n")?;
     match code {
         Code::InvalidToken => write_token(bytes, text),
         _ => write_bytes(bytes, text),
@@ -212,7 +265,7 @@ fn write_held<A: Allocator, B: Allocator + Copy>(
     side: Side,
     deed: Deed,
     text: &mut Vec<u8, B>,
-) -> io::Result<()>
+) -> Result<(), AllocError>
     requires right { IsRightFate (words_of head.now.words) head.now.limits.config side deed session.now }
     ensures { OnOk result ((lines : List ℕ)
         × AreMessageLines (words_of head.now.words) (side2_of side) (coming session.now.state side).noted
@@ -240,7 +293,7 @@ fn write_faulty<A: Allocator, B: Allocator + Copy>(
     side: Side,
     code: Code,
     text: &mut Vec<u8, B>,
-) -> io::Result<()>
+) -> Result<(), AllocError>
     ensures { OnOk result (text.new.items ≡ text.old.items ++ fault_lines code (holding session.now side).held) }
 {
     let parts: [&[u8]; 2] = [session.header(side), session.body(side)];
@@ -255,7 +308,7 @@ fn write_lines<A: Allocator, B: Allocator + Copy>(
     side: Side,
     reported: Note,
     text: &mut Vec<u8, B>,
-) -> io::Result<()>
+) -> Result<(), AllocError>
     requires right { IsRightlyReported (words_of head.now.words) head.now.limits.config side reported session.now }
     ensures { OnOk result ((lines : List ℕ)
         × AreLinesBy (words_of head.now.words) head.now.limits.config.max_depth side reported session.now lines
