@@ -1,13 +1,17 @@
-use Rattle.std.proofs.Common.{◌≡◌, ◌+◌, refl, sym, ap, ◌∙◌, subst, Ok, Some, None, List, ℕ, ◌⊎◌, length, All, IfOk, IfErr}
+use Rattle.std.proofs.Common.{◌≡◌, ◌+◌, ◌*◌, ◌≤◌, arith, refl, sym, ap, ◌∙◌, subst, Ok, Some, None, List, ℕ, ◌⊎◌, length, All, IfOk, IfErr}
 use Rattle.daide_log_lines.specs.declared.lines.LineEnd.{LineEnd}
 use Rattle.daide_log_lines.specs.declared.lines.LineEnd.TheVariants.{Line}
 use Rattle.daide_log_lines.specs.declared.fault.LogFault.{LogFault}
 use Rattle.daide_log_lines.specs.declared.fault.LogFault.TheVariants.{BadLine}
 use Rattle.daide_log_lines.specs.Input.{line_at, rest_after}
 use Rattle.daide_log_lines.specs.Lines.{IsFound}
+use Rattle.daide_log_lines.specs.LogLine.{longest_piece, most_lines}
 use Rattle.daide_log_lines.specs.Output.{all_of}
 use Rattle.daide_words.specs.Words.{words_of}
+use Rattle.daide_protocol.specs.Bounds.{most_sessions}
+use Rattle.daide_protocol.specs.Summary.{HasRoom, IsMoreBy, nothing_counted}
 use Rattle.daide_protocol.specs.Wires.{SessionView}
+use Rattle.daide_protocol.specs.declared.summary.Summary.{Summary}
 use Rattle.daide_log.specs.declared.heading.Preamble.{Preamble}
 use Rattle.daide_log.specs.Log.{event_in}
 use Rattle.daide_log.specs.Reporting.{IsReady, IsLateFault}
@@ -15,6 +19,16 @@ use Rattle.daide_log.specs.Progress.{Judges, IsFinished, states_of}
 use Rattle.daide_log.proofs.EventLemmas.{plays_first, plays_more, finished_at_end, finished_at_last, finished_at_cut, fault_in_play}
 use Rattle.daide_log.proofs.EventLemmas.{nothing_reported, unfinished, fault_handed_on, bad_in_play, at_end, at_last_line, as_line}
 use Rattle.daide_log.proofs.check.play.Goals as goal
+
+-- a further line has room in the counts
+room_left : (number : ℕ) (s : Summary) → IsMoreBy (1024 * number) nothing_counted s → number ≤ most_lines →
+    HasRoom longest_piece s
+room_left number s more fits = record {
+  relayed = omega (arith, more.relayed, fits);
+  prn = omega (arith, more.prn, fits);
+  huh = omega (arith, more.huh, fits);
+  faults = omega (arith, more.faults, fits);
+}
 
 pub lines-init : goal.lines-init
 lines-init g c = (
@@ -243,3 +257,80 @@ lines-preserved g c =
       c.judge_line.ensures.same_writer ∙ c.find_line.ensures.same_writer ∙ c.lines.invariant.2,
       c.judge_line.ensures.same_head ∙ c.lines.invariant.3,
     )
+
+pub find_line-requires : goal.find_line-requires
+find_line-requires g c = c.lines.invariant.0.fits
+
+pub returns-in_err-found-clause-same_reader : goal.returns-in_err-found-clause-same_reader
+returns-in_err-found-clause-same_reader g c = c.find_line.ensures.same_reader ∙ c.lines.invariant.1
+
+pub returns-in_err-found-clause-same_writer : goal.returns-in_err-found-clause-same_writer
+returns-in_err-found-clause-same_writer g c = c.find_line.ensures.same_writer ∙ c.lines.invariant.2
+
+pub finish-requires-clause-few : goal.finish-requires-clause-few
+finish-requires-clause-few g c =
+    subst (λ (n : ℕ). n ≤ most_sessions)
+    (sym c.lines.invariant.0.size ∙ ap (λ (l : List SessionView). length l) (sym c.deref.ensures.value)) c.requires.few
+
+pub returns-then-is_end-clause-same_reader : goal.returns-then-is_end-clause-same_reader
+returns-then-is_end-clause-same_reader g c = c.find_line.ensures.same_reader ∙ c.lines.invariant.1
+
+pub returns-then-is_end-clause-same_writer : goal.returns-then-is_end-clause-same_writer
+returns-then-is_end-clause-same_writer g c =
+    c.finish.ensures.same_writer ∙ c.find_line.ensures.same_writer ∙ c.lines.invariant.2
+
+pub line-line-requires : goal.line-line-requires
+line-line-requires g c = c.in_ok-found.ensures.lies
+
+pub is_cut-requires-clause-some : goal.is_cut-requires-clause-some
+is_cut-requires-clause-some g c = subst (λ (n : ℕ). 1 ≤ n) (sym c.lines.invariant.0.size) c.requires.some
+
+pub is_cut-requires-clause-few : goal.is_cut-requires-clause-few
+is_cut-requires-clause-few g c = subst (λ (n : ℕ). n ≤ most_sessions) (sym c.lines.invariant.0.size) c.requires.few
+
+pub finish-requires-then-is_cut-clause-few : goal.finish-requires-then-is_cut-clause-few
+finish-requires-then-is_cut-clause-few g c =
+    subst (λ (n : ℕ). n ≤ most_sessions)
+    (sym c.lines.invariant.0.size ∙ ap (λ (l : List SessionView). length l) (sym c.deref-then-is_cut.ensures.value))
+    c.requires.few
+
+pub returns-then-is_cut-clause-same_reader : goal.returns-then-is_cut-clause-same_reader
+returns-then-is_cut-clause-same_reader g c = c.find_line.ensures.same_reader ∙ c.lines.invariant.1
+
+pub returns-then-is_cut-clause-same_writer : goal.returns-then-is_cut-clause-same_writer
+returns-then-is_cut-clause-same_writer g c =
+    c.finish-then-is_cut.ensures.same_writer ∙ c.find_line.ensures.same_writer ∙ c.lines.invariant.2
+
+pub judge_line-requires-clause-some : goal.judge_line-requires-clause-some
+judge_line-requires-clause-some g c = subst (λ (n : ℕ). 1 ≤ n) (sym c.lines.invariant.0.size) c.requires.some
+
+pub judge_line-requires-clause-few : goal.judge_line-requires-clause-few
+judge_line-requires-clause-few g c = subst (λ (n : ℕ). n ≤ most_sessions) (sym c.lines.invariant.0.size) c.requires.few
+
+pub judge_line-requires-clause-room : goal.judge_line-requires-clause-room
+judge_line-requires-clause-room g c =
+    room_left c.lines.count c.lines.account.summary c.lines.invariant.0.few c.lines.invariant.0.fits
+
+pub returns-in_err-judge_line-clause-same_reader : goal.returns-in_err-judge_line-clause-same_reader
+returns-in_err-judge_line-clause-same_reader g c = c.find_line.ensures.same_reader ∙ c.lines.invariant.1
+
+pub returns-in_err-judge_line-clause-same_writer : goal.returns-in_err-judge_line-clause-same_writer
+returns-in_err-judge_line-clause-same_writer g c =
+    c.judge_line.ensures.same_writer ∙ c.find_line.ensures.same_writer ∙ c.lines.invariant.2
+
+pub finish-requires-then-is_last-clause-few : goal.finish-requires-then-is_last-clause-few
+finish-requires-then-is_last-clause-few g c =
+    subst (λ (n : ℕ). n ≤ most_sessions)
+    (sym c.lines.invariant.0.size ∙ sym c.judge_line.ensures.same
+    ∙ ap (λ (l : List SessionView). length l) (sym c.deref-then-is_last.ensures.value)) c.requires.few
+
+pub returns-then-is_last-clause-same_reader : goal.returns-then-is_last-clause-same_reader
+returns-then-is_last-clause-same_reader g c = c.find_line.ensures.same_reader ∙ c.lines.invariant.1
+
+pub returns-then-is_last-clause-same_writer : goal.returns-then-is_last-clause-same_writer
+returns-then-is_last-clause-same_writer g c =
+    c.finish-then-is_last.ensures.same_writer ∙ c.judge_line.ensures.same_writer ∙ c.find_line.ensures.same_writer
+    ∙ c.lines.invariant.2
+
+pub pass_line-requires : goal.pass_line-requires
+pass_line-requires g c = c.in_ok-found.ensures.lies

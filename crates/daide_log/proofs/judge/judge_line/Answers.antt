@@ -51,3 +51,61 @@ returns-in_ok-quote-in-Some-Of-clause-judged g c =
     ∙ sym (rw c.in-Some-Of.field-0-is at c.in-Some-Of.ensures.reported))
     within.0 (omega (arith, within.1, count)) c.index_mut.ensures.value c.source-source.ensures quoted.1 quoted.2
     (rw (c.quote-in-Some-Of.ensures.same_head, c.quote-in-Some-Of.ensures.same_summary) at reported))
+
+pub returns-in-None-clause-same : goal.returns-in-None-clause-same
+returns-in-None-clause-same g c = refl
+
+pub returns-in-None-clause-ready : goal.returns-in-None-clause-ready
+returns-in-None-clause-ready g c = c.requires.ready
+
+pub returns-in-None-clause-few : goal.returns-in-None-clause-few
+returns-in-None-clause-few g c = no_more 1024 c.args.account.now.summary
+
+pub returns-in-None-clause-same_head : goal.returns-in-None-clause-same_head
+returns-in-None-clause-same_head g c = refl
+
+pub returns-in-Some-Quiet-clause-same : goal.returns-in-Some-Quiet-clause-same
+returns-in-Some-Quiet-clause-same g c = refl
+
+pub returns-in-Some-Quiet-clause-ready : goal.returns-in-Some-Quiet-clause-ready
+returns-in-Some-Quiet-clause-ready g c = c.requires.ready
+
+pub returns-in-Some-Quiet-clause-few : goal.returns-in-Some-Quiet-clause-few
+returns-in-Some-Quiet-clause-few g c =
+    rw c.quote.ensures.same_summary (no_more 1024 c.args.account.now.summary)
+
+pub returns-in-Some-Quiet-clause-same_head : goal.returns-in-Some-Quiet-clause-same_head
+returns-in-Some-Quiet-clause-same_head g c = c.quote.ensures.same_head
+
+pub returns-in-Some-Quiet-clause-same_writer : goal.returns-in-Some-Quiet-clause-same_writer
+returns-in-Some-Quiet-clause-same_writer g c = c.quote.ensures.same_writer
+
+pub returns-in_err-quote-in-Some-Of-clause-same : goal.returns-in_err-quote-in-Some-Of-clause-same
+returns-in_err-quote-in-Some-Of-clause-same g c = refl
+
+pub returns-in_err-quote-in-Some-Of-clause-ready : goal.returns-in_err-quote-in-Some-Of-clause-ready
+returns-in_err-quote-in-Some-Of-clause-ready g c = c.requires.ready
+
+pub returns-in_err-quote-in-Some-Of-clause-few : goal.returns-in_err-quote-in-Some-Of-clause-few
+returns-in_err-quote-in-Some-Of-clause-few g c =
+    rw c.quote-in-Some-Of.ensures.same_summary (no_more 1024 c.args.account.now.summary)
+
+pub returns-in_err-quote-in-Some-Of-clause-same_head : goal.returns-in_err-quote-in-Some-Of-clause-same_head
+returns-in_err-quote-in-Some-Of-clause-same_head g c = c.quote-in-Some-Of.ensures.same_head
+
+pub returns-in_err-quote-in-Some-Of-clause-same_writer : goal.returns-in_err-quote-in-Some-Of-clause-same_writer
+returns-in_err-quote-in-Some-Of-clause-same_writer g c = c.quote-in-Some-Of.ensures.same_writer
+
+pub judge-requires-clause-room : goal.judge-requires-clause-room
+judge-requires-clause-room g c = rw c.quote-in-Some-Of.ensures.same_summary c.requires.room
+
+pub returns-in_ok-quote-in-Some-Of-clause-few : goal.returns-in_ok-quote-in-Some-Of-clause-few
+returns-in_ok-quote-in-Some-Of-clause-few g c = rw c.quote-in-Some-Of.ensures.same_summary at c.judge.ensures.few
+
+pub returns-in_ok-quote-in-Some-Of-clause-same_head : goal.returns-in_ok-quote-in-Some-Of-clause-same_head
+returns-in_ok-quote-in-Some-Of-clause-same_head g c =
+    c.judge.ensures.same_head ∙ c.quote-in-Some-Of.ensures.same_head
+
+pub returns-in_ok-quote-in-Some-Of-clause-same_writer : goal.returns-in_ok-quote-in-Some-Of-clause-same_writer
+returns-in_ok-quote-in-Some-Of-clause-same_writer g c =
+    c.judge.ensures.same_writer ∙ c.quote-in-Some-Of.ensures.same_writer
