@@ -1,6 +1,6 @@
 -- The lines for incomplete frames, in order.
 use Rattle.std.proofs.Common.{◌≡◌, ℕ, ◌+◌, List, [], ◌∷◌, ◌++◌, length, Option, refl, sym, ap, ◌∙◌, subst, arith}
-use Rattle.std.proofs.Common.{append_assoc, length-append, zero, suc, ◌-◌, ◌≤◌, get_or, All}
+use Rattle.std.proofs.Common.{append_assoc, append-nil, length-append, zero, suc, ◌-◌, ◌<◌, ◌≤◌, get_or, All}
 use Rattle.daide_protocol.specs.Wires.{SessionView}
 use Rattle.daide_log.specs.declared.heading.Version.{Version}
 use Rattle.daide_log.specs.Progress.{states_of}
@@ -95,6 +95,12 @@ parts_next version number n m k all (x ∷ rest) session a b c p some long is pu
     (more_parts all (parts_from version number (states_of (x ∷ rest))) (unfinished_parts (session_number version number) x.state)
     (parts_from version (number + 1) (states_of rest)) m k a b c p refl
     (subst (λ (s : SessionView). HasPut (unfinished_parts (session_number version number) s.state) k b c) is put))
+
+pub parts_over : (version : Version) (number count : ℕ) (all : List Part) (rest : List SessionView) (a b : Option (List ℕ)) →
+    PutsParts all (parts_from version number (states_of rest)) count a b → length rest < 1 → HasPut all count a b
+parts_over version number count all [] a b p none =
+    subst (λ (l : List Part). HasPut l count a b) (sym (append-nil p.done) ∙ p.whole) p.put
+parts_over version number count all (x ∷ rest) a b p none = absurd (omega arith)
 
 pub idle_next : (rest : List SessionView) (n : ℕ) → All IsIdle rest → 1 ≤ length rest → length rest - 1 ≤ n →
     All IsIdle (take n (drop 1 rest))

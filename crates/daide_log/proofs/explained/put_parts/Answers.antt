@@ -1,6 +1,6 @@
 use Rattle.std.proofs.Common.{◌∙◌, [], arith, refl, subst, sym}
 use Rattle.daide_log.specs.Reporting.{IsIdle}
-use Rattle.daide_log.proofs.PartLemmas.{parts_next, idle_next, one_less}
+use Rattle.daide_log.proofs.PartLemmas.{parts_next, parts_over, idle_next, one_less}
 use Rattle.daide_log.proofs.PlayLemmas.{appends_none}
 use Rattle.daide_log.proofs.explained.put_parts.Goals as goal
 
@@ -38,3 +38,14 @@ pub put_session-requires : goal.put_session-requires
 put_session-requires g c =
     subst IsIdle (sym c.session-item.is)
     (c.sessions.invariant.3 0 c.session-item.result (omega (arith, c.in-len1-up.len_at_least)))
+
+pub returns-in_err-count-clause-same_writer : goal.returns-in_err-count-clause-same_writer
+returns-in_err-count-clause-same_writer g c = c.put_session.ensures.same_writer ∙ c.sessions.invariant.4
+
+pub returns-clause-text : goal.returns-clause-text
+returns-clause-text g c =
+    parts_over c.args.version c.sessions.number c.sessions.count _ c.sessions.rest.now _ _ c.sessions.invariant.0
+    c.in_default.len_below
+
+pub returns-clause-same_writer : goal.returns-clause-same_writer
+returns-clause-same_writer g c = c.sessions.invariant.4
