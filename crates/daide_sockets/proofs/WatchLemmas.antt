@@ -7,11 +7,11 @@ use Rattle.daide_io.specs.Interest.{InterestView}
 use Rattle.daide_io.specs.declared.network.SocketEvent.{SocketEvent}
 use Rattle.daide_sockets.specs.declared.ports.SocketPorts.{SocketPorts}
 use Rattle.daide_sockets.specs.Table.{Row}
-use Rattle.daide_sockets.specs.Interests.{interest_of, after_question}
+use Rattle.daide_sockets.specs.Interests.{interest_of, may_go_on_for, after_question}
 use Rattle.daide_sockets.specs.Table.{Table, row_at, changed, no_report, has_report, is_reported_at, without_report}
 use Rattle.daide_sockets.specs.Table.{watching, with_events, is_some_news, IsNoTime, PollsOnce}
 use Rattle.daide_sockets.specs.Timers.{timers_of}
-use Rattle.daide_sockets.specs.Wakeups.{KeepsWatched, WatchesUnless, AsksForNews, may_session_go_on, session_due}
+use Rattle.daide_sockets.specs.Wakeups.{KeepsWatched, WatchesSession, WatchesUnless, AsksForNews, may_session_go_on, session_due}
 use Rattle.daide_sockets.proofs.InterestLemmas.{waits_alike}
 
 or_true : (b : Bool) → (b || true) ≡ true
@@ -102,6 +102,17 @@ polled_keeps transition old_network new_network old new looks rests = by (nat_le
 
 -- ---- a question
 
+-- the next wait is also to watch a session
+pub watches : {S : Type 0} (old new : Table) (ports : SocketPorts S) (interest : InterestView) →
+    interest ≡ interest_of ports → new ≡ watching old (may_go_on_for old interest) interest.due →
+    WatchesSession old (timers_of ports).sockets new
+watches old new ports interest own e = (
+  false,
+  e ∙ ap (λ (i : InterestView). watching old (may_go_on_for old i) i.due) own
+      ∙ ap (λ (b : Bool). watching old b (session_due (timers_of ports).sockets))
+      (waits_alike old ports ∙ sym (or_false (may_session_go_on old (timers_of ports).sockets))),
+)
+
 pub asked : {S : Type 0} (news : Bool) (old mid new : Table) (ports : SocketPorts S) (interest : InterestView) →
     interest ≡ interest_of ports → KeepsWatched old mid → new ≡ after_question news mid interest →
     AsksForNews news old (timers_of ports).sockets new
@@ -111,8 +122,4 @@ asked news old mid new ports interest own keeps e =
     by : (news : Bool) → new ≡ after_question news mid (interest_of ports) →
         WatchesUnless news mid (timers_of ports).sockets new
     by true f = f
-    by false f = (
-      false,
-      f ∙ ap (λ (b : Bool). watching mid b (session_due (timers_of ports).sockets))
-          (waits_alike mid ports ∙ sym (or_false (may_session_go_on mid (timers_of ports).sockets))),
-    )
+    by false f = watches mid new ports (interest_of ports) refl f

@@ -1,4 +1,4 @@
-use Rattle.std.proofs.Common.{refl, ap, ◌∙◌, rules}
+use Rattle.std.proofs.Common.{refl, ap, ◌∙◌}
 use Rattle.daide_sockets.specs.Rows.{taken_at}
 use Rattle.daide_sockets.specs.Table.{Table}
 use Rattle.daide_sockets.proofs.RowLemmas.{handed_both}
@@ -7,10 +7,14 @@ use Rattle.daide_sockets.proofs.system.SocketsSystemSocketPortsConnection.begin_
 
 pub returns-clause-transition : goal.returns-clause-transition
 returns-clause-transition g c = (
-  search rules,
+  (
+    c.take_orders.ensures.came ∙ c.tidy.ensures.came,
+    rw c.take_orders.ensures.same c.tidy.ensures.arrivals,
+    (c.look_by_turns.new.self.table.reading, rw c.take_orders.ensures.same c.tidy.ensures.closing),
+  ),
   tt,
-  search rules,
-  search rules,
+  rw c.take_orders.ensures.same c.tidy.ensures.times,
+  rw (c.take_orders.ensures.same, c.take_orders.ensures.clock, c.tidy.ensures.clock) c.tidy.ensures.closing,
   handed_both _ _ _ _ _ _
       (none_hands _ _ c.args.self.now.acceptor c.args.self.now.acceptor _ _ _ refl
       (λ key. c.look_by_turns.ensures.rows key ∙ ap (λ (t : Table). taken_at t key) c.unwatch.ensures))

@@ -1,4 +1,4 @@
-use Rattle.std.proofs.Common.{Bool, refl, sym, ap, ◌∙◌}
+use Rattle.std.proofs.Common.{Bool, false, refl, sym, ap, ◌∙◌}
 use Rattle.std.specs.Prelude.{◌||◌}
 use Rattle.daide_io.specs.Interest.{InterestView}
 use Rattle.daide_sockets.specs.ControlSlots.{is_newly_stopped}
@@ -6,9 +6,21 @@ use Rattle.daide_sockets.specs.Interests.{has_news_for}
 use Rattle.daide_sockets.specs.Timers.{timers_of}
 use Rattle.daide_sockets.specs.Wakeups.{has_session_news}
 use Rattle.daide_sockets.proofs.InterestLemmas.{news_alike}
+use Rattle.daide_sockets.proofs.RowLemmas.{keeps}
 use Rattle.daide_sockets.proofs.RunRowLemmas.{none_hands}
-use Rattle.daide_sockets.proofs.WatchLemmas.{asked}
+use Rattle.daide_sockets.proofs.WatchLemmas.{asked, keeps_itself}
 use Rattle.daide_sockets.proofs.system.SocketsSystemSocketPortsConnection.has_news.Goals as goal
+
+pub returns-then-is_watched_at_rest-clause-transition : goal.returns-then-is_watched_at_rest-clause-transition
+returns-then-is_watched_at_rest-clause-transition g c = λ ports own.
+    let table = c.args.self.now.poller.table in (
+      refl,
+      asked false table table table ports c.args.interest.now own (keeps_itself table)
+          (sym (c.is_watched_at_rest.ensures.watched c.if-is_watched_at_rest.true)),
+      ((refl, refl), refl),
+      refl,
+      none_hands table table c.args.self.now.acceptor c.args.self.now.acceptor _ _ _ refl (keeps table table refl),
+    )
 
 pub returns-then-is_watched_at_rest-clause-news : goal.returns-then-is_watched_at_rest-clause-news
 returns-then-is_watched_at_rest-clause-news g c = λ ports own.
