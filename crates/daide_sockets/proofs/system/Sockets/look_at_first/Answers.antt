@@ -1,5 +1,4 @@
-use Rattle.std.proofs.Common.{◌≡◌, List, ◌∷◌, refl, sym, ap, ◌∙◌, rules}
-use Rattle.daide_sockets.specs.Pairing.{Arriving}
+use Rattle.std.proofs.Common.{refl, sym, rules}
 use Rattle.daide_sockets.proofs.PairingLemmas.{first_removed}
 use Rattle.daide_sockets.proofs.AcceptLemmas.{unreached}
 use Rattle.daide_sockets.proofs.RunRowLemmas.{first_closes, first_joins, first_stays}
@@ -10,8 +9,8 @@ returns-then-advances-clause-evolves g c = (
   c.remove-arrival.result,
   c.advances.new.self,
   c.remove-arrival.new.self.items,
-  search rules,
-  search rules,
+  first_removed _ _ _ c.requires c.remove-arrival.ensures.value c.remove-arrival.ensures.items,
+  c.push_reserved.ensures.items,
   c.advances.ensures.goes_on,
   refl,
   refl,
@@ -19,21 +18,31 @@ returns-then-advances-clause-evolves g c = (
 
 pub returns-in-Ok-clause-evolves : goal.returns-in-Ok-clause-evolves
 returns-in-Ok-clause-evolves g c =
-    (c.remove-arrival.result, search rules, search rules, search rules, search rules)
+    rw c.tell_of_server.ensures (
+      c.remove-arrival.result,
+      first_removed _ _ _ c.requires c.remove-arrival.ensures.value c.remove-arrival.ensures.items,
+      search rules,
+      refl,
+      refl,
+    )
 
 pub returns-in-Err-clause-evolves : goal.returns-in-Err-clause-evolves
 returns-in-Err-clause-evolves g c =
-    let first : c.args.self.now.arrivals.items ≡ c.remove-arrival.result ∷ c.remove-arrival.new.self.items =
-    first_removed _ _ _ c.requires c.remove-arrival.ensures.value c.remove-arrival.ensures.items in (
+    rw c.let_go-in-Err.ensures.same (
       c.remove-arrival.result,
-      first ∙ ap (λ (others : List (Arriving g.row.N-Connection.Denot)). c.remove-arrival.result ∷ others)
-          (search rules),
+      first_removed _ _ _ c.requires c.remove-arrival.ensures.value c.remove-arrival.ensures.items,
       search rules,
-      search rules,
+      refl,
     )
 
 pub returns-then-is_given_up-clause-evolves : goal.returns-then-is_given_up-clause-evolves
-returns-then-is_given_up-clause-evolves g c = (c.remove-arrival.result, search rules, search rules, search rules)
+returns-then-is_given_up-clause-evolves g c =
+    rw c.let_go.ensures.same (
+      c.remove-arrival.result,
+      first_removed _ _ _ c.requires c.remove-arrival.ensures.value c.remove-arrival.ensures.items,
+      search rules,
+      refl,
+    )
 
 pub returns-then-is_given_up-clause-closes : goal.returns-then-is_given_up-clause-closes
 returns-then-is_given_up-clause-closes g c =
@@ -45,10 +54,7 @@ returns-in-Err-clause-closes g c =
 
 pub returns-then-is_given_up-clause-rows : goal.returns-then-is_given_up-clause-rows
 returns-then-is_given_up-clause-rows g c =
-    let acceptor : c.let_go.new.self.acceptor ≡ c.args.self.now.acceptor = search rules in
-    let control : c.let_go.new.self.control ≡ c.args.self.now.control = search rules in
-    let arrivals : c.let_go.new.self.arrivals.items ≡ c.remove-arrival.new.self.items = search rules in
-    rw (acceptor, control, arrivals)
+    rw c.let_go.ensures.same
     (first_closes _ c.args.self.now.acceptor _ _ _ c.remove-arrival.result
     (first_removed _ _ _ c.requires c.remove-arrival.ensures.value c.remove-arrival.ensures.items) _ _ _ _ _ _ refl
     c.give_up-left.ensures.rows c.let_go.ensures.rows)
@@ -57,7 +63,7 @@ pub returns-then-advances-clause-rows : goal.returns-then-advances-clause-rows
 returns-then-advances-clause-rows g c =
     first_stays _ c.args.self.now.acceptor _ _ _ c.remove-arrival.result
     (first_removed _ _ _ c.requires c.remove-arrival.ensures.value c.remove-arrival.ensures.items) _ _ _ c.advances.new.self
-    (search rules) c.advances.ensures.rows
+    c.push_reserved.ensures.items c.advances.ensures.rows
 
 pub returns-in-Ok-clause-rows : goal.returns-in-Ok-clause-rows
 returns-in-Ok-clause-rows g c =
@@ -68,10 +74,7 @@ returns-in-Ok-clause-rows g c =
 
 pub returns-in-Err-clause-rows : goal.returns-in-Err-clause-rows
 returns-in-Err-clause-rows g c =
-    let acceptor : c.let_go-in-Err.new.self.acceptor ≡ c.args.self.now.acceptor = search rules in
-    let control : c.let_go-in-Err.new.self.control ≡ c.args.self.now.control = search rules in
-    let arrivals : c.let_go-in-Err.new.self.arrivals.items ≡ c.remove-arrival.new.self.items = search rules in
-    rw (acceptor, control, arrivals)
+    rw c.let_go-in-Err.ensures.same
     (first_closes _ c.args.self.now.acceptor _ _ _ c.remove-arrival.result
     (first_removed _ _ _ c.requires c.remove-arrival.ensures.value c.remove-arrival.ensures.items) _ _ _ _ _ _
     (rw c.in-Err.is at c.join.ensures.keys) c.advances.ensures.rows c.let_go-in-Err.ensures.rows)
