@@ -15,6 +15,7 @@ mod FinishingLemmas
 pub mod AccountedLemmas
 pub mod ClosingTimeLemmas
 pub mod SchedulingLemmas
+pub mod SocketLemmas
 mod AcceptLemmas
 mod AcceptFacts
 pub mod ControlInTimeLemmas
