@@ -14,30 +14,25 @@ use daide_protocol::ending::Ending;
 use std::fmt;
 use std::net::SocketAddr;
 use std::time::Instant;
-use thiserror::Error;
 
 /// A log line about a session, with its number, or about a bot that gets none. The run goes on.
-#[derive(Clone, Copy, Debug, Error)]
+#[derive(Clone, Copy)]
 pub enum SessionNotice {
     /// Its bot connected from this address.
-    #[error("session {number} began: bot at {bot}")]
     Began {
         number: u32,
         bot: SocketAddr,
     },
     /// A bot at this address may not come. It gets no number.
-    #[error("bot at {bot} may not come")]
     Declined {
         bot: SocketAddr,
     },
     /// Its server was reached, by a connection from this address.
-    #[error("session {number} reached the server from {own}")]
     Reached {
         number: u32,
         own: SocketAddr,
     },
     /// It is over, after this time, for this reason, with these counts by side and this last level.
-    #[error("session {number} ended{lasted}: {why}; {account}")]
     Ended {
         number: u32,
         lasted: Lasted,
@@ -47,7 +42,7 @@ pub enum SessionNotice {
 }
 
 /// The time from the connect of a session's bot to its end.
-#[derive(Clone, Copy, Debug)]
+#[derive(Clone, Copy)]
 pub struct Lasted {
     /// `None` without a clock.
     pub milliseconds: Option<u128>,
@@ -72,6 +67,26 @@ impl fmt::Display for Lasted {
         match self.milliseconds {
             Some(time) => write!(f, " after {}.{} s", time / 1000, time % 1000 / 100),
             None => Ok(()),
+        }
+    }
+}
+
+impl fmt::Display for SessionNotice {
+    fn fmt<W: fmt::Write>(&self, f: &mut fmt::Formatter<W>) -> fmt::Result {
+        match self {
+            SessionNotice::Began { number, bot } => {
+                write!(f, "session {number} began: bot at {bot}")
+            }
+            SessionNotice::Declined { bot } => write!(f, "bot at {bot} may not come"),
+            SessionNotice::Reached { number, own } => {
+                write!(f, "session {number} reached the server from {own}")
+            }
+            SessionNotice::Ended {
+                number,
+                lasted,
+                why,
+                account,
+            } => write!(f, "session {number} ended{lasted}: {why}; {account}"),
         }
     }
 }
@@ -194,6 +209,16 @@ fn write_fault<W: fmt::Write>(
     }
 }
 
+/// Writes an event of a side, with what comes before the side's name and after it.
+fn write_event<W: fmt::Write>(
+    f: &mut fmt::Formatter<W>,
+    before: &str,
+    side: Side,
+    after: &str,
+) -> fmt::Result {
+    write!(f, "{before}{}{after}", name_of(side))
+}
+
 /// Writes the event that ended a session.
 fn write_ending<W: fmt::Write>(
     f: &mut fmt::Formatter<W>,
@@ -201,10 +226,10 @@ fn write_ending<W: fmt::Write>(
     field: Option<FaultField>,
 ) -> fmt::Result {
     match ending {
-        Ending::Ended(side) => write!(f, "{} ended", name_of(side)),
-        Ending::Lost(side) => write!(f, "{} lost", name_of(side)),
-        Ending::Final(side) => write!(f, "FM of {}", name_of(side)),
-        Ending::Error(side) => write!(f, "EM of {}", name_of(side)),
+        Ending::Ended(side) => write_event(f, "", side, " ended"),
+        Ending::Lost(side) => write_event(f, "", side, " lost"),
+        Ending::Final(side) => write_event(f, "FM of ", side, ""),
+        Ending::Error(side) => write_event(f, "EM of ", side, ""),
         Ending::Fault(_, Code::ImTimeout) => f.write_str("no IM in time"),
         Ending::Fault(side, code) => write_fault(f, side, code, field),
         Ending::Stopped => f.write_str("stopped by the operator"),
@@ -216,7 +241,7 @@ impl fmt::Display for Why {
         match *self {
             Why::Ended(Cause::Session(ending), field) => write_ending(f, ending, field),
             Why::Ended(Cause::TurnsSpent, _) => f.write_str("turns spent"),
-            Why::Silent(side) => write!(f, "{} silent", name_of(side)),
+            Why::Silent(side) => write_event(f, "", side, " silent"),
             Why::Stalled(side, seconds) => {
                 write!(f, "{} took nothing for {seconds} s", name_of(side))
             }
