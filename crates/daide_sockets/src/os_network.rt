@@ -152,7 +152,9 @@ impl<R: Clock + Net> Network for OsNetwork<'_, R> {
     }
 
     fn listen_for_control(&mut self, key: usize) -> Option<bool> {
-        let listener = self.control.as_mut()?;
+        let Some(listener) = &mut self.control else {
+            return None;
+        };
         let followed = self
             .registry
             .register(listener, Token(key), Interest::READABLE);
