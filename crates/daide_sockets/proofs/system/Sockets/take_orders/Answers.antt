@@ -51,3 +51,34 @@ returns-clause-rows g c =
     handed_both _ _ _ _ _ _ first (handed_both _ _ _ _ _ _ second
     (none_hands _ _ now.acceptor now.acceptor _ _ _ refl (watched_keeps {S = g.row.N-Connection.Denot} now.poller.table
     c.watch.new.table now.control c.watch.ensures)))
+
+-- the next wait watches it as it is after the listener for bots was closed, or was not
+pub returns-clause-watched : goal.returns-clause-watched
+returns-clause-watched g c = (c.if-is_stopped_now.self.poller.table, c.watch.ensures)
+
+pub returns-clause-kept : goal.returns-clause-kept
+returns-clause-kept g c =
+    let same : c.if-is_stopped_now.self.control ≡ c.begin_control-orders.new.self.control =
+    elim c.if-is_stopped_now.branch [
+      | then-is_stopped_now w ↦ rw w.self-is refl
+      | else-is_stopped_now+else-not-is_closed w ↦ rw w.self-is refl
+    ] in
+    rw same c.begin_control-orders.ensures.kept
+
+pub returns-clause-now_kept : goal.returns-clause-now_kept
+returns-clause-now_kept g c =
+    let same : c.if-is_stopped_now.self.control ≡ c.begin_control-orders.new.self.control =
+    elim c.if-is_stopped_now.branch [
+      | then-is_stopped_now w ↦ rw w.self-is refl
+      | else-is_stopped_now+else-not-is_closed w ↦ rw w.self-is refl
+    ] in
+    rw same c.begin_control-orders.ensures.now_kept
+
+pub returns-clause-control : goal.returns-clause-control
+returns-clause-control g c =
+    let same : c.if-is_stopped_now.self.control ≡ c.begin_control-orders.new.self.control =
+    elim c.if-is_stopped_now.branch [
+      | then-is_stopped_now w ↦ rw w.self-is refl
+      | else-is_stopped_now+else-not-is_closed w ↦ rw w.self-is refl
+    ] in
+    rw same c.begin_control-orders.ensures.control
