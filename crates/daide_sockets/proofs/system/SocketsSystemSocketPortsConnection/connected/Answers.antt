@@ -18,12 +18,9 @@ returns-in-Ready-clause-transition g c =
       ),
       tt,
       (
-        (
-          (
-            search rules,
-            search rules,
-          ),
-          search rules,
+        rw c.in-Ready.ensures.same (
+          (c.loop-look.invariant.idle_time, c.loop-look.invariant.stall_time),
+          c.loop-look.invariant.acceptor,
         ),
         rw (sym c.loop-look.invariant.clock, sym c.loop-look.invariant.idle_time, sym c.loop-look.invariant.stall_time)
             (c.in-Ready.ensures.begins c.in-Ready.ports refl),
@@ -45,12 +42,9 @@ returns-in-Failed-clause-transition g c =
       ),
       tt,
       (
-        (
-          (
-            search rules,
-            search rules,
-          ),
-          search rules,
+        rw c.in-Failed.ensures.same (
+          (c.loop-look.invariant.idle_time, c.loop-look.invariant.stall_time),
+          c.loop-look.invariant.acceptor,
         ),
         tt,
       ),
@@ -83,13 +77,13 @@ loop-look-preserved g c =
       looks = one_more c.loop-look._look _ _ _ _ e.0 e.1 c.loop-look.invariant.looks inside e.3 e.4 e.5;
       came = e.6 ∙ c.loop-look.invariant.came;
       closing = e.7 ∙ c.loop-look.invariant.closing;
-      idle_time = search rules;
-      stall_time = search rules;
-      acceptor = search rules;
-      control = search rules;
+      idle_time = rw c.in-Pending.ensures.same c.loop-look.invariant.idle_time;
+      stall_time = rw c.in-Pending.ensures.same c.loop-look.invariant.stall_time;
+      acceptor = rw c.in-Pending.ensures.same c.loop-look.invariant.acceptor;
+      control = rw c.in-Pending.ensures.same c.loop-look.invariant.control;
       rows = handed_both _ _ _ _ _ _ c.loop-look.invariant.rows c.in-Pending.ensures.rows;
       clock = c.in-Pending.ensures.clock ∙ c.loop-look.invariant.clock;
-      servers = search rules;
+      servers = rw c.in-Pending.ensures.same c.loop-look.invariant.servers;
       same = search rules;
     }
 
