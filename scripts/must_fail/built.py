@@ -73,7 +73,8 @@ class Built(Checks):
 
     def try_texts(self, crate, texts, paths=()):
         """Checks these functions of a crate, or all, with these texts in place of its own. A check without such texts
-        keeps what it proves, and each with them begins with that."""
+        keeps what it proves, and each with them begins with that. One of some functions goes on past what it refuses, so
+        that a function is checked too that calls a refused one."""
         room, proved, kept = (self.top / crate / name for name in ("edited", "proved", "kept"))
         for folder in (room, kept):
             shutil.rmtree(folder, ignore_errors=True)
@@ -85,7 +86,8 @@ class Built(Checks):
         proved.mkdir(exist_ok=True)
         if texts:
             shutil.copytree(proved, kept, symlinks=True, copy_function=link_proofs)
-        return self.run(self.words(crate, paths, kept if texts else proved), room)
+        words = self.words(crate, paths, kept if texts else proved)
+        return self.run([*words, "--allow-holes"] if texts and paths else words, room)
 
     def remove(self):
         """Removes the copies."""

@@ -2,8 +2,6 @@
 
 A body is proved over the contracts of what it calls, so an edit of another body changes no verdict on it."""
 
-import re
-
 from .claims import is_same_place
 from .sources import functions_in
 
@@ -50,64 +48,6 @@ def packed(edits):
         rounds[at].append((edit, targets))
         taken[at] |= targets
     return rounds
-
-
-def names_called(sources):
-    """The names of a crate's functions, each with those that the body of a function of this name mentions."""
-    found = {}
-    for name in sources.files():
-        text = sources.read(name)
-        lines = text.split("\n")
-        for each in functions_in(text):
-            body = "\n".join(lines[number - 1] for number in each.body)
-            found.setdefault(each.name, set()).update(re.findall(r"\w+", body))
-    return {name: words & found.keys() for name, words in found.items()}
-
-
-def names_reached(names, called):
-    """The names of the functions that functions of these names may call, themselves or by others, and theirs."""
-    reached, new = set(), set(names)
-    while new:
-        reached |= new
-        new = {each for name in new for each in called.get(name, ())} - reached
-    return reached
-
-
-class Round:
-    """Edits that share a check. No function that one of them names may call one that another changes: the prover does
-    not try what waits for the proof of a function that is called."""
-
-    def __init__(self):
-        self.edits, self.changed, self.reached = [], set(), set()
-
-    def has_room(self, changed, reached):
-        """Whether an edit fits that changes functions of these names, and whose check reaches those."""
-        return not (self.reached & changed or self.changed & reached)
-
-    def add(self, edit, targets, changed, reached):
-        """Adds an edit with its targets."""
-        self.edits.append((edit, targets))
-        self.changed |= changed
-        self.reached |= reached
-
-
-def names_of(sources, targets):
-    """The names of the functions that an edit changes."""
-    return {each.name for name, first in targets for each in functions_in(sources.read(name)) if each.first == first}
-
-
-def apart(edits):
-    """The edits in rounds that share a check, each edit with its targets."""
-    rounds = []
-    for edit, targets in edits:
-        changed = names_of(edit.sources, targets)
-        place = edit.claim.place.rpartition("::")[2]
-        reached = names_reached(changed | {place}, names_called(edit.sources))
-        free = next((each for each in rounds if each.has_room(changed, reached)), None)
-        if free is None:
-            rounds.append(free := Round())
-        free.add(edit, targets, changed, reached)
-    return [each.edits for each in rounds]
 
 
 def merged(edits):
