@@ -1,13 +1,41 @@
-use Rattle.std.proofs.Common.{◌∷◌, [], refl, sym, subst}
+use Rattle.std.proofs.Common.{◌≡◌, ◌+◌, ◌==◌, ◌≢◌, false, ◌∷◌, [], length, refl, sym, ap, ◌∙◌, subst, arith, length-append}
+use Rattle.std.proofs.lemmas.Bool.{eqb-false}
 use Rattle.daide_io.specs.declared.system.Connect.TheVariants.{Ready, Failed, Pending}
 use Rattle.daide_io.specs.declared.system.Notice.TheVariants.{CannotReach}
 use Rattle.daide_io.specs.System.{Connects, Notifies}
 use Rattle.daide_driver.specs.Hub.{HubView, AddsSession}
 use Rattle.daide_event_loop.specs.QuotaPorts.{QuotaPortsView}
 use Rattle.daide_event_loop.specs.Resting.{AreGroupsKnown}
+use Rattle.daide_event_loop.specs.Serving.{AreOpen, IsWithinQuotas, arrived}
+use Rattle.daide_event_loop.specs.declared.admission_counters.AdmissionCounters.{AdmissionCounters}
 use Rattle.daide_event_loop.proofs.FindingLemmas.{open_more}
 use Rattle.daide_event_loop.proofs.RestingLemmas.{known_added}
 use Rattle.daide_event_loop.proofs.serving.take_up_connect.Goals as goal
+
+-- one session more is within the quotas, since its connect is no longer under way
+within_added : {P : Type 0} (old new : HubView (QuotaPortsView P)) (counters : AdmissionCounters) (ports : QuotaPortsView P) →
+    IsWithinQuotas old counters → (counters.connecting == 0) ≡ false → AddsSession old ports new →
+    IsWithinQuotas new (arrived counters)
+within_added {P} old new counters ports within under_way added =
+    let some : counters.connecting ≢ 0 = eqb-false counters.connecting 0 under_way in
+    let held = within.held in
+    let count : length new.places ≡ length old.places + 1 =
+    ap (λ (h : HubView (QuotaPortsView P)). length h.places) added.2 ∙ length-append old.places ((added.0, ports) ∷ []) in
+    record {
+      same_max = ap (λ (h : HubView (QuotaPortsView P)). h.max) added.2 ∙ within.same_max;
+      held = omega (arith, some, held, count);
+      accepted = within.accepted;
+    }
+
+-- so are the same sessions with one connect fewer under way
+within_arrived : {P : Type 0} (old : HubView (QuotaPortsView P)) (counters : AdmissionCounters) → IsWithinQuotas old counters →
+    IsWithinQuotas old (arrived counters)
+within_arrived old counters within = let held = within.held in
+    record {
+      same_max = within.same_max;
+      held = omega (arith, held);
+      accepted = within.accepted;
+    }
 
 pub returns-in-Pending-clause-finishes : goal.returns-in-Pending-clause-finishes
 returns-in-Pending-clause-finishes g c = (
@@ -49,3 +77,34 @@ pub returns-in-Err-Memory-default-clause-known : goal.returns-in-Err-Memory-defa
 returns-in-Err-Memory-default-clause-known g c =
     subst (λ (h : HubView (QuotaPortsView g.row.P.Denot)). AreGroupsKnown g.P.Ports.interest c.args.groups.now h.places)
     (sym c.in-Err-Memory-default.ensures.unchanged) c.requires.known
+
+pub returns-in-Failed-clause-within : goal.returns-in-Failed-clause-within
+returns-in-Failed-clause-within g c = within_arrived c.args.hub.now c.args.counters.now c.requires.within
+
+pub returns-in-Ok-clause-within : goal.returns-in-Ok-clause-within
+returns-in-Ok-clause-within g c =
+    within_added c.args.hub.now c.add.new.self c.args.counters.now _ c.requires.within c.requires.under_way c.in-Ok.ensures.added
+
+pub returns-in-Err-Memory-default-clause-within : goal.returns-in-Err-Memory-default-clause-within
+returns-in-Err-Memory-default-clause-within g c =
+    subst (λ (h : HubView (QuotaPortsView g.row.P.Denot)). IsWithinQuotas h (arrived c.args.counters.now))
+    (sym c.in-Err-Memory-default.ensures.unchanged)
+    (within_arrived c.args.hub.now c.args.counters.now c.requires.within)
+
+pub returns-in-Err-Memory-default-clause-are_open : goal.returns-in-Err-Memory-default-clause-are_open
+returns-in-Err-Memory-default-clause-are_open g c =
+    subst (λ (h : HubView (QuotaPortsView g.row.P.Denot)). AreOpen h.places) (sym c.in-Err-Memory-default.ensures.unchanged)
+    c.requires.are_open
+
+pub returns-in-Err-Memory-default-clause-broken_off : goal.returns-in-Err-Memory-default-clause-broken_off
+returns-in-Err-Memory-default-clause-broken_off g c = (
+  c.in-Ready.ports,
+  (c.connected.new.self, c.in-Ready.ensures, refl),
+)
+
+pub returns-in-Err-Memory-default-clause-out_of_memory : goal.returns-in-Err-Memory-default-clause-out_of_memory
+returns-in-Err-Memory-default-clause-out_of_memory g c =
+    (rw c.in-Err-Memory-default.field-0-0-is at c.in-Err-Memory-default.ensures.refused).1
+
+pub returns-in-Err-Memory-default-clause-left : goal.returns-in-Err-Memory-default-clause-left
+returns-in-Err-Memory-default-clause-left g c = (c.in-Err-Memory-default.ensures.unchanged, refl)
