@@ -1,5 +1,8 @@
-use Rattle.std.proofs.Common.{◌≡◌, ℕ, ◌+◌, ◌++◌, Bool, true, [], refl, sym, ◌∙◌, subst, append-nil}
+use Rattle.std.proofs.Common.{◌≡◌, ℕ, ◌+◌, ◌++◌, Bool, true, [], refl, sym, ◌∙◌, subst, append-nil, arith}
 use Rattle.std.specs.Prelude.{nat_le}
+use Rattle.daide_driver.specs.Hub.{HubView}
+use Rattle.daide_event_loop.specs.QuotaPorts.{QuotaPortsView}
+use Rattle.daide_event_loop.specs.Resting.{AreGroupsKnown}
 use Rattle.daide_event_loop.specs.Serving.{VisitsCalmIf, turns_left_over}
 use Rattle.daide_event_loop.proofs.BeginningLemmas.{visited_count}
 use Rattle.daide_event_loop.proofs.FindingLemmas.{is_not, none_more, still_next}
@@ -87,3 +90,34 @@ catch_up-again-requires g c =
       known = known_visited g.P.Ports.interest g.P.Ports.transition c.args.groups.now c.forget.new.self c.args.i
           c.args.hub.now c.visit-one.new.hub one.0 c.requires.known one.2 c.forget.ensures.own c.forget.ensures.kept;
     }
+
+pub returns-then-not-one-clause-closed : goal.returns-then-not-one-clause-closed
+returns-then-not-one-clause-closed g c = λ none_closed.
+    let none = c.visit-one.ensures.none (is_not _ c.if-not-one.true) in
+    (none_closed, c.visit-one.ensures.closed none.2)
+
+pub returns-then-not-one-clause-known : goal.returns-then-not-one-clause-known
+returns-then-not-one-clause-known g c =
+    subst (λ (h : HubView (QuotaPortsView g.row.P.Denot)). AreGroupsKnown g.P.Ports.interest c.args.groups.now h.places)
+    (sym (c.visit-one.ensures.same (is_not _ c.if-not-one.true))) c.requires.known
+
+pub overflow_add-found : goal.overflow_add-found
+overflow_add-found g c =
+    let few = c.requires.few in
+    let more = c.visit-one.ensures.few in
+    omega (arith, few, more)
+
+pub returns-clause-few : goal.returns-clause-few
+returns-clause-few g c =
+    let turns = c.or-2.ensures.turns in
+    let few = c.catch_up-again.ensures.few in
+    omega (arith, turns, few)
+
+pub returns-clause-closed : goal.returns-clause-closed
+returns-clause-closed g c = λ none.
+    let all = sym c.or-2.ensures.closed ∙ none in
+    let both = sym c.or.ensures.closed ∙ first_false c.or.result.has_closed c.catch_up-again.result.has_closed all in (
+      first_false c.args.found.has_closed c.visit-one.result.has_closed both,
+      λ are. c.catch_up-again.ensures.closed (later_false c.or.result.has_closed c.catch_up-again.result.has_closed all)
+          (c.visit-one.ensures.closed (later_false c.args.found.has_closed c.visit-one.result.has_closed both) are),
+    )
