@@ -3,6 +3,7 @@
 An act is played repeatedly until it is done. It fails once it can no longer succeed.
 """
 
+import math
 import os
 import resource
 import select
@@ -388,7 +389,7 @@ class Pours(Act):
     times: int
 
     def play(self, stage):
-        stage.flows.append(Flow(stage.peer(self.who), self.data * self.times))
+        stage.flows.append(Flow(stage.peer(self.who), self.data, self.times))
         return True
 
 
@@ -423,7 +424,7 @@ class Floods(Act):
     number: int
 
     def play(self, stage):
-        stage.flows.append(Flow(stage.peer(Bot(self.number)), UNCLOSED * 4096, has_final_frame=False))
+        stage.flows.append(Flow(stage.peer(Bot(self.number)), UNCLOSED))
         stage.flood_began = time.monotonic()
         return True
 
@@ -509,33 +510,38 @@ class Peer:
 
 
 class Flow:
-    """Bytes that an end sends during the acts, as its socket accepts them. An endless flow repeats them, and discards
-    what the end receives."""
+    """Bytes that an end sends this many times during the acts, as its socket accepts them. Without a number it repeats
+    them without end, and discards what the end receives."""
 
-    def __init__(self, peer, data, has_final_frame=True):
-        self.peer, self.data, self.has_final_frame = peer, memoryview(data), has_final_frame
-        self.sent = 0
+    # The least size of the block that is sent from, in bytes. To make many megabytes takes a loaded machine so long that
+    # the end falls silent before it sends any.
+    BLOCK = 32_768
+
+    def __init__(self, peer, data, times=None):
+        self.peer, self.block = peer, memoryview(data * math.ceil(self.BLOCK / len(data)))
+        self.is_endless = times is None
+        self.sent, self.size = 0, math.inf if self.is_endless else len(data) * times
+        self.is_lost = False
 
     def is_done(self):
-        """Returns whether all bytes were sent."""
-        return self.has_final_frame and self.sent == len(self.data)
+        """Returns whether all bytes were sent, or the connection is lost."""
+        return self.is_lost or self.sent == self.size
 
     def events(self):
         """Returns the events that the flow waits for."""
-        return selectors.EVENT_WRITE if self.has_final_frame else selectors.EVENT_WRITE | selectors.EVENT_READ
+        return selectors.EVENT_WRITE | selectors.EVENT_READ if self.is_endless else selectors.EVENT_WRITE
 
     def go_on(self):
-        """Sends the bytes that the socket accepts."""
-        if not self.has_final_frame:
+        """Sends the bytes that the socket accepts, of an endless flow at most a block."""
+        if self.is_endless:
             self.peer.listen()
             self.peer.heard.clear()
+        goal = self.sent + len(self.block) if self.is_endless else self.size
         try:
-            while self.sent < len(self.data):
-                self.sent += self.peer.stream.send(self.data[self.sent :])
-            if not self.has_final_frame:
-                self.sent = 0
+            while self.sent < goal:
+                place = self.sent % len(self.block)
+                self.sent += self.peer.stream.send(self.block[place : place + goal - self.sent])
         except BlockingIOError:
             pass
         except OSError as fault:
-            self.sent, self.has_final_frame = len(self.data), True
-            self.peer.fault = fault
+            self.is_lost, self.peer.fault = True, fault
