@@ -7,7 +7,7 @@ import tempfile
 
 from .claims import is_file, is_same_place
 from .sources import CRATES, functions_in, module_of, uses_by_crate
-from .trials import PARTS, Checks, link_proofs
+from .trials import PARTS, Checks
 
 
 def kit():
@@ -30,6 +30,12 @@ def paths_of(edit):
         return {"laws"} if "src/laws.rt" in edit.sources.files() else set()
     named = [(name, each) for name in edit.sources.files() for each in functions_in(edit.sources.text(name))]
     return {path_of(name, each) for name, each in named if is_same_place(edit.claim.place, each.place())}
+
+
+def text_of(folder):
+    """What the prover reads of the crate in a folder: each file below its parts, by its path."""
+    files = (file for part in PARTS for file in (folder / part).rglob("*") if file.is_file())
+    return {file.relative_to(folder): file.read_bytes() for file in files}
 
 
 class Built(Checks):
@@ -59,8 +65,8 @@ class Built(Checks):
         return all(self.library(name).exists() for name in {*self.uses[crate], *self.below(crate)})
 
     def words(self, crate, paths, kept):
-        """The command that checks these functions of a crate, or all if there are none, over the proofs in a folder, where
-        it keeps its own."""
+        """The command that checks these functions of a crate, or all if there are none, and keeps what it proves in a
+        folder, from which it takes what is there."""
         words = [self.kit / "bin/rattle", "check", "--crate-name", crate, "src/lib.rt"]
         for name in dict.fromkeys(["std", *self.uses[crate]]):
             words += ["--extern", f"{name}={self.library(name)}"]
@@ -71,23 +77,24 @@ class Built(Checks):
         words += ["--links", f"{crate}=", "--jobs", "1"]
         return [*words, *(word for path in sorted(paths) for word in ("--only", path))]
 
+    def has_proved_text(self, crate):
+        """Whether the sources, definitions and proofs of a crate are those that `rt ci` proved in the folder."""
+        return text_of(CRATES / crate) == text_of(self.folder / "crates" / crate)
+
     def try_texts(self, crate, texts, paths=()):
-        """Checks these functions of a crate, or all, with these texts in place of its own. A check without such texts
-        keeps what it proves, and each with them begins with that. One of some functions goes on past what it refuses, so
-        that a function is checked too that calls a refused one."""
-        room, proved, kept = (self.top / crate / name for name in ("edited", "proved", "kept"))
-        for folder in (room, kept):
-            shutil.rmtree(folder, ignore_errors=True)
+        """Checks these functions of a crate, or all, with these texts in place of its own, over what earlier checks of the
+        crate proved and kept. A check of some functions goes on past what it refuses, so that a function is checked too
+        that calls a refused one."""
+        room, kept = self.top / crate / "edited", self.top / crate / "kept"
+        shutil.rmtree(room, ignore_errors=True)
         for part in PARTS:
             if (CRATES / crate / part).is_dir():
                 shutil.copytree(CRATES / crate / part, room / part)
         for name, text in texts.items():
             (room / name).write_text(text, encoding="utf-8")
-        proved.mkdir(exist_ok=True)
-        if texts:
-            shutil.copytree(proved, kept, symlinks=True, copy_function=link_proofs)
-        words = self.words(crate, paths, kept if texts else proved)
-        return self.run([*words, "--allow-holes"] if texts and paths else words, room)
+        kept.mkdir(exist_ok=True)
+        words = self.words(crate, paths, kept)
+        return self.run([*words, "--allow-holes"] if paths else words, room)
 
     def remove(self):
         """Removes the copies."""
