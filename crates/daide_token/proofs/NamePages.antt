@@ -79,18 +79,41 @@ told t category (suc k) code (page ∷ pages) d short less low at =
     all_before t (category * 256) page (rows_on (category + 1) pages) (omega arith)
     ∙ told t (category + 1) k code pages d parts.1 (omega arith) low (omega arith)
 
--- the cells of a category's page are its names
-pub cell_told : {P : Type 0} (seen : P → Page) (pages : List P) (category : ℕ) (d : P) →
-    rows_on 0 (map seen pages) ≡ names → are_short (map seen pages) ≡ true → length pages ≡ 256 → category < 256 →
-    (code : ℕ) → code < 256 →
-    name_on (seen (get_or pages category d)) code ≡ name_of (category * 256 + code)
-unfolding name_of
-cell_told {P} seen pages category d rows short count less code low =
-    let t : ℕ = category * 256 + code in
-    ap (λ (page : Page). name_on page code) (sym (get_or-map seen pages category d))
-    ∙ sym (told t 0 category code (map seen pages) (seen d) short (omega (arith, length-map pages seen))
-    low (omega arith))
-    ∙ ap (name_by t) rows
+-- pages have no name for a token of a category after them
+none_beyond : (t category : ℕ) (pages : List Page) → are_short pages ≡ true → (category + length pages) * 256 ≤ t →
+    name_by t (rows_on category pages) ≡ None
+none_beyond t category [] short most = refl
+none_beyond t category (page ∷ pages) short most =
+    let parts = and_parts (nat_le (length page) 256) (are_short pages) short in
+    let few : length page ≤ 256 = is_short (length page) parts.0 in
+    all_before t (category * 256) page (rows_on (category + 1) pages) (omega arith)
+    ∙ none_beyond t (category + 1) pages parts.1 (omega arith)
+
+-- pages from a first category on that have all names
+module _ {P : Type 0} (seen : P → Page) (pages : List P) (first category : ℕ)
+    (rows : rows_on first (map seen pages) ≡ names) (short : are_short (map seen pages) ≡ true) where
+  -- the cells of a category's page are its names
+  pub cell_told : (k : ℕ) (d : P) → k < length pages → first + k ≡ category → (code : ℕ) → code < 256 →
+      name_on (seen (get_or pages k d)) code ≡ name_of (category * 256 + code)
+  unfolding name_of
+  cell_told k d less at code low =
+      let t : ℕ = category * 256 + code in
+      ap (λ (page : Page). name_on page code) (sym (get_or-map seen pages k d))
+      ∙ sym (told t first k code (map seen pages) (seen d) short (omega (arith, length-map pages seen))
+      low (omega arith))
+      ∙ ap (name_by t) rows
+
+  -- a category that has no page has no names
+  pub no_page : (category < first) ⊎ (first + length pages ≤ category) → (code : ℕ) → code < 256 →
+      name_of (category * 256 + code) ≡ None
+  unfolding name_of
+  no_page (inl before) code low =
+      let t : ℕ = category * 256 + code in
+      sym (ap (name_by t) rows) ∙ none_later t first (map seen pages) (omega arith)
+  no_page (inr after) code low =
+      let t : ℕ = category * 256 + code in
+      sym (ap (name_by t) rows)
+      ∙ none_beyond t first (map seen pages) short (omega (arith, length-map pages seen))
 
 -- a test that all items pass, each item passes; past the end the default must pass it
 pub each_of : {X : Type 0} (p : X → Bool) (xs : List X) (k : ℕ) (d : X) → list_all p xs ≡ true → p d ≡ true →

@@ -150,43 +150,14 @@ const BICOASTAL_CENTRES: [&str; 75] = [
 /// A category without names.
 const NONE: [&str; 0] = [];
 
-/// The names of each category, each name with a space before it.
+/// The names of each category from 40 to 57, each name with a space before it. No other category has names.
 #[rattlefmt::skip]
-static PAGES: [&[&str]; 256] = [
-    // 00
-    &NONE, &NONE, &NONE, &NONE, &NONE, &NONE, &NONE, &NONE, &NONE, &NONE, &NONE, &NONE, &NONE, &NONE, &NONE, &NONE,
-    // 10
-    &NONE, &NONE, &NONE, &NONE, &NONE, &NONE, &NONE, &NONE, &NONE, &NONE, &NONE, &NONE, &NONE, &NONE, &NONE, &NONE,
-    // 20
-    &NONE, &NONE, &NONE, &NONE, &NONE, &NONE, &NONE, &NONE, &NONE, &NONE, &NONE, &NONE, &NONE, &NONE, &NONE, &NONE,
-    // 30
-    &NONE, &NONE, &NONE, &NONE, &NONE, &NONE, &NONE, &NONE, &NONE, &NONE, &NONE, &NONE, &NONE, &NONE, &NONE, &NONE,
+static PAGES: [&[&str]; 24] = [
     // 40
     &BRACKETS, &POWERS, &UNITS, &ORDERS, &NOTES, &OUTCOMES, &COASTS, &SEASONS,
     &COMMANDS, &PARAMETERS, &PRESS, &NONE, &NONE, &NONE, &NONE, &NONE,
     // 50
     &INLAND, &INLAND_CENTRES, &SEAS, &NONE, &COASTAL, &COASTAL_CENTRES, &NONE, &BICOASTAL_CENTRES,
-    &NONE, &NONE, &NONE, &NONE, &NONE, &NONE, &NONE, &NONE,
-    // 60
-    &NONE, &NONE, &NONE, &NONE, &NONE, &NONE, &NONE, &NONE, &NONE, &NONE, &NONE, &NONE, &NONE, &NONE, &NONE, &NONE,
-    // 70
-    &NONE, &NONE, &NONE, &NONE, &NONE, &NONE, &NONE, &NONE, &NONE, &NONE, &NONE, &NONE, &NONE, &NONE, &NONE, &NONE,
-    // 80
-    &NONE, &NONE, &NONE, &NONE, &NONE, &NONE, &NONE, &NONE, &NONE, &NONE, &NONE, &NONE, &NONE, &NONE, &NONE, &NONE,
-    // 90
-    &NONE, &NONE, &NONE, &NONE, &NONE, &NONE, &NONE, &NONE, &NONE, &NONE, &NONE, &NONE, &NONE, &NONE, &NONE, &NONE,
-    // A0
-    &NONE, &NONE, &NONE, &NONE, &NONE, &NONE, &NONE, &NONE, &NONE, &NONE, &NONE, &NONE, &NONE, &NONE, &NONE, &NONE,
-    // B0
-    &NONE, &NONE, &NONE, &NONE, &NONE, &NONE, &NONE, &NONE, &NONE, &NONE, &NONE, &NONE, &NONE, &NONE, &NONE, &NONE,
-    // C0
-    &NONE, &NONE, &NONE, &NONE, &NONE, &NONE, &NONE, &NONE, &NONE, &NONE, &NONE, &NONE, &NONE, &NONE, &NONE, &NONE,
-    // D0
-    &NONE, &NONE, &NONE, &NONE, &NONE, &NONE, &NONE, &NONE, &NONE, &NONE, &NONE, &NONE, &NONE, &NONE, &NONE, &NONE,
-    // E0
-    &NONE, &NONE, &NONE, &NONE, &NONE, &NONE, &NONE, &NONE, &NONE, &NONE, &NONE, &NONE, &NONE, &NONE, &NONE, &NONE,
-    // F0
-    &NONE, &NONE, &NONE, &NONE, &NONE, &NONE, &NONE, &NONE, &NONE, &NONE, &NONE, &NONE, &NONE, &NONE, &NONE, &NONE,
 ];
 
 /// For each letter from A to Z, the tokens whose names begin with it, in ascending order.
@@ -260,24 +231,28 @@ static LETTERS: [&[u16]; 26] = [
     &[],
 ];
 
-/// Returns the pages of all categories. Their rows are those of the table.
+/// Returns the pages of the categories that have names. Their rows are those of the table.
 fn pages() -> &'static [&'static [&'static str]]
-    ensures rows { rows_on 0 (map (λ page. map (λ cell. cell.now) page.now) result.now) ≡ names }
+    ensures rows { rows_on 0x40 (map (λ page. map (λ cell. cell.now) page.now) result.now) ≡ names }
     ensures short { are_short (map (λ page. map (λ cell. cell.now) page.now) result.now) ≡ true }
     ensures spaced { are_spaced (map (λ page. map (λ cell. cell.now) page.now) result.now) ≡ true }
-    ensures count { length result.now ≡ 256 }
+    ensures count { length result.now ≡ 24 }
 {
     &PAGES
 }
 
-/// Returns the page of a category.
+/// Returns the page of a category. It is empty if the category has no names.
 #[inline(always)]
 fn page_of(category: u8) -> &'static [&'static str]
     ensures names { (code : ℕ) → code < 256 →
         name_on (map (λ cell. cell.now) result.now) code ≡ name_of (category * 256 + code) }
     ensures spaced { list_all is_spaced (map (λ cell. cell.now) result.now) ≡ true }
 {
-    pages()[category as usize]
+    let pages = pages();
+    if category < 0x40 || category > 0x57 {
+        return &NONE;
+    }
+    pages[(category - 0x40) as usize]
 }
 
 /// Returns the cell of a code on a page. A code past the last cell has an empty one.
