@@ -1,7 +1,7 @@
 -- The arithmetic of reading, without the tokens. Each fact is shown here once, with few hypotheses in scope.
-use Rattle.std.proofs.Common.{◌≡◌, ◌≢◌, ℕ, ◌+◌, ◌-◌, ◌*◌, ◌/◌, ◌%◌, ◌^◌, ◌≤◌, ◌<◌, min, List, length, take, reverse}
-use Rattle.std.proofs.Common.{◌∙◌, arith}
-use Rattle.std.proofs.lemmas.List.{length-reverse, length-take-le}
+use Rattle.std.proofs.Common.{◌≡◌, ◌≢◌, ℕ, ◌+◌, ◌-◌, ◌*◌, ◌/◌, ◌%◌, ◌^◌, ◌≤◌, ◌<◌, min, List, ◌∷◌, length, take, reverse}
+use Rattle.std.proofs.Common.{◌∙◌, ap, arith, Fits, w64, Option, Some, None, IsSome}
+use Rattle.std.proofs.lemmas.List.{length-reverse, length-take, length-take-le}
 use Rattle.daide_grammar.specs.declared.symbol.Sym.{Sym}
 use Rattle.daide_reader.specs.Bounds.{below_zero, longest_message, most_symbols, most_tokens}
 
@@ -12,6 +12,9 @@ module _ (size next : ℕ) (less : next < size / 2) where
 
   pub place_fits : size ≤ longest_message → next < most_tokens
   place_fits room = omega arith
+
+  pub token_fits : size ≤ longest_message → Fits w64 next
+  token_fits room = omega arith
 
   pub token_inside : (count : ℕ) → count ≡ size / 2 → next ≤ count
   token_inside count all = omega arith
@@ -39,6 +42,9 @@ less_within m n less = omega arith
 
 pub some_left : (m n : ℕ) → m < n → 0 < n - m
 some_left m n less = omega arith
+
+pub read_here : (read : ℕ) → read ≤ read
+read_here read = omega arith
 
 pub from_next : (read next : ℕ) → read ≤ next → read ≤ next + 1
 from_next read next from = omega arith
@@ -92,6 +98,11 @@ token_less end next after left size less inside small = omega arith
 pub stack_less : (rest left : ℕ) → left ≢ 0 → rest + (left - 1) < rest + left
 stack_less rest left some = omega arith
 
+-- a stack with a symbol on top is within the cells
+pub filled : (cells : List Sym) (left : ℕ) (top : Sym) → reverse (take left cells) ≡ top ∷ reverse (take (left - 1) cells)
+    → left ≤ length cells
+filled cells left top is = omega (arith, simp (length-reverse, length-take) at (ap length is))
+
 -- the top of a stack that is not empty
 module _ (left size : ℕ) (some : left ≢ 0) (inside : left ≤ size) where
   pub top_inside : left - 1 < size
@@ -103,9 +114,6 @@ module _ (left size : ℕ) (some : left ≢ 0) (inside : left ≤ size) where
   pub top_some : 0 < left
   top_some = omega arith
 
-  pub all_inside : (count : ℕ) → count ≡ size → left ≤ count
-  all_inside count all = omega arith
-
   pub rest_inside : left - 1 ≤ size
   rest_inside = omega arith
 
@@ -116,6 +124,11 @@ module _ (left size : ℕ) (some : left ≢ 0) (inside : left ≤ size) where
       let same : length (reverse (take left cells)) ≡ left =
       length-reverse (take left cells) ∙ length-take-le left cells long in
       omega (arith, same, room)
+
+-- a run without a place says nothing of the symbols that are left after one
+pub never_placed : (place : Option ℕ) (count : ℕ) → place ≡ None → IsSome place → count ≡ 0
+never_placed None count is some = absurd cc
+never_placed (Some i) count is some = absurd cc
 
 -- the sums of look-ups
 pub none_due : (asked due : ℕ) → due ≡ 0 → asked % 2 ^ 64 ≡ (asked + due) % 2 ^ 64

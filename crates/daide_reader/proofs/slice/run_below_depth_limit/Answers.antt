@@ -1,4 +1,4 @@
-use Rattle.std.proofs.Common.{◌≡◌, ◌≤◌, ◌<◌, ◌+◌, ◌-◌, ◌%◌, [], ◌∷◌, ◌++◌, List, ℕ, Option, Some}
+use Rattle.std.proofs.Common.{◌≡◌, ◌≢◌, ◌≤◌, ◌<◌, ◌+◌, ◌-◌, ◌*◌, ◌/◌, ◌%◌, [], ◌∷◌, ◌++◌, List, ℕ, Option, Some}
 use Rattle.std.proofs.Common.{IfSome, take, drop, length, refl, reverse, sym, ap, ◌∙◌, subst, rules, arith}
 use Rattle.daide_token.specs.Class.{class_of as known_class}
 use Rattle.daide_token.specs.Token.{tokens_of}
@@ -6,13 +6,17 @@ use Rattle.daide_grammar.specs.declared.symbol.Sym.{Sym}
 use Rattle.daide_grammar.specs.Table.Brackets.{is_bra, is_ket, count_one}
 use Rattle.daide_reader.specs.Slice.{SliceState}
 use Rattle.daide_reader.specs.Stack.{open_count}
-use Rattle.daide_reader.proofs.Counts.{before_end, count_low, end_moves, from_next, less_deep, less_within}
-use Rattle.daide_reader.proofs.Counts.{is_last, not_last, once_more, rest_inside, shallow_next, some_left}
-use Rattle.daide_reader.proofs.Counts.{start_shallow, token_inside, top_inside, top_whole}
+use Rattle.daide_reader.proofs.Counts.{before_end, count_low, end_inside, end_moves, filled, from_next, less_deep}
+use Rattle.daide_reader.proofs.Counts.{is_last, less_within, never_placed, not_last, once_more, one_behind, place_fits, read_here}
+use Rattle.daide_reader.proofs.Counts.{read_inside, rest_inside, room_on_top, shallow_next, some_left, stack_less, start_shallow}
+use Rattle.daide_reader.proofs.Counts.{token_fits, token_inside, token_less, top_inside, top_some, top_whole}
+use Rattle.daide_reader.proofs.Counts.{whole_token}
 use Rattle.daide_reader.proofs.BodyLemmas.{tokens_of-length}
 use Rattle.daide_reader.proofs.CellLemmas.{known_on_top, leaves_by_taking, on_top}
-use Rattle.daide_reader.proofs.StretchLemmas.{at_start, begun, counted_by_step, due_same, goes_on, room_for, run_whole}
-use Rattle.daide_reader.proofs.StretchLemmas.{rejects_next, said_same, skipped, stops_here, took}
+use Rattle.daide_reader.proofs.StretchLemmas.{at_start, begun, counted_by_step, due_same, goes_on, low_enough, room_for}
+use Rattle.daide_reader.proofs.StretchLemmas.{rejects_next, run_whole, said_same, skipped, stops_here, took}
+use Rattle.daide_reader.proofs.slice.run_below_depth_limit.Given.{Over}
+use Rattle.daide_reader.proofs.slice.run_below_depth_limit.Goals.{At-loop-first, Joined-left-ne0}
 use Rattle.daide_reader.proofs.slice.run_below_depth_limit.Goals.{else-is_take+else-is_stop, else-left-ne0}
 use Rattle.daide_reader.proofs.slice.run_below_depth_limit.Goals.{else-is_take+then-is_stop+in-Some-follow_word+else-next-last-3}
 use Rattle.daide_reader.proofs.slice.run_below_depth_limit.Goals.{then-is_take+else-next-last-2, then-left-ne0+in_default+then-left-eq0}
@@ -586,3 +590,222 @@ returns-clause-reads g c =
           (w.known-is ∙ c.known-known.ensures ∙ ap known_class c.token.ensures) (rw (w.opened-is) few) c.bracket_step.ensures
           shut.ensures.tokens shut.ensures.unclosed shut.ensures.place shut.ensures.count
     ]
+
+-- in the loop the token is in the body
+place_left : (g : Over) (c : At-loop-first g) → c.loop-first.next < length c.args.body.now / 2
+place_left g c =
+    before_end (length c.args.body.now) c.args.start.read (c.args.max_depth - c.args.start.unclosed) c.min-end.result
+    c.min-end.ensures c.loop-first.next c.loop-first.invariant.more
+
+-- so is the token after it, unless it is the last one of the run
+next_left : (g : Over) (c : At-loop-first g) → c.loop-first.next ≢ c.min-end.result - 1
+    → c.loop-first.next + 1 < length c.args.body.now / 2
+next_left g c other =
+    before_end (length c.args.body.now) c.args.start.read (c.args.max_depth - c.args.start.unclosed) c.min-end.result
+    c.min-end.ensures (c.loop-first.next + 1)
+    (not_last c.loop-first.next c.min-end.result c.loop-first.invariant.more other)
+
+-- a run that ends at the end has moved, and is inside the body
+end_left : (g : Over) (c : At-loop-first g) (tokens : ℕ) → tokens ≡ c.min-end.result
+    → (c.args.start.read < tokens) × (tokens ≤ length c.args.body.now / 2)
+end_left g c tokens is =
+    let size = length c.args.body.now in
+    let most = c.args.max_depth - c.args.start.unclosed in
+    subst (λ (n : ℕ). (c.args.start.read < n) × (n ≤ size / 2)) (sym is) (
+      end_moves size c.args.start.read most c.min-end.result c.min-end.ensures c.requires.read
+          (some_left _ _ c.requires.deep),
+      end_inside size c.args.start.read most c.min-end.result c.min-end.ensures,
+    )
+
+-- the stack has room for a rest in the place of its top
+room_left : (g : Over) (c : At-loop-first g) → c.loop-first.left - 1 + 8 ≤ g.row.N
+room_left g c =
+    let old : SliceState g.row.T.Denot =
+    record { table = c.args.table.now; stack = reverse (take c.args.start.count c.args.cells.now) } in
+    let now : SliceState g.row.T.Denot =
+    record { table = c.loop-first.table; stack = reverse (take c.loop-first.left c.loop-first.cells) } in
+    let inv = c.loop-first.invariant in
+    let less = less_deep c.loop-first.opened c.min-end.result c.loop-first.next c.args.max_depth inv.shallow inv.more in
+    room_on_top c.loop-first.left g.row.N inv.some inv.inside c.loop-first.cells
+    (filled c.loop-first.cells c.loop-first.left c.loop-first.symbol inv.top)
+    (low_enough g.T.Predict g.met.T.Predict.laws c.args.max_depth c.args.body.now c.args.start.read c.args.start.unclosed old
+    c.loop-first.next c.loop-first.opened c.min-end.result g.row.N now inv.mid less c.requires.at_depth_limit)
+
+-- after the loop the token is in the body too
+stopped_left : (g : Over) (c : Joined-left-ne0 g)
+    → (c.args.start.read ≤ c.if-left-ne0.next) × (c.if-left-ne0.next < length c.args.body.now / 2)
+stopped_left g c =
+    let read = c.args.start.read in
+    let size = length c.args.body.now in
+    let Inside = λ (n : ℕ). (read ≤ n) × (n < size / 2) in
+    let at : (n : ℕ) → read ≤ n → n < c.min-end.result → c.if-left-ne0.next ≡ n → Inside c.if-left-ne0.next =
+    λ n from more is. subst Inside (sym is) (
+      from,
+      before_end size read (c.args.max_depth - c.args.start.unclosed) c.min-end.result c.min-end.ensures n more,
+    ) in
+    elim c.if-left-ne0.branch [
+      | then-left-ne0+in_default+then-left-eq0 w ↦
+          let inv = w.loop-first.invariant in
+          let i = w.loop-first.next in
+          elim w.if-is_take.branch [
+            | then-is_take+else-next-last-2 v ↦
+                at (i + 1) (from_next read i inv.from) (not_last i c.min-end.result inv.more v.if-next-last-2.false)
+                (w.next-is ∙ v.next-is)
+            | else-is_take+then-is_stop+in-Some-follow_word+else-next-last-3 v ↦
+                at (i + 1) (from_next read i inv.from) (not_last i c.min-end.result inv.more v.if-next-last-3.false)
+                (w.next-is ∙ v.next-is)
+            | else-is_take+else-is_stop v ↦ at i inv.from inv.more (w.next-is ∙ v.next-is)
+          ]
+      | else-left-ne0 w ↦ subst Inside (sym w.next-is) (read_here read, c.requires.read)
+    ]
+
+pub overflow_sub-top : goal.overflow_sub-top
+overflow_sub-top g c =
+    top_some c.loop-first.left g.row.N c.loop-first.invariant.some c.loop-first.invariant.inside
+
+pub predict_token-answer-requires : goal.predict_token-answer-requires
+predict_token-answer-requires g c = c.loop-first.invariant.class ∙ ap known_class (sym c.token-in-loop-first.ensures)
+
+pub put-requires : goal.put-requires
+put-requires g c = (search rules, (c.requires.size, room_left g (goal.at.put-requires g c).At-loop-first))
+
+pub put-left-requires : goal.put-left-requires
+put-left-requires g c = (search rules, (c.requires.size, room_left g (goal.at.put-left-requires g c).At-loop-first))
+
+pub returns-then-next-last-clause-inside : goal.returns-then-next-last-clause-inside
+returns-then-next-last-clause-inside g c =
+    subst (λ (n : ℕ). n ≤ g.row.N) (sym c.run_end.ensures.count) c.put.ensures.inside
+
+pub returns-then-next-last-clause-moves : goal.returns-then-next-last-clause-moves
+returns-then-next-last-clause-moves g c =
+    (end_left g (goal.at.returns-then-next-last-clause-moves g c).At-loop-first _ c.run_end.ensures.tokens).0
+
+pub returns-then-next-last-clause-tokens : goal.returns-then-next-last-clause-tokens
+returns-then-next-last-clause-tokens g c =
+    (end_left g (goal.at.returns-then-next-last-clause-tokens g c).At-loop-first _ c.run_end.ensures.tokens).1
+
+pub returns-then-next-last-clause-none_left : goal.returns-then-next-last-clause-none_left
+returns-then-next-last-clause-none_left g c = never_placed c.run_end.result.place _ c.run_end.ensures.place
+
+pub returns-then-next-last-2-clause-inside : goal.returns-then-next-last-2-clause-inside
+returns-then-next-last-2-clause-inside g c =
+    subst (λ (n : ℕ). n ≤ g.row.N) (sym c.run_end-then-next-last-2.ensures.count) (rest_inside c.loop-first.left g.row.N c.loop-first.invariant.some c.loop-first.invariant.inside)
+
+pub returns-then-next-last-2-clause-moves : goal.returns-then-next-last-2-clause-moves
+returns-then-next-last-2-clause-moves g c =
+    (end_left g (goal.at.returns-then-next-last-2-clause-moves g c).At-loop-first _ c.run_end-then-next-last-2.ensures.tokens).0
+
+pub returns-then-next-last-2-clause-tokens : goal.returns-then-next-last-2-clause-tokens
+returns-then-next-last-2-clause-tokens g c =
+    (end_left g (goal.at.returns-then-next-last-2-clause-tokens g c).At-loop-first _ c.run_end-then-next-last-2.ensures.tokens).1
+
+pub returns-then-next-last-2-clause-none_left : goal.returns-then-next-last-2-clause-none_left
+returns-then-next-last-2-clause-none_left g c = never_placed c.run_end-then-next-last-2.result.place _ c.run_end-then-next-last-2.ensures.place
+
+pub returns-then-next-last-3-clause-inside : goal.returns-then-next-last-3-clause-inside
+returns-then-next-last-3-clause-inside g c =
+    subst (λ (n : ℕ). n ≤ g.row.N) (sym c.run_end-then-next-last-3.ensures.count) c.in-Some-follow_word.ensures.inside
+
+pub returns-then-next-last-3-clause-moves : goal.returns-then-next-last-3-clause-moves
+returns-then-next-last-3-clause-moves g c =
+    (end_left g (goal.at.returns-then-next-last-3-clause-moves g c).At-loop-first _ c.run_end-then-next-last-3.ensures.tokens).0
+
+pub returns-then-next-last-3-clause-tokens : goal.returns-then-next-last-3-clause-tokens
+returns-then-next-last-3-clause-tokens g c =
+    (end_left g (goal.at.returns-then-next-last-3-clause-tokens g c).At-loop-first _ c.run_end-then-next-last-3.ensures.tokens).1
+
+pub returns-then-next-last-3-clause-none_left : goal.returns-then-next-last-3-clause-none_left
+returns-then-next-last-3-clause-none_left g c = never_placed c.run_end-then-next-last-3.result.place _ c.run_end-then-next-last-3.ensures.place
+
+pub overflow_add-next : goal.overflow_add-next
+overflow_add-next g c =
+    token_fits (length c.args.body.now) _ (next_left g (goal.at.overflow_add-next g c).At-loop-first c.if-next-last.false)
+    c.requires.room
+
+pub at-held-requires-in-Some : goal.at-held-requires-in-Some
+at-held-requires-in-Some g c =
+    whole_token (length c.args.body.now) _ (next_left g (goal.at.at-held-requires-in-Some g c).At-loop-first c.if-next-last.false)
+
+pub overflow_add-next-then-is_take : goal.overflow_add-next-then-is_take
+overflow_add-next-then-is_take g c =
+    token_fits (length c.args.body.now) _ (next_left g (goal.at.overflow_add-next-then-is_take g c).At-loop-first c.if-next-last-2.false)
+    c.requires.room
+
+pub at-held-requires-then-is_take : goal.at-held-requires-then-is_take
+at-held-requires-then-is_take g c =
+    whole_token (length c.args.body.now) _ (next_left g (goal.at.at-held-requires-then-is_take g c).At-loop-first c.if-next-last-2.false)
+
+pub overflow_add-next-then-is_stop : goal.overflow_add-next-then-is_stop
+overflow_add-next-then-is_stop g c =
+    token_fits (length c.args.body.now) _ (next_left g (goal.at.overflow_add-next-then-is_stop g c).At-loop-first c.if-next-last-3.false)
+    c.requires.room
+
+pub at-held-requires-then-is_stop : goal.at-held-requires-then-is_stop
+at-held-requires-then-is_stop g c =
+    whole_token (length c.args.body.now) _ (next_left g (goal.at.at-held-requires-then-is_stop g c).At-loop-first c.if-next-last-3.false)
+
+-- a token that is taken, or a symbol that is removed, is not read again
+pub loop-first-smaller-in-Some : goal.loop-first-smaller-in-Some
+loop-first-smaller-in-Some g c =
+    token_less c.min-end.result c.loop-first.next c.put-left.result c.loop-first.left g.row.N c.loop-first.invariant.more
+    c.put-left.ensures.inside c.requires.size
+
+pub loop-first-smaller : goal.loop-first-smaller
+loop-first-smaller g c =
+    let end = c.min-end.result in
+    let inv = c.loop-first.invariant in
+    let left = c.loop-first.left in
+    let lower = rest_inside left g.row.N inv.some inv.inside in
+    elim c.if-is_take.branch [
+      | then-is_take+else-next-last-2 w ↦
+          rw (w.next-is, w.left-is)
+          (token_less end c.loop-first.next (left - 1) left g.row.N inv.more lower c.requires.size)
+      | else-is_take+then-is_stop+in-Some-follow_word+else-next-last-3 w ↦
+          rw (w.next-is, w.left-is)
+          (token_less end c.loop-first.next w.in-Some-follow_word.now left g.row.N inv.more w.in-Some-follow_word.ensures.inside
+          c.requires.size)
+      | else-is_take+else-is_stop w ↦
+          rw (w.next-is, w.left-is) (stack_less ((end - c.loop-first.next) * 4097) left inv.some)
+    ]
+
+pub reject_at-requires : goal.reject_at-requires
+reject_at-requires g c =
+    place_fits (length c.args.body.now) _ (place_left g (goal.at.reject_at-requires g c).At-loop-first) c.requires.room
+
+pub returns-in_default-follow_word-clause-inside : goal.returns-in_default-follow_word-clause-inside
+returns-in_default-follow_word-clause-inside g c = subst (λ (n : ℕ). n ≤ g.row.N) (sym c.reject_at.ensures.count) (omega arith)
+
+pub returns-in_default-follow_word-clause-moves : goal.returns-in_default-follow_word-clause-moves
+returns-in_default-follow_word-clause-moves g c =
+    one_behind c.args.start.read c.loop-first.next c.reject_at.result.tokens c.loop-first.invariant.from
+    c.reject_at.ensures.tokens
+
+pub returns-in_default-follow_word-clause-tokens : goal.returns-in_default-follow_word-clause-tokens
+returns-in_default-follow_word-clause-tokens g c =
+    read_inside (length c.args.body.now) c.loop-first.next
+    (place_left g (goal.at.returns-in_default-follow_word-clause-tokens g c).At-loop-first)
+    c.reject_at.result.tokens c.reject_at.ensures.tokens
+
+pub returns-in_default-follow_word-clause-none_left : goal.returns-in_default-follow_word-clause-none_left
+returns-in_default-follow_word-clause-none_left g c = λ _. c.reject_at.ensures.count
+
+pub reject_at-requires-2 : goal.reject_at-requires-2
+reject_at-requires-2 g c =
+    place_fits (length c.args.body.now) _ (stopped_left g (goal.at.reject_at-requires-2 g c).Joined-left-ne0).1
+    c.requires.room
+
+pub returns-clause-inside : goal.returns-clause-inside
+returns-clause-inside g c = subst (λ (n : ℕ). n ≤ g.row.N) (sym c.reject_at-2.ensures.count) (omega arith)
+
+pub returns-clause-moves : goal.returns-clause-moves
+returns-clause-moves g c =
+    one_behind c.args.start.read _ c.reject_at-2.result.tokens
+    (stopped_left g (goal.at.returns-clause-moves g c).Joined-left-ne0).0 c.reject_at-2.ensures.tokens
+
+pub returns-clause-tokens : goal.returns-clause-tokens
+returns-clause-tokens g c =
+    read_inside (length c.args.body.now) _ (stopped_left g (goal.at.returns-clause-tokens g c).Joined-left-ne0).1
+    c.reject_at-2.result.tokens c.reject_at-2.ensures.tokens
+
+pub returns-clause-none_left : goal.returns-clause-none_left
+returns-clause-none_left g c = λ _. c.reject_at-2.ensures.count
