@@ -1,6 +1,8 @@
 """Checks of edited crates over the libraries that `rt ci` built, of those functions alone that edits name."""
 
+import functools
 import pathlib
+import re
 import shutil
 import subprocess
 import tempfile
@@ -14,22 +16,6 @@ def kit():
     """The folder of the toolchain, which has the page that `rt doc` names."""
     page = subprocess.run(["rt", "doc"], capture_output=True, text=True, check=True).stdout
     return pathlib.Path(page.strip()).parent
-
-
-def path_of(name, function):
-    """The name of a function as `rattle check --only` takes it: a method by its type, any other by its module too."""
-    if function.owner:
-        return f"{function.owner}{function.trait}::{function.name}"
-    return (module_of(name) + function.name).replace("/", "::")
-
-
-def paths_of(edit):
-    """The functions whose check refuses an edit: those of the place that it names, or for a file of lemmas the laws of
-    the crate. It is empty if they are not known, so that the whole crate is checked."""
-    if is_file(edit.claim.place):
-        return {"laws"} if "src/laws.rt" in edit.sources.files() else set()
-    named = [(name, each) for name in edit.sources.files() for each in functions_in(edit.sources.text(name))]
-    return {path_of(name, each) for name, each in named if is_same_place(edit.claim.place, each.place())}
 
 
 def text_of(folder):
@@ -63,6 +49,32 @@ class Built(Checks):
     def has_libraries(self, crate):
         """Whether each library that a crate uses is where `rt ci` builds it."""
         return all(self.library(name).exists() for name in {*self.uses[crate], *self.below(crate)})
+
+    @functools.cache
+    def functions(self, crate):
+        """The functions of a library that `rt ci` built, by the names that the prover prints, without the crate's."""
+        text = (self.library(crate) / "toolchain/mir.json").read_text(encoding="utf-8")
+        return set(re.findall(rf'"{crate}::([\w:+]+)"', text))
+
+    def path_of(self, crate, name, function):
+        """The name of a function as `rattle check --only` takes it: a method by its type, any other by its module too. The
+        name of a method of a trait goes on with what the trait is of, as in `SocketsSystemSocketPortsConnection::watch`."""
+        if not function.owner:
+            return (module_of(name) + function.name).replace("/", "::")
+        if function.trait:
+            method = re.compile(rf"(?:.*::)?{function.owner}{function.trait}\w*::{function.name}")
+            found = [each for each in self.functions(crate) if method.fullmatch(each)]
+            if len(found) == 1:
+                return found[0]
+        return f"{function.owner}{function.trait}::{function.name}"
+
+    def paths_of(self, edit):
+        """The functions whose check refuses an edit: those of the place that it names, or for a file of lemmas the laws of
+        the crate. It is empty if they are not known, so that the whole crate is checked."""
+        if is_file(edit.claim.place):
+            return {"laws"} if "src/laws.rt" in edit.sources.files() else set()
+        named = [(name, each) for name in edit.sources.files() for each in functions_in(edit.sources.text(name))]
+        return {self.path_of(edit.crate, *each) for each in named if is_same_place(edit.claim.place, each[1].place())}
 
     def words(self, crate, paths, kept):
         """The command that checks these functions of a crate, or all if there are none, and keeps what it proves in a
