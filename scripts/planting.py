@@ -1,42 +1,45 @@
-"""Wrong bodies, planted in the texts of the sources: the files of tests/simulation/planted and of its folder program/, and
-the edits of a crate.
+"""Wrong bodies, planted in the texts of the sources: those of tests/simulation/mutants.txt, of tests/mutants.txt, and the
+edits of a crate.
 
-A file has a line `Wrong: SENTENCE.`, then for each change a file of crates/ or the folder of it, a line, and the line in
-its place (`file:`, `old:`, `new:`). One that a scene of tests/program sees has a line `Seen by: NAME` after the first.
+Those of tests/ have the form of crates/NAME/mutants.txt, without the line of what refuses them. Each `file:` is one of
+crates/, or the folder of it. One that a scene of tests/program sees has a line `Seen by: NAME` after the first.
 """
 
-import pathlib
 import shutil
 
-TOP = pathlib.Path(__file__).resolve().parent.parent
+from must_fail.claims import Fault, edits_of, named, written_in
+from must_fail.sources import CRATES, TOP
+
+SIMULATED = written_in(TOP / "tests/simulation/mutants.txt")
+PLANTED = SIMULATED + written_in(TOP / "tests/mutants.txt")
 
 
-class Fault(Exception):
-    """Why a wrong body cannot be planted."""
+def of_words(words):
+    """The wrong bodies of these names, or for an edit of a crate CRATE/NAME. Ends the program if there is none."""
+    for word in words:
+        found = named(word, edits_of) if "/" in word else [each for each in PLANTED if each.name == word]
+        if not found:
+            raise SystemExit(f"there is no wrong body {word}")
+        yield from found
 
 
-def sentence_of(path):
+def sentence_of(body):
     """The sentence that says what is wrong, without its full stop."""
-    return path.read_text(encoding="utf-8").partition("\n")[0].removeprefix("Wrong: ").removesuffix(".")
+    return body.lines[0].removeprefix("Wrong: ").removesuffix(".")
 
 
-def scene_of(path):
-    """The name of the scene that sees a wrong body."""
-    for line in path.read_text(encoding="utf-8").splitlines():
-        if line.startswith("Seen by: "):
-            return line.removeprefix("Seen by: ")
-    raise Fault("no line 'Seen by: ' names a scene")
+def scene_of(body):
+    """The name of the scene that sees a wrong body; empty if none does."""
+    return next((line.removeprefix("Seen by: ") for line in body.lines if line.startswith("Seen by: ")), "")
 
 
-def changes_of(path):
+def changes_of(body):
     """The changes of a wrong body: for each file of the repository its lines, old and new."""
     changes, file, old = {}, None, None
-    within = path.resolve().relative_to(TOP).parts
-    crate = within[1] if within[0] == "crates" else ""
-    for line in path.read_text(encoding="utf-8").splitlines():
+    for line in body.lines:
         word, _, text = line.partition(" ")
         if word == "file:":
-            file = pathlib.Path("crates") / crate / text
+            file = (CRATES / body.crate / text).relative_to(TOP)
         elif word == "old:":
             old = text
         elif word == "new:":

@@ -5,8 +5,6 @@ from dataclasses import dataclass
 
 from .sources import CRATES, Sources, all_functions, contract_of, functions_in, functions_of
 
-FOLDERS = ("must-fail", "more-edits")
-
 # What a function owes beside its clauses.
 OWN = ("invariant", "loop", "overflow", "bounds")
 
@@ -56,13 +54,26 @@ def need_label(labels, label, what):
         raise Fault(f"{has_not}: {known}")
 
 
-class Edit:
-    """An edit: its file, what it says, and the texts of the files that it changes."""
+@dataclass(frozen=True)
+class Written:
+    """An edit as it is written: its crate, its name, and its lines."""
 
-    def __init__(self, path):
-        self.path, self.crate = path, path.parent.parent.name
-        self.sources = Sources(self.crate)
-        lines = path.read_text(encoding="utf-8").splitlines()
+    crate: str
+    name: str
+    lines: tuple
+
+    def __str__(self):
+        return f"{self.crate}/{self.name}"
+
+
+class Edit:
+    """An edit: how it is written, what it says, and the texts of the files that it changes."""
+
+    def __init__(self, written):
+        self.written, self.crate, self.name = written, written.crate, written.name
+        self.sources, lines = Sources(self.crate), written.lines
+        if not re.fullmatch(r"\w+", self.name, re.ASCII):
+            raise Fault("its name has other characters than letters, digits and underscores")
         if len(lines) < 2 or not re.fullmatch(r"Wrong: .+\.", lines[0]):
             raise Fault("its first line is not 'Wrong: ..'")
         found = LINE.fullmatch(lines[1])
@@ -131,10 +142,32 @@ class Edit:
         if self.claim.clause and self.claim.clause not in declared_in(path.read_text(encoding="utf-8")):
             raise Fault(f"{self.claim.place}.antt has no '{self.claim.clause}'")
 
-    def __str__(self):
-        return f"{self.crate}/{self.path.name}"
+
+def gate_edits(crate):
+    """The edits of a crate that the gate tries: the files must-fail/NAME.edit, in the toolchain's form."""
+    files = sorted((CRATES / crate / "must-fail").glob("*.edit"))
+    return [Written(crate, file.stem, tuple(file.read_text(encoding="utf-8").splitlines())) for file in files]
 
 
-def edits_of(crate, folders=FOLDERS):
-    """The files of a crate's edits in these folders."""
-    return sorted(path for folder in folders for path in (CRATES / crate / folder).glob("*.edit"))
+def written_in(file, crate=""):
+    """The edits of a file, in their order: each is a line `mutant: NAME` and then the lines that a file of must-fail/
+    has, and an empty line is before the next."""
+    parts = re.split(r"\n\n+", file.read_text(encoding="utf-8").strip("\n")) if file.is_file() else []
+    heads = [part.splitlines() for part in parts]
+    return [Written(crate, head.removeprefix("mutant: "), tuple(lines)) for head, *lines in heads]
+
+
+def more_edits(crate):
+    """The other edits of a crate."""
+    return written_in(CRATES / crate / "mutants.txt", crate)
+
+
+def edits_of(crate):
+    """All edits of a crate."""
+    return gate_edits(crate) + more_edits(crate)
+
+
+def named(word, edits):
+    """Those that a word stands for: all of a crate, or the one CRATE/NAME."""
+    crate, _, name = word.partition("/")
+    return [each for each in edits(crate) if name in ("", each.name)]

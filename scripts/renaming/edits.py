@@ -47,9 +47,11 @@ def at_same_place(text, changes, quoted):
 def mend(top):
     """Has each edit whose quoted text isn't in its file quote what is there now; yields a line for each that can't."""
     for folder, _, names in sorted(os.walk(f"{top}/crates")):
-        if folder.endswith(("must-fail", "more-edits")):
+        if folder.endswith("must-fail"):
             for name in sorted(names):
                 yield from mend_one(f"{folder}/{name}", os.path.dirname(folder))
+        elif "mutants.txt" in names:
+            yield from mend_one(f"{folder}/mutants.txt", folder)
 
 
 def mend_one(path, crate):
@@ -57,6 +59,8 @@ def mend_one(path, crate):
         lines = file.read().split("\n")
     made, at, changed = {}, "", False
     for k, line in enumerate(lines):
+        if line.startswith("mutant: "):
+            made = {}
         m = re.match(r"file: (\S+)", line)
         if m:
             at = m.group(1)

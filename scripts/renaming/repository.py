@@ -37,6 +37,8 @@ def kind_of(name):
     parts = name.split("/")
     if name.endswith(".md"):
         return "docs"
+    if parts[0] == "crates" and parts[2:] == ["mutants.txt"]:
+        return "edits"
     if parts[0] == "crates" and len(parts) > 3:
         if name.endswith(".rt"):
             return "code"
