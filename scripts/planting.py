@@ -1,5 +1,5 @@
-"""Wrong bodies, planted in the texts of the sources: those of tests/simulation/mutants.txt, of tests/mutants.txt, and the
-edits of a crate.
+"""Mutants, planted in the texts of the sources: those of tests/simulation/mutants.txt, of tests/mutants.txt, and the
+mutants of a crate.
 
 Those of tests/ have the form of crates/NAME/mutants.txt, without the line of what refuses them. Each `file:` is one of
 crates/, or the folder of it. One that a scene of tests/program sees has a line `Seen by: NAME` after the first.
@@ -7,39 +7,39 @@ crates/, or the folder of it. One that a scene of tests/program sees has a line 
 
 import shutil
 
-from must_fail.claims import Fault, edits_of, named, written_in
-from must_fail.sources import CRATES, TOP
+from mutation.claims import Fault, mutants_of, named, written_in
+from mutation.sources import CRATES, TOP
 
 SIMULATED = written_in(TOP / "tests/simulation/mutants.txt")
 PLANTED = SIMULATED + written_in(TOP / "tests/mutants.txt")
 
 
 def of_words(words):
-    """The wrong bodies of these names, or for an edit of a crate CRATE/NAME. Ends the program if there is none."""
+    """The mutants of these names, or for a mutant of a crate CRATE/NAME. Ends the program if there is none."""
     for word in words:
-        found = named(word, edits_of) if "/" in word else [each for each in PLANTED if each.name == word]
+        found = named(word, mutants_of) if "/" in word else [each for each in PLANTED if each.name == word]
         if not found:
-            raise SystemExit(f"there is no wrong body {word}")
+            raise SystemExit(f"there is no mutant {word}")
         yield from found
 
 
-def sentence_of(body):
+def sentence_of(mutant):
     """The sentence that says what is wrong, without its full stop."""
-    return body.lines[0].removeprefix("Wrong: ").removesuffix(".")
+    return mutant.lines[0].removeprefix("Wrong: ").removesuffix(".")
 
 
-def scene_of(body):
-    """The name of the scene that sees a wrong body; empty if none does."""
-    return next((line.removeprefix("Seen by: ") for line in body.lines if line.startswith("Seen by: ")), "")
+def scene_of(mutant):
+    """The name of the scene that sees a mutant; empty if none does."""
+    return next((line.removeprefix("Seen by: ") for line in mutant.lines if line.startswith("Seen by: ")), "")
 
 
-def changes_of(body):
-    """The changes of a wrong body: for each file of the repository its lines, old and new."""
+def changes_of(mutant):
+    """The changes of a mutant: for each file of the repository its lines, old and new."""
     changes, file, old = {}, None, None
-    for line in body.lines:
+    for line in mutant.lines:
         word, _, text = line.partition(" ")
         if word == "file:":
-            file = (CRATES / body.crate / text).relative_to(TOP)
+            file = (CRATES / mutant.crate / text).relative_to(TOP)
         elif word == "old:":
             old = text
         elif word == "new:":
@@ -57,8 +57,8 @@ def file_with(place, line):
     return files[0].relative_to(TOP)
 
 
-def edited(changes):
-    """The texts of the files that a wrong body changes."""
+def mutated(changes):
+    """The texts of the files that a mutant changes."""
     texts = {}
     for place, pairs in changes.items():
         for old, new in pairs:

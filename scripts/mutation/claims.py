@@ -1,4 +1,4 @@
-"""What an edit says of itself: what is wrong with it, and the place and the clause that refuse it."""
+"""What a mutant says of itself: what is wrong with it, and the place and the clause that refuse it."""
 
 import re
 from dataclasses import dataclass
@@ -16,7 +16,7 @@ LINE = re.compile(
 
 @dataclass(frozen=True)
 class Claim:
-    """What an edit says refuses it, or what does: the clause is empty if it has no label, None if it isn't known."""
+    """What a mutant says refuses it, or what does: the clause is empty if it has no label, None if it isn't known."""
 
     place: str
     clause: str | None
@@ -26,7 +26,7 @@ class Claim:
 
 
 class Fault(Exception):
-    """Why an edit is not as it should be."""
+    """Why a mutant is not as it should be."""
 
 
 def is_file(place):
@@ -56,7 +56,7 @@ def need_label(labels, label, what):
 
 @dataclass(frozen=True)
 class Written:
-    """An edit as it is written: its crate, its name, and its lines."""
+    """A mutant as it is written: its crate, its name, and its lines."""
 
     crate: str
     name: str
@@ -66,8 +66,8 @@ class Written:
         return f"{self.crate}/{self.name}"
 
 
-class Edit:
-    """An edit: how it is written, what it says, and the texts of the files that it changes."""
+class Mutant:
+    """A mutant: how it is written, what it says, and the texts of the files that it changes."""
 
     def __init__(self, written):
         self.written, self.crate, self.name = written, written.crate, written.name
@@ -84,7 +84,7 @@ class Edit:
 
     @property
     def texts(self):
-        """The edited texts, by the names of their files."""
+        """The mutated texts, by the names of their files."""
         return self.sources.texts
 
     def apply(self, lines):
@@ -113,7 +113,7 @@ class Edit:
         return self.sources.read(name)
 
     def functions(self):
-        """The functions of the crate, and those that the edit adds."""
+        """The functions of the crate, and those that the mutant adds."""
         changed = [each for name, text in self.texts.items() if name.startswith("src/") for each in functions_in(text)]
         return functions_of(self.crate) + changed
 
@@ -143,31 +143,31 @@ class Edit:
             raise Fault(f"{self.claim.place}.antt has no '{self.claim.clause}'")
 
 
-def gate_edits(crate):
-    """The edits of a crate that the gate tries: the files must-fail/NAME.edit, in the toolchain's form."""
+def gate_mutants(crate):
+    """The mutants of a crate that the gate tries: the files must-fail/NAME.edit, in the toolchain's form."""
     files = sorted((CRATES / crate / "must-fail").glob("*.edit"))
     return [Written(crate, file.stem, tuple(file.read_text(encoding="utf-8").splitlines())) for file in files]
 
 
 def written_in(file, crate=""):
-    """The edits of a file, in their order: each is a line `mutant: NAME` and then the lines that a file of must-fail/
+    """The mutants of a file, in their order: each is a line `mutant: NAME` and then the lines that a file of must-fail/
     has, and an empty line is before the next."""
     parts = re.split(r"\n\n+", file.read_text(encoding="utf-8").strip("\n")) if file.is_file() else []
     heads = [part.splitlines() for part in parts]
     return [Written(crate, head.removeprefix("mutant: "), tuple(lines)) for head, *lines in heads]
 
 
-def more_edits(crate):
-    """The other edits of a crate."""
+def more_mutants(crate):
+    """The other mutants of a crate."""
     return written_in(CRATES / crate / "mutants.txt", crate)
 
 
-def edits_of(crate):
-    """All edits of a crate."""
-    return gate_edits(crate) + more_edits(crate)
+def mutants_of(crate):
+    """All mutants of a crate."""
+    return gate_mutants(crate) + more_mutants(crate)
 
 
-def named(word, edits):
+def named(word, mutants):
     """Those that a word stands for: all of a crate, or the one CRATE/NAME."""
     crate, _, name = word.partition("/")
-    return [each for each in edits(crate) if name in ("", each.name)]
+    return [each for each in mutants(crate) if name in ("", each.name)]

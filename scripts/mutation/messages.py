@@ -1,4 +1,4 @@
-"""What the prover said: which place and which clause each of its messages is of, held against an edit's claim."""
+"""What the prover said: which place and which clause each of its messages is of, held against a mutant's claim."""
 
 import pathlib
 import re
@@ -17,10 +17,10 @@ UNPROVED = re.compile(
 # What is owed of a loop: its invariant before and after each turn, and its measure.
 LOOP = re.compile(r"-(init|preserved|decreases)(-|$)")
 
-# A proof that names what an edit took away: it shows nothing of the contract.
+# A proof that names what a mutant took away: it shows nothing of the contract.
 LOST = re.compile(r"has no field|is not in scope|has no `|was not admitted")
 
-# What `rt must-fail` prints of an edit that the prover refused, with the first message.
+# What `rt must-fail` prints of a mutant that the prover refused, with the first message.
 BY_RT = re.compile(r"rt: must-fail (\w+)/(\S+\.edit): refused, as it must be(?: \(.*?\))?(?:: (.*))?")
 
 
@@ -63,7 +63,7 @@ def place_of(sources, name, number):
 
 
 def refusal_of(sources, message):
-    """What refused an edit, by the prover's message."""
+    """What refused a mutant, by the prover's message."""
     found = MESSAGE.match(message or "")
     if not found:
         raise Fault(f"the prover names no place: {message}")
@@ -87,7 +87,7 @@ def refusals_in(sources, lines):
 
 
 def first_messages(lines):
-    """The first message on each edit that `rt must-fail` printed as refused, by its crate and its file's name."""
+    """The first message on each mutant that `rt must-fail` printed as refused, by its crate and its file's name."""
     return {found.group(1, 2): found[3] for line in lines if (found := BY_RT.match(line))}
 
 

@@ -1,4 +1,4 @@
-"""Checks of edited crates over the libraries that `rt ci` built, of those functions alone that edits name."""
+"""Checks of mutated crates over the libraries that `rt ci` built, of those functions alone that mutants name."""
 
 import functools
 import pathlib
@@ -25,12 +25,13 @@ def text_of(folder):
 
 
 class Built(Checks):
-    """Checks over the libraries below a folder in which `rt ci` proved all crates. One check at a time of each crate."""
+    """Checks over the libraries below a folder in which `rt ci` proved all crates. One check at a time of each
+    crate."""
 
     def __init__(self, folder):
         super().__init__()
         self.folder, self.uses, self.kit = pathlib.Path(folder).resolve(), uses_by_crate(), kit()
-        self.top = pathlib.Path(tempfile.mkdtemp(prefix="gate-edits-"))
+        self.top = pathlib.Path(tempfile.mkdtemp(prefix="gate-mutants-"))
 
     def below(self, crate):
         """The crates of this repository below a crate."""
@@ -57,8 +58,9 @@ class Built(Checks):
         return set(re.findall(rf'"{crate}::([\w:+]+)"', text))
 
     def path_of(self, crate, name, function):
-        """The name of a function as `rattle check --only` takes it: a method by its type, any other by its module too. The
-        name of a method of a trait goes on with what the trait is of, as in `SocketsSystemSocketPortsConnection::watch`."""
+        """The name of a function as `rattle check --only` takes it: a method by its type, any other by its module too.
+        The name of a method of a trait goes on with what the trait is of, as in
+        `SocketsSystemSocketPortsConnection::watch`."""
         if not function.owner:
             return (module_of(name) + function.name).replace("/", "::")
         if function.trait:
@@ -68,13 +70,14 @@ class Built(Checks):
                 return found[0]
         return f"{function.owner}{function.trait}::{function.name}"
 
-    def paths_of(self, edit):
-        """The functions whose check refuses an edit: those of the place that it names, or for a file of lemmas the laws of
-        the crate. It is empty if they are not known, so that the whole crate is checked."""
-        if is_file(edit.claim.place):
-            return {"laws"} if "src/laws.rt" in edit.sources.files() else set()
-        named = [(name, each) for name in edit.sources.files() for each in functions_in(edit.sources.text(name))]
-        return {self.path_of(edit.crate, *each) for each in named if is_same_place(edit.claim.place, each[1].place())}
+    def paths_of(self, mutant):
+        """The functions whose check refuses a mutant: those of the place that it names, or for a file of lemmas the
+        laws of the crate. It is empty if they are not known, so that the whole crate is checked."""
+        if is_file(mutant.claim.place):
+            return {"laws"} if "src/laws.rt" in mutant.sources.files() else set()
+        named = [(name, each) for name in mutant.sources.files() for each in functions_in(mutant.sources.text(name))]
+        place = mutant.claim.place
+        return {self.path_of(mutant.crate, *each) for each in named if is_same_place(place, each[1].place())}
 
     def words(self, crate, paths, kept):
         """The command that checks these functions of a crate, or all if there are none, and keeps what it proves in a
@@ -94,10 +97,10 @@ class Built(Checks):
         return text_of(CRATES / crate) == text_of(self.folder / "crates" / crate)
 
     def try_texts(self, crate, texts, paths=()):
-        """Checks these functions of a crate, or all, with these texts in place of its own, over what earlier checks of the
-        crate proved and kept. A check of some functions goes on past what it refuses, so that a function is checked too
-        that calls a refused one."""
-        room, kept = self.top / crate / "edited", self.top / crate / "kept"
+        """Checks these functions of a crate, or all, with these texts in place of its own, over what earlier checks of
+        the crate proved and kept. A check of some functions goes on past what it refuses, so that a function is checked
+        too that calls a refused one."""
+        room, kept = self.top / crate / "mutated", self.top / crate / "kept"
         shutil.rmtree(room, ignore_errors=True)
         for part in PARTS:
             if (CRATES / crate / part).is_dir():

@@ -1,4 +1,4 @@
-"""Copies of the repository in which the prover is run on edited crates, several at a time."""
+"""Copies of the repository in which the prover is run on mutated crates, several at a time."""
 
 import os
 import pathlib
@@ -16,7 +16,7 @@ PARTS = ("src", "specs", "proofs")
 
 @dataclass(frozen=True)
 class Outcome:
-    """What a check of an edited crate ended with, and the lines that it printed."""
+    """What a check of a mutated crate ended with, and the lines that it printed."""
 
     status: int
     lines: list
@@ -91,12 +91,12 @@ def without_proofs(folder, names):
 
 
 class Trials(Checks):
-    """A copy of the crates, with what their proofs keep, and a folder of each lane, with one crate edited at a time.
+    """A copy of the crates, with what their proofs keep, and a folder of each lane, with one crate mutated at a time.
     Each lane has all crates in its folder, since a check locks the crates that it uses."""
 
     def __init__(self, jobs):
         super().__init__()
-        self.top, self.jobs = pathlib.Path(tempfile.mkdtemp(prefix="more-edits-")), jobs
+        self.top, self.jobs = pathlib.Path(tempfile.mkdtemp(prefix="more-mutants-")), jobs
         self.proved = self.top / "proved/crates"
         self.copy_top(self.top / "proved")
         for crate in CRATES.iterdir():
@@ -116,7 +116,7 @@ class Trials(Checks):
                 shutil.copytree(crate / part, folder / part)
 
     def lane(self, number, crate):
-        """Makes the folder of this lane, and returns that of its crate, which may be edited."""
+        """Makes the folder of this lane, and returns that of its crate, which may be mutated."""
         room = self.top / f"lane-{number}"
         shutil.rmtree(room, ignore_errors=True)
         self.copy_top(room)

@@ -26,7 +26,7 @@ class Function:
     is_const: bool
 
     def place(self):
-        """Its name as an edit gives it."""
+        """Its name as a mutant gives it."""
         return f"{self.owner}::{self.name}" if self.owner else self.name
 
     def is_proved_in(self, folder):
@@ -125,7 +125,7 @@ def contract_of(function, clause):
 
 
 class Sources:
-    """The files of a crate, with some of their texts edited."""
+    """The files of a crate, with some of their texts mutated."""
 
     def __init__(self, crate, texts=None):
         self.crate, self.folder, self.texts = crate, CRATES / crate, texts or {}
@@ -135,7 +135,7 @@ class Sources:
         return (self.folder / name).read_text(encoding="utf-8")
 
     def text(self, name):
-        """The same, as edited."""
+        """The same, as mutated."""
         return self.texts[name] if name in self.texts else self.read(name)
 
     def files(self):

@@ -1,1 +1,0 @@
-"""The edits that the prover must refuse: what each says of itself, what the prover reports, and many tried at once."""
