@@ -7,7 +7,7 @@ crates/, or the folder of it. One that a scene of tests/program sees has a line 
 
 import shutil
 
-from mutation.claims import Fault, mutants_of, named, written_in
+from mutation.claims import Fault, changes_in, mutants_of, named, replaced, written_in
 from mutation.sources import CRATES, TOP
 
 SIMULATED = written_in(TOP / "tests/simulation/mutants.txt")
@@ -33,20 +33,6 @@ def scene_of(mutant):
     return next((line.removeprefix("Seen by: ") for line in mutant.lines if line.startswith("Seen by: ")), "")
 
 
-def changes_of(mutant):
-    """The changes of a mutant: for each file of the repository its lines, old and new."""
-    changes, file, old = {}, None, None
-    for line in mutant.lines:
-        word, _, text = line.partition(" ")
-        if word == "file:":
-            file = (CRATES / mutant.crate / text).relative_to(TOP)
-        elif word == "old:":
-            old = text
-        elif word == "new:":
-            changes.setdefault(file, []).append((old, text))
-    return changes
-
-
 def file_with(place, line):
     """The file that has a line: this one, or the one of this folder that has it."""
     if not (TOP / place).is_dir():
@@ -57,16 +43,13 @@ def file_with(place, line):
     return files[0].relative_to(TOP)
 
 
-def mutated(changes):
-    """The texts of the files that a mutant changes."""
+def mutated(mutant):
+    """The texts of the files that a mutant changes, by their names in the repository."""
     texts = {}
-    for place, pairs in changes.items():
-        for old, new in pairs:
-            file = file_with(place, old)
-            text = texts.get(file) or (TOP / file).read_text(encoding="utf-8")
-            if text.count(old) != 1:
-                raise Fault(f"{file} has this {text.count(old)} times: {old}")
-            texts[file] = text.replace(old, new)
+    lines = [line for line in mutant.lines[1:] if not line.startswith(("Seen by: ", "Refused by: "))]
+    for place, old, new in changes_in(lines):
+        file = file_with((CRATES / mutant.crate / place).relative_to(TOP), old)
+        texts[file] = replaced(texts.get(file) or (TOP / file).read_text(encoding="utf-8"), old, new)
     return texts
 
 

@@ -66,6 +66,28 @@ class Written:
         return f"{self.crate}/{self.name}"
 
 
+def changes_in(lines):
+    """The changes that lines of a mutant make, in their order: the name of a file, its old text and the new one."""
+    name = old = None
+    for line in lines:
+        kind, _, text = line.partition(" ")
+        if kind == "file:":
+            name = text
+        elif kind == "old:":
+            old = text
+        elif kind == "new:":
+            yield name, old, text
+        else:
+            raise Fault(f"a line is not read: {line}")
+
+
+def replaced(text, old, new):
+    """A text with this in the place of what it has once."""
+    if text.count(old) != 1:
+        raise Fault(f"this text is in its file {text.count(old)} times: {old.strip()}")
+    return text.replace(old, new)
+
+
 class Mutant:
     """A mutant: how it is written, what it says, and the texts of the files that it changes."""
 
@@ -89,26 +111,14 @@ class Mutant:
 
     def apply(self, lines):
         """Changes the texts: each file exists, and has each old text once."""
-        name = old = None
-        for line in lines:
-            kind, _, rest = line.partition(": ")
-            if kind == "file":
-                name = rest
-                self.texts.setdefault(name, self.read(name))
-            elif kind == "old":
-                old = rest
-                if self.texts[name].count(old) != 1:
-                    raise Fault(f"this text is in its file {self.texts[name].count(old)} times: {old.strip()}")
-            elif kind == "new" or line == "new:":
-                self.texts[name] = self.texts[name].replace(old, rest)
-            else:
-                raise Fault(f"a line is not read: {line}")
-        if old is None:
+        for name, old, new in changes_in(lines):
+            self.texts[name] = replaced(self.texts.get(name) or self.read(name), old, new)
+        if not self.texts:
             raise Fault("it changes nothing")
 
     def read(self, name):
         """The text of a file of the crate."""
-        if not (self.sources.folder / name).is_file():
+        if not name or not (self.sources.folder / name).is_file():
             raise Fault(f"there is no file {name}")
         return self.sources.read(name)
 
