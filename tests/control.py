@@ -582,8 +582,9 @@ def answers_of_others_are_told(program):
 
 
 def script_stops_a_run_by_the_protocol(program):
-    """At SIGTERM and at SIGINT the script at the top ends each session with FM, and has the run's status."""
-    for number in (signal.SIGTERM, signal.SIGINT):
+    """At SIGTERM, SIGINT and SIGHUP the script at the top ends each session with FM, and has the run's status. A closed
+    terminal sends its signal to the program as well."""
+    for number, send in ((signal.SIGTERM, os.kill), (signal.SIGINT, os.killpg), (signal.SIGHUP, os.killpg)):
         with tempfile.TemporaryDirectory() as room:
             script = pathlib.Path(room) / "daide-gate"
             shutil.copy(TOP / "daide-gate", script)
@@ -595,7 +596,7 @@ def script_stops_a_run_by_the_protocol(program):
             os.utime(built, (time.time() + 60,) * 2)
             with Match([str(script)], "sessions = 4\nendless = true") as match:
                 bot, server = match.opens()
-                match.process.send_signal(number)
+                send(match.process.pid, number)
                 same((rest(bot), rest(server)), (FM, FM), "received by both sides")
                 bot.close()
                 server.close()

@@ -1,134 +1,266 @@
-"""The script `daide-gate` at the top, in a clone without a build: it prints what the program prints.
+"""The script `daide-gate` at the top: it makes the program once, keeps it, and replaces itself by it.
 
-A stand-in for `rt` runs the tested program instead of the sources, in a folder of its own, with copies of the files
-that it is given, as `rt try` does.
+A stand-in for the compiler returns the tested program, and counts its calls.
 """
 
 import os
 import pathlib
+import re
 import shlex
 import shutil
+import signal
 import subprocess
 import tempfile
+import time
 
-from held import same
-from runs import FILES, SECONDS, TOP, rows_of
+from held import Wrong, same
+from runs import SECONDS, TOP
 
-# The line about a missing proof.
-UNPROVED = b"daide-gate: this is the program compiled without its proof"
-
-STAND_IN = """\
+# Replaces scripts/unproved-program. It waits as long as there is a file `wait`, and fails if there is a file `fail`.
+COMPILER = """\
 #!/bin/sh
-room=$(mktemp -d)
-trap 'rm -rf "$room"' EXIT
-shift
-while [ "$1" != -- ]; do
-    if [ "$1" = --data ]; then
-        cp "${2#*=}" "$room/${2%%=*}"
-        shift
-    fi
-    shift
-done
-shift
-status=0
-(cd "$room" && exec PROGRAM "$@") || status=$?
-echo "run=ended status=$status runners=1 proved=no" >&2
-exit "$status"
+top=$(dirname -- "$0")/..
+echo called >>"$top/calls"
+while [ -e "$top/wait" ]; do sleep 0.1; done
+[ ! -e "$top/fail" ] || { echo 'no such type'; exit 1; }
+ln -s PROGRAM "$1/program"
 """
+
+# A program whose run never listens, and has the file `began` beside it.
+DEAF = """\
+#!/bin/sh
+case $1 in
+settings) echo 'control = "c"' ;;
+run) echo "$$" >"$0.began" && exec sleep 60 ;;
+stop) exit 1 ;;
+esac
+"""
+
+KEPT = "daide-gate-unproved"
+GOF = "02 00 00 02 48 03\n"
 
 
 class Clone:
-    """A folder with the script, its judge and the stand-in, and a folder with the files of rows."""
+    """A folder with a blank in its name, which has the script, one crate and the stand-in."""
 
     def __init__(self, program):
         self.program = program
         self.room = tempfile.TemporaryDirectory()
-        top = pathlib.Path(self.room.name)
-        self.script, self.files, self.tools = top / "clone" / "daide-gate", top / "files", top / "tools"
+        self.top = pathlib.Path(self.room.name) / "a clone"
+        self.crate = self.top / "crates" / "daide_gate_cli"
+        self.source = self.crate / "src" / "main.rt"
+        self.bin = self.top / "bin"
 
     def __enter__(self):
-        (self.script.parent / "crates" / "daide_gate_cli").mkdir(parents=True)
-        (self.script.parent / "scripts").mkdir()
-        shutil.copy(TOP / "daide-gate", self.script)
-        shutil.copy(TOP / "scripts" / "usage", self.script.parent / "scripts")
-        self.tools.mkdir()
-        stand_in = self.tools / "rt"
-        stand_in.write_text(STAND_IN.replace("PROGRAM", shlex.quote(str(self.program))), encoding="utf-8")
-        stand_in.chmod(0o755)
-        (self.files / "a-folder").mkdir(parents=True)
-        for name, text in FILES.items():
-            (self.files / name).write_text(text, encoding="utf-8")
+        for part in ("src", "specs", "proofs"):
+            (self.crate / part).mkdir(parents=True)
+            (self.crate / part / "main.rt").touch()
+        for folder in ("scripts", "tests", "tools"):
+            (self.top / folder).mkdir()
+        for name in ("daide-gate", "HANDLES", "scripts/copy-below", "tests/crates.list"):
+            shutil.copy(TOP / name, self.top / name)
+        (self.top / "crates.txt").write_text("daide_gate_cli:\n", encoding="utf-8")
+        self.writes(self.top / "scripts" / "unproved-program", COMPILER.replace("PROGRAM", shlex.quote(str(self.program))))
+        self.writes(self.top / "tools" / "rt", "#!/bin/sh\n")
+        for path in self.top.rglob("*"):
+            os.utime(path, (time.time() - 60,) * 2)
         return self
 
     def __exit__(self, *fault):
         self.room.cleanup()
 
-    def run(self, command, words, given):
-        """Runs a command with these arguments and this input. Returns both outputs and the status, without the line
-        about a missing proof."""
-        path = f"{self.tools}:{os.environ['PATH']}"
-        done = subprocess.run([str(command), *words], input=given, capture_output=True, timeout=SECONDS, check=False,
-                              cwd=self.files, env={**os.environ, "PATH": path})
-        lines = done.stderr.splitlines(keepends=True)
-        return done.stdout, b"".join(line for line in lines if not line.startswith(UNPROVED)), done.returncode
+    @staticmethod
+    def writes(path, text):
+        """Writes a program."""
+        path.write_text(text, encoding="utf-8")
+        path.chmod(0o755)
+
+    def has_proved(self, text=None):
+        """Writes a proved program, which is the tested one or this text."""
+        self.bin.mkdir(exist_ok=True)
+        if text is None:
+            shutil.copy(self.program, self.bin / "daide-gate")
+        else:
+            self.writes(self.bin / "daide-gate", text)
+        (self.bin / "daide-gate.kind").write_text("proved at commit 0\n", encoding="utf-8")
+
+    def begin(self, *words, tools=None, limit="-c 0"):
+        """Begins a command in the folder above the clone, with a limit as `ulimit` takes it."""
+        path = f"{tools or self.top / 'tools'}:/usr/bin:/bin"
+        return subprocess.Popen(
+            ["sh", "-c", f'ulimit {limit} && exec "$@"', "sh", self.top / "daide-gate", *words], cwd=self.room.name,
+            text=True, stdin=subprocess.PIPE, stdout=subprocess.PIPE, stderr=subprocess.PIPE,
+            env={**os.environ, "PATH": path}, preexec_fn=lambda: signal.signal(signal.SIGINT, signal.SIG_DFL),
+        )
+
+    def run(self, *words, given="", **how):
+        """Runs a command, and returns both its outputs and its status."""
+        with self.begin(*words, **how) as process:
+            return *process.communicate(given, timeout=SECONDS), process.returncode
+
+    def version(self):
+        """Returns the second line of `--version`."""
+        return self.run("--version")[0].splitlines()[1]
+
+    def calls(self):
+        """Returns how many times the compiler was called."""
+        calls = self.top / "calls"
+        return calls.read_text(encoding="utf-8").count("called") if calls.exists() else 0
+
+    def awaits(self, calls):
+        """Waits until the compiler was called so often."""
+        wait_for(lambda: self.calls() >= calls, f"{calls} calls of the compiler")
+
+    def kept(self):
+        """Returns the names of the files in bin/, without the locks and the logs."""
+        names = {path.name for path in self.bin.iterdir()}
+        return sorted(name for name in names if not name.endswith((".lock", ".log")))
 
 
-def check_launched(program, name):
-    """Checks that each row of this file has the same results through the script as from the program."""
+def wait_for(condition, what):
+    """Waits until this holds."""
+    until = time.monotonic() + SECONDS
+    while not condition():
+        if time.monotonic() > until:
+            raise Wrong(f"waited {SECONDS} s for {what}")
+        time.sleep(0.05)
+
+
+def program_is_compiled_once(program):
+    """The first command compiles the program. The words, the input and the folder are the user's."""
     with Clone(program) as clone:
-        for row in rows_of(name):
-            words, given, *_ = row.split("|")
-            given = given.strip(" ").replace("/", "\n").encode()
-            ran = clone.run(program, words.split(), given)
-            same(clone.run(clone.script, words.split(), given), ran, f"launched '{words.strip()}'")
+        (pathlib.Path(clone.room.name) / "here.toml").write_text("listen = 'a:1'\nserver = 'b:2'\n", encoding="utf-8")
+        printed, told, status = clone.run("show", given="02000002480F")
+        same((printed, status), ("DM 2\nOBS\nrelay\n", 0), "the first command")
+        same((told.count("without its proof"), told.count(": made in")), (1, 1), "lines of the first command")
+        same(clone.run("show", given="02000002480F"), ("DM 2\nOBS\nrelay\n", "", 0), "the second command")
+        same(clone.run("settings", "here.toml")[1:], ("", 0), "settings in the user's folder")
+        same(clone.run("chek")[1].splitlines()[2], "  tip: a similar subcommand exists: 'check'", "wrong usage")
+        same((clone.calls(), clone.kept()), (1, [KEPT, f"{KEPT}.kind"]), "calls of the compiler, and what is kept")
 
 
-def frames_are_launched_as_they_are_run(program):
-    """`show` and `frame`, with arguments, settings and standard input."""
-    for name in ("words", "framed"):
-        check_launched(program, name)
-
-
-def logs_are_launched_as_they_are_run(program):
-    """`check` with files and with standard input."""
-    check_launched(program, "checked")
-
-
-def settings_are_launched_as_they_are_run(program):
-    """`settings` with files and with standard input. A relative path of `control` is one of the caller's folder."""
-    check_launched(program, "settings")
+def wrong_words_are_refused_before_the_compiler(program):
+    """A first word that is no command of the program, and a word after `prove`."""
     with Clone(program) as clone:
-        wanted = f"daide-gate: {clone.files}/c.socket: nobody listens\n".encode()
-        for quoted in ('"c.socket"', "'c.socket'"):
-            settings = f"listen = 'a:1'\nserver = 'b:2'\ncontrol = {quoted}\n"
-            (clone.files / "controlled.toml").write_text(settings, encoding="utf-8")
-            same(clone.run(clone.script, ["status", "controlled.toml"], b""), (b"", wanted, 1), f"launched 'status', {quoted}")
+        printed, told, status = clone.run("chek")
+        same((printed, status, clone.calls()), ("", 2, 0), "an unknown command, and calls of the compiler")
+        known = re.search(r"no command; these are: (.*), prove\n", told)[1].split(", ")
+        helped = subprocess.run([str(program), "--help"], capture_output=True, text=True, timeout=SECONDS, check=True)
+        commands = re.search(r"\nCommands:\n(.*?)\n\n", helped.stdout, re.S)[1]
+        same(known, re.findall(r"^  ([a-z]+)", commands, re.M), "the commands")
+        told = "daide-gate: 'prove' takes no further word\n"
+        same((clone.run("prove", "x"), clone.calls()), (("", told, 2), 0), "prove x, and calls of the compiler")
 
 
-def usages_are_launched_as_they_are_run(program):
-    """Arguments with a fault of usage, most of which never reach the program."""
+def newer_source_makes_the_program_anew(program):
+    """A source that is changed or deleted makes it anew, also if it is changed meanwhile. Definitions and proofs decide
+    of the proved program alone."""
     with Clone(program) as clone:
-        for row in rows_of("usages"):
-            words, _, status = row.split("|")
-            if status.strip() == "2":
-                ran = clone.run(program, words.split(), b"")
-                same(clone.run(clone.script, words.split(), b""), ran, f"launched '{words.strip()}'")
+        clone.run("frame", "GOF")
+        clone.has_proved()
+        (clone.crate / "specs" / "main.rt").write_text("// changed", encoding="utf-8")
+        same((clone.run("frame", "GOF"), clone.calls()), ((GOF, "", 0), 1), "with newer definitions, and calls of the compiler")
+        same(clone.version(), "not proved, compiled at commit unknown", "the program with newer definitions")
+        clone.source.write_text("// changed", encoding="utf-8")
+        (clone.top / "wait").touch()
+        with clone.begin("frame", "GOF") as process:
+            clone.awaits(2)
+            time.sleep(0.1)
+            clone.source.write_text("// changed again", encoding="utf-8")
+            (clone.top / "wait").unlink()
+            told = process.communicate(timeout=SECONDS)[1]
+        same(told.count("a source was changed meanwhile"), 1, "lines about a change")
+        clone.run("frame", "GOF")
+        clone.source.unlink()
+        clone.run("frame", "GOF")
+        same(clone.calls(), 4, "calls of the compiler")
 
 
-def launched_words_wait_for_no_input(program):
-    """With the input in arguments or in a file, standard input is not read, although it stays open."""
+def two_commands_make_one_program(program):
+    """The second one waits for the first."""
     with Clone(program) as clone:
-        environment = {**os.environ, "PATH": f"{clone.tools}:{os.environ['PATH']}"}
-        for words, status in (("show 02000002480F", 0), ("frame GOF", 0), ("check clean.log", 0), ("chek", 2), ("run", 2)):
-            with subprocess.Popen([str(clone.script), *words.split()], stdin=subprocess.PIPE, cwd=clone.files,
-                                  stdout=subprocess.DEVNULL, stderr=subprocess.DEVNULL, env=environment) as child:
-                same(child.wait(SECONDS), status, f"status of '{words}'")
+        (clone.top / "wait").touch()
+        with clone.begin("frame", "GOF") as one:
+            clone.awaits(1)
+            with clone.begin("frame", "GOF") as other:
+                same(other.stderr.readline(), "daide-gate: another call makes the program\n", "told by the second")
+                (clone.top / "wait").unlink()
+                printed = [process.communicate(timeout=SECONDS)[0] for process in (one, other)]
+        same((printed, clone.calls()), ([GOF] * 2, 1), "printed by both, and calls of the compiler")
+
+
+def stopped_making_leaves_nothing(program):
+    """A signal while the program is made ends the command and leaves no program."""
+    with Clone(program) as clone:
+        (clone.top / "wait").touch()
+        for calls, number in enumerate((signal.SIGINT, signal.SIGTERM, signal.SIGHUP), 1):
+            with clone.begin("frame", "GOF") as process:
+                clone.awaits(calls)
+                process.send_signal(number)
+                printed, told = process.communicate(timeout=SECONDS)
+                same((printed, process.returncode), ("", 130), f"printed at {number.name}, and the status")
+                same(told.splitlines()[-1], "daide-gate: stopped; no program was made", f"the last line at {number.name}")
+            same(clone.kept(), [], f"kept after {number.name}")
+
+
+def failed_making_leaves_nothing(program):
+    """A fault of the compiler, no space, a clone that can't be written, and no toolchain leave no program."""
+    with Clone(program) as clone:
+        printed, told, status = clone.run("frame", "GOF", limit="-f 64")
+        same((printed, status, told.count("no program was made"), clone.kept()), ("", 1, 1, []), "no space")
+        (clone.top / "fail").touch()
+        printed, told, status = clone.run("frame", "GOF")
+        same((printed, status, "no such type" in told, clone.kept()), ("", 1, True, []), "a fault of the compiler")
+        (clone.top / "fail").unlink()
+        told = "daide-gate: no program is up to date, and the toolchain's 'rt' is not on the PATH\n"
+        same((clone.run("frame", "GOF", tools="/nowhere"), clone.kept()), (("", told, 1), []), "no toolchain")
+        shutil.rmtree(clone.bin)
+        clone.bin.touch()
+        told = f"daide-gate: no program is up to date, and {clone.bin} can't be written\n"
+        same(clone.run("frame", "GOF"), ("", told, 1), "a clone that can't be written")
+        clone.bin.unlink()
+        same(clone.run("frame", "GOF")[0], GOF, "printed at last")
+
+
+def version_says_whether_it_is_proved(program):
+    """So do the second line of `--version`, without a compilation if there is a program, and the first of `--verbose`."""
+    with Clone(program) as clone:
+        clone.has_proved()
+        same((clone.version(), clone.calls()), ("proved at commit 0", 0), "a proved program, and calls of the compiler")
+        told = clone.run("run", "--verbose", "none.toml")[1].splitlines()
+        same(told[:2], ["daide-gate: proved at commit 0", "daide-gate: settings could not be read"], "told of a proved program")
+        clone.source.write_text("// changed", encoding="utf-8")
+        wanted = ("proved at commit 0, older than the sources", 0)
+        same((clone.version(), clone.calls()), wanted, "an older proved program, and calls of the compiler")
+        unproved = "not proved, compiled at commit unknown"
+        same(clone.run("run", "--verbose", "none.toml")[1].splitlines()[2:3], [f"daide-gate: {unproved}"], "told of a kept one")
+        same(clone.version(), unproved, "a kept program")
+        clone.source.write_text("// changed again", encoding="utf-8")
+        same((clone.version(), clone.calls()), (f"{unproved}, older than the sources", 1), "an older kept program")
+
+
+def signal_before_a_run_listens_ends_it(program):
+    """Each signal ends a run that can't be reached yet, whether it goes to the script or to all its processes."""
+    for number in (signal.SIGINT, signal.SIGTERM, signal.SIGHUP):
+        with Clone(program) as clone:
+            clone.has_proved(DEAF)
+            began = clone.bin / "daide-gate.began"
+            with clone.begin("run", clone.top / "HANDLES") as process:
+                wait_for(lambda: began.exists() and began.read_text(encoding="utf-8"), "the run")
+                run = int(began.read_text(encoding="utf-8"))
+                process.send_signal(number)
+                process.communicate(timeout=SECONDS)
+            same(process.returncode, 128 + signal.SIGKILL, f"the status at {number.name}")
+            same(pathlib.Path(f"/proc/{run}").exists(), False, f"the run is there after {number.name}")
 
 
 TESTS = [
-    frames_are_launched_as_they_are_run,
-    settings_are_launched_as_they_are_run,
-    logs_are_launched_as_they_are_run,
-    usages_are_launched_as_they_are_run,
-    launched_words_wait_for_no_input,
+    program_is_compiled_once,
+    wrong_words_are_refused_before_the_compiler,
+    newer_source_makes_the_program_anew,
+    two_commands_make_one_program,
+    stopped_making_leaves_nothing,
+    failed_making_leaves_nothing,
+    version_says_whether_it_is_proved,
+    signal_before_a_run_listens_ends_it,
 ]

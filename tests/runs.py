@@ -15,9 +15,6 @@ from held import Wrong, same
 TOP = pathlib.Path(__file__).resolve().parent.parent
 ROWS = TOP / "tests" / "rows"
 
-# The judge of the script at the top, which refuses arguments before anything is compiled.
-JUDGE = ["awk", "-f", str(TOP / "scripts" / "usage"), "--"]
-
 # The time limit of one run, in seconds.
 SECONDS = 30
 
@@ -216,23 +213,6 @@ def each_usage_is_a_row(program):
                 raise Wrong(f"'{row}': saw {used.decode()!r}, wanted that part in it")
 
 
-def check_judged(folder, words):
-    """The judge refuses these arguments with the program's text and status, or leaves them to the program."""
-    printed, told, status = folder.run(words)
-    judged = subprocess.run([*JUDGE, *words], capture_output=True, timeout=SECONDS, check=False)
-    wanted = (told, 2) if status == 2 else (b"", 0)
-    same((judged.stdout, judged.returncode), wanted, f"the judge of {words}, and its status")
-
-
-def usages_are_judged_alike(program):
-    """Each row with a fault of usage gets the same result from `scripts/usage` as from the program."""
-    with Folder(program, FILES) as folder:
-        for name in ("usages", "shown", "framed", "checked"):
-            for row in rows_of(name):
-                words, *_ = row.split("|")
-                check_judged(folder, words.split())
-
-
 def examples_of_the_help_work(program):
     """The help of each command has two examples, which work as they are at the top of a clone."""
     for command, statuses in (("show", [3, 0]), ("check", [3, 3]), ("frame", [0, 0])):
@@ -333,7 +313,6 @@ TESTS = [
     typed_input_is_not_waited_for,
     words_of_a_frame_are_joined,
     each_usage_is_a_row,
-    usages_are_judged_alike,
     examples_of_the_help_work,
     longest_frame_is_shown,
     longest_input_is_read,
