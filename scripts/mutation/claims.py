@@ -56,11 +56,12 @@ def need_label(labels, label, what):
 
 @dataclass(frozen=True)
 class Written:
-    """A mutant as it is written: its crate, its name, and its lines."""
+    """A mutant as it is written: its crate, its name, its lines, and whether the gate tries it."""
 
     crate: str
     name: str
     lines: tuple
+    is_of_gate: bool = False
 
     def __str__(self):
         return f"{self.crate}/{self.name}"
@@ -156,7 +157,7 @@ class Mutant:
 def gate_mutants(crate):
     """The mutants of a crate that the gate tries: the files must-fail/NAME.edit, in the toolchain's form."""
     files = sorted((CRATES / crate / "must-fail").glob("*.edit"))
-    return [Written(crate, file.stem, tuple(file.read_text(encoding="utf-8").splitlines())) for file in files]
+    return [Written(crate, file.stem, tuple(file.read_text(encoding="utf-8").splitlines()), True) for file in files]
 
 
 def written_in(file, crate=""):
