@@ -14,7 +14,7 @@ use Rattle.daide_grammar.specs.SideMessages.{dialect_from, dialect_of, IsMessage
 use Rattle.daide_words.specs.declared.word.Word as code
 use Rattle.daide_words.specs.Word.{grammar_words, names_of}
 use Rattle.daide_words.specs.Table.OverWords.{are_free}
-use Rattle.daide_words.specs.Table.Proved.WordDialect.{free-codes, keeps}
+use Rattle.daide_words.specs.Proofs.WordDialect.{free-codes, keeps}
 use Rattle.daide_reader.specs.ErrorPlace.{IsAllowedPrefix}
 use Rattle.daide_explain.specs.Listed.{IsFilteredBy, IsIn, listed_tokens, unlisted_tokens, codes_of, representatives}
 use Rattle.daide_explain.proofs.Likeness.{expected_along}

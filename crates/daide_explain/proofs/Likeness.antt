@@ -29,8 +29,8 @@ use Rattle.daide_grammar.specs.Words.{an_arrangement, operand_in, stands_in, wor
 use Rattle.daide_grammar.proofs.Counting.{greatest_prefixes-snoc, bras-snoc, kets-snoc}
 use Rattle.daide_grammar.specs.Table.Brackets.{is_bra, is_ket}
 use Rattle.daide_words.specs.Table.OverWords.{are_free}
-use Rattle.daide_words.specs.Table.Proved.WordDialect.{free-codes, keeps}
-use Rattle.daide_words.specs.Table.Proved.WordLaws.{laws_over}
+use Rattle.daide_words.specs.Proofs.WordDialect.{free-codes, keeps}
+use Rattle.daide_words.specs.Proofs.WordLaws.{laws_over}
 use Rattle.daide_reader.specs.ErrorPlace.{IsAllowedPrefix}
 
 -- ---- no form names tokens of an unknown category

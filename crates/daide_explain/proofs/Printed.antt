@@ -14,8 +14,8 @@ use Rattle.daide_grammar.specs.SideMessages.{dialect_of, IsMessageOver}
 use Rattle.daide_words.specs.declared.word.Word.{Word}
 use Rattle.daide_words.specs.Word.{grammar_words, names_of}
 use Rattle.daide_words.specs.Table.OverWords.{are_free}
-use Rattle.daide_words.specs.Table.Proved.WordDialect.{free-codes, keeps}
-use Rattle.daide_words.specs.Table.Proved.WordLaws.{laws_over}
+use Rattle.daide_words.specs.Proofs.WordDialect.{free-codes, keeps}
+use Rattle.daide_words.specs.Proofs.WordLaws.{laws_over}
 use Rattle.daide_reader.specs.ErrorPlace.{IsErrorPlace}
 use Rattle.daide_reader.specs.Verdict.{IsRelayed}
 use Rattle.daide_explain.specs.Expected.{IsExpected, IsEndExpected}

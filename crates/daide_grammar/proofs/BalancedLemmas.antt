@@ -16,8 +16,8 @@ use Rattle.daide_grammar.specs.Matches.{bracketed, by_name}
 use Rattle.daide_grammar.specs.Balanced.{IsBalanced}
 use Rattle.daide_grammar.specs.Balanced as Rules
 use Rattle.daide_grammar.specs.SideMessages.{message_form}
-use Rattle.daide_grammar.specs.Table.Proved.Alternatives.{both-pass}
-use Rattle.daide_grammar.specs.Table.Proved.TokenTests.{accepted}
+use Rattle.daide_grammar.specs.Proofs.Alternatives.{both-pass}
+use Rattle.daide_grammar.specs.Proofs.TokenTests.{accepted}
 use Rattle.daide_grammar.specs.Table.Symbols.{is_of_kind}
 
 -- a dialect in which a bracket is the only token of its class

@@ -10,7 +10,7 @@ use Rattle.daide_token.specs.declared.class.Class.TheVariants.{Bra, Ket}
 use Rattle.daide_grammar.specs.Table.Brackets.{is_bra, is_ket}
 use Rattle.daide_grammar.specs.Table.Cells.{bracket_cell}
 use Rattle.daide_grammar.specs.Table.Numbers.{all_classes, bracket_step, class_at}
-use Rattle.daide_grammar.specs.Table.Proved.PlainLaws.{only_bra, only_ket}
+use Rattle.daide_grammar.specs.Proofs.PlainLaws.{only_bra, only_ket}
 use Rattle.daide_grammar.proofs.Alike.{alike}
 
 steps : map bracket_cell (range_with_len 0 all_classes) ≡ map (λ n. bracket_step (class_at n)) (range_with_len 0 all_classes)

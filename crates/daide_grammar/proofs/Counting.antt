@@ -12,7 +12,7 @@ use Rattle.std.proofs.lemmas.Bool.Decides.{nat_tests}
 use Rattle.daide_token.specs.Token.{bra, ket}
 use Rattle.daide_grammar.specs.Balanced.{IsBalanced, empty, plain, joined, bracketed}
 use Rattle.daide_grammar.specs.Paired.{begins_with_prn}
-use Rattle.daide_grammar.specs.Table.Proved.MovesAgree.{no-yes}
+use Rattle.daide_grammar.specs.Proofs.MovesAgree.{no-yes}
 use Rattle.daide_grammar.specs.Depth.{bras, kets, excess, prefixes, has_unmatched_ket, greatest, depth_of}
 use Rattle.daide_grammar.specs.Table.Brackets.{is_bra, is_ket, excess_or_none, count_one}
 

@@ -19,9 +19,9 @@ use Rattle.daide_grammar.specs.Table.Symbols.{start_symbol_of}
 use Rattle.daide_grammar.specs.Table.Stacks.{StackMatches}
 use Rattle.daide_grammar.specs.SideMessages.{IsMessage}
 use Rattle.daide_grammar.specs.Table.Languages.{SymbolMatches}
-use Rattle.daide_grammar.specs.Table.Proved.Alternatives.{both-pass, either-passes}
-use Rattle.daide_grammar.specs.Table.Proved.MovesAgree.{no-yes}
-use Rattle.daide_grammar.specs.Table.Proved.PlainLaws.{plain_begins}
+use Rattle.daide_grammar.specs.Proofs.Alternatives.{both-pass, either-passes}
+use Rattle.daide_grammar.specs.Proofs.MovesAgree.{no-yes}
+use Rattle.daide_grammar.specs.Proofs.PlainLaws.{plain_begins}
 use Rattle.daide_grammar.proofs.Languages.{start_symbol-language}
 use Rattle.daide_grammar.proofs.LevelsGrow.{levels-only-add}
 use Rattle.daide_grammar.proofs.MessageText.{tokens_of_text}

@@ -20,7 +20,7 @@ use Rattle.daide_grammar.specs.Table.Answers.{Take, Stop}
 use Rattle.daide_grammar.specs.Table.Symbols.{form_of, entries, may_end_of, table_answer, start_symbol_of}
 use Rattle.daide_grammar.specs.SideMessages.{standard, message_form, IsMessage}
 use Rattle.daide_grammar.specs.Table.Languages.{SymbolMatches}
-use Rattle.daide_grammar.specs.Table.Proved.PlainLaws.{only_bra, only_ket, plain_laws}
+use Rattle.daide_grammar.specs.Proofs.PlainLaws.{only_bra, only_ket, plain_laws}
 use Rattle.daide_grammar.proofs.BalancedLemmas.{KeepsBrackets, message-balanced, any-balanced, paired, bra-accepted}
 use Rattle.daide_grammar.proofs.BalancedLemmas.{ket-accepted}
 

@@ -17,10 +17,10 @@ use Rattle.daide_grammar.specs.Table.Stacks.{StackMatches, stack_after}
 use Rattle.daide_grammar.specs.Table.LawfulStack.{IsLawful}
 use Rattle.daide_grammar.specs.SideMessages.{standard}
 use Rattle.daide_grammar.specs.Table.Languages.{SymbolMatches}
-use Rattle.daide_grammar.specs.Table.Proved.Alternatives.{both-pass}
-use Rattle.daide_grammar.specs.Table.Proved.RightEntries.{apart, all_apart}
-use Rattle.daide_grammar.specs.Table.Proved.MovesAgree.{apart-sound, find-passes, take-entry, right_parts}
-use Rattle.daide_grammar.specs.Table.Proved.PlainLaws.{plain_laws}
+use Rattle.daide_grammar.specs.Proofs.Alternatives.{both-pass}
+use Rattle.daide_grammar.specs.Proofs.RightEntries.{apart, all_apart}
+use Rattle.daide_grammar.specs.Proofs.MovesAgree.{apart-sound, find-passes, take-entry, right_parts}
+use Rattle.daide_grammar.specs.Proofs.PlainLaws.{plain_laws}
 
 -- ---- two alternatives never begin with the same class
 

@@ -12,10 +12,10 @@ use Rattle.daide_grammar.specs.Table.Symbols.{may_end_of, table_answer}
 use Rattle.daide_grammar.specs.Table.Stacks.{StackMatches, stack_after}
 use Rattle.daide_grammar.specs.Table.LawfulStack.{IsLawful}
 use Rattle.daide_grammar.specs.Table.Languages.{SymbolMatches}
-use Rattle.daide_grammar.specs.Table.Proved.Alternatives.{both-pass}
-use Rattle.daide_grammar.specs.Table.Proved.StacksInOrder.{number-Bra, number-Ket}
-use Rattle.daide_grammar.specs.Table.Proved.MovesAgree.{no-yes}
-use Rattle.daide_grammar.specs.Table.Proved.PlainLaws.{plain_laws}
+use Rattle.daide_grammar.specs.Proofs.Alternatives.{both-pass}
+use Rattle.daide_grammar.specs.Proofs.StacksInOrder.{number-Bra, number-Ket}
+use Rattle.daide_grammar.specs.Proofs.MovesAgree.{no-yes}
+use Rattle.daide_grammar.specs.Proofs.PlainLaws.{plain_laws}
 use Rattle.daide_grammar.proofs.PredictionLemmas.{none-begins}
 
 -- whether the table follows the whole list from the stack, and the rest of the stack is nullable

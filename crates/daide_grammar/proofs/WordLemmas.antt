@@ -21,7 +21,7 @@ use Rattle.daide_grammar.specs.Words.{AddedWord, Words, WordSlot, press_word, ar
 use Rattle.daide_grammar.specs.Words.{operand_in}
 use Rattle.daide_grammar.specs.Words.{stands_in, word_form}
 use Rattle.daide_grammar.specs.SideMessages.{standard, dialect_from, dialect_of, message_form, IsMessage, IsMessageOver}
-use Rattle.daide_grammar.specs.Table.Proved.Alternatives.{both-pass}
+use Rattle.daide_grammar.specs.Proofs.Alternatives.{both-pass}
 
 -- no token of the list is a word
 abbrev HasNone : Words → List ℕ → Type 0

@@ -10,3 +10,4 @@ pub mod Matches
 pub mod Words
 pub mod SideMessages
 pub mod Table
+pub mod Proofs

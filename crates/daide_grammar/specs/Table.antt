@@ -1,5 +1,5 @@
--- The grammar as a table: symbols, entries, numbers, the laws of a table, and their proofs. No message is defined here,
--- so the main theorem does not depend on trust in it.
+-- The grammar as a table: symbols, entries, numbers, and the laws of a table. No message is defined here, so the main
+-- theorem does not depend on trust in it.
 pub mod Answers
 pub mod AnswersGiven
 pub mod Symbols
@@ -12,4 +12,3 @@ pub mod LawfulStack
 pub mod Laws
 pub mod Shapes
 pub mod Brackets
-pub mod Proved

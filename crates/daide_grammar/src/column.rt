@@ -30,7 +30,7 @@ impl Model for Column {
     ghost use Rattle.daide_token.specs.declared.class.Class.{Class};
     ghost use Rattle.daide_grammar.specs.Classes.{class_number};
     ghost use Rattle.daide_grammar.specs.Table.Numbers.{all_classes, class_at};
-    ghost use Rattle.daide_grammar.specs.Table.Proved.Numbers.{class_number_back};
+    ghost use Rattle.daide_grammar.specs.Proofs.Numbers.{class_number_back};
 
     ghost Value = { Class };
 

@@ -116,7 +116,7 @@ impl Predict for Dense {
     ghost use Rattle.daide_grammar.specs.Table.LawfulStack.{IsLawful};
     ghost use Rattle.daide_grammar.specs.Table.Languages.{SymbolMatches};
     ghost use Rattle.daide_grammar.specs.Table.Symbols.{may_end_of, start_symbol_of, table_answer};
-    ghost use Rattle.daide_grammar.specs.Table.Proved.PlainLaws.{plain_laws, plain_begins};
+    ghost use Rattle.daide_grammar.specs.Proofs.PlainLaws.{plain_laws, plain_begins};
     ghost use Rattle.daide_grammar.specs.Table.AnswersGiven.{look_ups};
 
     ghost words = { λ _. [] };

@@ -64,7 +64,7 @@ impl Predict for Plain {
     ghost use Rattle.daide_grammar.specs.Table.LawfulStack.{IsLawful};
     ghost use Rattle.daide_grammar.specs.Table.Languages.{SymbolMatches};
     ghost use Rattle.daide_grammar.specs.Table.Symbols.{may_end_of, start_symbol_of, table_answer};
-    ghost use Rattle.daide_grammar.specs.Table.Proved.PlainLaws.{plain_laws, plain_begins};
+    ghost use Rattle.daide_grammar.specs.Proofs.PlainLaws.{plain_laws, plain_begins};
 
     ghost words = { λ _. [] };
 

@@ -18,7 +18,7 @@ impl Model for TopSymbol {
     ghost use Rattle.std.proofs.Common.{ap};
     ghost use Rattle.daide_grammar.specs.declared.symbol.Sym.{Sym};
     ghost use Rattle.daide_grammar.specs.Table.Numbers.{all_symbols, symbol_number, symbol_at};
-    ghost use Rattle.daide_grammar.specs.Table.Proved.Numbers.{number_back};
+    ghost use Rattle.daide_grammar.specs.Proofs.Numbers.{number_back};
 
     ghost Value = { Sym };
 

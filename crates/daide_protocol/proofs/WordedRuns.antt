@@ -6,7 +6,7 @@ use Rattle.daide_grammar.specs.SideMessages.{dialect_of}
 use Rattle.daide_grammar.specs.Table.Symbols.{may_end_of, start_symbol_of}
 use Rattle.daide_grammar.specs.Words.{Words}
 use Rattle.daide_words.specs.Table.OverWords.{answer_over, are_free}
-use Rattle.daide_words.specs.Table.Proved.WordLaws.{laws_over}
+use Rattle.daide_words.specs.Proofs.WordLaws.{laws_over}
 use Rattle.daide_reader.specs.declared.verdict.Verdict.{Verdict}
 use Rattle.daide_reader.specs.declared.verdict.Verdict.TheVariants.{Relay}
 use Rattle.daide_reader.proofs.SomeVerdict.{verdict_by, verdict_by_right}

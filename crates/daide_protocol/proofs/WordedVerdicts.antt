@@ -9,7 +9,7 @@ use Rattle.daide_grammar.specs.Table.Languages.{SymbolMatchesIn}
 use Rattle.daide_grammar.specs.Table.Symbols.{form_of, start_symbol_of}
 use Rattle.daide_grammar.specs.Words.{Words}
 use Rattle.daide_words.specs.Table.OverWords.{are_free, spoken, spoken_dialect}
-use Rattle.daide_words.specs.Table.Proved.WordLaws.{all-spoken}
+use Rattle.daide_words.specs.Proofs.WordLaws.{all-spoken}
 use Rattle.daide_words.proofs.OverMessages.{start_symbol-language}
 use Rattle.daide_reader.specs.ViablePrefix.{IsMessageOf}
 use Rattle.daide_reader.specs.Verdict.{HasVerdict}

@@ -17,7 +17,7 @@ use Rattle.daide_grammar.specs.Table.Brackets.{is_bra, is_ket, excess_or_none, c
 use Rattle.daide_grammar.specs.Table.Laws.{IsCorrectPrediction}
 use Rattle.daide_grammar.specs.SideMessages.{IsMessage}
 use Rattle.daide_grammar.specs.Paired.{begins_with_prn}
-use Rattle.daide_grammar.specs.Table.Proved.PlainLaws.{plain_laws, plain_begins}
+use Rattle.daide_grammar.specs.Proofs.PlainLaws.{plain_laws, plain_begins}
 use Rattle.daide_grammar.specs.Table.Stacks.{stack_after}
 use Rattle.daide_grammar.specs.Table.Symbols.{start_symbol_of, table_answer, may_end_of}
 use Rattle.daide_grammar.proofs.Counting.{excess_or_none-snoc}

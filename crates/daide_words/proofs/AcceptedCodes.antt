@@ -13,7 +13,7 @@ use Rattle.daide_token.specs.Class.{class_of, token_of}
 use Rattle.daide_token.specs.Names.{Named, names, name_of}
 use Rattle.daide_grammar.specs.Classes.{class_number, same_class}
 use Rattle.daide_grammar.specs.SideMessages.{dialect_from, dialect_of}
-use Rattle.daide_grammar.specs.Table.Proved.Alternatives.{both-pass}
+use Rattle.daide_grammar.specs.Proofs.Alternatives.{both-pass}
 use Rattle.daide_grammar.specs.Words.{most_words}
 use Rattle.daide_words.specs.declared.word.Word as code
 use Rattle.daide_words.specs.declared.word.WordError.{WordError}
@@ -23,7 +23,7 @@ use Rattle.daide_words.specs.Accepted.{is_free_name, is_free_code, is_barred, ha
 use Rattle.daide_words.specs.Accepted.{are_accepted_after}
 use Rattle.daide_words.specs.Table.Places.{place_from}
 use Rattle.daide_words.specs.Table.OverWords.{are_free}
-use Rattle.daide_words.specs.Table.Proved.WordDialect.{keeps, other-class}
+use Rattle.daide_words.specs.Proofs.WordDialect.{keeps, other-class}
 
 -- whether a code has no meaning in the protocol, and isn't the token that represents such codes
 means_nothing : ℕ → Bool

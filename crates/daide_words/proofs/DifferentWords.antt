@@ -13,7 +13,7 @@ use Rattle.daide_token.specs.Class.{class_of, token_of}
 use Rattle.daide_token.specs.Names.{Named, name_of, token_named}
 use Rattle.daide_grammar.specs.Classes.{class_number, same_class}
 use Rattle.daide_grammar.specs.SideMessages.{dialect_of}
-use Rattle.daide_grammar.specs.Table.Proved.Alternatives.{both-pass}
+use Rattle.daide_grammar.specs.Proofs.Alternatives.{both-pass}
 use Rattle.daide_grammar.specs.Words.{most_words}
 use Rattle.daide_words.specs.declared.word.Word as code
 use Rattle.daide_words.specs.Accepted.{is_capital, is_free_name, is_free_code, is_barred, has_press, may_hold, word_fault}
@@ -22,7 +22,7 @@ use Rattle.daide_words.specs.Word.{grammar_word, grammar_words, names_of}
 use Rattle.daide_words.specs.Words.{word_at}
 use Rattle.daide_words.specs.Table.OverWords.{is_free, are_free}
 use Rattle.daide_words.specs.Table.Places.{place_from}
-use Rattle.daide_words.specs.Table.Proved.WordDialect.{class-Other}
+use Rattle.daide_words.specs.Proofs.WordDialect.{class-Other}
 use Rattle.daide_words.proofs.Apart.{not_both}
 use Rattle.daide_words.proofs.AcceptedCodes.{accepted_free, choice, class_told, code_free}
 

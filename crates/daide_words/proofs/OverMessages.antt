@@ -18,8 +18,8 @@ use Rattle.daide_grammar.specs.SideMessages.{dialect_of, IsMessageOver}
 use Rattle.daide_grammar.specs.Table.Languages.{SymbolMatchesIn}
 use Rattle.daide_grammar.specs.Words.{Words}
 use Rattle.daide_words.specs.Table.OverWords.{answer_over, are_free}
-use Rattle.daide_words.specs.Table.Proved.WordDialect.{free-codes, keeps}
-use Rattle.daide_words.specs.Table.Proved.WordLaws.{laws_over}
+use Rattle.daide_words.specs.Proofs.WordDialect.{free-codes, keeps}
+use Rattle.daide_words.specs.Proofs.WordLaws.{laws_over}
 use Rattle.daide_grammar.proofs.Languages.{start_symbol-form, begins-false, report-begins}
 
 -- no form begins with PRN: the reader handles PRN itself

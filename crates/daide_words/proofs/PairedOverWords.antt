@@ -27,8 +27,8 @@ use Rattle.daide_grammar.proofs.BalancedLemmas.{KeepsBrackets, paired, message-b
 use Rattle.daide_grammar.proofs.BalancedLemmas.{ket-accepted}
 use Rattle.daide_grammar.proofs.ErrPutIn.{err-put-in}
 use Rattle.daide_words.specs.Table.OverWords.{answer_over, are_free}
-use Rattle.daide_words.specs.Table.Proved.WordDialect.{free-codes, keeps, only_bra_with, only_ket_with}
-use Rattle.daide_words.specs.Table.Proved.WordLaws.{laws_over}
+use Rattle.daide_words.specs.Proofs.WordDialect.{free-codes, keeps, only_bra_with, only_ket_with}
+use Rattle.daide_words.specs.Proofs.WordLaws.{laws_over}
 use Rattle.daide_words.proofs.OverMessages.{start_symbol-language, form-not-prn}
 use Rattle.daide_grammar.proofs.Languages.{class-huh, start_symbol-form}
 

@@ -18,7 +18,7 @@ use Rattle.daide_words.specs.Accepted.{are_accepted_after}
 use Rattle.daide_words.specs.Word.{grammar_words, names_of}
 use Rattle.daide_words.specs.Table.OverWords.{answer_over}
 use Rattle.daide_words.specs.Table.Places.{place_from}
-use Rattle.daide_words.specs.Table.Proved.WordDialect.{class-Other}
+use Rattle.daide_words.specs.Proofs.WordDialect.{class-Other}
 use Rattle.daide_words.proofs.AcceptedCodes.{class_told, class_kept}
 use Rattle.daide_words.proofs.WhereStopped.{not_stopped}
 

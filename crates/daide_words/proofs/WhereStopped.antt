@@ -17,16 +17,16 @@ use Rattle.daide_grammar.specs.Table.Symbols.{Alternative, entries, entry_at, th
 use Rattle.daide_grammar.specs.Table.Symbols.{is_of_kind}
 use Rattle.daide_grammar.specs.Table.Symbols.{table_answer}
 use Rattle.daide_grammar.specs.Words.{AddedWord, Words}
-use Rattle.daide_grammar.specs.Table.Proved.Alternatives.{both-pass}
-use Rattle.daide_grammar.specs.Table.Proved.RightEntries.{is_plain, is_unopened, added_right}
-use Rattle.daide_grammar.specs.Table.Proved.Reading.{heads}
-use Rattle.daide_grammar.specs.Table.Proved.MovesAgree.{right_parts}
+use Rattle.daide_grammar.specs.Proofs.Alternatives.{both-pass}
+use Rattle.daide_grammar.specs.Proofs.RightEntries.{is_plain, is_unopened, added_right}
+use Rattle.daide_grammar.specs.Proofs.Reading.{heads}
+use Rattle.daide_grammar.specs.Proofs.MovesAgree.{right_parts}
 use Rattle.daide_grammar.specs.SideMessages.{standard}
 use Rattle.daide_words.specs.declared.word.Word as code
 use Rattle.daide_words.specs.Word.{grammar_word, grammar_words}
 use Rattle.daide_words.specs.Words.{word_at}
 use Rattle.daide_words.specs.Table.OverWords.{this_word, word_from, if_stands, word_answer, answer_over}
-use Rattle.daide_words.specs.Table.Proved.WordForms.{plain-no-word}
+use Rattle.daide_words.specs.Proofs.WordForms.{plain-no-word}
 
 -- a class with a word's number is that word's
 pub the_word : (c : Class) (k : ℕ) → word_number c ≡ Some k → c ≡ Word k

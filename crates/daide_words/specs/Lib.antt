@@ -3,3 +3,4 @@ pub mod Word
 pub mod Accepted
 pub mod Words
 pub mod Table
+pub mod Proofs

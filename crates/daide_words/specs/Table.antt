@@ -1,7 +1,5 @@
--- The table with an operator's words, and the proofs about it. No word is defined here, so the main theorem does not
--- depend on trust in it.
+-- The table with an operator's words. No word is defined here, so the main theorem does not depend on trust in it.
 pub mod OverWords
 pub mod Place
 pub mod Places
 pub mod Extended
-pub mod Proved

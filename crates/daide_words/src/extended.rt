@@ -101,7 +101,7 @@ impl Predict for Extended {
     ghost use Rattle.daide_grammar.specs.Table.Symbols.{may_end_of, start_symbol_of};
     ghost use Rattle.daide_words.specs.Table.OverWords.{answer_over, spoken, spoken_dialect};
     ghost use Rattle.daide_words.specs.Table.Extended.{extended_look_ups, spoken_words};
-    ghost use Rattle.daide_words.specs.Table.Proved.WordLaws.{spoken_begins, spoken_laws};
+    ghost use Rattle.daide_words.specs.Proofs.WordLaws.{spoken_begins, spoken_laws};
 
     ghost words = { spoken_words };
 

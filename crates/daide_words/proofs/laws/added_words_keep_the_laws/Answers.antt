@@ -1,5 +1,5 @@
 use Rattle.daide_words.specs.Word.{grammar_words}
-use Rattle.daide_words.specs.Table.Proved.WordLaws.{laws_over}
+use Rattle.daide_words.specs.Proofs.WordLaws.{laws_over}
 use Rattle.daide_words.proofs.AcceptedCodes.{accepted_free}
 use Rattle.daide_words.proofs.laws.added_words_keep_the_laws.Goals as goal
 

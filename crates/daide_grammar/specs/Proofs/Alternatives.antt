@@ -15,8 +15,8 @@ use Rattle.daide_grammar.specs.Message.Lists.{anything}
 use Rattle.daide_grammar.specs.Matches.{Matches, token, nothing, both, first, second, no_more, one_more, bracketed}
 use Rattle.daide_grammar.specs.Matches.{by_name, MatchAll}
 use Rattle.daide_grammar.specs.Table.Symbols.{is_of_kind}
-use Rattle.daide_grammar.specs.Table.Proved.TokenTests.{accepted, passed}
-use Rattle.daide_grammar.specs.Table.Proved.Reading.{Some-of, Some-first, Some-second, Some-split}
+use Rattle.daide_grammar.specs.Proofs.TokenTests.{accepted, passed}
+use Rattle.daide_grammar.specs.Proofs.Reading.{Some-of, Some-first, Some-second, Some-split}
 
 -- each list of the first, followed by each of the second
 unfoldable pub product : List (List Form) → List (List Form) → List (List Form)

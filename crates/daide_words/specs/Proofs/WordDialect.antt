@@ -14,12 +14,12 @@ use Rattle.daide_grammar.specs.Forms.{is, Slot, ◌·◌, tok, group, Dialect}
 use Rattle.daide_grammar.specs.Matches.{Matches, first, second}
 use Rattle.daide_grammar.specs.SideMessages.{dialect_from, dialect_of}
 use Rattle.daide_grammar.specs.Words.{AddedWord, Words, operand_in}
-use Rattle.daide_grammar.specs.Table.Proved.Reading.{Reads_from_MatchAll}
-use Rattle.daide_grammar.specs.Table.Proved.Alternatives.{alone, both-pass}
-use Rattle.daide_grammar.specs.Table.Proved.MovesAgree.{Proper, not-both}
+use Rattle.daide_grammar.specs.Proofs.Reading.{Reads_from_MatchAll}
+use Rattle.daide_grammar.specs.Proofs.Alternatives.{alone, both-pass}
+use Rattle.daide_grammar.specs.Proofs.MovesAgree.{Proper, not-both}
 use Rattle.daide_words.specs.Table.OverWords.{is_free, are_free}
-use Rattle.daide_words.specs.Table.Proved.WordForms.{token-then, no-token, stands-passes}
-use Rattle.daide_grammar.specs.Table.Proved.StandardDialect.{is_standard-below}
+use Rattle.daide_words.specs.Proofs.WordForms.{token-then, no-token, stands-passes}
+use Rattle.daide_grammar.specs.Proofs.StandardDialect.{is_standard-below}
 
 -- the class with a word's number
 class-Word : (c : Class) (j : ℕ) → class_number c ≡ own_classes + j → c ≡ Word j

@@ -22,11 +22,11 @@ use Rattle.daide_grammar.specs.declared.level.Level.{Level}
 use Rattle.daide_grammar.specs.declared.side.Side2.{Side2}
 use Rattle.daide_grammar.specs.declared.side.Side2.TheVariants.{Client as ClientSide, ServerEnd as ServerSide}
 use Rattle.daide_grammar.specs.Table.LawfulStack.{IsLawful, start_symbol, word, bra, ket, skip}
-use Rattle.daide_grammar.specs.Table.Proved.Sizes.{fits, fits_below, fits_tail, is_single, begins_positive, Fits, Fits-test}
-use Rattle.daide_grammar.specs.Table.Proved.Sizes.{Fits_trans, Fits_refl, join-mono, IsCons, shapes-cons, shapes-append, caps}
-use Rattle.daide_grammar.specs.Table.Proved.Sizes.{sizes-opened, sizes-closed, sizes-skipped}
-use Rattle.daide_grammar.specs.Table.Proved.Alternatives.{both-pass}
-use Rattle.daide_grammar.specs.Table.Proved.MovesAgree.{find-passes, find-takes, take-entry, skip-entry}
+use Rattle.daide_grammar.specs.Proofs.Sizes.{fits, fits_below, fits_tail, is_single, begins_positive, Fits, Fits-test}
+use Rattle.daide_grammar.specs.Proofs.Sizes.{Fits_trans, Fits_refl, join-mono, IsCons, shapes-cons, shapes-append, caps}
+use Rattle.daide_grammar.specs.Proofs.Sizes.{sizes-opened, sizes-closed, sizes-skipped}
+use Rattle.daide_grammar.specs.Proofs.Alternatives.{both-pass}
+use Rattle.daide_grammar.specs.Proofs.MovesAgree.{find-passes, find-takes, take-entry, skip-entry}
 
 -- whether the symbol is a closing bracket
 abbrev pub is_closing : Sym → Bool

@@ -14,11 +14,11 @@ use Rattle.daide_grammar.specs.Table.Answers.{TableEntry, Take, Skip, Stop}
 use Rattle.daide_grammar.specs.Table.Stacks.{stack_after, skips_before, ends_asked}
 use Rattle.daide_grammar.specs.Table.Shapes.{is_bottom_symbol, shape, shapes}
 use Rattle.daide_grammar.specs.Table.LawfulStack.{IsLawful, bra, ket}
-use Rattle.daide_grammar.specs.Table.Proved.Alternatives.{both-pass}
-use Rattle.daide_grammar.specs.Table.Proved.Sizes.{begins_positive, shapes-cons, caps, total, total-mono, total-caps}
-use Rattle.daide_grammar.specs.Table.Proved.Sizes.{total-join, positive-total, no-tail, no-room}
-use Rattle.daide_grammar.specs.Table.Proved.StacksInOrder.{is_closing, tidy, entry_ordered, ordered, all_ordered, sized-Ket}
-use Rattle.daide_grammar.specs.Table.Proved.StacksInOrder.{GoodMoves, empty-parts, Lawful-ordered}
+use Rattle.daide_grammar.specs.Proofs.Alternatives.{both-pass}
+use Rattle.daide_grammar.specs.Proofs.Sizes.{begins_positive, shapes-cons, caps, total, total-mono, total-caps}
+use Rattle.daide_grammar.specs.Proofs.Sizes.{total-join, positive-total, no-tail, no-room}
+use Rattle.daide_grammar.specs.Proofs.StacksInOrder.{is_closing, tidy, entry_ordered, ordered, all_ordered, sized-Ket}
+use Rattle.daide_grammar.specs.Proofs.StacksInOrder.{GoodMoves, empty-parts, Lawful-ordered}
 
 -- every symbol counts for at least one entry
 shape-positive : (s : Sym) → 1 ≤ total (shape s)

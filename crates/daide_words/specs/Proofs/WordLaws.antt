@@ -8,15 +8,15 @@ use Rattle.daide_grammar.specs.Table.Languages.{SymbolMatchesIn}
 use Rattle.daide_grammar.specs.Table.LawfulStack.{IsLawful, start_symbol, word, skip}
 use Rattle.daide_grammar.specs.Table.Laws.{IsCorrectPrediction}
 use Rattle.daide_grammar.specs.Words.{Words}
-use Rattle.daide_grammar.specs.Table.Proved.MovesAgree.{may_end-law}
-use Rattle.daide_grammar.specs.Table.Proved.StacksStaySmall.{Lawful-short, Lawful-apart, Lawful-open, Lawful-close}
-use Rattle.daide_grammar.specs.Table.Proved.StacksStaySmall.{Lawful-skips, Lawful-ends}
-use Rattle.daide_grammar.specs.Table.Proved.NoLanguageIsEmpty.{symbol-inhabited}
-use Rattle.daide_grammar.specs.Table.Proved.TableLaws.{follows, followed}
+use Rattle.daide_grammar.specs.Proofs.MovesAgree.{may_end-law}
+use Rattle.daide_grammar.specs.Proofs.StacksStaySmall.{Lawful-short, Lawful-apart, Lawful-open, Lawful-close}
+use Rattle.daide_grammar.specs.Proofs.StacksStaySmall.{Lawful-skips, Lawful-ends}
+use Rattle.daide_grammar.specs.Proofs.NoLanguageIsEmpty.{symbol-inhabited}
+use Rattle.daide_grammar.specs.Proofs.TableLaws.{follows, followed}
 use Rattle.daide_words.specs.Table.OverWords.{answer_over, are_free, spoken, spoken_dialect}
-use Rattle.daide_words.specs.Table.Proved.WordMoves.{takes-over, skips-over, stops-over}
-use Rattle.daide_words.specs.Table.Proved.WordStacks.{word-moves}
-use Rattle.daide_words.specs.Table.Proved.WordDialect.{words-proper, only_bra_with, only_ket_with}
+use Rattle.daide_words.specs.Proofs.WordMoves.{takes-over, skips-over, stops-over}
+use Rattle.daide_words.specs.Proofs.WordStacks.{word-moves}
+use Rattle.daide_words.specs.Proofs.WordDialect.{words-proper, only_bra_with, only_ket_with}
 
 -- any list of words with free codes keeps the laws of prediction
 pub laws_over : (words : Words) → are_free words ≡ true →

@@ -20,13 +20,13 @@ use Rattle.daide_grammar.specs.SideMessages.{dialect_from}
 use Rattle.daide_grammar.specs.Table.Languages.{SymbolMatchesIn}
 use Rattle.daide_grammar.specs.Words.{AddedWord, Words, WordSlot, press_word, arrangement_word, operand_in, stands_in}
 use Rattle.daide_grammar.specs.Words.{word_form}
-use Rattle.daide_grammar.specs.Table.Proved.Reading.{LeftDerivation, take, open', FirstItem, starts, ends, unopened, HeadReads, heads}
-use Rattle.daide_grammar.specs.Table.Proved.Reading.{Some-of}
-use Rattle.daide_grammar.specs.Table.Proved.Reading.{MatchAll_from_Reads, Reads_from_MatchAll}
-use Rattle.daide_grammar.specs.Table.Proved.Alternatives.{same_level, same_level-means, same_kind, same_kind-sound, both-pass}
-use Rattle.daide_grammar.specs.Table.Proved.Alternatives.{either-passes, alone, unalone}
-use Rattle.daide_grammar.specs.Table.Proved.RightEntries.{is_added, same_slot, known, is_unopened, is_plain, added_right}
-use Rattle.daide_grammar.specs.Table.Proved.MovesAgree.{right_parts, to_heads, from_heads, added-reads, same_slot-means}
+use Rattle.daide_grammar.specs.Proofs.Reading.{LeftDerivation, take, open', FirstItem, starts, ends, unopened, HeadReads, heads}
+use Rattle.daide_grammar.specs.Proofs.Reading.{Some-of}
+use Rattle.daide_grammar.specs.Proofs.Reading.{MatchAll_from_Reads, Reads_from_MatchAll}
+use Rattle.daide_grammar.specs.Proofs.Alternatives.{same_level, same_level-means, same_kind, same_kind-sound, both-pass}
+use Rattle.daide_grammar.specs.Proofs.Alternatives.{either-passes, alone, unalone}
+use Rattle.daide_grammar.specs.Proofs.RightEntries.{is_added, same_slot, known, is_unopened, is_plain, added_right}
+use Rattle.daide_grammar.specs.Proofs.MovesAgree.{right_parts, to_heads, from_heads, added-reads, same_slot-means}
 use Rattle.daide_words.specs.Table.OverWords.{makes, stands, this_word, word_from}
 
 -- ---- a word and its operand

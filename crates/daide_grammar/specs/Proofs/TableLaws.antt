@@ -9,11 +9,11 @@ use Rattle.daide_grammar.specs.Table.LawfulStack.{IsLawful, word, skip}
 use Rattle.daide_grammar.specs.Table.Laws.{IsCorrectPrediction}
 use Rattle.daide_token.specs.Token.{bra, ket}
 use Rattle.daide_grammar.specs.Table.Languages.{SymbolMatchesIn}
-use Rattle.daide_grammar.specs.Table.Proved.MovesAgree.{Proper, NoWord, AllMatchIn, take-law, skip-law, stop-law, may_end-law}
-use Rattle.daide_grammar.specs.Table.Proved.StacksInOrder.{table-moves}
-use Rattle.daide_grammar.specs.Table.Proved.StacksStaySmall.{Lawful-short, Lawful-apart, Lawful-open, Lawful-close}
-use Rattle.daide_grammar.specs.Table.Proved.StacksStaySmall.{Lawful-skips, Lawful-ends}
-use Rattle.daide_grammar.specs.Table.Proved.NoLanguageIsEmpty.{symbol-inhabited}
+use Rattle.daide_grammar.specs.Proofs.MovesAgree.{Proper, NoWord, AllMatchIn, take-law, skip-law, stop-law, may_end-law}
+use Rattle.daide_grammar.specs.Proofs.StacksInOrder.{table-moves}
+use Rattle.daide_grammar.specs.Proofs.StacksStaySmall.{Lawful-short, Lawful-apart, Lawful-open, Lawful-close}
+use Rattle.daide_grammar.specs.Proofs.StacksStaySmall.{Lawful-skips, Lawful-ends}
+use Rattle.daide_grammar.specs.Proofs.NoLanguageIsEmpty.{symbol-inhabited}
 
 -- the concatenation of the symbols' forms is the concatenation of their languages
 pub follows : (d : Dialect) (ss : List Sym) (w : List ℕ) → AllMatchIn d ss w → StackMatches (SymbolMatchesIn d) ss w

@@ -5,7 +5,7 @@ use Rattle.std.proofs.lemmas.Bool.{leb-true}
 use Rattle.daide_grammar.specs.declared.symbol.Sym.{Sym}
 use Rattle.daide_grammar.specs.Bounds.{height_bound}
 use Rattle.daide_grammar.specs.Table.Shapes.{shape, join, shapes}
-use Rattle.daide_grammar.specs.Table.Proved.Alternatives.{both-pass}
+use Rattle.daide_grammar.specs.Proofs.Alternatives.{both-pass}
 
 -- lists of equal length, the first at most the second at each index
 unfoldable pub fits : List ℕ → List ℕ → Bool

@@ -11,8 +11,8 @@ use Rattle.daide_grammar.specs.SideMessages.{standard}
 use Rattle.daide_grammar.specs.Table.Languages.{SymbolMatches}
 use Rattle.daide_grammar.specs.Table.LawfulStack.{IsLawful, start_symbol}
 use Rattle.daide_grammar.specs.Table.Laws.{IsCorrectPrediction}
-use Rattle.daide_grammar.specs.Table.Proved.StandardDialect.{standard-proper, standard-words}
-use Rattle.daide_grammar.specs.Table.Proved.TableLaws.{table_laws}
+use Rattle.daide_grammar.specs.Proofs.StandardDialect.{standard-proper, standard-words}
+use Rattle.daide_grammar.specs.Proofs.TableLaws.{table_laws}
 
 -- a bracket is the only token of its class
 pub only_bra : (t : ℕ) → (class_of t ≡ Bra) ↔ (t ≡ bra)

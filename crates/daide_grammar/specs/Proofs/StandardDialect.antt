@@ -8,7 +8,7 @@ use Rattle.daide_grammar.specs.declared.level.Level.{Level}
 use Rattle.daide_grammar.specs.Classes.{class_number, own_classes}
 use Rattle.daide_grammar.specs.Forms.{Slot}
 use Rattle.daide_grammar.specs.SideMessages.{standard}
-use Rattle.daide_grammar.specs.Table.Proved.MovesAgree.{Proper, NoWord}
+use Rattle.daide_grammar.specs.Proofs.MovesAgree.{Proper, NoWord}
 
 -- a class with a number below the words is a class of tokens
 pub is_standard-below : (c : Class) → class_number c < own_classes → is_standard c ≡ true

@@ -16,9 +16,9 @@ use Rattle.daide_grammar.specs.Matches.{MatchAll}
 use Rattle.daide_grammar.specs.Table.Symbols.{form_of, Alternative, entries, entry_at, this_or, forms, may_end_of, slot_of}
 use Rattle.daide_grammar.specs.Table.Symbols.{is_of_kind}
 use Rattle.daide_grammar.specs.Table.Languages.{SymbolMatchesIn}
-use Rattle.daide_grammar.specs.Table.Proved.Alternatives.{both-pass, MatchAll-split}
-use Rattle.daide_grammar.specs.Table.Proved.MovesAgree.{Proper, IsStandard, standard-no-word, AllMatchIn, entry-law}
-use Rattle.daide_grammar.specs.Table.Proved.MovesAgree.{may_end-law}
+use Rattle.daide_grammar.specs.Proofs.Alternatives.{both-pass, MatchAll-split}
+use Rattle.daide_grammar.specs.Proofs.MovesAgree.{Proper, IsStandard, standard-no-word, AllMatchIn, entry-law}
+use Rattle.daide_grammar.specs.Proofs.MovesAgree.{may_end-law}
 
 -- a class that passes the test
 abbrev pub sample : TokenTest → Class

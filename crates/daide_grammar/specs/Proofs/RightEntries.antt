@@ -15,10 +15,10 @@ use Rattle.daide_grammar.specs.Forms.{TokenTest, is, any_but_brackets, Slot, Pre
 use Rattle.daide_grammar.specs.Forms.{Form, named, Dialect}
 use Rattle.daide_grammar.specs.Table.Symbols.{form_of, Alternative, entries, forms, may_end_of, slot_of}
 use Rattle.daide_grammar.specs.Table.Symbols.{is_of_kind}
-use Rattle.daide_grammar.specs.Table.Proved.Reading.{FirstItem, starts, ends, unopened, heads}
-use Rattle.daide_grammar.specs.Table.Proved.Reading
-use Rattle.daide_grammar.specs.Table.Proved.Alternatives.{same_level, same_kind, parts_all, covers}
-use Rattle.daide_grammar.specs.Table.Proved.Alternatives
+use Rattle.daide_grammar.specs.Proofs.Reading.{FirstItem, starts, ends, unopened, heads}
+use Rattle.daide_grammar.specs.Proofs.Reading
+use Rattle.daide_grammar.specs.Proofs.Alternatives.{same_level, same_kind, parts_all, covers}
+use Rattle.daide_grammar.specs.Proofs.Alternatives
 
 -- the first alternatives before the others if the test passes
 abbrev pub if_same : Bool → List (List Form) → List (List Form) → List (List Form)

@@ -17,14 +17,14 @@ use Rattle.daide_grammar.specs.Table.Symbols.{is_of_kind}
 use Rattle.daide_grammar.specs.Table.Symbols.{answer_by, table_answer}
 use Rattle.daide_grammar.specs.Table.Answers.{Take, Skip, Stop}
 use Rattle.daide_grammar.specs.Table.Languages.{SymbolMatchesIn}
-use Rattle.daide_grammar.specs.Table.Proved.Reading.{LeftDerivation, FirstItem, starts, ends, unopened, HeadReads, heads, heads-cover}
-use Rattle.daide_grammar.specs.Table.Proved.Reading.{heads-sound, Some-of, Some-first, Some-second, Some-split}
-use Rattle.daide_grammar.specs.Table.Proved.Reading.{MatchAll_from_Reads, Reads_from_MatchAll}
-use Rattle.daide_grammar.specs.Table.Proved.Alternatives.{same_level, same_level-means, same_kind, same_kind-sound, parts_all}
-use Rattle.daide_grammar.specs.Table.Proved.Alternatives.{parts_all-cover, parts_all-sound, covers, covers-sound, both-pass}
-use Rattle.daide_grammar.specs.Table.Proved.Alternatives.{either-passes, alone, unalone}
-use Rattle.daide_grammar.specs.Table.Proved.RightEntries.{after, apart, all_apart, is_added, same_slot, added_right, if_same}
-use Rattle.daide_grammar.specs.Table.Proved.RightEntries.{known, entry_right, is_end_marker, right_by, agrees_with_first, all_right}
+use Rattle.daide_grammar.specs.Proofs.Reading.{LeftDerivation, FirstItem, starts, ends, unopened, HeadReads, heads, heads-cover}
+use Rattle.daide_grammar.specs.Proofs.Reading.{heads-sound, Some-of, Some-first, Some-second, Some-split}
+use Rattle.daide_grammar.specs.Proofs.Reading.{MatchAll_from_Reads, Reads_from_MatchAll}
+use Rattle.daide_grammar.specs.Proofs.Alternatives.{same_level, same_level-means, same_kind, same_kind-sound, parts_all}
+use Rattle.daide_grammar.specs.Proofs.Alternatives.{parts_all-cover, parts_all-sound, covers, covers-sound, both-pass}
+use Rattle.daide_grammar.specs.Proofs.Alternatives.{either-passes, alone, unalone}
+use Rattle.daide_grammar.specs.Proofs.RightEntries.{after, apart, all_apart, is_added, same_slot, added_right, if_same}
+use Rattle.daide_grammar.specs.Proofs.RightEntries.{known, entry_right, is_end_marker, right_by, agrees_with_first, all_right}
 
 -- Added forms are not empty, and begin with added words.
 pub record Proper (d : Dialect) : Type 0 where

@@ -6,7 +6,7 @@ use Rattle.daide_grammar.specs.Forms.{TokenTest, is, Nonterminal, Form, one, nev
 use Rattle.daide_grammar.specs.Forms.{Added, Place_name, Dialect}
 use Rattle.daide_grammar.specs.Matches.{rule, Matches, token, nothing, both, first, second, no_more, one_more}
 use Rattle.daide_grammar.specs.Matches.{bracketed, by_name, MatchAll}
-use Rattle.daide_grammar.specs.Table.Proved.TokenTests.{accepted, passed}
+use Rattle.daide_grammar.specs.Proofs.TokenTests.{accepted, passed}
 use Rattle.daide_grammar.specs.Table.Symbols.{is_of_kind}
 
 -- a list of forms read from the left, token by token

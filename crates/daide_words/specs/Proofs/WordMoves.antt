@@ -15,12 +15,12 @@ use Rattle.daide_grammar.specs.SideMessages.{dialect_of}
 use Rattle.daide_grammar.specs.Table.Languages.{SymbolMatchesIn}
 use Rattle.daide_grammar.specs.Words.{AddedWord, Words, WordOperand, one_power, some_powers, some_provinces, an_order}
 use Rattle.daide_grammar.specs.Words.{an_arrangement, a_press, operand_in}
-use Rattle.daide_grammar.specs.Table.Proved.Alternatives.{alone, unalone}
-use Rattle.daide_grammar.specs.Table.Proved.MovesAgree.{Proper, NoWord, IsStandard, standard-no-word, AllMatchIn, take-law}
-use Rattle.daide_grammar.specs.Table.Proved.MovesAgree.{skip-law}
-use Rattle.daide_grammar.specs.Table.Proved.MovesAgree.{stop-law, no-yes}
+use Rattle.daide_grammar.specs.Proofs.Alternatives.{alone, unalone}
+use Rattle.daide_grammar.specs.Proofs.MovesAgree.{Proper, NoWord, IsStandard, standard-no-word, AllMatchIn, take-law}
+use Rattle.daide_grammar.specs.Proofs.MovesAgree.{skip-law}
+use Rattle.daide_grammar.specs.Proofs.MovesAgree.{stop-law, no-yes}
 use Rattle.daide_words.specs.Table.OverWords.{operand_symbol, stands, word_from, if_stands, word_answer, answer_over}
-use Rattle.daide_words.specs.Table.Proved.WordForms.{words-to, words-from, slot-law}
+use Rattle.daide_words.specs.Proofs.WordForms.{words-to, words-from, slot-law}
 
 -- the symbol of an operand has the form of the operand in brackets, at each slot
 abbrev pub HasOperands : Option (Slot × Level) → Type 0

@@ -15,9 +15,9 @@ use Rattle.daide_grammar.specs.Table.Answers.{Take, Skip, Stop}
 use Rattle.daide_grammar.specs.Table.Shapes.{is_bottom_symbol, shape, shapes}
 use Rattle.daide_grammar.specs.Words.{AddedWord, Words, WordOperand, one_power, some_powers, some_provinces, an_order}
 use Rattle.daide_grammar.specs.Words.{an_arrangement, a_press}
-use Rattle.daide_grammar.specs.Table.Proved.Sizes.{fits}
-use Rattle.daide_grammar.specs.Table.Proved.StacksInOrder.{tidy, sized, sized_by, GoodTake, GoodMoves, table-take, skip-ends}
-use Rattle.daide_grammar.specs.Table.Proved.StacksInOrder.{table-moves}
+use Rattle.daide_grammar.specs.Proofs.Sizes.{fits}
+use Rattle.daide_grammar.specs.Proofs.StacksInOrder.{tidy, sized, sized_by, GoodTake, GoodMoves, table-take, skip-ends}
+use Rattle.daide_grammar.specs.Proofs.StacksInOrder.{table-moves}
 use Rattle.daide_words.specs.Table.OverWords.{operand_symbol, stands, word_from, if_stands, word_answer, answer_over}
 
 -- the symbol of an operand is one entry, and need not be last
