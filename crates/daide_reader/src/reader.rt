@@ -3,7 +3,7 @@
 //! At a token that no message continues, it records the index and drops the stack. It counts brackets to the end, since
 //! the verdict on an unpaired message is PRN, whatever its error place.
 
-ghost use Rattle.std.specs.Prelude.{◌≡◌, ◌≤◌, ◌<◌, ◌+◌, ◌-◌, ◌*◌, ◌/◌, ◌++◌, [], ◌∷◌, List, ℕ, Option, None, Some, MatchOption, IsSome, IsTrue, ◌↔◌, ◌⊎◌, false, true, length, take};
+ghost use Rattle.std.specs.Prelude.{◌≡◌, ◌≤◌, ◌<◌, ◌+◌, ◌-◌, ◌*◌, ◌/◌, ◌++◌, [], ◌∷◌, List, ℕ, Option, None, Some, MatchOption, IsSome, ◌⊎◌, false, true, length, take};
 ghost use Rattle.daide_token.specs.Token.{tokens_of};
 ghost use Rattle.daide_grammar.specs.declared.symbol.Sym.{Sym};
 ghost use Rattle.daide_grammar.specs.Depth.{open_brackets};
@@ -19,7 +19,7 @@ ghost use Rattle.daide_reader.specs.Reading.{HasErrorIndex, HasReadPrefix, IsSet
 ghost use Rattle.daide_reader.specs.declared.verdict.Verdict.TheVariants.{Prn};
 
 use crate::brackets::are_open;
-use crate::outline::{MOST_TOKENS, Outline};
+use crate::outline::Outline;
 use crate::parse_stack::ParseStack;
 use crate::slice::{count_from, place_behind};
 use crate::stack::may_all_end;
@@ -116,7 +116,7 @@ impl<T: Predict, const N: usize> Reader<T, N> {
         self.finished = false;
     }
 
-    /// Reads a token, by the same code that reads a body. A message has at most 32,767 tokens, which `is_full` tests.
+    /// Reads a token, by the same code that reads a body. A message has at most 32,767 tokens, which `tokens` counts.
     ///
     /// `unasked`: it makes no look-up once a place was found or the message began with PRN. Neither do `read` and
     /// `finish` then, nor does `finish` if the message is not paired.
@@ -253,13 +253,6 @@ impl<T: Predict, const N: usize> Reader<T, N> {
         ensures { result ≡ tokens_read self.now }
     {
         self.outline.tokens as usize
-    }
-
-    /// Returns whether the message has the maximum number of tokens.
-    pub fn is_full(&self) -> bool
-        ensures { IsTrue result ↔ (most_tokens ≤ tokens_read self.now) }
-    {
-        self.outline.tokens >= MOST_TOKENS
     }
 
     /// Returns how many brackets are open: 0 in a message that begins with PRN, and 0 once a KET closed no bracket.

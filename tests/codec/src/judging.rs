@@ -130,7 +130,7 @@ fn course_of<T: Predict, const N: usize>(
     let mut steps = Vec::new(alloc);
     reader.start(side, level);
     for token in message {
-        if reader.is_full() {
+        if reader.tokens() == LONGEST / 2 {
             break;
         }
         reader.push(*token);
