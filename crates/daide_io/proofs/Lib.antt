@@ -1,3 +1,2 @@
 mod FaultFieldFacts
-mod InterestLemmas
 pub mod TraceLemmas
