@@ -184,10 +184,6 @@ module _ {S : Type 0} (calls : S → Option (List StreamCall)) where
 
   -- ---- puts alone
 
-  -- none
-  pub no_puts : (known : Readiness) (stream : S) → OnlyPuts calls known stream known stream
-  no_puts known stream = ([], (refl, refl))
-
   -- one
   pub one_put : (bytes : List ℕ) (known : Readiness) (old : S) (put : Put) (still : Readiness) (new : S) →
       IsPut calls bytes known old put still new → OnlyPuts calls known old still new

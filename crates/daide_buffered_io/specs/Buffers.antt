@@ -1,10 +1,12 @@
 -- A stream with a read buffer and a write buffer. (own)
-use Rattle.std.specs.Prelude.{◌≡◌, ◌≤◌, ℕ, Bool, true, false, List, [], ◌++◌, drop, Option, Some, None}
+use Rattle.std.specs.Prelude.{◌≡◌, ◌≤◌, ℕ, Bool, true, false, List, [], ◌++◌, length, drop, Option, Some, None}
 use Rattle.std.specs.Io.KnownBytes.{Consumes, Appends}
 use Rattle.daide_io.specs.declared.ports.Pull.{Pull}
 use Rattle.daide_io.specs.declared.ports.Pull.TheVariants.{Got, Idle, Ended}
 use Rattle.daide_buffered_io.specs.declared.readiness.Readiness.{Readiness}
 use Rattle.daide_io.specs.declared.ports.Put.{Put}
+use Rattle.daide_io.specs.declared.ports.Put.TheVariants.{Failed}
+use Rattle.daide_io.specs.Ports.{IsPutWithin}
 use Rattle.daide_buffered_io.specs.Calls.{IsPull, IsPut}
 use Rattle.daide_io.specs.Streams.{StreamCall}
 use Rattle.daide_buffered_io.specs.Taking.{taken_len, has_put_failed}
@@ -80,3 +82,14 @@ all_room = record { bytes = []; free_space = buffer_size }
 abbrev pub buffered_bytes : Option Roomful → List ℕ
 buffered_bytes None = []
 buffered_bytes (Some held) = held.bytes
+
+-- A put of these bytes only writes: nothing is read, and what is known of reads is unchanged. Its count is within the bytes,
+-- and the write buffer within its capacity. A failure is recorded, and a stream that is not writable stays so.
+pub record IsWriteOnly {S : Type 0} (to_give : S → Option (List ℕ)) (known : Readiness) (old : Buffer S) (bytes : List ℕ)
+    (put : Put) (still : Readiness) (new : Buffer S) : Type 0 where
+  pub within : IsPutWithin put (length bytes)
+  pub unread : ReadsNothing to_give old new
+  pub few : length new.write_buffer ≤ buffer_size
+  pub fails : put ≡ Failed → new.has_failed ≡ true
+  pub reads : still.may_read ≡ known.may_read
+  pub full : known.may_write ≡ false → still.may_write ≡ false

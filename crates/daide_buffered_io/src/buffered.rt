@@ -7,7 +7,7 @@
 
 ghost use Rattle.std.specs.Prelude.{◌≡◌, ◌<◌, ◌≤◌, ◌++◌, [], ◌∷◌, true, false, min, length, take, IfSome};
 ghost use Rattle.daide_io.specs.Ports.{AppendsTo, IsPullWithin, IsPutWithin, pulled_len};
-ghost use Rattle.daide_buffered_io.specs.Buffers.{Passes, ReadsNothing, WritesNothing, IsBufferedPull, IsFlushed, buffered_bytes};
+ghost use Rattle.daide_buffered_io.specs.Buffers.{Passes, ReadsNothing, WritesNothing, IsBufferedPull, IsFlushed, IsWriteOnly, buffered_bytes};
 ghost use Rattle.daide_buffered_io.specs.Calls.{IsStopped, OnlyPuts};
 ghost use Rattle.daide_io.specs.Streams.{WritingEnded};
 ghost use Rattle.daide_buffered_io.specs.Taking.{bytes_taken};
@@ -285,14 +285,9 @@ impl<S: Duplex + Drop> Buffered<S> {
     /// least `MOST_HELD` bytes or the pool returns no buffer.
     fn take_first(&mut self, pool: &Pool, readiness: &mut Readiness, bytes: &[u8]) -> Put
         requires { self.old.write_buffer ≡ [] }
-        ensures within { IsPutWithin result (length bytes.now) }
+        ensures write_only { IsWriteOnly S.to_give readiness.old self.old bytes.now result readiness.new self.new }
         ensures passes { Passes S.to_give S.taken self.old [] (bytes_taken result bytes.now) self.new }
-        ensures unread { ReadsNothing S.to_give self.old self.new }
-        ensures few { length self.new.write_buffer ≤ MOST_HELD }
         ensures waits { result ≡ Put.Took 0 → 0 < length bytes.now → IsStopped S.calls readiness.new self.new.stream }
-        ensures fails { result ≡ Put.Failed → self.new.has_failed ≡ true }
-        ensures reads { readiness.new.may_read ≡ readiness.old.may_read }
-        ensures full { readiness.old.may_write ≡ false → readiness.new.may_write ≡ false }
         ensures writes { OnlyPuts S.calls readiness.old self.old.stream readiness.new self.new.stream }
     {
         if bytes.len() < MOST_HELD {
@@ -315,15 +310,10 @@ impl<S: Duplex + Drop> Buffered<S> {
         bytes: &[u8],
     ) -> Put
         requires { self.old.write_buffer ≡ [] }
-        ensures within { IsPutWithin result (length bytes.now) }
+        ensures write_only { IsWriteOnly S.to_give readiness.old self.old bytes.now result readiness.new self.new }
         ensures passes { Passes S.to_give S.taken (record self.old { write_buffer = held.bytes }) []
             (bytes_taken result bytes.now) self.new }
-        ensures unread { ReadsNothing S.to_give self.old self.new }
-        ensures few { length self.new.write_buffer ≤ MOST_HELD }
         ensures waits { result ≡ Put.Took 0 → 0 < length bytes.now → IsStopped S.calls readiness.new self.new.stream }
-        ensures fails { result ≡ Put.Failed → self.new.has_failed ≡ true }
-        ensures reads { readiness.new.may_read ≡ readiness.old.may_read }
-        ensures full { readiness.old.may_write ≡ false → readiness.new.may_write ≡ false }
         ensures writes { OnlyPuts S.calls readiness.old self.old.stream readiness.new self.new.stream }
     {
         let mut held = held;
@@ -347,15 +337,10 @@ impl<S: Duplex + Drop> Buffered<S> {
         bytes: &[u8],
         count: usize,
     ) -> Put
-        ensures within { IsPutWithin result (length bytes.now) }
+        ensures write_only { IsWriteOnly S.to_give readiness.old self.old bytes.now result readiness.new self.new }
         ensures passes { Passes S.to_give S.taken self.old [] (bytes_taken result bytes.now) self.new }
-        ensures unread { ReadsNothing S.to_give self.old self.new }
-        ensures few { length self.new.write_buffer ≤ MOST_HELD }
         ensures waits { result ≡ Put.Took 0 → 0 < length bytes.now → 0 < count →
             IsStopped S.calls readiness.new self.new.stream }
-        ensures fails { result ≡ Put.Failed → self.new.has_failed ≡ true }
-        ensures reads { readiness.new.may_read ≡ readiness.old.may_read }
-        ensures full { readiness.old.may_write ≡ false → readiness.new.may_write ≡ false }
         ensures writes { OnlyPuts S.calls readiness.old self.old.stream readiness.new self.new.stream }
     {
         let Some(held) = self.write_buffer.take() else {
@@ -365,28 +350,6 @@ impl<S: Duplex + Drop> Buffered<S> {
             return self.take_written(held, pool, readiness, bytes);
         }
         self.hold(held, pool, bytes)
-    }
-
-    /// Puts at least `MOST_HELD` bytes. Fills the write buffer with the first of them and writes it, or writes the
-    /// bytes directly if it is empty. If it is full, it is written first, so `Took(0)` means that the stream accepts
-    /// nothing now.
-    fn put_many(&mut self, pool: &Pool, readiness: &mut Readiness, bytes: &[u8]) -> Put
-        ensures within { IsPutWithin result (length bytes.now) }
-        ensures passes { Passes S.to_give S.taken self.old [] (bytes_taken result bytes.now) self.new }
-        ensures unread { ReadsNothing S.to_give self.old self.new }
-        ensures few { length self.new.write_buffer ≤ MOST_HELD }
-        ensures waits { result ≡ Put.Took 0 → 0 < length bytes.now → IsStopped S.calls readiness.new self.new.stream }
-        ensures fails { result ≡ Put.Failed → self.new.has_failed ≡ true }
-        ensures reads { readiness.new.may_read ≡ readiness.old.may_read }
-        ensures full { readiness.old.may_write ≡ false → readiness.new.may_write ≡ false }
-        ensures writes { OnlyPuts S.calls readiness.old self.old.stream readiness.new self.new.stream }
-    {
-        let put = self.take_behind(pool, readiness, bytes, 1);
-        if put == Put::Took(0) {
-            return put;
-        }
-        self.flush(pool, readiness);
-        put
     }
 
     /// Puts bytes. Fewer than `MOST_HELD`, 16,384, are kept together: if the free space is too small for all of them,
@@ -424,10 +387,17 @@ impl<S: Duplex + Drop> Buffered<S> {
         if self.has_failed {
             return Put::Failed;
         }
-        if bytes.len() >= MOST_HELD {
-            return self.put_many(pool, readiness, bytes);
+        if bytes.len() < MOST_HELD {
+            return self.take_behind(pool, readiness, bytes, bytes.len());
         }
-        self.take_behind(pool, readiness, bytes, bytes.len())
+        // Many bytes fill the write buffer, which is written at once. If it is full, it is written first, so `Took(0)`
+        // means that the stream accepts nothing now.
+        let put = self.take_behind(pool, readiness, bytes, 1);
+        if put == Put::Took(0) {
+            return put;
+        }
+        self.flush(pool, readiness);
+        put
     }
 
     /// Shuts down the writing direction. Requires an empty write buffer, so no byte that waits is lost.
