@@ -16,10 +16,10 @@ use Rattle.daide_protocol.specs.declared.ending.Ending.{Ending}
 use Rattle.daide_frame.specs.Side.{other}
 use Rattle.daide_protocol.specs.Machine.{SessionState, Successor, IsCorrectVerdict, asked_by, items_outcome, is_over, level_in, nothing, end, stop}
 use Rattle.daide_protocol.specs.Wires.{SessionView, Holding, account_after, queued, holding, sent_to, note_of}
-use Rattle.daide_protocol.specs.Wires.{held_after, is_dm_head}
+use Rattle.daide_protocol.specs.Wires.{held_after, is_awaited, is_dm_head}
 use Rattle.daide_session.specs.declared.protocol_state.ProtocolState.{ProtocolState}
 use Rattle.daide_frame.specs.PerSide.{at}
-use Rattle.daide_channels.specs.Channels.{Channels, Keeps, IsStarted}
+use Rattle.daide_channels.specs.Channels.{Channels, Keeps, IsStarted, has_final_frame, pending, side_holding}
 
 -- The session made the moves of an outcome: its state, its frames appended to the queues, and its moves counted.
 pub record Emits (old : SessionView) (o : Successor) (new : SessionView) : Type 0 where
@@ -73,6 +73,14 @@ pub record StartsMessage (side : Side) (old : Channels) (protocol : ProtocolStat
   pub queued : new.queued ≡ old.queued
   pub fronts : new.parts ≡ old.parts
   pub started : IsStarted (at old.sides side) (level_in protocol.phase) (at new.sides side)
+
+-- A side's frame events may be handled: the session is not over and queues no final frame. No answer to the side's last
+-- frame is queued, and the side's received bytes are those of the frame that it is sending.
+pub record MayHandleEvents (channels : Channels) (protocol : ProtocolState) (side : Side) : Type 0 where
+  pub live : is_over protocol.phase ≡ false
+  pub no_end : (wire : Side) → has_final_frame (at channels.queued wire) ≡ false
+  pub free : is_awaited (at channels.queued) side ≡ false
+  pub tied : (side_holding channels side).held ≡ pending channels side
 
 -- The session handled the frame events that end with a side's last byte.
 pub record HandlesFrameEvents (old : SessionView) (side : Side) (items : List FrameEvent) (reported : Note) (new : SessionView) : Type 0 where

@@ -1,16 +1,13 @@
 //! The transitions of a session on frame events: the effects of the last byte of a piece.
 
-ghost use Rattle.std.specs.Prelude.{◌≡◌, ◌⊎◌, false, [], ◌∷◌, length, drop, Some, None, Ok};
-ghost use Rattle.daide_frame.specs.declared.side.Side.{Side};
+ghost use Rattle.std.specs.Prelude.{◌≡◌, ◌⊎◌, [], ◌∷◌, length, drop, Some, None, Ok};
 ghost use Rattle.daide_frame.specs.declared.head.Kind.TheVariants as Kinds;
 ghost use Rattle.daide_frame.specs.Frames.{Begun, Whole, HoldsFrame, IsBodied, head_in, items_of_step, IsWholeBody};
-ghost use Rattle.daide_protocol.specs.Machine.{untimely as untimely_code, is_over as is_over_phase};
-ghost use Rattle.daide_protocol.specs.Wires.{is_awaited};
-ghost use Rattle.daide_frame.specs.PerSide.{at};
+ghost use Rattle.daide_protocol.specs.Machine.{untimely as untimely_code};
 ghost use Rattle.daide_channels.specs.Fronts.{KeepsFronts};
-ghost use Rattle.daide_channels.specs.Channels.{pending, side_holding, has_final_frame};
+ghost use Rattle.daide_channels.specs.Channels.{pending, side_holding};
 ghost use Rattle.daide_session.specs.Session.{view_of};
-ghost use Rattle.daide_session.specs.FrameEvents.{HandlesFrameEvents, StartsMessage, note_by, check_of};
+ghost use Rattle.daide_session.specs.FrameEvents.{HandlesFrameEvents, MayHandleEvents, StartsMessage, note_by, check_of};
 
 use crate::protocol_state::{ProtocolState, fail};
 use daide_channels::channels::Channels;
@@ -46,11 +43,8 @@ fn begin<A: Allocator>(
     side: Side,
     head: Head,
 ) -> Note
-    requires live { is_over_phase protocol.old.phase ≡ false }
-    requires no_end { (wire : Side) → has_final_frame (at channels.old.queued wire) ≡ false }
-    requires free { is_awaited (at channels.old.queued) side ≡ false }
+    requires ready { MayHandleEvents channels.old protocol.old side }
     requires bodiless { drop 4 (pending channels.old side) ≡ [] }
-    requires tied { (side_holding channels.old side).held ≡ pending channels.old side }
     ensures reacts { HandlesFrameEvents (view_of channels.old protocol.old) side (Begun head ∷ []) result
         (view_of channels.new protocol.new) }
     ensures note { result ≡ note_by (untimely_code protocol.old.phase side head.kind) }
@@ -75,9 +69,7 @@ fn answer<A: Allocator>(
     side: Side,
     head: Head,
 ) -> Note
-    requires live { is_over_phase protocol.old.phase ≡ false }
-    requires free { is_awaited (at channels.old.queued) side ≡ false }
-    requires tied { (side_holding channels.old side).held ≡ pending channels.old side }
+    requires ready { MayHandleEvents channels.old protocol.old side }
     requires head { head_in channels.old.cap (pending channels.old side) ≡ Some head }
     requires good { check_of head.kind (drop 4 (pending channels.old side)) ≡ Ok tt }
     ensures reacts { HandlesFrameEvents (view_of channels.old protocol.old) side
@@ -126,10 +118,7 @@ fn complete<A: Allocator>(
     side: Side,
     head: Head,
 ) -> Note
-    requires live { is_over_phase protocol.old.phase ≡ false }
-    requires no_end { (wire : Side) → has_final_frame (at channels.old.queued wire) ≡ false }
-    requires free { is_awaited (at channels.old.queued) side ≡ false }
-    requires tied { (side_holding channels.old side).held ≡ pending channels.old side }
+    requires ready { MayHandleEvents channels.old protocol.old side }
     requires head { head_in channels.old.cap (pending channels.old side) ≡ Some head }
     requires full { IsWholeBody head (drop 4 (pending channels.old side)) }
     ensures reacts { HandlesFrameEvents (view_of channels.old protocol.old) side
@@ -151,11 +140,8 @@ fn begin_and_complete<A: Allocator>(
     side: Side,
     head: Head,
 ) -> Note
-    requires live { is_over_phase protocol.old.phase ≡ false }
-    requires no_end { (wire : Side) → has_final_frame (at channels.old.queued wire) ≡ false }
-    requires free { is_awaited (at channels.old.queued) side ≡ false }
+    requires ready { MayHandleEvents channels.old protocol.old side }
     requires bodiless { drop 4 (pending channels.old side) ≡ [] }
-    requires tied { (side_holding channels.old side).held ≡ pending channels.old side }
     requires head { head_in channels.old.cap (pending channels.old side) ≡ Some head }
     requires full { IsWholeBody head [] }
     ensures reacts { HandlesFrameEvents (view_of channels.old protocol.old) side (Begun head ∷ Whole head [] ∷ []) result
@@ -176,10 +162,7 @@ pub fn on_frame_event<A: Allocator>(
     side: Side,
     step: Step,
 ) -> Note
-    requires live { is_over_phase protocol.old.phase ≡ false }
-    requires no_end { (wire : Side) → has_final_frame (at channels.old.queued wire) ≡ false }
-    requires free { is_awaited (at channels.old.queued) side ≡ false }
-    requires tied { (side_holding channels.old side).held ≡ pending channels.old side }
+    requires ready { MayHandleEvents channels.old protocol.old side }
     requires held { HoldsFrame step (head_in channels.old.cap (pending channels.old side))
         (drop 4 (pending channels.old side)) }
     ensures reacts { HandlesFrameEvents (view_of channels.old protocol.old) side

@@ -21,10 +21,10 @@ returns-then-not-is_sent-clause-reacts g c =
     let t = c.args.channels.now in
     let s = c.args.protocol.now in
     dropped_whole t c.clear.new.self s c.args.side c.args.head (drop 4 (pending t c.args.side))
-    c.after-protocol.result c.requires.live
+    c.after-protocol.result c.requires.ready.live
     (ap (λ (to : Side). is_sent s.phase c.args.head.kind to) (sym c.other.ensures)
     ∙ (sym c.is_sent.ensures ∙ c.if-not-is_sent.true))
-    c.requires.tied c.requires.head (c.after-protocol.ensures [] refl) c.clear.ensures.keeps
+    c.requires.ready.tied c.requires.head (c.after-protocol.ensures [] refl) c.clear.ensures.keeps
     c.clear.ensures.queued
     c.clear.ensures.cleared
 
@@ -39,15 +39,15 @@ returns-clause-reacts g c =
     let body = drop 4 (pending t c.args.side) in
     answered_whole t c.reply-verdict.new.self s c.args.side c.args.head body c.reply-verdict.result
     c.after-protocol-2.result c.record_name.new.self _
-    c.requires.live
+    c.requires.ready.live
     (ap (λ (to : Side). is_sent s.phase c.args.head.kind to) (sym c.other.ensures)
     ∙ (sym c.is_sent.ensures ∙ c.if-not-is_sent.false))
-    c.requires.good c.requires.tied c.requires.head c.reply-verdict.ensures.right c.reply-verdict.ensures.keeps
+    c.requires.good c.requires.ready.tied c.requires.head c.reply-verdict.ensures.right c.reply-verdict.ensures.keeps
     c.reply-verdict.ensures.queued c.reply-verdict.ensures.answered c.reply-verdict.ensures.raised
     c.reply-verdict.ensures.no_message
     (c.after-protocol-2.ensures _ c.found.ensures
     ∙ phase_held t c.reply-verdict.new.self c.args.side s.top_level c.args.head c.reply-verdict.result s.phase
-    c.reply-verdict.ensures.keeps c.reply-verdict.ensures.answered c.requires.tied c.requires.head)
+    c.reply-verdict.ensures.keeps c.reply-verdict.ensures.answered c.requires.ready.tied c.requires.head)
     (ap (λ (d : Deed). Note.Frame c.args.head d) c.deed_of-deed.ensures)
     (named_account s.top_level c.args.side c.args.head.kind (deed_of true c.reply-verdict.result) (tokens_of body) s.account
     c.count_frame.new.self c.record_name.new.self
@@ -58,7 +58,7 @@ returns-clause-reacts g c =
     c.deed_of-deed.ensures
     ∙ ap (λ (a : Account). record a { name = s.account.name })
     (account_held t c.reply-verdict.new.self c.args.side s.top_level c.args.head (deed_of true c.reply-verdict.result)
-    s.account c.reply-verdict.ensures.keeps c.reply-verdict.ensures.answered c.requires.tied c.requires.head)))
+    s.account c.reply-verdict.ensures.keeps c.reply-verdict.ensures.answered c.requires.ready.tied c.requires.head)))
     (c.record_name.ensures
     ∙ (ap (λ (d : Deed). record c.count_frame.new.self {
       name = name_after c.args.head.kind c.args.side d (tokens_of c.body.result.now) c.count_frame.new.self.name;
@@ -67,4 +67,4 @@ returns-clause-reacts g c =
       name = name_after c.args.head.kind c.args.side (deed_of true c.reply-verdict.result) (tokens_of l)
           c.count_frame.new.self.name;
     }) (c.body.ensures.value
-    ∙ ap (λ (l : List ℕ). drop 4 l) (c.reply-verdict.ensures.answered.held ∙ c.requires.tied)))))
+    ∙ ap (λ (l : List ℕ). drop 4 l) (c.reply-verdict.ensures.answered.held ∙ c.requires.ready.tied)))))

@@ -11,8 +11,8 @@ use Rattle.daide_session.proofs.frame_events.begin.Goals as goal
 
 pub returns-clause-reacts : goal.returns-clause-reacts
 returns-clause-reacts g c =
-    begun_alone c.args.channels.now c.begin.new.self c.args.protocol.now c.args.side c.args.head c.requires.live
-    (sym c.untimely.ensures ∙ c.in_default.is) c.requires.bodiless c.requires.tied
+    begun_alone c.args.channels.now c.begin.new.self c.args.protocol.now c.args.side c.args.head c.requires.ready.live
+    (sym c.untimely.ensures ∙ c.in_default.is) c.requires.bodiless c.requires.ready.tied
     (record {
       protocol_kept = refl;
       keeps = c.begin.ensures.keeps;

@@ -1,4 +1,4 @@
-use Rattle.std.proofs.Common.{◌≡◌, ℕ, List, [], ◌∷◌, drop, ap, ◌∙◌, subst}
+use Rattle.std.proofs.Common.{rules, ◌≡◌, ℕ, List, [], ◌∷◌, drop, ap, ◌∙◌, subst}
 use Rattle.daide_frame.specs.Frames.{Whole}
 use Rattle.daide_protocol.specs.Machine.{Coming, Sent}
 use Rattle.daide_protocol.specs.Wires.{is_awaited}
@@ -10,10 +10,15 @@ use Rattle.daide_session.proofs.FrameEventsLemmas.{begun_and_empty, begun_late, 
 use Rattle.daide_session.proofs.SessionFronts.{fronts_from}
 use Rattle.daide_session.proofs.frame_events.begin_and_complete.Goals as goal
 
-pub complete-requires-clause-free : goal.complete-requires-clause-free
-complete-requires-clause-free g c =
+pub complete-requires-clause-ready : goal.complete-requires-clause-ready
+complete-requires-clause-ready g c =
     let begun = c.in-Nothing.ensures.begun (no_code _ c.in-Nothing.ensures.note) in
-    ap (λ (w : PerSide (List Sent)). is_awaited (at w) c.args.side) begun.queued ∙ c.requires.free
+    record {
+      live = search rules;
+      no_end = search rules;
+      free = ap (λ (w : PerSide (List Sent)). is_awaited (at w) c.args.side) begun.queued ∙ c.requires.ready.free;
+      tied = search rules;
+    }
 
 pub returns-in-Nothing-clause-reacts : goal.returns-in-Nothing-clause-reacts
 returns-in-Nothing-clause-reacts g c =
@@ -28,7 +33,7 @@ returns-in-Nothing-clause-reacts g c =
     let last = subst (λ (b : List ℕ). HandlesFrameEvents (view_of u c.begin.new.protocol) side (Whole head b ∷ [])
     c.complete.result (view_of c.complete.new.channels c.complete.new.protocol)) still c.complete.ensures.reacts in
     begun_and_empty t u c.complete.new.channels c.args.protocol.now c.begin.new.protocol c.complete.new.protocol side head
-    c.complete.result c.requires.live timely (ap (drop 4) c.requires.tied ∙ c.requires.bodiless) begun last
+    c.complete.result c.requires.ready.live timely (ap (drop 4) c.requires.ready.tied ∙ c.requires.bodiless) begun last
 
 pub returns-in-Nothing-clause-fronts : goal.returns-in-Nothing-clause-fronts
 returns-in-Nothing-clause-fronts g c =
