@@ -117,8 +117,9 @@ class Built(Checks):
             kept.mkdir()
             is_same = text_of(own) == text_of(self.folder / "crates" / crate)
             return "" if is_same else "its crate has another text than was proved"
-        if self.run(["rt", "check", "--jobs", self.jobs], CRATES / crate).status:
-            return "its crate is not proved without it"
+        outcome = self.run(["rt", "check", "--jobs", self.jobs], CRATES / crate)
+        if outcome.status:
+            return f"its crate is not proved without it: {' '.join(outcome.lines[-1:])[:200]}"
         shutil.copytree(CRATES / crate / "out/incremental", kept, symlinks=True, copy_function=link_proofs)
         return "" if text_of(own) == text_of(CRATES / crate) else "its crate was changed meanwhile"
 
