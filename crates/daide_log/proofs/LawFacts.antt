@@ -17,10 +17,8 @@ use Rattle.daide_log.specs.Heading.{Unnamed}
 use Rattle.daide_log.specs.Laws.{IsLines, SessionsAreAlone, own_reported}
 use Rattle.daide_log.specs.Log.{IsReportBy, IsReport, Opening, ReportsBy}
 use Rattle.daide_log.specs.Progress.{HasFault}
-use Rattle.daide_log.specs.RecordLaw.{HasFront, IsReported, PortsAreRecorded, RecordsAreReported, begun_record}
-use Rattle.daide_log.specs.Recording.{Recorded, Records}
-use Rattle.daide_log.specs.TimedLaw.{HasBegun, HasItems, IsTimedReported, TimedPortsAreRecorded, TimedRecordsAreReported}
-use Rattle.daide_log.specs.TimedRecording.{TimedRecorded, TimedRecords}
+use Rattle.daide_log.specs.RecordLaw.{HasBegun, HasItems, IsTimedReported, TimedPortsAreRecorded, TimedRecordsAreReported}
+use Rattle.daide_log.specs.Recording.{TimedRecorded, TimedRecords}
 use Rattle.daide_log.specs.Report.{ReportEntry, counted_all, lines_of, summary_line}
 use Rattle.daide_log.proofs.Played.{has_no_feed, unbroken}
 
@@ -48,39 +46,25 @@ bad_first_line more = (
 abbrev limits : Config
 limits = record { top_level = 60; max_body = 1024; max_depth = 16 }
 
--- the record of a session whose ports made no call
-nothing_recorded : RecordsAreReported → IsReported limits [] [] [] (initial_state (limits_with limits []))
-nothing_recorded law = law limits [] [] [] (initial_state (limits_with limits [])) refl refl tt tt (omega arith) (refl, refl)
-
 whole_or_failed : (end : RecordEnd) → end ≡ Whole → end ≢ Failed
 whole_or_failed end is other = absurd (let same : Whole ≡ Failed = sym is ∙ other in cc)
 
+-- the record of a session whose ports made no call
+nothing_recorded : TimedRecordsAreReported → IsTimedReported limits [] [] [] (initial_state (limits_with limits []))
+nothing_recorded law = law limits [] [] [] (initial_state (limits_with limits [])) refl refl tt tt (omega arith) (refl, refl)
+
 -- ports whose timer expired, and that had no other call
-one_line : {P : Type 0} (transition : P → PortCall → P → Type 0) (failed : Type 0) → PortsAreRecorded transition failed →
-    (old new : Recorded P) → old.record_of ≡ begun_record limits [] →
-    EvolvesBy (Records transition failed) old (Clock ImTimeIsOver ∷ []) new → new.record_of.ending ≡ Whole →
-    HasFront limits [] (Clock ImTimeIsOver ∷ []) new.record_of
-one_line transition failed law old new begun calls whole =
-    (law limits [] (Clock ImTimeIsOver ∷ []) old new (omega arith) begun calls).1
-    (whole_or_failed new.record_of.ending whole)
-
--- the record with times of a session whose ports made no call
-nothing_timed : TimedRecordsAreReported → IsTimedReported limits [] [] [] (initial_state (limits_with limits []))
-nothing_timed law = law limits [] [] [] (initial_state (limits_with limits [])) refl refl tt tt (omega arith) (refl, refl)
-
--- ports whose session was stopped, and that had no other call
-stop_line : {P : Type 0} (transition : P → PortCall → P → Type 0) (failed : Type 0) → PortsAreRecorded transition failed →
-    (old new : Recorded P) → old.record_of ≡ begun_record limits [] →
-    EvolvesBy (Records transition failed) old (Clock StopIsRequested ∷ []) new → new.record_of.ending ≡ Whole →
-    HasFront limits [] (Clock StopIsRequested ∷ []) new.record_of
-stop_line transition failed law old new begun calls whole =
-    (law limits [] (Clock StopIsRequested ∷ []) old new (omega arith) begun calls).1
-    (whole_or_failed new.record_of.ending whole)
-
--- ports with times whose timer expired, and that had no other call
-one_timed_line : {P : Type 0} (transition : P → PortCall → P → Type 0) (failed : Type 0) →
+one_line : {P : Type 0} (transition : P → PortCall → P → Type 0) (failed : Type 0) →
     TimedPortsAreRecorded transition failed → (old new : TimedRecorded P) → HasBegun limits [] [] old.record_of →
     EvolvesBy (TimedRecords transition failed) old (Clock ImTimeIsOver ∷ []) new → new.record_of.ending ≡ Whole →
     HasItems limits [] (Clock ImTimeIsOver ∷ []) new.record_of
-one_timed_line transition failed law old new begun calls whole =
+one_line transition failed law old new begun calls whole =
     (law limits [] [] (Clock ImTimeIsOver ∷ []) old new begun calls).1 (whole_or_failed new.record_of.ending whole)
+
+-- ports whose session was stopped, and that had no other call
+stop_line : {P : Type 0} (transition : P → PortCall → P → Type 0) (failed : Type 0) →
+    TimedPortsAreRecorded transition failed → (old new : TimedRecorded P) → HasBegun limits [] [] old.record_of →
+    EvolvesBy (TimedRecords transition failed) old (Clock StopIsRequested ∷ []) new → new.record_of.ending ≡ Whole →
+    HasItems limits [] (Clock StopIsRequested ∷ []) new.record_of
+stop_line transition failed law old new begun calls whole =
+    (law limits [] [] (Clock StopIsRequested ∷ []) old new begun calls).1 (whole_or_failed new.record_of.ending whole)

@@ -28,7 +28,6 @@ pub mod RecordHead
 pub mod RecordCounts
 pub mod RecordReported
 pub mod PauseLemmas
-pub mod RecordedPorts
 pub mod TimeFacts
 pub mod TimedReported
 pub mod TimedPorts

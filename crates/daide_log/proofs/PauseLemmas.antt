@@ -1,10 +1,10 @@
 -- A record that is written when no bytes move.
 use Rattle.std.proofs.Common.{◌≡◌, ◌+◌, ◌<◌, ℕ, List, [], Option, Some, None, refl, sym, ap, ◌∙◌, ◌++◌, append_assoc, subst, inl, inr}
 use Rattle.std.specs.Io.KnownBytes.{Keeps, Appends, append_known}
-use Rattle.daide_log_lines.specs.LogLine.{LogEvent, most_lines}
+use Rattle.daide_log_lines.specs.LogLine.{most_lines}
 use Rattle.daide_log.specs.declared.record.RecordEnd.{RecordEnd}
 use Rattle.daide_log.specs.declared.record.RecordEnd.TheVariants.{Whole, Failed}
-use Rattle.daide_log.specs.Recording.{Written, RecordsEvent, WritesPage, KeepsText, TakesCall, GetsLine, GetsText}
+use Rattle.daide_log.specs.Recording.{Written, WritesPage, KeepsText, GetsLine, GetsText}
 
 pub unwritten_kept : (failed : Type 0) (old : Written) → KeepsText failed old old
 unwritten_kept failed old = inl refl
@@ -18,12 +18,6 @@ pub page_lost : (failed : Type 0) (old new : Written) → old.ending ≡ Whole �
     new.ending ≡ Failed → failed → KeepsText failed old new
 page_lost failed old new whole lines ending why =
     inr (record { whole = whole; lines = lines; written = inr (ending, why) })
-
--- what an event does to a record, as a call with this event does it
-pub event_taken : (failed : Type 0) (old new : Written) (event : Option LogEvent) → RecordsEvent failed old event new →
-    TakesCall failed old event new
-event_taken failed old new None same = inl same
-event_taken failed old new (Some event) taken = taken
 
 -- a whole record got a line, and is whole
 pub line_got : (failed : Type 0) (old new : Written) (line : List ℕ) → old.ending ≡ Whole → new.ending ≡ Whole →

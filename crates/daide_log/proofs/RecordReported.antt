@@ -1,4 +1,4 @@
--- The report of a session's record: its head, then a line for each call that has an event.
+-- The report of a record's head, and of the line of a call that has an event.
 use Rattle.std.proofs.Common.{◌≡◌, ℕ, suc, ◌+◌, ◌<◌, ◌≤◌, ◌⊎◌, inl, inr, cond, eqb, leb}
 use Rattle.std.proofs.Common.{Bool, true, false, List, [], ◌∷◌, ◌++◌, length, codes, append-nil}
 use Rattle.std.proofs.Common.{Option, Some, None, Result, Ok, Err, refl, sym, ap, ◌∙◌, subst, arith, append_assoc, length-append}
@@ -26,7 +26,7 @@ use Rattle.daide_reader.specs.declared.verdict.Verdict.{Verdict}
 use Rattle.daide_io.specs.declared.ports.ClockEvent.TheVariants.{NoEvent, ImTimeIsOver, StopIsRequested}
 use Rattle.daide_io.specs.declared.ports.Pull.TheVariants.{Got, Idle, Ended}
 use Rattle.daide_io.specs.declared.ports.Put.TheVariants.{Took, Failed}
-use Rattle.daide_io.specs.Ports.{PortCall, TurnBegins, Clock, Pulled, Offered, event_of, events_of}
+use Rattle.daide_io.specs.Ports.{PortCall, TurnBegins, Clock, Pulled, Offered, event_of}
 use Rattle.daide_log_lines.specs.LogLine.{most_lines}
 use Rattle.daide_log_lines.specs.LogLine.{LogEvent, Received, EndOf, ImTimerLine, StopLine}
 use Rattle.daide_log_lines.specs.MatchLine.{Of}
@@ -34,14 +34,12 @@ use Rattle.daide_log.specs.declared.heading.Version.TheVariants.{Match}
 use Rattle.daide_log.specs.Heading.{Preamble, Unnamed, Named, Headed, append_word, heading_after}
 use Rattle.daide_log.specs.Report.{ReportEntry, entries_of, side_of}
 use Rattle.daide_log.specs.Report.{events_of_line as events_in}
-use Rattle.daide_log.specs.Log.{ReportsBy, ReportsAllBy, IsReportBy, LogState, Opening, Playing, AdvancesByLine, Reports, ReportsAll, IsReport, state_after_preamble, stage_at, source_in}
+use Rattle.daide_log.specs.Log.{ReportsBy, LogState, Opening, Playing, AdvancesByLine, Reports, state_after_preamble, stage_at, source_in}
 use Rattle.daide_log.specs.RecordText.{reported_by}
-use Rattle.daide_log.specs.RecordText.{event_text, event_line, line_of_answer, count_of_answer, lines_of_answers}
-use Rattle.daide_log.specs.RecordText.{count_of_answers, lines_of_words, word_text, config_text, head_text, head_count}
-use Rattle.daide_log.specs.RecordText.{record_text, record_count}
-use Rattle.daide_log.specs.Recording.{IsPiece}
-use Rattle.daide_log.proofs.RecordCounts.{session_counts}
-use Rattle.daide_log.specs.RecordLaw.{side_of_answer, TellsBy, notes_reported, notes_of, HasName, IsReported}
+use Rattle.daide_log.specs.RecordText.{event_text, event_line, line_of_answer, count_of_answer}
+use Rattle.daide_log.specs.RecordText.{lines_of_words, word_text, config_text, head_text, head_count}
+use Rattle.daide_log.specs.RecordItem.{IsPiece}
+use Rattle.daide_log.specs.RecordLaw.{side_of_answer, notes_reported, notes_of, HasName}
 use Rattle.daide_log.proofs.RecordLines.{plain_unbroken, plain_without_cr, IsWritable, line_back, line_plain, line_short}
 use Rattle.daide_log.proofs.RecordHead.{IsWord, config_back, config_plain, config_short, word_back, word_plain, word_short}
 
@@ -171,21 +169,6 @@ pub entries_reported : (number : ℕ) (side : Side) (moves : List Effect) →
 entries_reported number side [] = refl
 entries_reported number side (move ∷ moves) = ap (λ (l : List Note). move.reported ∷ l) (entries_reported number side moves)
 
-reported_by_lines : (answers : List PortCall) (lines : ℕ) (old new : SessionState) (moves : List Effect) →
-    Runs old (events_of answers) moves new →
-    (reported : List ReportEntry) × TellsBy lines old answers reported new × (notes_reported reported ≡ notes_of moves)
-reported_by_lines [] lines old new moves r = ([], (refl, r.1), sym (ap notes_of r.0))
-reported_by_lines (answer ∷ answers) lines old new moves r =
-    let s = run_split (event_of answer) (events_of answers) old new moves r in
-    let later = reported_by_lines answers (lines + count_of_answer answer) s.0 new s.2 s.4 in
-    let here = entries_of (source_in Match (lines + 1) 1) (side_of_answer answer) s.1 in (
-      here ++ later.0,
-      (s.0, s.1, later.0, s.3, later.1, refl),
-      notes_reported-append here later.0
-          ∙ ap (λ (l : List Note). l ++ notes_reported later.0) (entries_reported (lines + 1) (side_of_answer answer) s.1)
-          ∙ ap (λ (l : List Note). notes_of s.1 ++ l) later.2 ∙ sym (notes_of-append s.1 s.2) ∙ ap notes_of (sym s.5),
-    )
-
 -- ---- one call
 
 -- the same report, with equal arguments
@@ -251,35 +234,6 @@ answer_reported (Offered side handed (Took n)) bytes number reported old new mov
     quiet_reported bytes number reported side old new moves h r
 answer_reported (Offered side handed Failed) bytes number reported old new moves piece fits h r =
     event_reported (EndOf side) bytes number reported old new moves tt fits h r
-
--- all calls
-
-answers_reported : (answers : List PortCall) (bytes : List ℕ) (number : ℕ) (reported more : List ReportEntry)
-    (logged old new : SessionState) → AllByRecursion IsPiece answers → number + count_of_answers answers ≤ most_lines →
-    Reports bytes number reported (Playing Match (logged ∷ [])) → IsAsLogged logged old → TellsBy number old answers more new →
-    (after : SessionState) × Reports (bytes ++ lines_of_answers answers) (number + count_of_answers answers)
-    (reported ++ more) (Playing Match (after ∷ []))
-answers_reported [] bytes number reported more logged old new pieces fits h alike t = (
-  logged,
-  same_report bytes (bytes ++ []) number (number + 0) reported (reported ++ more) (Playing Match (logged ∷ []))
-      (Playing Match (logged ∷ [])) (sym (append-nil bytes)) (omega arith)
-      (sym (ap (λ (l : List ReportEntry). reported ++ l) t.0 ∙ append-nil reported)) refl h,
-)
-answers_reported (answer ∷ answers) bytes number reported more logged old new pieces fits h alike t =
-    let line = line_of_answer answer in
-    let count = count_of_answer answer in
-    let here = entries_of (source_in Match (number + 1) 1) (side_of_answer answer) t.1 in
-    let goes = goes_as_logged answer logged old t.0 t.1 alike t.3 in
-    let first = answer_reported answer bytes number reported logged goes.logged t.1 pieces.0 (omega arith) h goes.runs in
-    let all = answers_reported answers (bytes ++ line) (number + count) (reported ++ here) t.2 goes.logged t.0 new pieces.1
-    (omega arith) first goes.alike t.4 in (
-      all.0,
-      same_report ((bytes ++ line) ++ lines_of_answers answers) (bytes ++ (line ++ lines_of_answers answers))
-          ((number + count) + count_of_answers answers) (number + (count + count_of_answers answers)) ((reported ++ here) ++ t.2)
-          (reported ++ more) (Playing Match (all.0 ∷ [])) (Playing Match (all.0 ∷ []))
-          (append_assoc bytes line (lines_of_answers answers)) (omega arith)
-          (append_assoc reported here t.2 ∙ ap (λ (l : List ReportEntry). reported ++ l) (sym t.5)) refl all.1,
-    )
 
 -- ---- words
 
@@ -427,24 +381,3 @@ head_reported config words good well names fits =
     (ap (λ (l : List ℕ). l ++ lines_of_words words) (append_assoc (codes "daide-log 2\n") line (10 ∷ []))) refl refl
     (all_there config words)
     (words_reported words [] config total ((codes "daide-log 2\n" ++ line) ++ 10 ∷ []) 2 second (omega arith) well names fits)
-
-pub record_reported : (config : Config) (words : List Word) (answers : List PortCall) (moves : List Effect)
-    (state : SessionState) → config_fault config ≡ Ok tt → are_accepted words ≡ true → AllByRecursion HasName words →
-    AllByRecursion IsPiece answers → record_count words answers ≤ most_lines →
-    Runs (initial_state (limits_with config words)) (events_of answers) moves state →
-    IsReported config words answers moves state
-record_reported config words answers moves state good well names pieces fits run =
-    let start = initial_state (limits_with config words) in
-    let reported = reported_by_lines answers (head_count words) start state moves run in
-    let head = head_reported config words good well names (omega arith) in
-    let all = answers_reported answers (head_text config words) (head_count words) [] reported.0 start start state pieces fits
-    head (inl refl) reported.1 in
-    record {
-      reported = reported.0;
-      by_lines = reported.1;
-      notes = reported.2;
-      counts = session_counts reported.0 moves reported.2;
-      report = IsReportBy.whole (record_text config words answers) (record_count words answers) reported.0 Match (all.0 ∷ [])
-          (ReportsAllBy.ended (record_text config words answers) (record_count words answers) reported.0
-          (Playing Match (all.0 ∷ [])) all.1);
-    }

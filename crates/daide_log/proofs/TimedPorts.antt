@@ -2,7 +2,7 @@
 use Rattle.std.proofs.Common.{◌≡◌, ◌≢◌, ◌⊎◌, inl, inr, ℕ, ◌+◌, ◌≤◌, List, [], ◌∷◌, ◌++◌, Option, Some, None, refl, sym, ap, ◌∙◌, subst}
 use Rattle.std.proofs.Common.{arith, append_assoc, append-nil}
 use Rattle.std.specs.List.{AllByRecursion}
-use Rattle.std.specs.Io.KnownBytes.{Keeps}
+use Rattle.std.specs.Io.KnownBytes.{Keeps, Appends}
 use Rattle.daide_words.specs.declared.word.Word.{Word}
 use Rattle.daide_protocol.specs.declared.config.Config.{Config}
 use Rattle.daide_io.specs.Ports.{PortCall, EvolvesBy}
@@ -12,12 +12,11 @@ use Rattle.daide_log.specs.declared.record.RecordEnd.{RecordEnd}
 use Rattle.daide_log.specs.declared.record.RecordEnd.TheVariants.{Whole, Failed, Full}
 use Rattle.daide_log.specs.RecordText.{event_line, reported_by, line_reported, count_reported, line_of_answer, count_of_answer}
 use Rattle.daide_log.specs.RecordText.{head_text}
-use Rattle.daide_log.specs.RecordItem.{RecordItem, Called, Timed, IsItem, call_in, calls_in, line_of_item, count_of_item}
+use Rattle.daide_log.specs.RecordItem.{RecordItem, Called, Timed, IsPiece, IsItem, call_in, calls_in, line_of_item, count_of_item}
 use Rattle.daide_log.specs.RecordItem.{lines_of_items, count_of_items, timed_text, timed_count}
-use Rattle.daide_log.specs.Recording.{Written, KeepsText, GetsLine, GetsText, TakesEvent, IsPiece}
-use Rattle.daide_log.specs.TimedRecording.{TimedRecorded, TimedRecords, TakesTime, TakesTimedCall, due_time}
-use Rattle.daide_log.specs.TimedLaw.{HasItems, TimedPortsAreRecorded}
-use Rattle.daide_log.proofs.RecordedPorts.{appended, kept}
+use Rattle.daide_log.specs.Recording.{Written, KeepsText, GetsLine, GetsText, TakesEvent}
+use Rattle.daide_log.specs.Recording.{TimedRecorded, TimedRecords, TakesTime, TakesTimedCall, due_time}
+use Rattle.daide_log.specs.RecordLaw.{HasItems, TimedPortsAreRecorded}
 
 -- ---- one more item
 
@@ -76,6 +75,17 @@ data Lined (config : Config) (words : List Word) (items : List RecordItem) (item
     lined : IsWholeOf config words (items ++ item ∷ []) new → Lined config words items item new
     filled : IsFullOf config words items new → Lined config words items item new
     broken : new.ending ≡ Failed → Lined config words items item new
+
+appended : (old new : Option (List ℕ)) (text line : List ℕ) → old ≡ Some text → Appends old new line → new ≡ Some (text ++ line)
+appended None new text line e h = absurd (cc)
+appended (Some xs) None text line e h = absurd h
+appended (Some xs) (Some ys) text line e h =
+    let same : xs ≡ text = cc in ap Some (h ∙ ap (λ (l : List ℕ). l ++ line) same)
+
+kept : (old new : Option (List ℕ)) (text : List ℕ) → old ≡ Some text → Keeps old new → new ≡ Some text
+kept None new text e h = absurd (cc)
+kept (Some xs) None text e h = absurd h
+kept (Some xs) (Some ys) text e h = ap Some h ∙ e
 
 line_taken : (failure : Type 0) (config : Config) (words : List Word) (items : List RecordItem) (item : RecordItem)
     (old new : Written) → IsWholeOf config words items old → IsItem item → count_of_item item ≡ 1 → (ending : RecordEnd) →

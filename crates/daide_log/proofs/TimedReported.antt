@@ -1,4 +1,4 @@
--- The report of a record with times: as without them, under the numbers of its lines.
+-- The report of a record: its calls and comments, under the numbers of its lines.
 use Rattle.std.proofs.Common.{◌≡◌, ℕ, zero, suc, ◌+◌, ◌/◌, ◌%◌, ◌<◌, ◌≤◌, ◌&&◌, inl, cond, Bool, true, false, List, [], ◌∷◌, ◌++◌, length, map, take, codes, leb}
 use Rattle.std.proofs.Common.{Some, None, Ok, refl, sym, ap, ◌∙◌, subst, arith, append_assoc, append-nil, length-append}
 use Rattle.std.specs.Prelude.{unsigned_abs}
@@ -26,8 +26,8 @@ use Rattle.daide_log.specs.RecordItem.{RecordItem, Called, Begun, Timed, IsItem,
 use Rattle.daide_log.specs.RecordItem.{line_of_item, address_text, printable, longest_address, begun_text, time_text}
 use Rattle.daide_log.specs.RecordItem.{timed_text, timed_count}
 use Rattle.daide_log.specs.UtcText.{two_digits, three_digits, four_digits, date_text, clock_text, utc_text}
-use Rattle.daide_log.specs.RecordLaw.{side_of_answer, notes_reported, notes_of, HasName}
-use Rattle.daide_log.specs.TimedLaw.{TellsByItems, IsTimedReported, TimedRecordsAreReported}
+use Rattle.daide_log.specs.RecordLaw.{side_of_answer, notes_reported, notes_of}
+use Rattle.daide_log.specs.RecordLaw.{TellsByItems, IsTimedReported, TimedRecordsAreReported}
 use Rattle.daide_log.proofs.ReportLemmas.{decimal_few}
 use Rattle.daide_log.proofs.RecordCounts.{session_counts}
 use Rattle.daide_log.proofs.RecordHead.{long_visible}

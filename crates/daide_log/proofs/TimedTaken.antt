@@ -5,9 +5,8 @@ use Rattle.jiff_core.specs.declared.civil.datetime.DateTime.{DateTime}
 use Rattle.daide_log.specs.declared.comment.Comment.TheVariants as comments
 use Rattle.daide_log.specs.declared.moment.Moment.{Moment}
 use Rattle.daide_log.specs.RecordItem.{comment_line}
-use Rattle.daide_log.specs.Recording.{Written, RecordsEvent, GetsText, TakesEvent, KeepsText}
+use Rattle.daide_log.specs.Recording.{Written, RecordsEvent, GetsText, TimedRecorded, TakesTime, TakesTimedCall, due_time, last_time}
 use Rattle.daide_log.specs.UtcText.{IsUtcOf}
-use Rattle.daide_log.specs.TimedRecording.{TimedRecorded, TakesTime, TakesTimedCall, due_time, last_time}
 
 -- an event without a line
 pub silent_taken : {P : Type 0} → (failed : Type 0) (old new : TimedRecorded P) (event : Option LogEvent) → event ≡ None →

@@ -11,9 +11,7 @@ pub mod Explaining
 pub mod Lawful
 pub mod Laws
 pub mod RecordText
-pub mod Recording
-pub mod RecordLaw
 pub mod UtcText
 pub mod RecordItem
-pub mod TimedRecording
-pub mod TimedLaw
+pub mod Recording
+pub mod RecordLaw

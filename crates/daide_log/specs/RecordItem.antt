@@ -1,14 +1,15 @@
 -- The text of a record with times: the lines of its calls, and comments. docs/FORMATS.md, "The record". (own)
-use Rattle.std.specs.Prelude.{ℕ, ⊤, ◌+◌, ◌<◌, ◌&&◌, nat_le, if◌then◌else◌, List, [], ◌∷◌, ◌++◌, map, take, codes}
+use Rattle.std.specs.Prelude.{ℕ, ⊤, ◌+◌, ◌<◌, ◌≤◌, ◌&&◌, nat_le, if◌then◌else◌, List, [], ◌∷◌, ◌++◌, length, map, take, codes}
 use Rattle.std.specs.Fmt.{decimal}
+use Rattle.hex.specs.Hex.{IsBytes}
 use Rattle.jiff_core.specs.declared.civil.datetime.DateTime.{DateTime}
 use Rattle.daide_words.specs.declared.word.Word.{Word}
 use Rattle.daide_protocol.specs.declared.config.Config.{Config}
-use Rattle.daide_io.specs.Ports.{PortCall}
+use Rattle.daide_io.specs.Ports.{PortCall, TurnBegins, Clock, Pulled, Offered}
+use Rattle.daide_log_lines.specs.LogLine.{longest_piece}
 use Rattle.daide_log.specs.declared.comment.Comment.{Comment}
 use Rattle.daide_log.specs.declared.comment.Comment.TheVariants as comments
 use Rattle.daide_log.specs.RecordText.{line_of_answer, count_of_answer, head_text, head_count}
-use Rattle.daide_log.specs.Recording.{IsPiece}
 use Rattle.daide_log.specs.UtcText.{utc_text}
 
 -- what a record has in its order: a call of the ports, or a comment with its time
@@ -57,6 +58,13 @@ count_of_item (Timed at) = 1
 -- the line of a comment
 unfoldable pub comment_line : Comment → List ℕ
 comment_line comment = line_of_item (item_of_comment comment)
+
+-- the bytes that a pull returned fit a line
+abbrev pub IsPiece : PortCall → Type 0
+IsPiece TurnBegins = ⊤
+IsPiece (Clock event) = ⊤
+IsPiece (Pulled side buffer pull bytes) = IsBytes bytes × (length bytes ≤ longest_piece)
+IsPiece (Offered side bytes put) = ⊤
 
 -- a call's bytes fit a line, and a session's number has 32 bits
 abbrev pub IsItem : RecordItem → Type 0

@@ -66,15 +66,6 @@ line_of_answer answer = line_reported (reported_by answer)
 abbrev pub count_of_answer : PortCall → ℕ
 count_of_answer answer = count_reported (reported_by answer)
 
--- the lines of calls, in order, and their number
-abbrev pub lines_of_answers : List PortCall → List ℕ
-lines_of_answers [] = []
-lines_of_answers (answer ∷ answers) = line_of_answer answer ++ lines_of_answers answers
-
-abbrev pub count_of_answers : List PortCall → ℕ
-count_of_answers [] = 0
-count_of_answers (answer ∷ answers) = count_of_answer answer + count_of_answers answers
-
 -- ---- the head
 
 -- words, separated by spaces
@@ -108,11 +99,3 @@ head_text config words =
 -- the number of its lines
 abbrev pub head_count : List Word → ℕ
 head_count words = 2 + length words
-
--- ---- the whole
-
-abbrev pub record_text : Config → List Word → List PortCall → List ℕ
-record_text config words answers = head_text config words ++ lines_of_answers answers
-
-abbrev pub record_count : List Word → List PortCall → ℕ
-record_count words answers = head_count words + count_of_answers answers

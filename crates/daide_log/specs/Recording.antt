@@ -1,20 +1,24 @@
--- Ports that record their calls: the effect of a call on the ports and on the record. (own)
-use Rattle.std.specs.Prelude.{◌≡◌, ◌⊎◌, ⊤, ℕ, ◌+◌, ◌-◌, ◌<◌, ◌≤◌, min, Bool, true, false, List, [], length, Option, Some, None}
+-- Ports that record their calls with times: the effect of a call on the ports and on the record. (own)
+use Rattle.std.specs.Prelude.{◌≡◌, ◌⊎◌, ⊤, ℕ, ◌+◌, ◌-◌, ◌<◌, ◌≤◌, min, Bool, true, false, if◌then◌else◌, List, [], length}
+use Rattle.std.specs.Prelude.{Option, Some, None}
 use Rattle.std.specs.Io.KnownBytes.{Appends, Keeps}
-use Rattle.hex.specs.Hex.{IsBytes}
+use Rattle.jiff_core.specs.declared.civil.datetime.DateTime.{DateTime}
 use Rattle.daide_io.specs.declared.ports.ClockEvent.TheVariants.{NoEvent, ImTimeIsOver, StopIsRequested}
 use Rattle.daide_io.specs.Ports.{PortCall, TurnBegins, Clock, Pulled, Offered}
 use Rattle.daide_io.specs.declared.ports.Pull.TheVariants as pulls
 use Rattle.daide_io.specs.declared.ports.Put.TheVariants as puts
 use Rattle.daide_log_lines.specs.LogLine.{LogEvent, EndOf, ImTimerLine, StopLine, most_lines, longest_line, longest_piece}
 use Rattle.daide_log_lines.specs.Output.{page_size}
+use Rattle.daide_log.specs.declared.moment.Moment.{Moment}
 use Rattle.daide_log.specs.declared.record.RecordEnd.{RecordEnd}
 use Rattle.daide_log.specs.declared.record.RecordEnd.TheVariants.{Whole, Failed, Full}
 use Rattle.daide_log.specs.declared.record.RecordedEvent.{RecordedEvent}
-use Rattle.daide_log.specs.declared.recording.Activity.{Activity}
-use Rattle.daide_log.specs.declared.recording.Activity.TheVariants.{Moving, Idle, Ended}
+use Rattle.daide_log.specs.declared.timed_recording.Activity.{Activity}
+use Rattle.daide_log.specs.declared.timed_recording.Activity.TheVariants.{Moving, Idle, Ended}
 use Rattle.daide_log.specs.declared.record.RecordedEvent.TheVariants as events
 use Rattle.daide_log.specs.RecordText.{piece_of, reported_by, event_line}
+use Rattle.daide_log.specs.RecordItem.{Timed, line_of_item, IsPiece}
+use Rattle.daide_log.specs.UtcText.{IsUtcOf, are_apart}
 
 -- ---- a record
 
@@ -49,9 +53,6 @@ GetsText failed Failed old line new = new ≡ old
 GetsText failed Full old line new = new ≡ old
 
 -- the same for the line of an event
-abbrev pub TakesLine : Type 0 → RecordEnd → Written → LogEvent → Written → Type 0
-TakesLine failed ending old event new = GetsLine failed ending old (event_line event) new
-
 abbrev pub TakesEvent : Type 0 → RecordEnd → Written → LogEvent → Written → Type 0
 TakesEvent failed ending old event new = GetsText failed ending old (event_line event) new
 
@@ -70,11 +71,6 @@ pub record WritesPage (failed : Type 0) (old new : Written) : Type 0 where
 abbrev pub KeepsText : Type 0 → Written → Written → Type 0
 KeepsText failed old new = (new ≡ old) ⊎ WritesPage failed old new
 
--- the effect of a call with an event or none
-abbrev pub TakesCall : Type 0 → Written → Option LogEvent → Written → Type 0
-TakesCall failed old None new = KeepsText failed old new
-TakesCall failed old (Some event) new = TakesEvent failed old.ending old event new
-
 -- the event of a line; no bytes have no line
 abbrev pub line_event : RecordedEvent → Option LogEvent
 line_event (events.Received side bytes) = piece_of side bytes.now
@@ -89,13 +85,30 @@ FitsLine (events.EndOf side) = ⊤
 FitsLine events.ImTimer = ⊤
 FitsLine events.Stop = ⊤
 
--- ---- ports
+-- ---- a time that is due
 
--- ports, the record of their calls, and whether bytes moved in the last of them
-pub record Recorded (P : Type 0) : Type 0 where
-  pub ports : P
-  pub record_of : Written
-  pub activity : Activity
+-- the time to be written before the next line, from the present time and the last one written: the present one, unless
+-- the last one is too close to it
+abbrev pub unless_close : Moment → Moment → Option Moment
+unless_close now last = if are_apart now last then Some now else None
+
+abbrev pub due_time : Option Moment → Option Moment → Option Moment
+due_time None last = None
+due_time (Some now) None = Some now
+due_time (Some now) (Some last) = unless_close now last
+
+-- the last time written, after one that was due
+abbrev pub last_time : Option Moment → Option Moment → Option Moment
+last_time None last = last
+last_time (Some due) last = Some due
+
+-- the record gets the comment of a due time
+abbrev pub TakesTime : Type 0 → Option Moment → Written → Written → Type 0
+TakesTime failed None old new = new ≡ old
+TakesTime failed (Some due) old new =
+    (at : DateTime) × IsUtcOf due at × GetsText failed old.ending old (line_of_item (Timed at)) new
+
+-- ---- ports
 
 -- Whether bytes move, after a call. A pull shows it, and so does an event that ends the session.
 abbrev pub activity_after : PortCall → Activity → Activity
@@ -134,18 +147,35 @@ asked_within (Clock event) = Clock event
 asked_within (Pulled side buffer pull bytes) = Pulled side (min buffer longest_piece) pull bytes
 asked_within (Offered side bytes put) = Offered side bytes put
 
--- the bytes that a pull returned fit a line
-abbrev pub IsPiece : PortCall → Type 0
-IsPiece TurnBegins = ⊤
-IsPiece (Clock event) = ⊤
-IsPiece (Pulled side buffer pull bytes) = IsBytes bytes × (length bytes ≤ longest_piece)
-IsPiece (Offered side bytes put) = ⊤
+-- ports, the record of their calls, whether bytes moved in the last of them, the present time as the caller gave it last,
+-- and the last time in the record
+pub record TimedRecorded (P : Type 0) : Type 0 where
+  pub ports : P
+  pub record_of : Written
+  pub activity : Activity
+  pub present : Option Moment
+  pub last : Option Moment
+
+-- a call without an event has no line and no time; an event has its line, after the time that is due
+abbrev pub TakesTimedCall : {P : Type 0} → Type 0 → TimedRecorded P → Option LogEvent → TimedRecorded P → Type 0
+TakesTimedCall failed old None new = KeepsText failed old.record_of new.record_of × (new.last ≡ old.last)
+TakesTimedCall failed old (Some event) new =
+    (mid : Written) × TakesTime failed (due_time old.present old.last) old.record_of mid
+    × TakesEvent failed mid.ending mid event new.record_of × (new.last ≡ last_time (due_time old.present old.last) old.last)
+
+-- the present time changes only when a turn begins
+abbrev pub KeepsTime : PortCall → Option Moment → Option Moment → Type 0
+KeepsTime TurnBegins old new = ⊤
+KeepsTime (Clock event) old new = new ≡ old
+KeepsTime (Pulled side buffer pull bytes) old new = new ≡ old
+KeepsTime (Offered side bytes put) old new = new ≡ old
 
 -- the effect of a call on ports and record; `failed` states that a write of the record's writer failed
-pub record Records {P : Type 0} (transition : P → PortCall → P → Type 0) (failed : Type 0) (old : Recorded P)
-    (answer : PortCall) (new : Recorded P) : Type 0 where
+pub record TimedRecords {P : Type 0} (transition : P → PortCall → P → Type 0) (failed : Type 0) (old : TimedRecorded P)
+    (answer : PortCall) (new : TimedRecorded P) : Type 0 where
   pub ports : transition old.ports (asked_within answer) new.ports
   pub piece : IsPiece answer
-  pub taken : TakesCall failed old.record_of (reported_by answer) new.record_of
+  pub taken : TakesTimedCall failed old (reported_by answer) new
+  pub time : KeepsTime answer old.present new.present
   pub activity : new.activity ≡ activity_after answer old.activity
   pub written : is_written_at answer old.activity ≡ true → new.record_of.ending ≡ Whole → new.record_of.unwritten ≡ []

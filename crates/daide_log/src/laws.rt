@@ -6,9 +6,8 @@ ghost use Rattle.daide_protocol.specs.declared.summary.Summary.{Summary};
 ghost use Rattle.daide_log.specs.Laws.{SessionsAreAlone};
 ghost use Rattle.daide_log.specs.Log.{IsReport, plain};
 ghost use Rattle.daide_log.specs.Progress.{HasFault, IsInTime};
-ghost use Rattle.daide_log.specs.RecordLaw.{RecordsAreReported, PortsAreRecorded};
+ghost use Rattle.daide_log.specs.RecordLaw.{TimedRecordsAreReported, TimedPortsAreRecorded};
 ghost use Rattle.daide_log.specs.Recording.{HasFailed};
-ghost use Rattle.daide_log.specs.TimedLaw.{TimedRecordsAreReported, TimedPortsAreRecorded};
 
 use crate::sink::Sink;
 use daide_io::ports::Ports;
@@ -39,37 +38,20 @@ pub fn no_read_behind_a_fault()
         IsInTime plain before came written → ⊥ }
 {}
 
-/// The report of the log that a record wrote is the session's moves, each once and in order. Each has the number of the
-/// line of what caused it (`TellsBy`). Then come the counts of all moves, those of `Session::summary`, modulo 2^64
-/// (`counts`). It holds for every list of results of at most 1,000,000 lines with the head, and so for each prefix.
+/// The report of the log that a record with times wrote is the report of its session, as without times: the session's
+/// moves, each once and in order. A comment is a line of the log that moves nothing, so the moves have the numbers of
+/// their lines (`TellsByItems`), and the counts are those of `Session::summary`, modulo 2^64 (`counts`). It holds for
+/// every list of calls and comments of at most 1,000,000 lines with the head, and so for each prefix.
 ///
 /// A wire that failed is an end in the log. Both make the same move and leave the session over; only what ended it
 /// differs.
 ///
 /// Premise: limits that a session accepts, and accepted words with names of three letters.
 ///
+/// Not said: that a time in a comment is right. It is the one that the caller gave.
+///
 /// Not said: that the record of a session whose turns were spent has the session's counts. The quota is outside the
 /// ports that record, so its last results are in no record.
-pub fn records_are_reported()
-    ensures { RecordsAreReported }
-{}
-
-/// Ports with a new record, however they were called: its text is the head and the lines of a prefix of what they
-/// returned. It is all of them while the record is whole; or a write of its writer failed.
-///
-/// Not said: what a writer that failed has, nor that a block that was handed over reached a disk.
-pub fn ports_are_recorded<P: Ports, W: Sink>()
-    ensures { PortsAreRecorded P.transition (HasFailed W.Fails) }
-{}
-
-/// The report of the log that a record with times wrote is the report of its session, as without times. A comment is a
-/// line of the log that moves nothing, so the moves have the numbers of their lines (`TellsByItems`), and the counts are
-/// those of `Session::summary`, modulo 2^64 (`counts`). It holds for every list of calls and comments of at most
-/// 1,000,000 lines with the head, and so for each prefix.
-///
-/// Premise: limits that a session accepts, and accepted words with names of three letters.
-///
-/// Not said: that a time in a comment is right. It is the one that the caller gave.
 pub fn timed_records_are_reported()
     ensures { TimedRecordsAreReported }
 {}

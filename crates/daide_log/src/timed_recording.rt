@@ -3,12 +3,11 @@
 ghost use Rattle.std.specs.Prelude.{◌≡◌, ◌≢◌, []};
 ghost use Rattle.daide_io.specs.Ports.{TurnBegins};
 ghost use Rattle.daide_io.specs.System.{BeginsTurn};
-ghost use Rattle.daide_log.specs.TimedRecording.{due_time as time_due};
+ghost use Rattle.daide_log.specs.Recording.{due_time as time_due};
 
 use crate::comment::Comment;
 use crate::moment::Moment;
 use crate::record::{Record, RecordEnd, RecordedEvent};
-use crate::recording::Activity;
 use crate::sink::Sink;
 use daide_frame::Side;
 use daide_io::interest::Interest;
@@ -16,6 +15,17 @@ use daide_io::ports::{ClockEvent, Ports, Pull, Put};
 use daide_io::system::System;
 use daide_log_lines::event_line::MOST;
 use std::marker::Model;
+
+/// Whether bytes move between the two sides, by what the ports returned last.
+#[derive(Clone, Copy)]
+pub enum Activity {
+    /// The last pull returned bytes, or none was made yet.
+    Moving,
+    /// The last pull returned nothing.
+    Idle,
+    /// A side ended or failed, the IM timer expired, or the operator stopped the session, and nothing was returned since.
+    Ended,
+}
 
 /// Returns the time to be written before the next line: the present one, unless the last one written is less than 10
 /// milliseconds from it.
@@ -29,9 +39,20 @@ fn due_time(now: Option<Moment>, last: Option<Moment>) -> Option<Moment>
     }
 }
 
-/// Ports that record what they return to a session, as `Recording` does, with times. The caller gives the present time
-/// at the beginning of each turn (`begin_turn`). A comment with it stands before the line of an event, unless the last
-/// time in the record is less than 10 milliseconds from it (`due_time`). Without a time there is no comment.
+/// Ports that record what they return to a session, with times: bytes received, ends, the IM timer, stops, and a failed
+/// wire as the end of its side. They return what the inner ports return, which get at most 1,024 bytes of a buffer
+/// (`asked_within`).
+///
+/// Each call adds to the record the line of what it returned, or nothing (`TimedRecords`). A whole record takes it
+/// while it has fewer than 1,000,000 lines; else it hands over what it holds, and is full. A record that failed or is
+/// full does not change.
+///
+/// The caller gives the present time at the beginning of each turn (`begin_turn`). A comment with it stands before the
+/// line of an event, unless the last time in the record is less than 10 milliseconds from it (`due_time`). Without a
+/// time there is no comment.
+///
+/// The record is written when no more bytes move, so that its writer has all of it before a run waits: at the second
+/// idle pull in a row, and in the turn after an end (`written`).
 ///
 /// Premise: a writer that records its bytes.
 ///
@@ -48,7 +69,7 @@ pub struct TimedRecording<P: Ports, W: Sink + Drop> {
 }
 
 impl<P: Ports, W: Sink + Drop> Model for TimedRecording<P, W> {
-    ghost use Rattle.daide_log.specs.TimedRecording.{TimedRecorded};
+    ghost use Rattle.daide_log.specs.Recording.{TimedRecorded};
 
     ghost Value = { TimedRecorded P };
 
@@ -64,7 +85,7 @@ impl<P: Ports, W: Sink + Drop> Model for TimedRecording<P, W> {
 impl<P: Ports, W: Sink + Drop> TimedRecording<P, W> {
     ghost use Rattle.std.specs.Prelude.{None, Some};
     ghost use Rattle.daide_log.specs.Recording.{KeepsText, HasFailed, FitsLine, line_event};
-    ghost use Rattle.daide_log.specs.TimedRecording.{TimedRecords, TakesTime, TakesTimedCall, last_time};
+    ghost use Rattle.daide_log.specs.Recording.{TimedRecords, TakesTime, TakesTimedCall, last_time};
 
     /// Wraps ports, whose calls are recorded from now on. `began` is the last time that the record has.
     pub fn new(ports: P, log: Record<W>, began: Option<Moment>) -> TimedRecording<P, W>
@@ -173,8 +194,7 @@ impl<P: Ports, W: Sink + Drop> TimedRecording<P, W> {
 }
 
 impl<P: Ports, W: Sink + Drop> Ports for TimedRecording<P, W> {
-    ghost use Rattle.daide_log.specs.Recording.{HasFailed};
-    ghost use Rattle.daide_log.specs.TimedRecording.{TimedRecords};
+    ghost use Rattle.daide_log.specs.Recording.{TimedRecords, HasFailed};
     ghost use Rattle.daide_io.specs.Interest.{MayAddWork};
 
     ghost transition = { TimedRecords P.transition (HasFailed W.Fails) };

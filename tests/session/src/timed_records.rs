@@ -3,11 +3,10 @@
 use crate::relays::{NEVER, QUIET};
 use daide_frame::side::Side;
 use daide_gate::{
-    Config, Connect, Notice, Orders, Ports, Pull, Record, RecordEnd, SessionEnd, SessionStatus,
-    System, Words, check_log,
+    Comment, Config, Connect, Moment, Notice, Orders, Ports, Pull, Record, RecordEnd, SessionEnd,
+    SessionStatus, System, TimedRecording, Words, check_log,
 };
 use daide_io::interest::{GroupInterest, Interest};
-use daide_log::{Comment, Moment, TimedRecording};
 use daide_test_support::memory_ports::{MemoryPorts, Script, ScriptedRead};
 use daide_test_support::rows::{holds, same};
 use std::alloc::Global;
