@@ -17,8 +17,8 @@ use Rattle.daide_log.specs.Heading.{Unnamed}
 use Rattle.daide_log.specs.Laws.{IsLines, SessionsAreAlone, own_reported}
 use Rattle.daide_log.specs.Log.{IsReportBy, IsReport, Opening, ReportsBy}
 use Rattle.daide_log.specs.Progress.{HasFault}
-use Rattle.daide_log.specs.RecordLaw.{HasBegun, HasItems, IsTimedReported, TimedPortsAreRecorded, TimedRecordsAreReported}
-use Rattle.daide_log.specs.Recording.{TimedRecorded, TimedRecords}
+use Rattle.daide_log.specs.RecordLaw.{HasBegun, HasItems, IsReported, PortsAreRecorded, RecordsAreReported}
+use Rattle.daide_log.specs.Recording.{Recorded, Records}
 use Rattle.daide_log.specs.Report.{ReportEntry, counted_all, lines_of, summary_line}
 use Rattle.daide_log.proofs.Played.{has_no_feed, unbroken}
 
@@ -50,21 +50,21 @@ whole_or_failed : (end : RecordEnd) → end ≡ Whole → end ≢ Failed
 whole_or_failed end is other = absurd (let same : Whole ≡ Failed = sym is ∙ other in cc)
 
 -- the record of a session whose ports made no call
-nothing_recorded : TimedRecordsAreReported → IsTimedReported limits [] [] [] (initial_state (limits_with limits []))
+nothing_recorded : RecordsAreReported → IsReported limits [] [] [] (initial_state (limits_with limits []))
 nothing_recorded law = law limits [] [] [] (initial_state (limits_with limits [])) refl refl tt tt (omega arith) (refl, refl)
 
 -- ports whose timer expired, and that had no other call
 one_line : {P : Type 0} (transition : P → PortCall → P → Type 0) (failed : Type 0) →
-    TimedPortsAreRecorded transition failed → (old new : TimedRecorded P) → HasBegun limits [] [] old.record_of →
-    EvolvesBy (TimedRecords transition failed) old (Clock ImTimeIsOver ∷ []) new → new.record_of.ending ≡ Whole →
+    PortsAreRecorded transition failed → (old new : Recorded P) → HasBegun limits [] [] old.record_of →
+    EvolvesBy (Records transition failed) old (Clock ImTimeIsOver ∷ []) new → new.record_of.ending ≡ Whole →
     HasItems limits [] (Clock ImTimeIsOver ∷ []) new.record_of
 one_line transition failed law old new begun calls whole =
     (law limits [] [] (Clock ImTimeIsOver ∷ []) old new begun calls).1 (whole_or_failed new.record_of.ending whole)
 
 -- ports whose session was stopped, and that had no other call
 stop_line : {P : Type 0} (transition : P → PortCall → P → Type 0) (failed : Type 0) →
-    TimedPortsAreRecorded transition failed → (old new : TimedRecorded P) → HasBegun limits [] [] old.record_of →
-    EvolvesBy (TimedRecords transition failed) old (Clock StopIsRequested ∷ []) new → new.record_of.ending ≡ Whole →
+    PortsAreRecorded transition failed → (old new : Recorded P) → HasBegun limits [] [] old.record_of →
+    EvolvesBy (Records transition failed) old (Clock StopIsRequested ∷ []) new → new.record_of.ending ≡ Whole →
     HasItems limits [] (Clock StopIsRequested ∷ []) new.record_of
 stop_line transition failed law old new begun calls whole =
     (law limits [] [] (Clock StopIsRequested ∷ []) old new begun calls).1 (whole_or_failed new.record_of.ending whole)

@@ -29,8 +29,8 @@ pub mod RecordCounts
 pub mod RecordReported
 pub mod PauseLemmas
 pub mod TimeFacts
-pub mod TimedReported
-pub mod TimedPorts
-pub mod TimedTaken
+pub mod ItemsReported
+pub mod RecordedPorts
+pub mod EventTaken
 pub mod CommentLemmas
 pub mod LawFacts

@@ -93,8 +93,8 @@ abbrev pub calls_in : List RecordItem → List PortCall
 calls_in [] = []
 calls_in (item ∷ items) = call_in item ++ calls_in items
 
-abbrev pub timed_text : Config → List Word → List RecordItem → List ℕ
-timed_text config words items = head_text config words ++ lines_of_items items
+abbrev pub record_text : Config → List Word → List RecordItem → List ℕ
+record_text config words items = head_text config words ++ lines_of_items items
 
-abbrev pub timed_count : List Word → List RecordItem → ℕ
-timed_count words items = head_count words + count_of_items items
+abbrev pub record_count : List Word → List RecordItem → ℕ
+record_count words items = head_count words + count_of_items items

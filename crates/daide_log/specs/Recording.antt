@@ -13,8 +13,8 @@ use Rattle.daide_log.specs.declared.moment.Moment.{Moment}
 use Rattle.daide_log.specs.declared.record.RecordEnd.{RecordEnd}
 use Rattle.daide_log.specs.declared.record.RecordEnd.TheVariants.{Whole, Failed, Full}
 use Rattle.daide_log.specs.declared.record.RecordedEvent.{RecordedEvent}
-use Rattle.daide_log.specs.declared.timed_recording.Activity.{Activity}
-use Rattle.daide_log.specs.declared.timed_recording.Activity.TheVariants.{Moving, Idle, Ended}
+use Rattle.daide_log.specs.declared.recording.Activity.{Activity}
+use Rattle.daide_log.specs.declared.recording.Activity.TheVariants.{Moving, Idle, Ended}
 use Rattle.daide_log.specs.declared.record.RecordedEvent.TheVariants as events
 use Rattle.daide_log.specs.RecordText.{piece_of, reported_by, event_line}
 use Rattle.daide_log.specs.RecordItem.{Timed, line_of_item, IsPiece}
@@ -149,7 +149,7 @@ asked_within (Offered side bytes put) = Offered side bytes put
 
 -- ports, the record of their calls, whether bytes moved in the last of them, the present time as the caller gave it last,
 -- and the last time in the record
-pub record TimedRecorded (P : Type 0) : Type 0 where
+pub record Recorded (P : Type 0) : Type 0 where
   pub ports : P
   pub record_of : Written
   pub activity : Activity
@@ -157,9 +157,9 @@ pub record TimedRecorded (P : Type 0) : Type 0 where
   pub last : Option Moment
 
 -- a call without an event has no line and no time; an event has its line, after the time that is due
-abbrev pub TakesTimedCall : {P : Type 0} → Type 0 → TimedRecorded P → Option LogEvent → TimedRecorded P → Type 0
-TakesTimedCall failed old None new = KeepsText failed old.record_of new.record_of × (new.last ≡ old.last)
-TakesTimedCall failed old (Some event) new =
+abbrev pub TakesCall : {P : Type 0} → Type 0 → Recorded P → Option LogEvent → Recorded P → Type 0
+TakesCall failed old None new = KeepsText failed old.record_of new.record_of × (new.last ≡ old.last)
+TakesCall failed old (Some event) new =
     (mid : Written) × TakesTime failed (due_time old.present old.last) old.record_of mid
     × TakesEvent failed mid.ending mid event new.record_of × (new.last ≡ last_time (due_time old.present old.last) old.last)
 
@@ -171,11 +171,11 @@ KeepsTime (Pulled side buffer pull bytes) old new = new ≡ old
 KeepsTime (Offered side bytes put) old new = new ≡ old
 
 -- the effect of a call on ports and record; `failed` states that a write of the record's writer failed
-pub record TimedRecords {P : Type 0} (transition : P → PortCall → P → Type 0) (failed : Type 0) (old : TimedRecorded P)
-    (answer : PortCall) (new : TimedRecorded P) : Type 0 where
+pub record Records {P : Type 0} (transition : P → PortCall → P → Type 0) (failed : Type 0) (old : Recorded P)
+    (answer : PortCall) (new : Recorded P) : Type 0 where
   pub ports : transition old.ports (asked_within answer) new.ports
   pub piece : IsPiece answer
-  pub taken : TakesTimedCall failed old (reported_by answer) new
+  pub taken : TakesCall failed old (reported_by answer) new
   pub time : KeepsTime answer old.present new.present
   pub activity : new.activity ≡ activity_after answer old.activity
   pub written : is_written_at answer old.activity ≡ true → new.record_of.ending ≡ Whole → new.record_of.unwritten ≡ []

@@ -6,7 +6,7 @@ ghost use Rattle.daide_protocol.specs.declared.summary.Summary.{Summary};
 ghost use Rattle.daide_log.specs.Laws.{SessionsAreAlone};
 ghost use Rattle.daide_log.specs.Log.{IsReport, plain};
 ghost use Rattle.daide_log.specs.Progress.{HasFault, IsInTime};
-ghost use Rattle.daide_log.specs.RecordLaw.{TimedRecordsAreReported, TimedPortsAreRecorded};
+ghost use Rattle.daide_log.specs.RecordLaw.{RecordsAreReported, PortsAreRecorded};
 ghost use Rattle.daide_log.specs.Recording.{HasFailed};
 
 use crate::sink::Sink;
@@ -40,7 +40,7 @@ pub fn no_read_behind_a_fault()
 
 /// The report of the log that a record with times wrote is the report of its session, as without times: the session's
 /// moves, each once and in order. A comment is a line of the log that moves nothing, so the moves have the numbers of
-/// their lines (`TellsByItems`), and the counts are those of `Session::summary`, modulo 2^64 (`counts`). It holds for
+/// their lines (`TellsBy`), and the counts are those of `Session::summary`, modulo 2^64 (`counts`). It holds for
 /// every list of calls and comments of at most 1,000,000 lines with the head, and so for each prefix.
 ///
 /// A wire that failed is an end in the log. Both make the same move and leave the session over; only what ended it
@@ -52,8 +52,8 @@ pub fn no_read_behind_a_fault()
 ///
 /// Not said: that the record of a session whose turns were spent has the session's counts. The quota is outside the
 /// ports that record, so its last results are in no record.
-pub fn timed_records_are_reported()
-    ensures { TimedRecordsAreReported }
+pub fn records_are_reported()
+    ensures { RecordsAreReported }
 {}
 
 /// Ports with a new record and times, however they were called: its text is the head and the lines of calls and
@@ -61,6 +61,6 @@ pub fn timed_records_are_reported()
 /// write of its writer failed.
 ///
 /// Not said: what a writer that failed has, nor that a block that was handed over reached a disk.
-pub fn timed_ports_are_recorded<P: Ports, W: Sink>()
-    ensures { TimedPortsAreRecorded P.transition (HasFailed W.Fails) }
+pub fn ports_are_recorded<P: Ports, W: Sink>()
+    ensures { PortsAreRecorded P.transition (HasFailed W.Fails) }
 {}

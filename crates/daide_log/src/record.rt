@@ -1,6 +1,6 @@
 //! The record of a session: a log of its ports' calls, in the form that `check_log` reads.
 //!
-//! Lines are collected in a page. It is written, as a block of whole lines, when it is full, and when `TimedRecording`
+//! Lines are collected in a page. It is written, as a block of whole lines, when it is full, and when `Recording`
 //! finds that no more bytes move.
 
 ghost use Rattle.std.specs.Prelude.{◌≡◌, ◌≢◌, ◌<◌, ◌≤◌, true, false, [], None, Some, OnOk, OnErr, length};

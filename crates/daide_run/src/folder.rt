@@ -11,7 +11,7 @@ ghost use Rattle.daide_run.specs.Folder.{path_in, IsNoFileOf, IsAddressOf, Begin
 
 use daide_io::Ports;
 use daide_log::record::MOST_LINES;
-use daide_log::{Activity, Comment, Moment, Record, RecordEnd, Sink, TimedRecording};
+use daide_log::{Activity, Comment, Moment, Record, RecordEnd, Recording, Sink};
 use daide_protocol::Config;
 use daide_settings::Settings;
 use daide_words::Words;
@@ -270,7 +270,7 @@ impl<'a, R: AllocGlobal + Files> Folder<'a, R> {
         ports: P,
         now: Option<Moment>,
         errors: &mut E,
-    ) -> TimedRecording<P, SessionFile<R::File>>
+    ) -> Recording<P, SessionFile<R::File>>
         ensures ports { result.ports ≡ ports }
         ensures record { (before : Option (List ℕ)) × (address : Option (List ℕ)) × IsAddressOf session.1 address
             × BeginsRecord (HasFailed ⟦<SessionFile<R::File> as Sink>⟧.Fails) session.0 address now
@@ -282,7 +282,7 @@ impl<'a, R: AllocGlobal + Files> Folder<'a, R> {
         let mut log = Record::new(self.open_file(number, errors), self.config, self.words);
         let address = address_text(self.rt.alloc(), bot);
         let began = begin_record(&mut log, number, &address, now);
-        TimedRecording::new(ports, log, began)
+        Recording::new(ports, log, began)
     }
 }
 
@@ -300,7 +300,7 @@ fn tell_end<F: Drop, E: Write>(file: &SessionFile<F>, end: RecordEnd, errors: &m
 
 /// Reports that a session's record has just broken off, if it has.
 pub(crate) fn tell_if_ended<P: Ports, F: Write + Drop, E: Write>(
-    recorded: &TimedRecording<P, SessionFile<F>>,
+    recorded: &Recording<P, SessionFile<F>>,
     errors: &mut E,
 ) {
     if recorded.has_just_ended() {
@@ -311,7 +311,7 @@ pub(crate) fn tell_if_ended<P: Ports, F: Write + Drop, E: Write>(
 
 /// Ends a session's record. Reports why it is not whole, if that was not reported before. Returns the ports.
 pub(crate) fn end<P: Ports, F: Write + Drop, E: Write>(
-    recorded: TimedRecording<P, SessionFile<F>>,
+    recorded: Recording<P, SessionFile<F>>,
     errors: &mut E,
 ) -> P
     ensures { result ≡ recorded.ports }

@@ -10,7 +10,7 @@ use crate::running::Finish;
 use daide_io::{
     Connect, GroupInterest, Interest, Network, Notice, Orders, SessionEnd, SessionStatus, System,
 };
-use daide_log::{Moment, TimedRecording};
+use daide_log::{Moment, Recording};
 use daide_sockets::ports::SocketPorts;
 use daide_sockets::system::Sockets;
 use std::io::Write;
@@ -83,7 +83,7 @@ impl<N: Network, R: AllocGlobal + Files, C: Clock, E: Write + Drop> Finish
 }
 
 impl<'w, N: Network, R: AllocGlobal + Files, C: Clock, E: Write + Drop> System<
-    TimedRecording<SocketPorts<'w, N::Connection>, SessionFile<R::File>>,
+    Recording<SocketPorts<'w, N::Connection>, SessionFile<R::File>>,
 > for RecordedSockets<'_, 'w, '_, N, R, C, E> {
     ghost transition = { λ old answer new. RunEvolves N.transition N.Connection.to_give N.Connection.taken
         N.Connection.calls (λ ports. ports.ports)
@@ -100,7 +100,7 @@ impl<'w, N: Network, R: AllocGlobal + Files, C: Clock, E: Write + Drop> System<
 
     fn show(
         &mut self,
-        ports: &TimedRecording<SocketPorts<'w, N::Connection>, SessionFile<R::File>>,
+        ports: &Recording<SocketPorts<'w, N::Connection>, SessionFile<R::File>>,
         status: SessionStatus,
     ) {
         self.sockets.show(ports.ports(), status);
@@ -121,7 +121,7 @@ impl<'w, N: Network, R: AllocGlobal + Files, C: Clock, E: Write + Drop> System<
 
     fn begin_turn(
         &mut self,
-        ports: &mut TimedRecording<SocketPorts<'w, N::Connection>, SessionFile<R::File>>,
+        ports: &mut Recording<SocketPorts<'w, N::Connection>, SessionFile<R::File>>,
     ) {
         tell_if_ended(ports, &mut self.sockets.errors);
         ports.begin_turn(self.sockets, self.now);
@@ -137,7 +137,7 @@ impl<'w, N: Network, R: AllocGlobal + Files, C: Clock, E: Write + Drop> System<
 
     fn connected(
         &mut self,
-    ) -> Connect<TimedRecording<SocketPorts<'w, N::Connection>, SessionFile<R::File>>> {
+    ) -> Connect<Recording<SocketPorts<'w, N::Connection>, SessionFile<R::File>>> {
         match self.sockets.connected() {
             Connect::Ready(ports) => {
                 let number = ports.number();
@@ -152,7 +152,7 @@ impl<'w, N: Network, R: AllocGlobal + Files, C: Clock, E: Write + Drop> System<
 
     fn retire(
         &mut self,
-        ports: TimedRecording<SocketPorts<'w, N::Connection>, SessionFile<R::File>>,
+        ports: Recording<SocketPorts<'w, N::Connection>, SessionFile<R::File>>,
         end_of: SessionEnd,
     ) {
         tell_if_ended(&ports, &mut self.sockets.errors);

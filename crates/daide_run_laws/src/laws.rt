@@ -10,7 +10,7 @@ ghost use Rattle.daide_run_laws.specs.RunRows.{EachRowIsHeld};
 use daide_io::duplex::Duplex;
 use daide_io::network::Network;
 use daide_io::ports::Ports;
-use daide_log::{Sink, TimedRecording};
+use daide_log::{Recording, Sink};
 use daide_sockets::ports::SocketPorts;
 
 /// No wake-up is lost. At each wait of a run over sockets the network is polled once, and what it reports is in the rows.
@@ -35,7 +35,7 @@ pub fn no_wakeup_is_lost<S: Duplex + Drop, N: Network>()
 
 /// The same of a run that records its sessions: the ports are those around which a record is, over any two streams.
 pub fn no_wakeup_is_lost_beside_records<S: Duplex + Drop, N: Network, W: Sink + Drop>()
-    ensures { NoWakeupIsLost ⟦<TimedRecording<SocketPorts<'static, S>, W> as Ports>⟧.transition (λ ports. record {
+    ensures { NoWakeupIsLost ⟦<Recording<SocketPorts<'static, S>, W> as Ports>⟧.transition (λ ports. record {
       bot = ports.ports.bot;
       server = ports.ports.server;
       reading = ports.ports.idle.reading;
@@ -52,7 +52,7 @@ pub fn no_bot_waits<S: Duplex + Drop, N: Network>()
 
 /// The same of a run that records its sessions.
 pub fn no_bot_waits_beside_records<S: Duplex + Drop, N: Network, W: Sink + Drop>()
-    ensures { NoBotWaits ⟦<TimedRecording<SocketPorts<'static, S>, W> as Ports>⟧.transition (λ ports. timers_of ports.ports)
+    ensures { NoBotWaits ⟦<Recording<SocketPorts<'static, S>, W> as Ports>⟧.transition (λ ports. timers_of ports.ports)
         N.transition }
 {}
 
@@ -73,7 +73,7 @@ pub fn each_bot_has_room<S: Duplex + Drop, N: Network>()
 
 /// The same of a run that records its sessions.
 pub fn each_bot_has_room_beside_records<S: Duplex + Drop, N: Network, W: Sink + Drop>()
-    ensures { EachBotHasRoom ⟦<TimedRecording<SocketPorts<'static, S>, W> as Ports>⟧.transition N.transition S.to_give S.taken
+    ensures { EachBotHasRoom ⟦<Recording<SocketPorts<'static, S>, W> as Ports>⟧.transition N.transition S.to_give S.taken
         S.calls (λ ports. ports.ports) }
 {}
 
@@ -92,7 +92,7 @@ pub fn each_row_is_held<S: Duplex + Drop, N: Network>()
 
 /// The same of a run that records its sessions.
 pub fn each_row_is_held_beside_records<S: Duplex + Drop, N: Network, W: Sink + Drop>()
-    ensures { EachRowIsHeld ⟦<TimedRecording<SocketPorts<'static, S>, W> as Ports>⟧.transition N.transition S.to_give S.taken
+    ensures { EachRowIsHeld ⟦<Recording<SocketPorts<'static, S>, W> as Ports>⟧.transition N.transition S.to_give S.taken
         S.calls (λ ports. ports.ports) }
 {}
 
@@ -113,7 +113,7 @@ pub fn no_session_waits_for_ever<S: Duplex + Drop, N: Network>()
 
 /// The same of a run that records its sessions.
 pub fn no_session_waits_for_ever_beside_records<S: Duplex + Drop, N: Network, W: Sink + Drop>()
-    ensures { NoSessionWaitsForEver ⟦<TimedRecording<SocketPorts<'static, S>, W> as Ports>⟧.transition
+    ensures { NoSessionWaitsForEver ⟦<Recording<SocketPorts<'static, S>, W> as Ports>⟧.transition
         (λ ports. timers_of ports.ports) N.transition }
 {}
 
@@ -126,7 +126,7 @@ pub fn timeouts_stay<S: Duplex + Drop>()
 
 /// The same of a run that records its sessions.
 pub fn timeouts_stay_beside_records<S: Duplex + Drop, W: Sink + Drop>()
-    ensures { TimeoutsStay ⟦<TimedRecording<SocketPorts<'static, S>, W> as Ports>⟧.transition (λ ports. timers_of ports.ports) }
+    ensures { TimeoutsStay ⟦<Recording<SocketPorts<'static, S>, W> as Ports>⟧.transition (λ ports. timers_of ports.ports) }
 {}
 
 /// The deadlines of a session pass seldom. Of its turns between two pulls that return bytes of a peer, at most five begin
@@ -142,7 +142,7 @@ pub fn deadlines_pass_seldom<S: Duplex + Drop, N: Network>()
 
 /// The same of a run that records its sessions.
 pub fn deadlines_pass_seldom_beside_records<S: Duplex + Drop, N: Network, W: Sink + Drop>()
-    ensures { DeadlinesPassSeldom ⟦<TimedRecording<SocketPorts<'static, S>, W> as Ports>⟧.transition
+    ensures { DeadlinesPassSeldom ⟦<Recording<SocketPorts<'static, S>, W> as Ports>⟧.transition
         (λ ports. timers_of ports.ports) N.transition }
 {}
 

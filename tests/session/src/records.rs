@@ -3,7 +3,7 @@
 use crate::relays::{NEVER, OPENS, QUIET};
 use daide_frame::side::Side;
 use daide_gate::{
-    Config, Ports, Pull, Record, RecordEnd, RelayEnd, Session, TimedRecording, Words, check_log, relay,
+    Config, Ports, Pull, Record, RecordEnd, Recording, RelayEnd, Session, Words, check_log, relay,
 };
 use daide_test_support::memory_ports::{Acceptance, MemoryPorts, Script, ScriptedRead};
 use daide_test_support::rows::{holds, same};
@@ -88,7 +88,7 @@ fn written(alloc: Global, row: &Recorded) -> Result<Vec<u8>, Fail> {
     let mut session = Session::with_words(alloc, LIMITS, words_of(row.is_worded))?;
     let ports = MemoryPorts::new(alloc, row.bot, row.server, row.quiet);
     let record = Record::new(Vec::new(alloc), LIMITS, words_of(row.is_worded));
-    let mut ports = TimedRecording::new(ports, record, None);
+    let mut ports = Recording::new(ports, record, None);
     same(
         &relay(&mut session, &mut ports, 9),
         &RelayEnd::Closed,
@@ -153,7 +153,7 @@ fn writer_that_fails_changes_no_answer(rt: HostRuntime) -> Result<(), Fail> {
         taken: 0,
     };
     let record = Record::new(broken, LIMITS, Words::new());
-    let mut ports = TimedRecording::new(ports, record, None);
+    let mut ports = Recording::new(ports, record, None);
     let mut buffer = [0; 2000];
     for (pull, ending) in [
         (Pull::Got(1024), RecordEnd::Whole),

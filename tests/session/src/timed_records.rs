@@ -3,8 +3,8 @@
 use crate::relays::{NEVER, QUIET};
 use daide_frame::side::Side;
 use daide_gate::{
-    Comment, Config, Connect, Moment, Notice, Orders, Ports, Pull, Record, RecordEnd, SessionEnd,
-    SessionStatus, System, TimedRecording, Words, check_log,
+    Comment, Config, Connect, Moment, Notice, Orders, Ports, Pull, Record, RecordEnd, Recording,
+    SessionEnd, SessionStatus, System, Words, check_log,
 };
 use daide_io::interest::{GroupInterest, Interest};
 use daide_test_support::memory_ports::{MemoryPorts, Script, ScriptedRead};
@@ -130,7 +130,7 @@ fn timed(alloc: Global) -> Result<Vec<u8>, Fail> {
     let mut record = Record::new(Vec::new(alloc), LIMITS, Words::new());
     record.comment(Comment::Begun(3, "127.0.0.1:50000\n\u{7f}", began.utc()));
     let ports = MemoryPorts::new(alloc, OPENS_ALONE, QUIET, NEVER);
-    let mut ports = TimedRecording::new(ports, record, Some(began));
+    let mut ports = Recording::new(ports, record, Some(began));
     let mut buffer = [0; 1];
     for after in AFTER {
         ports.begin_turn(&mut Turns, Some(moment(BEGAN.saturating_add(after))?));

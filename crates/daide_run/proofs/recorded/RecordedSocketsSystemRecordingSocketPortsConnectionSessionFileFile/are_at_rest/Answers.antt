@@ -1,6 +1,6 @@
 use Rattle.std.proofs.Common.{false}
 use Rattle.daide_run.proofs.RecordedLemmas.{busier, is_of_busier, asked_of_busier}
-use Rattle.daide_run.proofs.recorded.RecordedSocketsSystemTimedRecordingSocketPortsConnectionSessionFileFile.are_at_rest.Goals as goal
+use Rattle.daide_run.proofs.recorded.RecordedSocketsSystemRecordingSocketPortsConnectionSessionFileFile.are_at_rest.Goals as goal
 
 pub returns : goal.returns
 returns g c = λ rests interest member ports h.

@@ -24,10 +24,10 @@ use Rattle.daide_log.specs.Log.{ReportsBy, ReportsAllBy, IsReportBy, Playing, Ad
 use Rattle.daide_log.specs.RecordText.{line_of_answer, count_of_answer, head_text, head_count}
 use Rattle.daide_log.specs.RecordItem.{RecordItem, Called, Begun, Timed, IsItem, calls_in, lines_of_items, count_of_item, count_of_items}
 use Rattle.daide_log.specs.RecordItem.{line_of_item, address_text, printable, longest_address, begun_text, time_text}
-use Rattle.daide_log.specs.RecordItem.{timed_text, timed_count}
+use Rattle.daide_log.specs.RecordItem.{record_text, record_count}
 use Rattle.daide_log.specs.UtcText.{two_digits, three_digits, four_digits, date_text, clock_text, utc_text}
 use Rattle.daide_log.specs.RecordLaw.{side_of_answer, notes_reported, notes_of}
-use Rattle.daide_log.specs.RecordLaw.{TellsByItems, IsTimedReported, TimedRecordsAreReported}
+use Rattle.daide_log.specs.RecordLaw.{TellsBy, IsReported, RecordsAreReported}
 use Rattle.daide_log.proofs.ReportLemmas.{decimal_few}
 use Rattle.daide_log.proofs.RecordCounts.{session_counts}
 use Rattle.daide_log.proofs.RecordHead.{long_visible}
@@ -170,7 +170,7 @@ comment_reported text bytes number reported state plain is short fits h =
 
 items_told : (items : List RecordItem) (lines : ℕ) (old new : SessionState) (moves : List Effect) →
     Runs old (events_of (calls_in items)) moves new →
-    (reported : List ReportEntry) × TellsByItems lines old items reported new × (notes_reported reported ≡ notes_of moves)
+    (reported : List ReportEntry) × TellsBy lines old items reported new × (notes_reported reported ≡ notes_of moves)
 items_told [] lines old new moves r = ([], (refl, r.1), sym (ap notes_of r.0))
 items_told (Called answer ∷ items) lines old new moves r =
     let s = run_split (event_of answer) (events_of (calls_in items)) old new moves r in
@@ -209,7 +209,7 @@ after_comment item items text bytes number reported more line one all = (
 items_reported : (items : List RecordItem) (bytes : List ℕ) (number : ℕ) (reported more : List ReportEntry)
     (logged old new : SessionState) → AllByRecursion IsItem items → number + count_of_items items ≤ most_lines →
     Reports bytes number reported (Playing Match (logged ∷ [])) → IsAsLogged logged old →
-    TellsByItems number old items more new →
+    TellsBy number old items more new →
     (after : SessionState) × Reports (bytes ++ lines_of_items items) (number + count_of_items items) (reported ++ more)
     (Playing Match (after ∷ []))
 items_reported [] bytes number reported more logged old new fit fits h alike t = (
@@ -246,8 +246,8 @@ items_reported (Timed at ∷ items) bytes number reported more logged old new fi
     (comment_reported text bytes number reported logged (time_plain at) (time_remarks at) (time_short at) (omega (arith, fits)) h)
     alike t)
 
-pub timed_reported : TimedRecordsAreReported
-timed_reported config words items moves state good well names fit few run =
+pub record_reported : RecordsAreReported
+record_reported config words items moves state good well names fit few run =
     let start = initial_state (limits_with config words) in
     let reported = items_told items (head_count words) start state moves run in
     let head = head_reported config words good well names (omega (arith, few)) in
@@ -258,7 +258,7 @@ timed_reported config words items moves state good well names fit few run =
       by_lines = reported.1;
       notes = reported.2;
       counts = session_counts reported.0 moves reported.2;
-      report = IsReportBy.whole (timed_text config words items) (timed_count words items) reported.0 Match (all.0 ∷ [])
-          (ReportsAllBy.ended (timed_text config words items) (timed_count words items) reported.0
+      report = IsReportBy.whole (record_text config words items) (record_count words items) reported.0 Match (all.0 ∷ [])
+          (ReportsAllBy.ended (record_text config words items) (record_count words items) reported.0
           (Playing Match (all.0 ∷ [])) all.1);
     }

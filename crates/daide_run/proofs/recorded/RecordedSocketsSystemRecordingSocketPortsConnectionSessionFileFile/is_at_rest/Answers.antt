@@ -1,6 +1,6 @@
 use Rattle.std.proofs.Common.{false}
 use Rattle.daide_run.proofs.RecordedLemmas.{busier, is_of_busier, asked_of_busier}
-use Rattle.daide_run.proofs.recorded.RecordedSocketsSystemTimedRecordingSocketPortsConnectionSessionFileFile.is_at_rest.Goals as goal
+use Rattle.daide_run.proofs.recorded.RecordedSocketsSystemRecordingSocketPortsConnectionSessionFileFile.is_at_rest.Goals as goal
 
 pub returns-clause-at_rest : goal.returns-clause-at_rest
 returns-clause-at_rest g c = λ rests ports h.

@@ -13,10 +13,10 @@ use Rattle.daide_log.specs.declared.record.RecordEnd.TheVariants.{Whole, Failed,
 use Rattle.daide_log.specs.RecordText.{event_line, reported_by, line_reported, count_reported, line_of_answer, count_of_answer}
 use Rattle.daide_log.specs.RecordText.{head_text}
 use Rattle.daide_log.specs.RecordItem.{RecordItem, Called, Timed, IsPiece, IsItem, call_in, calls_in, line_of_item, count_of_item}
-use Rattle.daide_log.specs.RecordItem.{lines_of_items, count_of_items, timed_text, timed_count}
+use Rattle.daide_log.specs.RecordItem.{lines_of_items, count_of_items, record_text, record_count}
 use Rattle.daide_log.specs.Recording.{Written, KeepsText, GetsLine, GetsText, TakesEvent}
-use Rattle.daide_log.specs.Recording.{TimedRecorded, TimedRecords, TakesTime, TakesTimedCall, due_time}
-use Rattle.daide_log.specs.RecordLaw.{HasItems, TimedPortsAreRecorded}
+use Rattle.daide_log.specs.Recording.{Recorded, Records, TakesTime, TakesCall, due_time}
+use Rattle.daide_log.specs.RecordLaw.{HasItems, PortsAreRecorded}
 
 -- ---- one more item
 
@@ -44,7 +44,7 @@ fit_with [] item h k = (k, tt)
 fit_with (first ∷ items) item h k = (h.0, fit_with items item h.1 k)
 
 text_with : (config : Config) (words : List Word) (items : List RecordItem) (item : RecordItem) →
-    timed_text config words items ++ line_of_item item ≡ timed_text config words (items ++ item ∷ [])
+    record_text config words items ++ line_of_item item ≡ record_text config words (items ++ item ∷ [])
 text_with config words items item =
     append_assoc (head_text config words) (lines_of_items items) (line_of_item item)
     ∙ ap (λ (l : List ℕ). head_text config words ++ l) (sym (lines_with items item))
@@ -54,20 +54,20 @@ text_with config words items item =
 -- the record has the lines of these items, and would end so
 record IsOfItems (config : Config) (words : List Word) (items : List RecordItem) (ending : RecordEnd) (written : Written) :
     Type 0 where
-  text : written.text ≡ Some (timed_text config words items)
-  few : timed_count words items ≤ most_lines
+  text : written.text ≡ Some (record_text config words items)
+  few : record_count words items ≤ most_lines
   fit : AllByRecursion IsItem items
   ending_is : written.ending ≡ ending
 
 -- a whole one counts its lines
 record IsWholeOf (config : Config) (words : List Word) (items : List RecordItem) (written : Written) : Type 0 where
   so_far : IsOfItems config words items Whole written
-  lines : written.lines ≡ timed_count words items
+  lines : written.lines ≡ record_count words items
 
 -- a full one has as many as a log may have
 record IsFullOf (config : Config) (words : List Word) (items : List RecordItem) (written : Written) : Type 0 where
   so_far : IsOfItems config words items Full written
-  most : most_lines ≤ timed_count words items
+  most : most_lines ≤ record_count words items
 
 -- one more line was due
 data Lined (config : Config) (words : List Word) (items : List RecordItem) (item : RecordItem) (new : Written) : Type 0
@@ -95,7 +95,7 @@ line_taken failure config words items item old new h fits one Whole e t =
     let more = count_with items item in
     lined (record {
       so_far = record {
-        text = appended old.text new.text (timed_text config words items) (line_of_item item) h.so_far.text t.2
+        text = appended old.text new.text (record_text config words items) (line_of_item item) h.so_far.text t.2
             ∙ ap Some (text_with config words items item);
         few = omega (arith, t.0);
         fit = fit_with items item h.so_far.fit fits;
@@ -107,7 +107,7 @@ line_taken failure config words items item old new h fits one Full e t =
     let lines = h.lines in
     filled (record {
       so_far = record {
-        text = kept old.text new.text (timed_text config words items) h.so_far.text t.2;
+        text = kept old.text new.text (record_text config words items) h.so_far.text t.2;
         few = h.so_far.few;
         fit = h.so_far.fit;
         ending_is = e;
@@ -176,23 +176,23 @@ kept_fails failure old new other (inr t) f = cause t.written
 
 -- ---- one call
 
-data TimedOutcome (config : Config) (words : List Word) (items : List RecordItem) (answer : PortCall) (new : Written) :
+data Outcome (config : Config) (words : List Word) (items : List RecordItem) (answer : PortCall) (new : Written) :
     Type 0 where
   further : (more : List RecordItem) → calls_in more ≡ calls_in items ++ answer ∷ [] → IsWholeOf config words more new →
-      TimedOutcome config words items answer new
+      Outcome config words items answer new
   full : (more : List RecordItem) → calls_in more ≡ calls_in items → IsFullOf config words more new →
-      TimedOutcome config words items answer new
-  failed : new.ending ≡ Failed → TimedOutcome config words items answer new
+      Outcome config words items answer new
+  failed : new.ending ≡ Failed → Outcome config words items answer new
 
 call_lined : (failure : Type 0) (config : Config) (words : List Word) (items before : List RecordItem) (answer : PortCall)
     (event : LogEvent) (old new : Written) → calls_in before ≡ calls_in items → IsWholeOf config words before old →
     IsPiece answer → reported_by answer ≡ Some event → TakesEvent failure old.ending old event new →
-    TimedOutcome config words items answer new
+    Outcome config words items answer new
 call_lined failure config words items before answer event old new same h piece reported t =
     go (text_taken failure config words before (Called answer) (event_line event) old new h piece (ap count_reported reported)
     (ap line_reported reported) t)
   where
-    go : Lined config words before (Called answer) new → TimedOutcome config words items answer new
+    go : Lined config words before (Called answer) new → Outcome config words items answer new
     go (lined k) =
         further (before ++ Called answer ∷ [])
         (calls_with before (Called answer) ∙ ap (λ (l : List PortCall). l ++ answer ∷ []) same) k
@@ -202,7 +202,7 @@ call_lined failure config words items before answer event old new same h piece r
 call_timed : (failure : Type 0) (config : Config) (words : List Word) (items : List RecordItem) (answer : PortCall)
     (event : LogEvent) (due : Option Moment) (old mid new : Written) → IsWholeOf config words items old → IsPiece answer →
     reported_by answer ≡ Some event → TakesTime failure due old mid → TakesEvent failure mid.ending mid event new →
-    TimedOutcome config words items answer new
+    Outcome config words items answer new
 call_timed failure config words items answer event None old mid new h piece reported t k =
     call_lined failure config words items items answer event mid new refl
     (subst (IsWholeOf config words items) (sym t) h) piece reported k
@@ -212,7 +212,7 @@ call_timed failure config words items answer event (Some due) old mid new h piec
     same : calls_in (items ++ Timed t.0 ∷ []) ≡ calls_in items
     same = calls_with items (Timed t.0) ∙ append-nil (calls_in items)
 
-    go : Lined config words items (Timed t.0) mid → TimedOutcome config words items answer new
+    go : Lined config words items (Timed t.0) mid → Outcome config words items answer new
     go (lined w) = call_lined failure config words items (items ++ Timed t.0 ∷ []) answer event mid new same w piece reported k
     go (filled w) =
         let as_it_is : new ≡ mid =
@@ -224,17 +224,17 @@ call_timed failure config words items answer event (Some due) old mid new h piec
 
 call_unlined : (failure : Type 0) (config : Config) (words : List Word) (items : List RecordItem) (answer : PortCall)
     (old new : Written) → IsWholeOf config words items old → IsPiece answer → reported_by answer ≡ None →
-    KeepsText failure old new → TimedOutcome config words items answer new
+    KeepsText failure old new → Outcome config words items answer new
 call_unlined failure config words items answer old new h piece e t = go t
   where
-    as_before : timed_text config words items ≡ timed_text config words (items ++ Called answer ∷ [])
+    as_before : record_text config words items ≡ record_text config words (items ++ Called answer ∷ [])
     as_before =
         let line : line_of_answer answer ≡ [] = ap line_reported e in
-        sym (append-nil (timed_text config words items))
-        ∙ ap (λ (l : List ℕ). timed_text config words items ++ l) (sym line) ∙ text_with config words items (Called answer)
+        sym (append-nil (record_text config words items))
+        ∙ ap (λ (l : List ℕ). record_text config words items ++ l) (sym line) ∙ text_with config words items (Called answer)
 
-    same : new.text ≡ Some (timed_text config words items) → new.lines ≡ old.lines → new.ending ≡ Whole →
-        TimedOutcome config words items answer new
+    same : new.text ≡ Some (record_text config words items) → new.lines ≡ old.lines → new.ending ≡ Whole →
+        Outcome config words items answer new
     same text lines_kept ending =
         let count : count_of_answer answer ≡ 0 = ap count_reported e in
         let lines = h.lines in
@@ -252,11 +252,11 @@ call_unlined failure config words items answer old new h piece e t = go t
 
     flushed : new.lines ≡ old.lines →
         ((new.ending ≡ Whole) × (new.unwritten ≡ []) × Keeps old.text new.text) ⊎ ((new.ending ≡ Failed) × failure) →
-        TimedOutcome config words items answer new
-    flushed lines (inl w) = same (kept old.text new.text (timed_text config words items) h.so_far.text w.2) lines w.0
+        Outcome config words items answer new
+    flushed lines (inl w) = same (kept old.text new.text (record_text config words items) h.so_far.text w.2) lines w.0
     flushed lines (inr w) = failed w.0
 
-    go : KeepsText failure old new → TimedOutcome config words items answer new
+    go : KeepsText failure old new → Outcome config words items answer new
     go (inl k) =
         same (ap (λ (w : Written). w.text) k ∙ h.so_far.text) (ap (λ (w : Written). w.lines) k)
         (ap (λ (w : Written). w.ending) k ∙ h.so_far.ending_is)
@@ -265,17 +265,17 @@ call_unlined failure config words items answer old new h piece e t = go t
 -- ---- all calls
 
 module _ {P : Type 0} (transition : P → PortCall → P → Type 0) (failed_write : Type 0) where
-  call_taken : (config : Config) (words : List Word) (items : List RecordItem) (answer : PortCall) (old new : TimedRecorded P)
+  call_taken : (config : Config) (words : List Word) (items : List RecordItem) (answer : PortCall) (old new : Recorded P)
       (reported : Option LogEvent) → reported_by answer ≡ reported → IsWholeOf config words items old.record_of →
-      IsPiece answer → TakesTimedCall failed_write old reported new → TimedOutcome config words items answer new.record_of
+      IsPiece answer → TakesCall failed_write old reported new → Outcome config words items answer new.record_of
   call_taken config words items answer old new None e h piece t =
       call_unlined failed_write config words items answer old.record_of new.record_of h piece e t.0
   call_taken config words items answer old new (Some event) e h piece t =
       call_timed failed_write config words items answer event (due_time old.present old.last) old.record_of t.0 new.record_of h piece
       e t.1 t.2
 
-  call_ended : (ending : RecordEnd) (old new : TimedRecorded P) (reported : Option LogEvent) → ending ≢ Whole →
-      old.record_of.ending ≡ ending → TakesTimedCall failed_write old reported new → new.record_of ≡ old.record_of
+  call_ended : (ending : RecordEnd) (old new : Recorded P) (reported : Option LogEvent) → ending ≢ Whole →
+      old.record_of.ending ≡ ending → TakesCall failed_write old reported new → new.record_of ≡ old.record_of
   call_ended ending old new None other e t =
       kept_as_it_is failed_write ending old.record_of new.record_of other e t.0
   call_ended ending old new (Some event) other e t =
@@ -283,8 +283,8 @@ module _ {P : Type 0} (transition : P → PortCall → P → Type 0) (failed_wri
       ended_text failed_write ending t.0 new.record_of (event_line event) other (ap (λ (w : Written). w.ending) same ∙ e) t.2
       ∙ same
 
-  call_fails : (old new : TimedRecorded P) (reported : Option LogEvent) → old.record_of.ending ≢ Failed →
-      TakesTimedCall failed_write old reported new → new.record_of.ending ≡ Failed → failed_write
+  call_fails : (old new : Recorded P) (reported : Option LogEvent) → old.record_of.ending ≢ Failed →
+      TakesCall failed_write old reported new → new.record_of.ending ≡ Failed → failed_write
   call_fails old new None other t f = kept_fails failed_write old.record_of new.record_of other t.0 f
   call_fails old new (Some event) other t f = go t.0.ending refl
     where
@@ -300,20 +300,20 @@ module _ {P : Type 0} (transition : P → PortCall → P → Type 0) (failed_wri
           text_fails failed_write Full t.0 new.record_of (event_line event) e
           (λ k. absurd (let no : Full ≡ Failed = sym e ∙ k in cc)) t.2 f
 
-  timed_stays : (ending : RecordEnd) (answers : List PortCall) (old new : TimedRecorded P) → ending ≢ Whole →
-      old.record_of.ending ≡ ending → EvolvesBy (TimedRecords transition failed_write) old answers new →
+  timed_stays : (ending : RecordEnd) (answers : List PortCall) (old new : Recorded P) → ending ≢ Whole →
+      old.record_of.ending ≡ ending → EvolvesBy (Records transition failed_write) old answers new →
       new.record_of ≡ old.record_of
-  timed_stays ending [] old new other e b = ap (λ (r : TimedRecorded P). r.record_of) b
+  timed_stays ending [] old new other e b = ap (λ (r : Recorded P). r.record_of) b
   timed_stays ending (answer ∷ answers) old new other e b =
       let same = call_ended ending old b.0 (reported_by answer) other e b.1.taken in
       timed_stays ending answers b.0 new other (ap (λ (w : Written). w.ending) same ∙ e) b.2 ∙ same
 
   has_items : (config : Config) (words : List Word) (all answers : List PortCall) (items : List RecordItem)
-      (old new : TimedRecorded P) → all ≡ calls_in items ++ answers → IsWholeOf config words items old.record_of →
-      EvolvesBy (TimedRecords transition failed_write) old answers new → new.record_of.ending ≢ Failed →
+      (old new : Recorded P) → all ≡ calls_in items ++ answers → IsWholeOf config words items old.record_of →
+      EvolvesBy (Records transition failed_write) old answers new → new.record_of.ending ≢ Failed →
       HasItems config words all new.record_of
   has_items config words all [] items old new whole h b other =
-      let same : new.record_of ≡ old.record_of = ap (λ (r : TimedRecorded P). r.record_of) b in
+      let same : new.record_of ≡ old.record_of = ap (λ (r : Recorded P). r.record_of) b in
       record {
         items = items;
         rest = [];
@@ -328,7 +328,7 @@ module _ {P : Type 0} (transition : P → PortCall → P → Type 0) (failed_wri
       go (call_taken config words items answer old b.0 (reported_by answer) refl h b.1.piece b.1.taken)
       (λ more calls k. has_items config words all answers more b.0 new calls k b.2 other)
     where
-      go : TimedOutcome config words items answer b.0.record_of →
+      go : Outcome config words items answer b.0.record_of →
           ((more : List RecordItem) → all ≡ calls_in more ++ answers → IsWholeOf config words more b.0.record_of →
           HasItems config words all new.record_of) → HasItems config words all new.record_of
       go (further more calls k) later =
@@ -351,9 +351,9 @@ module _ {P : Type 0} (transition : P → PortCall → P → Type 0) (failed_wri
           let same = timed_stays Failed answers b.0 new (λ e. absurd (cc)) k b.2 in
           absurd (other (ap (λ (w : Written). w.ending) same ∙ k))
 
-  timed_fails : (answers : List PortCall) (old new : TimedRecorded P) → old.record_of.ending ≢ Failed →
-      EvolvesBy (TimedRecords transition failed_write) old answers new → new.record_of.ending ≡ Failed → failed_write
-  timed_fails [] old new other b f = absurd (other (sym (ap (λ (r : TimedRecorded P). r.record_of.ending) b) ∙ f))
+  timed_fails : (answers : List PortCall) (old new : Recorded P) → old.record_of.ending ≢ Failed →
+      EvolvesBy (Records transition failed_write) old answers new → new.record_of.ending ≡ Failed → failed_write
+  timed_fails [] old new other b f = absurd (other (sym (ap (λ (r : Recorded P). r.record_of.ending) b) ∙ f))
   timed_fails (answer ∷ answers) old new other b f =
       go b.0.record_of.ending refl (λ other. timed_fails answers b.0 new other b.2 f)
     where
@@ -362,8 +362,8 @@ module _ {P : Type 0} (transition : P → PortCall → P → Type 0) (failed_wri
       go Full e later = later (λ g. absurd (let no : Full ≡ Failed = sym e ∙ g in cc))
       go Failed e later = call_fails old b.0 (reported_by answer) other b.1.taken e
 
-  pub timed_ports_recorded : TimedPortsAreRecorded transition failed_write
-  timed_ports_recorded config words comments answers old new begun b = (
+  pub ports_recorded : PortsAreRecorded transition failed_write
+  ports_recorded config words comments answers old new begun b = (
     timed_fails answers old new (λ f. absurd (let no : Whole ≡ Failed = sym begun.ending ∙ f in cc)) b,
     λ other. has_items config words answers answers comments old new
         (sym (ap (λ (l : List PortCall). l ++ answers) begun.no_call)) (record {

@@ -4,7 +4,7 @@ use Rattle.daide_sockets.specs.Table.{watching}
 use Rattle.daide_sockets.specs.Timers.{timers_of}
 use Rattle.daide_sockets.specs.Wakeups.{may_session_go_on}
 use Rattle.daide_run.proofs.RecordedLemmas.{busier, is_of_busier, goes_on_for, due_for}
-use Rattle.daide_run.proofs.recorded.RecordedSocketsSystemTimedRecordingSocketPortsConnectionSessionFileFile.watch.Goals as goal
+use Rattle.daide_run.proofs.recorded.RecordedSocketsSystemRecordingSocketPortsConnectionSessionFileFile.watch.Goals as goal
 
 pub returns : goal.returns
 returns g c = λ ports h.

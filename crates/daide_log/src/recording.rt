@@ -43,7 +43,7 @@ fn due_time(now: Option<Moment>, last: Option<Moment>) -> Option<Moment>
 /// wire as the end of its side. They return what the inner ports return, which get at most 1,024 bytes of a buffer
 /// (`asked_within`).
 ///
-/// Each call adds to the record the line of what it returned, or nothing (`TimedRecords`). A whole record takes it
+/// Each call adds to the record the line of what it returned, or nothing (`Records`). A whole record takes it
 /// while it has fewer than 1,000,000 lines; else it hands over what it holds, and is full. A record that failed or is
 /// full does not change.
 ///
@@ -58,7 +58,7 @@ fn due_time(now: Option<Moment>, last: Option<Moment>) -> Option<Moment>
 ///
 /// Not said: that the time which the caller gives is right.
 #[derive(Drop)]
-pub struct TimedRecording<P: Ports, W: Sink + Drop> {
+pub struct Recording<P: Ports, W: Sink + Drop> {
     ports: P,
     log: Record<W>,
     activity: Activity,
@@ -68,10 +68,10 @@ pub struct TimedRecording<P: Ports, W: Sink + Drop> {
     ending_before: RecordEnd,
 }
 
-impl<P: Ports, W: Sink + Drop> Model for TimedRecording<P, W> {
-    ghost use Rattle.daide_log.specs.Recording.{TimedRecorded};
+impl<P: Ports, W: Sink + Drop> Model for Recording<P, W> {
+    ghost use Rattle.daide_log.specs.Recording.{Recorded};
 
-    ghost Value = { TimedRecorded P };
+    ghost Value = { Recorded P };
 
     ghost view = { λ r. record {
       ports = r.ports;
@@ -82,13 +82,13 @@ impl<P: Ports, W: Sink + Drop> Model for TimedRecording<P, W> {
     } };
 }
 
-impl<P: Ports, W: Sink + Drop> TimedRecording<P, W> {
+impl<P: Ports, W: Sink + Drop> Recording<P, W> {
     ghost use Rattle.std.specs.Prelude.{None, Some};
     ghost use Rattle.daide_log.specs.Recording.{KeepsText, HasFailed, FitsLine, line_event};
-    ghost use Rattle.daide_log.specs.Recording.{TimedRecords, TakesTime, TakesTimedCall, last_time};
+    ghost use Rattle.daide_log.specs.Recording.{Records, TakesTime, TakesCall, last_time};
 
     /// Wraps ports, whose calls are recorded from now on. `began` is the last time that the record has.
-    pub fn new(ports: P, log: Record<W>, began: Option<Moment>) -> TimedRecording<P, W>
+    pub fn new(ports: P, log: Record<W>, began: Option<Moment>) -> Recording<P, W>
         ensures { result ≡ record {
           ports = ports;
           record_of = log;
@@ -98,7 +98,7 @@ impl<P: Ports, W: Sink + Drop> TimedRecording<P, W> {
         } }
     {
         let ending_before = log.ending();
-        TimedRecording {
+        Recording {
             ports,
             log,
             activity: Activity::Moving,
@@ -110,7 +110,7 @@ impl<P: Ports, W: Sink + Drop> TimedRecording<P, W> {
 
     /// Has the system begin a turn with the inner ports, at this time. The record is unchanged.
     pub fn begin_turn<S: System<P>>(&mut self, system: &mut S, now: Option<Moment>)
-        ensures begins { TimedRecords P.transition (HasFailed W.Fails) self.old TurnBegins self.new }
+        ensures begins { Records P.transition (HasFailed W.Fails) self.old TurnBegins self.new }
         ensures time { self.new.present ≡ now }
         ensures asked { S.transition system.old (BeginsTurn self.old.ports self.new.ports) system.new }
     {
@@ -125,7 +125,7 @@ impl<P: Ports, W: Sink + Drop> TimedRecording<P, W> {
     }
 
     /// Records the time that is due, if one is.
-    #[tactic(auto, using(crate::proofs::TimedTaken::time_taken))]
+    #[tactic(auto, using(crate::proofs::EventTaken::time_taken))]
     fn record_time(&mut self)
         ensures ports { self.new.ports ≡ self.old.ports }
         ensures activity { self.new.activity ≡ self.old.activity }
@@ -140,12 +140,12 @@ impl<P: Ports, W: Sink + Drop> TimedRecording<P, W> {
     }
 
     /// Records an event, after which bytes move or do not, and before it the time that is due.
-    #[tactic(auto, using(crate::proofs::TimedTaken::silent_taken, crate::proofs::TimedTaken::lined_taken))]
+    #[tactic(auto, using(crate::proofs::EventTaken::silent_taken, crate::proofs::EventTaken::lined_taken))]
     fn record_event(&mut self, event: RecordedEvent<'_>, activity: Activity)
         requires { FitsLine event }
         ensures ports { self.new.ports ≡ self.old.ports }
         ensures present { self.new.present ≡ self.old.present }
-        ensures taken { TakesTimedCall (HasFailed W.Fails) self.old (line_event event.entry) self.new }
+        ensures taken { TakesCall (HasFailed W.Fails) self.old (line_event event.entry) self.new }
         ensures activity { self.new.activity ≡ activity }
     {
         if !event.is_silent() {
@@ -160,7 +160,7 @@ impl<P: Ports, W: Sink + Drop> TimedRecording<P, W> {
     fn pause(&mut self)
         ensures ports { self.new.ports ≡ self.old.ports }
         ensures present { self.new.present ≡ self.old.present }
-        ensures kept { TakesTimedCall (HasFailed W.Fails) self.old None self.new }
+        ensures kept { TakesCall (HasFailed W.Fails) self.old None self.new }
         ensures written { self.old.activity ≢ Activity.Moving → self.new.record_of.ending ≡ RecordEnd.Whole →
             self.new.record_of.unwritten ≡ [] }
         ensures activity { self.new.activity ≡ Activity.Idle }
@@ -193,11 +193,11 @@ impl<P: Ports, W: Sink + Drop> TimedRecording<P, W> {
     }
 }
 
-impl<P: Ports, W: Sink + Drop> Ports for TimedRecording<P, W> {
-    ghost use Rattle.daide_log.specs.Recording.{TimedRecords, HasFailed};
+impl<P: Ports, W: Sink + Drop> Ports for Recording<P, W> {
+    ghost use Rattle.daide_log.specs.Recording.{Records, HasFailed};
     ghost use Rattle.daide_io.specs.Interest.{MayAddWork};
 
-    ghost transition = { TimedRecords P.transition (HasFailed W.Fails) };
+    ghost transition = { Records P.transition (HasFailed W.Fails) };
 
     ghost interest = { λ ports interest. MayAddWork (P.interest ports.ports) interest };
 

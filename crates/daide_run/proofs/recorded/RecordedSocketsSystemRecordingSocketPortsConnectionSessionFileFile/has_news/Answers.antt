@@ -1,5 +1,5 @@
 use Rattle.daide_run.proofs.RecordedLemmas.{busier, is_of_busier, asked_of_busier}
-use Rattle.daide_run.proofs.recorded.RecordedSocketsSystemTimedRecordingSocketPortsConnectionSessionFileFile.has_news.Goals as goal
+use Rattle.daide_run.proofs.recorded.RecordedSocketsSystemRecordingSocketPortsConnectionSessionFileFile.has_news.Goals as goal
 
 pub returns : goal.returns
 returns g c = λ ports h.

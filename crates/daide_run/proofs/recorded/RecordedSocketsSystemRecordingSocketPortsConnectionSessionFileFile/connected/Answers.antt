@@ -1,4 +1,4 @@
-use Rattle.daide_run.proofs.recorded.RecordedSocketsSystemTimedRecordingSocketPortsConnectionSessionFileFile.connected.Goals as goal
+use Rattle.daide_run.proofs.recorded.RecordedSocketsSystemRecordingSocketPortsConnectionSessionFileFile.connected.Goals as goal
 
 pub returns-in-Ready : goal.returns-in-Ready
 returns-in-Ready g c =

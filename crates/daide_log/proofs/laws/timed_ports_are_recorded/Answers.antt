@@ -1,7 +1,0 @@
-use Rattle.daide_log.specs.Recording.{HasFailed}
-use Rattle.daide_log.proofs.TimedPorts.{timed_ports_recorded}
-use Rattle.daide_log.proofs.laws.timed_ports_are_recorded.Goals as goal
-
-pub returns : goal.returns
-returns g c = λ config words comments answers old new begun by.
-    timed_ports_recorded g.P.Ports.transition (HasFailed g.W.Sink.Fails) config words comments answers old new begun by
