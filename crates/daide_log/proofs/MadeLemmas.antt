@@ -53,7 +53,7 @@ use Rattle.daide_log.specs.declared.report.ReportKey.{ReportKey}
 use Rattle.daide_log.specs.Report.{move_line, texts_of, counted_over}
 use Rattle.daide_log.specs.Explained.{ExplainedEntry, Moved, AreShownBy, ExplainsMove, ExplainsFrame, AreMessageLines, bytes_at}
 use Rattle.daide_log.specs.Explained.{fault_lines, indented, shown_text, shown_counted}
-use Rattle.daide_log.specs.Lawful.{silent, in_a_row}
+use Rattle.daide_log.specs.Proofs.Lawful.{silent, in_a_row}
 use Rattle.daide_log.specs.Explaining.{IsRightFate, IsRightlyReported, AreLinesBy}
 use Rattle.daide_log.proofs.PlayLemmas.{room_is_missing}
 use Rattle.daide_log.proofs.LimitBounds.{depth_within, body_within}

@@ -8,7 +8,7 @@ pub mod Log
 pub mod Progress
 pub mod Explained
 pub mod Explaining
-pub mod Lawful
+pub mod Proofs
 pub mod Laws
 pub mod RecordText
 pub mod UtcText

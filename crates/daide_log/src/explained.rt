@@ -27,7 +27,7 @@ ghost use Rattle.daide_protocol.specs.Wires.{holding, is_awaited, queued};
 ghost use Rattle.daide_log.specs.Explaining.{IsRuled, IsRightFate, IsRightlyReported, AreLinesBy};
 ghost use Rattle.daide_log.specs.Progress.{IsAnswered, states_of};
 ghost use Rattle.daide_log.specs.Reporting.{IsIdle};
-ghost use Rattle.daide_log.specs.Lawful.{explained_lawful};
+ghost use Rattle.daide_log.specs.Proofs.Lawful.{explained_lawful};
 
 use crate::check::report_whole;
 use crate::heading::{Preamble, Version};

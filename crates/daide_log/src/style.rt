@@ -13,7 +13,7 @@ ghost use Rattle.daide_log.specs.ReportForm.{ReportForm, IsWritableForm};
 ghost use Rattle.daide_log.specs.Log.{plain};
 ghost use Rattle.daide_log.specs.Progress.{states_of};
 ghost use Rattle.daide_log.specs.Reporting.{IsMade, IsReady, IsUnder, IsReportedWith, IsQuietWith, IsCauseIn};
-ghost use Rattle.daide_log.specs.Lawful.{plain_lawful};
+ghost use Rattle.daide_log.specs.Proofs.Lawful.{plain_lawful};
 
 use crate::heading::Preamble;
 use crate::page::Unreported;

@@ -25,7 +25,7 @@ use Rattle.daide_log.specs.Log.{ReportsAll, ReportsAllBy}
 use Rattle.daide_log.specs.Log.{IsReport, IsReportBy, plain, source_in}
 use Rattle.daide_log.specs.Explained.{ExplainedEntry, Moved, Remark, shown_text, shown_counted, AreShown, AreShownBy, explained}
 use Rattle.daide_log.specs.Explained.{indented, is_remark, remarks, Part, part_text, parts_from, cut_text}
-use Rattle.daide_log.specs.Lawful.{entries_of-append}
+use Rattle.daide_log.specs.Proofs.Lawful.{entries_of-append}
 use Rattle.daide_log.proofs.SomeReport.{plain_uncut}
 use Rattle.daide_log_laws.specs.Added.{without_added, is_added_line, counts_of, cut_in, IsUpToCut, ExplanationOnlyAdds, PlainAddsNothing}
 use Rattle.daide_log_laws.proofs.TextLines.{added_line}
