@@ -17,6 +17,8 @@ use Rattle.daide_protocol.specs.Wires.{room_of, is_awaited, note_of, note_or}
 use Rattle.daide_protocol.proofs.OneRun.{runs_join}
 use Rattle.daide_protocol.proofs.PieceRuns.{over_stays}
 use Rattle.daide_protocol.proofs.WireLemmas.{bytes_come-append}
+use Rattle.daide_log_lines.specs.declared.event_line.ParsedEvent.{ParsedEvent}
+use Rattle.daide_log_lines.specs.declared.event_line.ParsedEvent.TheVariants as ParsedEvents
 use Rattle.daide_log.specs.declared.report.ReportKey.{ReportKey}
 use Rattle.daide_protocol.specs.declared.summary.Summary.{Summary}
 use Rattle.daide_protocol.specs.Summary.{count_note}
@@ -28,7 +30,7 @@ use Rattle.daide_log.specs.Report.{move_line, texts_of, counted_over}
 use Rattle.daide_protocol.specs.Summary.{HasRoom, IsMoreBy}
 use Rattle.daide_protocol.proofs.GrowthLemmas.{no_more, more_by, more_then, less_room, room_after}
 use Rattle.daide_log.specs.Reporting.{IsIdle, IsOneEffect, ReportsEvents, IsMade, IsReportedWith, IsReady, IsUnder}
-use Rattle.daide_log.specs.Reporting.{IsCaused}
+use Rattle.daide_log.specs.Reporting.{IsBare, IsCaused, Moves, note_of_move}
 use Rattle.daide_log.proofs.OneMove.{one_move_a_piece, one_move_a_timer, one_move_a_stop}
 
 -- ---- one piece
@@ -175,6 +177,26 @@ pub end_silent : (old new : SessionView) (side : Side) → Refines old (Ends sid
 end_silent old new side g over =
     subst (λ (moves : List Effect). Runs old.state (Ends side ∷ []) moves new.state)
     (end_effects old new side g ∙ rw over refl) g.run
+
+-- a move with a note, or none
+pub moves_noted : (old new : SessionView) (events : List Event) (side : Side) (reported : Note) →
+    (reported ≡ Notes.Nothing → Runs old.state events [] new.state) →
+    ((reported ≡ Notes.Nothing → ⊥) → IsMade old events side reported new) → Moves old events side (note_of_move reported) new
+moves_noted old new events side Notes.Nothing silent made = silent refl
+moves_noted old new events side (Notes.Frame head deed) silent made = made (λ e. absurd (cc))
+moves_noted old new events side (Notes.Fault code) silent made = made (λ e. absurd (cc))
+moves_noted old new events side Notes.Stopped silent made = made (λ e. absurd (cc))
+
+pub is_none : (move : Option Note) → ((reported : Note) → move ≡ Some reported → ⊥) → move ≡ None
+is_none None other = refl
+is_none (Some reported) other = absurd (other reported refl)
+
+pub bare : (event : ParsedEvent) → ((side : Side) (count : ℕ) → event ≡ ParsedEvents.Received side count → ⊥) → IsBare event
+bare (ParsedEvents.Received side count) other = other side count refl
+bare (ParsedEvents.EndOf side) other = tt
+bare ParsedEvents.ImTimerLine other = tt
+bare ParsedEvents.StopLine other = tt
+bare ParsedEvents.Silence other = tt
 
 -- ---- sessions between two lines
 

@@ -1,5 +1,5 @@
 -- The entries and the counts of a session's moves. (own)
-use Rattle.std.specs.Prelude.{◌≡◌, ◌≢◌, ◌⊎◌, ⊤, true, Ok, ℕ, ◌≤◌, List, [], ◌∷◌, ◌++◌, length, Option}
+use Rattle.std.specs.Prelude.{◌≡◌, ◌≢◌, ◌⊎◌, ⊤, true, Ok, ℕ, ◌≤◌, List, [], ◌∷◌, ◌++◌, length, Option, Some, None}
 use Rattle.std.specs.Io.KnownBytes.{Appends}
 use Rattle.daide_frame.specs.declared.side.Side.{Side}
 use Rattle.daide_protocol.specs.declared.note.Note.{Note}
@@ -14,6 +14,8 @@ use Rattle.daide_protocol.specs.declared.summary.Summary.{Summary}
 use Rattle.daide_words.specs.declared.word.Word.{Word}
 use Rattle.daide_protocol.specs.declared.config.Config.{Config}
 use Rattle.daide_protocol.specs.Config.{config_fault, limits_with}
+use Rattle.daide_log_lines.specs.declared.event_line.ParsedEvent.{ParsedEvent}
+use Rattle.daide_log_lines.specs.declared.event_line.ParsedEvent.TheVariants as ParsedEvents
 use Rattle.daide_log_lines.specs.declared.fault.LogFault.{LogFault}
 use Rattle.daide_log_lines.specs.declared.fault.LogFault.TheVariants as Faults
 use Rattle.daide_log.specs.declared.page.Unreported.{Unreported}
@@ -60,6 +62,26 @@ pub record IsMade (old : SessionView) (events : List Event) (side : Side) (repor
   pub run : Runs old.state events (move ∷ []) new.state
   pub same : move.reported ≡ reported
   pub caused : IsCaused old events side reported new
+
+-- the note of a move, if there was a move
+abbrev pub note_of_move : Note → Option Note
+note_of_move Notes.Nothing = None
+note_of_move (Notes.Frame head deed) = Some (Notes.Frame head deed)
+note_of_move (Notes.Fault code) = Some (Notes.Fault code)
+note_of_move Notes.Stopped = Some Notes.Stopped
+
+-- these events cause one move of the session, with this note, or none
+abbrev pub Moves : SessionView → List Event → Side → Option Note → SessionView → Type 0
+Moves old events side None new = Runs old.state events [] new.state
+Moves old events side (Some reported) new = IsMade old events side reported new
+
+-- an event without bytes
+abbrev pub IsBare : ParsedEvent → Type 0
+IsBare (ParsedEvents.Received side count) = ⊥
+IsBare (ParsedEvents.EndOf side) = ⊤
+IsBare ParsedEvents.ImTimerLine = ⊤
+IsBare ParsedEvents.StopLine = ⊤
+IsBare ParsedEvents.Silence = ⊤
 
 -- the lines after the line of a move, so that both together are the move's entries
 abbrev pub IsReportedWith : {Answer : Type 0} → ReportForm Answer → Side → Note → SessionView → List ℕ → Type 0

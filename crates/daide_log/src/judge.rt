@@ -16,7 +16,7 @@ ghost use Rattle.daide_log.specs.Progress.{Judges, states_of};
 
 use crate::heading::Version;
 use crate::page::Unreported;
-use crate::play::{end, feed_all, halt, time_out};
+use crate::play::{apply, feed_all, report_move};
 use crate::report::ReportKey;
 use crate::report_builder::ReportBuilder;
 use crate::style::Style;
@@ -61,15 +61,11 @@ pub fn judge<A: Allocator, W: Write, S: Style>(
     ensures same_head { account.new.head ≡ account.old.head }
     ensures same_writer { IsSameWriter account.old.output account.new.output }
 {
-    match reported {
-        ParsedEvent::Received(side, count) => {
-            as_fault(feed_all(session, side, &bytes[..count], source, account))
-        }
-        ParsedEvent::EndOf(side) => as_fault(end(session, side, source, account)),
-        ParsedEvent::ImTimerLine => as_fault(time_out(session, source, account)),
-        ParsedEvent::StopLine => as_fault(halt(session, source, account)),
-        ParsedEvent::Silence => Ok(()),
+    if let ParsedEvent::Received(side, count) = reported {
+        return as_fault(feed_all(session, side, &bytes[..count], source, account));
     }
+    let (side, moved) = apply(session, reported);
+    as_fault(report_move(session, source, side, moved, account))
 }
 
 /// Parses an event line. In version 1 its session is the only one.

@@ -1,23 +1,25 @@
 //! A session of a log, driven by the lines after the head.
 
-ghost use Rattle.std.specs.Prelude.{◌≡◌, ◌≤◌, ℕ, List, ◌∷◌, ◌++◌, [], length, OnOk, IfErr};
+ghost use Rattle.std.specs.Prelude.{◌≡◌, ◌≤◌, ℕ, List, ◌++◌, length, OnOk, IfErr};
 ghost use Rattle.std.specs.Io.KnownBytes.{Appends};
 ghost use Rattle.daide_frame.specs.declared.side.Side.{Side};
 ghost use Rattle.daide_log_lines.specs.Output.{IsSameWriter, all_of};
-ghost use Rattle.daide_protocol.specs.Events.{Event, Ends, ImTimerExpired, OperatorStops, bytes_come};
+ghost use Rattle.daide_protocol.specs.Events.{Event, bytes_come};
 ghost use Rattle.daide_protocol.specs.Machine.{coming};
 ghost use Rattle.daide_protocol.specs.Wires.{SessionView, holding, room_of};
 ghost use Rattle.daide_protocol.specs.Summary.{count_note};
 ghost use Rattle.daide_protocol.specs.Summary.{HasRoom, IsMoreBy};
 ghost use Rattle.daide_words.specs.Words.{words_of};
-ghost use Rattle.daide_log.specs.Report.{move_line};
-ghost use Rattle.daide_log.specs.Reporting.{IsIdle, IsMade, IsReady, IsUnder, IsReportedWith, IsCauseIn, ReportsEvents};
+ghost use Rattle.daide_log_lines.specs.ParsedEvents.{event_reported};
+ghost use Rattle.daide_log.specs.Report.{events_of_line, move_line, side_of};
+ghost use Rattle.daide_log.specs.Reporting.{IsBare, IsIdle, IsMade, IsReady, IsUnder, IsReportedWith, IsCauseIn, Moves, ReportsEvents, note_of_move};
 
 use crate::page::{Unreported, put_move};
 use crate::report::ReportKey;
 use crate::report_builder::ReportBuilder;
 use crate::style::Style;
 use daide_frame::Side;
+use daide_log_lines::event_line::ParsedEvent;
 use daide_protocol::Note;
 use daide_session::Session;
 use std::alloc::Allocator;
@@ -60,6 +62,37 @@ fn tell<A: Allocator, W: Write, S: Style>(
     account.style.explain(&account.head, session, side, reported, &mut account.output)
 }
 
+/// Reports the last move of a session, if there was one, and drops the frames queued for both sides.
+#[inline(always)]
+pub fn report_move<A: Allocator, W: Write, S: Style>(
+    session: &mut Session<A>,
+    source: ReportKey,
+    side: Side,
+    reported: Option<Note>,
+    account: &mut ReportBuilder<'_, '_, W, S>,
+) -> Result<(), Unreported>
+    requires under { IsUnder account.old.head.limits.config (words_of account.old.head.words) session.old }
+    requires moved { (old : SessionView) × (events : List Event) × Moves old events side reported session.old }
+    requires room { HasRoom 1 account.old.summary }
+    ensures ready { IsReady account.old.head.limits.config (words_of account.old.head.words) session.new }
+    ensures few { IsMoreBy 1 account.old.summary account.new.summary }
+    ensures reported { OnOk result ((old : SessionView) → (events : List Event) → Moves old events side reported session.old →
+        ReportsEvents (S.form (words_of account.old.head.words)) source side old.state events session.new.state
+        account.old.summary account.new.summary (all_of W.contents account.old.output)
+        (all_of W.contents account.new.output)) }
+    ensures refused { IfErr result (IsCauseIn (S.form (words_of account.old.head.words))) }
+    ensures same_head { account.new.head ≡ account.old.head }
+    ensures same_writer { IsSameWriter account.old.output account.new.output }
+{
+    let Some(reported) = reported else {
+        take_answers(session);
+        return Ok(());
+    };
+    let written = tell(session, source, side, reported, account);
+    take_answers(session);
+    written
+}
+
 /// Feeds a side's next bytes, which must fit its room, and reports the move that they cause, if there is one. Empties
 /// the session's queues only afterwards, because an explanation needs the frame that the session still holds. Without a
 /// move nothing is queued.
@@ -88,9 +121,7 @@ fn feed_piece<A: Allocator, W: Write, S: Style>(
     if let Note::Nothing = reported {
         return Ok(());
     }
-    let written = tell(session, source, side, reported, account);
-    take_answers(session);
-    written
+    report_move(session, source, side, Some(reported), account)
 }
 
 /// Feeds a side's bytes in pieces that fit its room, and reports each frame and fault.
@@ -149,86 +180,38 @@ pub fn feed_all<A: Allocator, W: Write, S: Style>(
     }
 }
 
-/// Ends a side's stream, and reports that if it ended the session.
-pub fn end<A: Allocator, W: Write, S: Style>(
-    session: &mut Session<A>,
-    side: Side,
-    source: ReportKey,
-    account: &mut ReportBuilder<'_, '_, W, S>,
-) -> Result<(), Unreported>
-    requires ready { IsReady account.old.head.limits.config (words_of account.old.head.words) session.old }
-    requires room { HasRoom 1 account.old.summary }
-    ensures ready { IsReady account.old.head.limits.config (words_of account.old.head.words) session.new }
-    ensures few { IsMoreBy 1 account.old.summary account.new.summary }
-    ensures reported { OnOk result (ReportsEvents (S.form (words_of account.old.head.words)) source side session.old.state (Ends side ∷ []) session.new.state
-        account.old.summary account.new.summary (all_of W.contents account.old.output)
-        (all_of W.contents account.new.output)) }
-    ensures refused { IfErr result (IsCauseIn (S.form (words_of account.old.head.words))) }
-    ensures same_head { account.new.head ≡ account.old.head }
-    ensures same_writer { IsSameWriter account.old.output account.new.output }
+/// Returns the note of a move, or `None` if there was no move.
+fn note_of_move(reported: Note) -> Option<Note>
+    ensures { result ≡ note_of_move reported }
 {
-    let ended = session.ended(side);
-    if ended {
-        let written = tell(session, source, side, Note::Nothing, account);
-        take_answers(session);
-        return written;
+    match reported {
+        Note::Nothing => None,
+        Note::Frame(..) | Note::Fault(_) | Note::Stopped => Some(reported),
     }
-    take_answers(session);
-    Ok(())
 }
 
-/// Reports that the IM timer expired.
-pub fn time_out<A: Allocator, W: Write, S: Style>(
-    session: &mut Session<A>,
-    source: ReportKey,
-    account: &mut ReportBuilder<'_, '_, W, S>,
-) -> Result<(), Unreported>
-    requires ready { IsReady account.old.head.limits.config (words_of account.old.head.words) session.old }
-    requires room { HasRoom 1 account.old.summary }
-    ensures ready { IsReady account.old.head.limits.config (words_of account.old.head.words) session.new }
-    ensures few { IsMoreBy 1 account.old.summary account.new.summary }
-    ensures reported { OnOk result (ReportsEvents (S.form (words_of account.old.head.words)) source Side.Bot session.old.state (ImTimerExpired ∷ []) session.new.state
-        account.old.summary account.new.summary (all_of W.contents account.old.output)
-        (all_of W.contents account.new.output)) }
-    ensures refused { IfErr result (IsCauseIn (S.form (words_of account.old.head.words))) }
-    ensures same_head { account.new.head ≡ account.old.head }
-    ensures same_writer { IsSameWriter account.old.output account.new.output }
+/// Applies an event without bytes to a session. Returns the side of the move that it causes, and the move's note, if
+/// there is a move.
+pub fn apply<A: Allocator>(session: &mut Session<A>, event: ParsedEvent) -> (Side, Option<Note>)
+    requires bare { IsBare event }
+    requires idle { IsIdle session.old }
+    ensures side { (bytes : List ℕ) → result.0 ≡ side_of (event_reported bytes event) }
+    ensures moves { (bytes : List ℕ) → Moves session.old (events_of_line (event_reported bytes event)) result.0 result.1
+        session.new }
+    ensures limits { session.new.state.limits ≡ session.old.state.limits }
 {
-    // The contract of `header` states that the session holds the incomplete frame.
-    let _held = session.header(Side::Bot);
-    let reported = session.im_timeout();
-    if let Note::Nothing = reported {
-        take_answers(session);
-        return Ok(());
+    match event {
+        ParsedEvent::Received(..) => unreachable!(),
+        ParsedEvent::EndOf(side) => {
+            let ended = session.ended(side);
+            (side, if ended { Some(Note::Nothing) } else { None })
+        }
+        ParsedEvent::ImTimerLine => {
+            // The contract of `header` states that the session holds the incomplete frame.
+            let _held = session.header(Side::Bot);
+            (Side::Bot, note_of_move(session.im_timeout()))
+        }
+        ParsedEvent::StopLine => (Side::Bot, note_of_move(session.stop())),
+        ParsedEvent::Silence => (Side::Bot, None),
     }
-    let written = tell(session, source, Side::Bot, reported, account);
-    take_answers(session);
-    written
-}
-
-/// Reports that the operator stopped the session.
-pub fn halt<A: Allocator, W: Write, S: Style>(
-    session: &mut Session<A>,
-    source: ReportKey,
-    account: &mut ReportBuilder<'_, '_, W, S>,
-) -> Result<(), Unreported>
-    requires ready { IsReady account.old.head.limits.config (words_of account.old.head.words) session.old }
-    requires room { HasRoom 1 account.old.summary }
-    ensures ready { IsReady account.old.head.limits.config (words_of account.old.head.words) session.new }
-    ensures few { IsMoreBy 1 account.old.summary account.new.summary }
-    ensures reported { OnOk result (ReportsEvents (S.form (words_of account.old.head.words)) source Side.Bot session.old.state (OperatorStops ∷ []) session.new.state
-        account.old.summary account.new.summary (all_of W.contents account.old.output)
-        (all_of W.contents account.new.output)) }
-    ensures refused { IfErr result (IsCauseIn (S.form (words_of account.old.head.words))) }
-    ensures same_head { account.new.head ≡ account.old.head }
-    ensures same_writer { IsSameWriter account.old.output account.new.output }
-{
-    let reported = session.stop();
-    if let Note::Nothing = reported {
-        take_answers(session);
-        return Ok(());
-    }
-    let listed = tell(session, source, Side::Bot, reported, account);
-    take_answers(session);
-    listed
 }

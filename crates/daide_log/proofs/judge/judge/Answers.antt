@@ -1,8 +1,12 @@
-use Rattle.std.proofs.Common.{[], refl}
+use Rattle.std.proofs.Common.{◌∙◌, subst}
+use Rattle.daide_frame.specs.declared.side.Side.{Side}
 use Rattle.daide_words.specs.Words.{words_of}
 use Rattle.daide_log_lines.specs.Output.{all_of}
-use Rattle.daide_log.proofs.PlayLemmas.{tells_none}
-use Rattle.daide_log.proofs.EventLemmas.{as_reported, refused_late}
+use Rattle.daide_log_lines.specs.ParsedEvents.{event_reported}
+use Rattle.daide_log.specs.Report.{events_of_line}
+use Rattle.daide_log.specs.Reporting.{ReportsEvents}
+use Rattle.daide_log.proofs.PlayLemmas.{bare}
+use Rattle.daide_log.proofs.EventLemmas.{as_reported, on_ok, refused_late}
 use Rattle.daide_log.proofs.judge.judge.Goals as goal
 
 pub returns-in-Received-clause-judged : goal.returns-in-Received-clause-judged
@@ -10,41 +14,38 @@ returns-in-Received-clause-judged g c =
     rw c.in-Received.is (as_reported c.feed_all.result c.as_fault.result _ c.as_fault.ensures c.feed_all.ensures.reported)
 
 pub returns-in-Received-clause-refused : goal.returns-in-Received-clause-refused
-returns-in-Received-clause-refused g c = refused_late (g.S.Style.form (words_of c.args.account.now.head.words)) c.feed_all.result c.as_fault.result c.as_fault.ensures
+returns-in-Received-clause-refused g c =
+    refused_late (g.S.Style.form (words_of c.args.account.now.head.words)) c.feed_all.result c.as_fault.result c.as_fault.ensures
     c.feed_all.ensures.refused
 
-pub returns-in-EndOf-clause-judged : goal.returns-in-EndOf-clause-judged
-returns-in-EndOf-clause-judged g c =
-    rw c.in-EndOf.is (as_reported c.end.result c.as_fault-in-EndOf.result _ c.as_fault-in-EndOf.ensures c.end.ensures.reported)
+pub apply-side-requires-clause-bare : goal.apply-side-requires-clause-bare
+apply-side-requires-clause-bare g c = bare c.args.reported c.in_default.not-Received
 
-pub returns-in-EndOf-clause-refused : goal.returns-in-EndOf-clause-refused
-returns-in-EndOf-clause-refused g c =
-    refused_late (g.S.Style.form (words_of c.args.account.now.head.words)) c.end.result c.as_fault-in-EndOf.result c.as_fault-in-EndOf.ensures
-    c.end.ensures.refused
+pub report_move-requires-clause-under : goal.report_move-requires-clause-under
+report_move-requires-clause-under g c =
+    let under = c.requires.ready.under in
+    record { limits = c.apply-side.ensures.limits ∙ under.limits; accepted = under.accepted }
 
-pub returns-in-ImTimerLine-clause-judged : goal.returns-in-ImTimerLine-clause-judged
-returns-in-ImTimerLine-clause-judged g c =
-    rw c.in-ImTimerLine.is
-    (as_reported c.time_out.result c.as_fault-in-ImTimerLine.result _ c.as_fault-in-ImTimerLine.ensures c.time_out.ensures.reported)
+pub report_move-requires-clause-moved : goal.report_move-requires-clause-moved
+report_move-requires-clause-moved g c = (
+  c.args.session.now,
+  events_of_line (event_reported c.args.bytes.now c.args.reported),
+  c.apply-side.ensures.moves c.args.bytes.now,
+)
 
-pub returns-in-ImTimerLine-clause-refused : goal.returns-in-ImTimerLine-clause-refused
-returns-in-ImTimerLine-clause-refused g c =
-    refused_late (g.S.Style.form (words_of c.args.account.now.head.words)) c.time_out.result c.as_fault-in-ImTimerLine.result c.as_fault-in-ImTimerLine.ensures
-    c.time_out.ensures.refused
+pub returns-clause-judged : goal.returns-clause-judged
+returns-clause-judged g c =
+    let bytes = c.args.bytes.now in
+    let events = events_of_line (event_reported bytes c.args.reported) in
+    as_reported c.report_move.result c.as_fault-2.result _ c.as_fault-2.ensures
+    (on_ok c.report_move.result _ _ c.report_move.ensures.reported
+    (λ reports. subst (λ (side : Side). ReportsEvents (g.S.Style.form (words_of c.args.account.now.head.words)) c.args.source side
+    c.args.session.now.state events c.report_move.new.session.state c.args.account.now.summary
+    c.report_move.new.account.summary (all_of g.W.Write.contents c.args.account.now.output)
+    (all_of g.W.Write.contents c.report_move.new.account.output)) (c.apply-side.ensures.side bytes)
+    (reports c.args.session.now events (c.apply-side.ensures.moves bytes))))
 
-pub returns-in-StopLine-clause-judged : goal.returns-in-StopLine-clause-judged
-returns-in-StopLine-clause-judged g c =
-    rw c.in-StopLine.is
-    (as_reported c.halt.result c.as_fault-in-StopLine.result _ c.as_fault-in-StopLine.ensures c.halt.ensures.reported)
-
-pub returns-in-StopLine-clause-refused : goal.returns-in-StopLine-clause-refused
-returns-in-StopLine-clause-refused g c =
-    refused_late (g.S.Style.form (words_of c.args.account.now.head.words)) c.halt.result c.as_fault-in-StopLine.result c.as_fault-in-StopLine.ensures
-    c.halt.ensures.refused
-
-pub returns-in-Silence-clause-judged : goal.returns-in-Silence-clause-judged
-returns-in-Silence-clause-judged g c =
-    let words = words_of c.args.account.now.head.words in
-    rw c.in-Silence.is
-    (tells_none (g.S.Style.form words) words (g.met.S.Style.lawful words) c.args.source _ c.args.session.now.state
-    c.args.session.now.state [] c.args.account.now.summary (all_of g.W.Write.contents c.args.account.now.output) (refl, refl))
+pub returns-clause-refused : goal.returns-clause-refused
+returns-clause-refused g c =
+    refused_late (g.S.Style.form (words_of c.args.account.now.head.words)) c.report_move.result c.as_fault-2.result
+    c.as_fault-2.ensures c.report_move.ensures.refused

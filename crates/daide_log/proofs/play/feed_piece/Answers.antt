@@ -1,8 +1,8 @@
-use Rattle.std.proofs.Common.{refl, ◌∙◌, sym}
+use Rattle.std.proofs.Common.{refl}
 use Rattle.daide_log_lines.specs.Output.{all_of}
 use Rattle.daide_words.specs.Words.{words_of}
 use Rattle.daide_protocol.specs.Events.{bytes_come}
-use Rattle.daide_log.proofs.PlayLemmas.{idle_still, piece_made, piece_silent, ready_after, under_after, tells_none, tells_one}
+use Rattle.daide_log.proofs.PlayLemmas.{idle_still, piece_made, piece_silent, ready_after, under_after, tells_none}
 use Rattle.daide_protocol.proofs.GrowthLemmas.{no_more}
 use Rattle.daide_log.proofs.EventLemmas.{on_ok}
 use Rattle.daide_log.proofs.play.feed_piece.Goals as goal
@@ -27,34 +27,23 @@ returns-in-Nothing-clause-reported g c =
     (piece_silent c.args.session.now c.feed-reported.new.self c.args.side c.args.piece.now c.feed-reported.result c.requires.few
     c.feed-reported.ensures.goes c.in-Nothing.is)
 
-pub tell-written-requires-clause-under : goal.tell-written-requires-clause-under
-tell-written-requires-clause-under g c =
+pub report_move-requires-clause-under : goal.report_move-requires-clause-under
+report_move-requires-clause-under g c =
     under_after c.args.account.now.head.limits.config (words_of c.args.account.now.head.words) c.args.session.now
     c.feed-reported.new.self (bytes_come c.args.side c.args.piece.now) c.feed-reported.result c.requires.ready.under
     c.feed-reported.ensures.goes
 
-pub tell-written-requires-clause-made : goal.tell-written-requires-clause-made
-tell-written-requires-clause-made g c = (
+pub report_move-requires-clause-moved : goal.report_move-requires-clause-moved
+report_move-requires-clause-moved g c = (
   c.args.session.now,
   bytes_come c.args.side c.args.piece.now,
   piece_made c.args.session.now c.feed-reported.new.self c.args.side c.args.piece.now c.feed-reported.result c.requires.few
       c.requires.tied c.feed-reported.ensures.goes c.feed-reported.ensures.takes c.in_default.not-Nothing,
 )
 
-pub returns-clause-ready : goal.returns-clause-ready
-returns-clause-ready g c =
-    ready_after c.args.account.now.head.limits.config (words_of c.args.account.now.head.words) c.args.session.now
-    c.feed-reported.new.self c.take_answers.new.session (bytes_come c.args.side c.args.piece.now) c.feed-reported.result
-    c.requires.ready c.feed-reported.ensures.goes c.take_answers.ensures.state c.take_answers.ensures.idle
-
 pub returns-clause-reported : goal.returns-clause-reported
 returns-clause-reported g c =
-    on_ok c.tell-written.result _ _ c.tell-written.ensures.text
-    (λ t.
-    tells_one (g.S.Style.form (words_of c.args.account.now.head.words)) c.args.source c.args.session.now
-    (bytes_come c.args.side c.args.piece.now) c.args.side c.feed-reported.result c.feed-reported.new.self
-    c.take_answers.new.session.state t.0 c.args.account.now.summary c.tell-written.new.account.summary
-    (all_of g.W.Write.contents c.args.account.now.output) (all_of g.W.Write.contents c.tell-written.new.account.output)
+    on_ok c.report_move.result _ _ c.report_move.ensures.reported
+    (λ moved. moved c.args.session.now (bytes_come c.args.side c.args.piece.now)
     (piece_made c.args.session.now c.feed-reported.new.self c.args.side c.args.piece.now c.feed-reported.result c.requires.few
-    c.requires.tied c.feed-reported.ensures.goes c.feed-reported.ensures.takes c.in_default.not-Nothing)
-    c.take_answers.ensures.state t.1 c.tell-written.ensures.counted t.2)
+    c.requires.tied c.feed-reported.ensures.goes c.feed-reported.ensures.takes c.in_default.not-Nothing))

@@ -1,4 +1,4 @@
-use Rattle.std.proofs.Common.{refl, sym, ap, subst, ◌∙◌, inl, inr, length, arith}
+use Rattle.std.proofs.Common.{refl, sym, subst, ◌∙◌, inl, inr, length, arith}
 use Rattle.std.proofs.lemmas.Bool.{eqb-true}
 use Rattle.std.proofs.lemmas.List.{take-append-drop}
 use Rattle.daide_log_lines.specs.Output.{all_of}

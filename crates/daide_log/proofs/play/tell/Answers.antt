@@ -1,4 +1,3 @@
-use Rattle.std.proofs.Common.{◌++◌, List, ℕ}
 use Rattle.daide_log_lines.specs.Output.{all_of}
 use Rattle.daide_log.specs.Report.{move_line}
 use Rattle.daide_log.proofs.EventLemmas.{on_ok}
