@@ -1,11 +1,9 @@
 //! The report of a log with explanations.
 
-ghost use Rattle.std.specs.Prelude.{◌≡◌, ◌+◌, ◌*◌, ◌≤◌, ℕ, ◌++◌, ◌%◌, codes, false, All, List, Option, drop, length, IfOk, IfSome, OnOk};
-ghost use Rattle.std.specs.Fmt.{decimal};
+ghost use Rattle.std.specs.Prelude.{◌≡◌, ◌+◌, ◌*◌, ◌≤◌, ℕ, ◌++◌, ◌%◌, false, All, List, Option, drop, length, IfOk, IfSome, OnOk};
 ghost use Rattle.std.specs.Io.KnownBytes.{Appends};
 ghost use Rattle.daide_token.specs.Token.{tokens_of};
 ghost use Rattle.daide_token.specs.HexDigits.{digits_of_byte as digits_in};
-ghost use Rattle.daide_explain.specs.Explained.{IsExplained};
 ghost use Rattle.daide_grammar.specs.SideMessages.{IsMessageOver};
 ghost use Rattle.daide_words.specs.Word.{grammar_words};
 ghost use Rattle.daide_words.specs.declared.word.Word.{Word};
@@ -88,38 +86,6 @@ fn write_tokens<B: Allocator>(
     }
 }
 
-/// Writes the number of the level at which a message was judged.
-fn write_level<B: Allocator>(level: u16, text: &mut Vec<u8, B>) -> Result<(), AllocError>
-    ensures { OnOk result (text.new.items ≡ text.old.items
-        ++ with_line_feed (codes "judged at level " ++ decimal level)) }
-{
-    match writeln!(text, "judged at level {level}") {
-        Ok(()) => Ok(()),
-        Err(_) => Err(AllocError),
-    }
-}
-
-/// Writes why a message is refused.
-fn write_reason<B: Allocator + Copy>(
-    alloc: B,
-    rules: &Rules<'_>,
-    verdict: Verdict,
-    body: &[u8],
-    text: &mut Vec<u8, B>,
-) -> Result<(), AllocError>
-    requires ruled { IsRuled rules.now.max_depth body.now }
-    requires verdict { HasVerdict (IsMessageOver (grammar_words (words_of rules.now.words.now)) rules.now.end
-        rules.now.level) rules.now.max_depth (tokens_of body.now) verdict }
-    ensures { OnOk result ((lines : List ℕ) × IsExplained (words_of rules.now.words.now) rules.now.end
-        rules.now.level rules.now.max_depth (tokens_of body.now) verdict lines
-        × (text.new.items ≡ text.old.items ++ lines)) }
-{
-    match write_explained(alloc, rules, verdict, body, text) {
-        Ok(()) => Ok(()),
-        Err(_) => Err(AllocError),
-    }
-}
-
 /// Writes the text of a refused message, its level, its answer and the reason.
 fn write_refused<B: Allocator + Copy>(
     alloc: B,
@@ -139,9 +105,14 @@ fn write_refused<B: Allocator + Copy>(
     let answer = answer_of(alloc, verdict, body)?;
     write_tokens(rules.words, body, text)?;
     let level = rules.level.number();
-    write_level(level, text)?;
+    let Ok(()) = writeln!(text, "judged at level {level}") else {
+        return Err(AllocError);
+    };
     write_tokens(rules.words, answer.as_slice(), text)?;
-    write_reason(alloc, rules, verdict, body, text)
+    match write_explained(alloc, rules, verdict, body, text) {
+        Ok(()) => Ok(()),
+        Err(_) => Err(AllocError),
+    }
 }
 
 /// Writes the lines that explain a message.
@@ -200,16 +171,6 @@ fn write_pairs<B: Allocator>(bytes: &[u8], text: &mut Vec<u8, B>) -> Result<(), 
     Ok(())
 }
 
-/// Writes the index of an invalid token in the message, at the end of a line.
-fn write_place<B: Allocator>(place: usize, text: &mut Vec<u8, B>) -> Result<(), AllocError>
-    ensures { OnOk result (text.new.items ≡ text.old.items ++ with_line_feed (codes " at token " ++ decimal place)) }
-{
-    match writeln!(text, " at token {place}") {
-        Ok(()) => Ok(()),
-        Err(_) => Err(AllocError),
-    }
-}
-
 /// Writes the last two bytes, which are an invalid token, and its index in the message.
 fn write_token<B: Allocator>(bytes: &[u8], text: &mut Vec<u8, B>) -> Result<(), AllocError>
     ensures { OnOk result (text.new.items ≡ text.old.items ++ token_line bytes.now) }
@@ -217,7 +178,10 @@ fn write_token<B: Allocator>(bytes: &[u8], text: &mut Vec<u8, B>) -> Result<(), 
     text.extend_from_slice(b"bytes: ")?;
     write_pairs(&bytes[bytes.len().saturating_sub(2)..], text)?;
     let place = bytes.len().saturating_sub(6) / 2;
-    write_place(place, text)
+    match writeln!(text, " at token {place}") {
+        Ok(()) => Ok(()),
+        Err(_) => Err(AllocError),
+    }
 }
 
 /// Writes the bytes of a fault on a line, if there are any.

@@ -1,9 +1,8 @@
 //! The head of a log: the lines before its events, which describe its sessions.
 
 ghost use Rattle.std.specs.Prelude.{◌≡◌, IfSome, option_map};
-ghost use Rattle.daide_words.specs.Words.{words_of};
 ghost use Rattle.daide_log_lines.specs.LogLine.{is_name as has_name};
-ghost use Rattle.daide_log.specs.Heading.{version_of, limits_in, append_word, heading_after};
+ghost use Rattle.daide_log.specs.Heading.{version_of, limits_in, heading_after};
 ghost use Rattle.daide_log.specs.Heading.{HasSessions};
 ghost use Rattle.daide_log.specs.PreambleKnown.{heading_of, IsPreambleKnown, whole_preamble};
 
@@ -11,7 +10,7 @@ use crate::config_line::{MatchConfig, read_config, read_match_config};
 use daide_log_lines::match_line::is_match_name;
 use daide_log_lines::word_line::read_word;
 use daide_session::Config;
-use daide_words::{Word, Words};
+use daide_words::Words;
 
 /// The version of a log.
 #[derive(Clone, Copy)]
@@ -98,18 +97,6 @@ fn limits_in(version: Version, line: &[u8]) -> Option<MatchConfig>
     }
 }
 
-/// Adds a word. Returns `None` if there is none, or if it is not accepted after the others.
-fn with_word(words: Words, word: Option<Word>) -> Option<Words>
-    ensures { option_map words_of result ≡ append_word (words_of words) word }
-{
-    let word = word?;
-    let mut more = words;
-    match more.add(word) {
-        Ok(()) => Some(more),
-        Err(_) => None,
-    }
-}
-
 impl Heading {
     /// Adds the next line of the head. Returns `None` if it has another form.
     pub fn with_line(self, line: &[u8]) -> Option<Heading>
@@ -124,11 +111,15 @@ impl Heading {
                 limits: limits_in(version, line)?,
                 words: Words::new(),
             })),
-            Heading::Headed(head) => Some(Heading::Headed(Preamble {
-                version: head.version,
-                limits: head.limits,
-                words: with_word(head.words, read_word(line))?,
-            })),
+            Heading::Headed(head) => {
+                let mut words = head.words;
+                words.add(read_word(line)?).ok()?;
+                Some(Heading::Headed(Preamble {
+                    version: head.version,
+                    limits: head.limits,
+                    words,
+                }))
+            }
         }
     }
 
