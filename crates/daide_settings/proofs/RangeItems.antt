@@ -1,14 +1,13 @@
 -- The ranges of some values, one after the other.
-use Rattle.std.proofs.Common.{◌≡◌, ◌&&◌, List, [], ◌∷◌, ◌++◌, Option, Some, None, Result, Ok, length}
-use Rattle.std.proofs.Common.{option_map, arith, refl, sym, ap, append_assoc, append-nil}
+use Rattle.std.proofs.Common.{◌≡◌, ◌&&◌, List, [], ◌∷◌, ◌++◌, Result, length, option_map, arith, refl, ap}
 use Rattle.std.specs.Prelude.{is_some}
 use Rattle.std.specs.List.{list_all}
-use Rattle.toml.specs.Data.{Data, Items, no_items, item, as_str}
+use Rattle.toml.specs.Data.{Items, as_str}
 use Rattle.toml.specs.declared.value.Value.{Value}
 use Rattle.toml.specs.View.{items_view, view}
 use Rattle.daide_settings.specs.declared.settings.ranges.AddressRange.{AddressRange}
 use Rattle.daide_settings.specs.declared.settings.SettingsError.{SettingsError}
-use Rattle.daide_settings.specs.Ranges.{are_texts, item_count, range_of, ranges_of, range_before, named_or_range}
+use Rattle.daide_settings.specs.Ranges.{are_texts, item_count, ranges_of, named_or_range}
 
 pub all_texts : (values : List Value) →
     list_all (λ value. is_some (as_str (view value))) values ≡ are_texts (items_view values)
@@ -22,15 +21,3 @@ counted (value ∷ others) = let rest = counted others in omega (arith, rest)
 -- the result for some ranges followed by those of items
 abbrev pub further : List AddressRange → Items → Result (List AddressRange) SettingsError
 further before items = named_or_range (option_map (λ ranges. before ++ ranges) (ranges_of items))
-
-pub further_next : (before : List AddressRange) (range : AddressRange) (value : Data) (others : Items) →
-    range_of value ≡ Some range → further before (item value others) ≡ further (before ++ range ∷ []) others
-further_next before range value others e = rw e (go (ranges_of others))
-  where
-    go : (o : Option (List AddressRange)) → named_or_range (option_map (λ ranges. before ++ ranges) (range_before (Some range) o))
-        ≡ named_or_range (option_map (λ ranges. (before ++ range ∷ []) ++ ranges) o)
-    go None = refl
-    go (Some ranges) = ap Ok (sym (append_assoc before (range ∷ []) ranges))
-
-pub further_last : (before : List AddressRange) → further before no_items ≡ Ok before
-further_last before = ap Ok (append-nil before)

@@ -5,12 +5,6 @@ use Rattle.daide_status.specs.declared.request.Format.TheVariants.{Table, Json, 
 use Rattle.daide_status.specs.declared.request.ControlRequest.{ControlRequest}
 use Rattle.daide_status.specs.declared.request.ControlRequest.TheVariants.{Status, Stop, StopNow}
 
--- the name of a form
-abbrev pub format_name : Format → List ℕ
-format_name Table = codes "table"
-format_name Json = codes "json"
-format_name Prometheus = codes "prometheus"
-
 -- the line of a request, without its line end
 abbrev pub request_text : ControlRequest → List ℕ
 request_text (Status Table) = codes "status table"
