@@ -19,9 +19,9 @@ COMPILERS = ("cc", "gcc", "clang")
 # More allocations than any run makes.
 MOST_GROWTHS = 1_000
 
-# Settings with a value for each key, and two words. Nothing can listen at an address without a port.
+# Settings with a value for each key, and two words. Nothing can listen at an address that no machine has.
 SETTINGS = """\
-listen = 'a host without a port'
+listen = '192.0.2.1:1'
 server = '127.0.0.1:16714'
 top_level = 60
 max_body = 1024
@@ -45,6 +45,12 @@ words = [
 # `SND ( FRA ) ( XYZ ( ENG ) )`, as `show` prints it, with its verdict.
 SHOWN = b"DM 20\nSND ( FRA ) ( XYZ ( ENG ) )\nrelay\n"
 
+# The fault of two words with one code.
+SAME_CODE = (
+    b"daide-gate: line 18: words[1].code = 0x4A40 is out of range; it must be an integer from 0x4A00 to 0x4AFF, no "
+    b"token of the protocol's or of an earlier word, and none of 0x4A0D, 0x4A12 and 0x4A1B\n"
+)
+
 # The arguments of a run that reads the file `settings`, that file, its standard output and standard error, and its
 # status.
 RUNS = [
@@ -53,15 +59,18 @@ RUNS = [
         SETTINGS, (SHOWN, b"", 0),
     ),
     (["run", "settings"], SETTINGS, (b"", b"daide-gate: cannot listen\n", 1)),
-    (["run", "settings"], SETTINGS + "depth = 5\n", (b"", b"daide-gate: unknown key\n", 1)),
+    (["run", "settings"], SETTINGS + "depth = 5\n", (b"", b'daide-gate: line 20: unknown key "depth"\n', 1)),
     (
         ["settings", "settings"], SETTINGS + "depth = 5\n",
-        (b"line 20: unknown key: depth\n", b"", 1),
+        (b'line 20: unknown key "depth"\n', b"", 1),
     ),
     (["status", "settings"], SETTINGS, (b"", b"daide-gate: c: nobody listens\n", 1)),
     (["stop", "--now", "settings"], SETTINGS, (b"", b"daide-gate: c: nobody listens\n", 1)),
-    (["run", "settings"], SETTINGS + "depth =\n", (b"", b"daide-gate: settings are not TOML\n", 1)),
-    (["run", "settings"], SETTINGS.replace("0x4A41", "0x4A40"), (b"", b"daide-gate: words out of range\n", 1)),
+    (
+        ["run", "settings"], SETTINGS + "depth\n",
+        (b"", b"daide-gate: line 20: settings are not TOML: key with no value, expected `=`\n", 1),
+    ),
+    (["run", "settings"], SETTINGS.replace("0x4A41", "0x4A40"), (b"", SAME_CODE, 1)),
 ]
 
 REFUSED = (b"", b"daide-gate: out of memory\n", 1)

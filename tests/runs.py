@@ -51,10 +51,19 @@ FILES = {
     "bad.log": "daide-log 3\n",
 
     "settings-with-words": WITH_WORDS,
-    "settings-without-server": 'listen = "a"',
+    "settings-without-server": 'listen = "a:1"',
     "settings-without-port": "listen = '127.0.0.1'\nserver = '127.0.0.1:1'\n",
+    "settings-elsewhere": "listen = '192.0.2.1:1'\nserver = '127.0.0.1:1'\n",
+    "settings-with-a-scheme": "listen = 'a:1'\nserver = 'tcp://127.0.0.1:1'\n",
     "settings-with-a-typo": "sesions = 1",
 }
+
+# The keys of settings, and a value of a type that none of them has.
+KEYS = (
+    "listen", "server", "top_level", "max_body", "max_depth", "im_seconds", "max_sessions", "sessions", "turns",
+    "idle_seconds", "words", "stall_seconds", "endless", "allow", "max_per_address", "control",
+)
+DATE = "1979-05-27T07:32:00Z"
 
 
 class Folder:
@@ -149,6 +158,18 @@ def text_that_is_no_document_has_a_line(program):
             same(printed.count(b"\n"), 1, f"lines for {text!r}")
 
 
+def each_key_is_named_with_its_value(program):
+    """For each key in turn, a value of a type that no key has: the line, the key, and the value as it is written."""
+    with Folder(program) as folder:
+        for key in KEYS:
+            given = {"listen": "'a:1'", "server": "'b:2'", key: DATE}
+            text = "".join(f"{name} = {value}\n" for name, value in given.items())
+            printed, told, status = folder.run(["settings", "-"], text.encode())
+            front = f"line {list(given).index(key) + 1}: {key} = {DATE} is of the wrong type; it must be "
+            seen = printed.decode()[:len(front)], printed.count(b"\n"), told, status
+            same(seen, (front, 1, b"", 1), f"judged {text!r}")
+
+
 def run_that_cannot_begin_has_status_1(program):
     """Invalid settings, folders of records and addresses each have their text."""
     check_rows(program, "unbegun")
@@ -156,7 +177,7 @@ def run_that_cannot_begin_has_status_1(program):
 
 def file_of_the_folders_test_is_left_as_it_is(program):
     """A run that can't test the folder of its records, since the file of that test is there, leaves the file there."""
-    files = {"settings": FILES["settings-without-port"], "session-000000.log": "somebody's"}
+    files = {"settings": FILES["settings-elsewhere"], "session-000000.log": "somebody's"}
     with Folder(program, files) as folder:
         ran = folder.run(["run", "--record", ".", "settings"])
         check_ran(ran, ("", "record could not be written", "1"), "run --record . settings")
@@ -287,9 +308,9 @@ def address_that_is_taken_cannot_be_listened_on(program):
         cannot_listen(program, f"127.0.0.1:{taken.getsockname()[1]}", "address in use")
 
 
-def address_with_no_port_cannot_be_listened_on(program):
-    """The program can't listen at an address without a port."""
-    cannot_listen(program, "127.0.0.1", "invalid input parameter")
+def address_of_no_machine_cannot_be_listened_on(program):
+    """The program can't listen at an address that is for documents alone."""
+    cannot_listen(program, "192.0.2.1:1", "address not available")
 
 
 def path_of_the_control_socket_is_named(program):
@@ -320,12 +341,13 @@ TESTS = [
     one_bracket_too_deep_gets_huh,
     shown_with_the_words_of_settings,
     settings_are_judged,
+    each_key_is_named_with_its_value,
     values_of_settings_are_settings,
     text_that_is_no_document_has_a_line,
     run_that_cannot_begin_has_status_1,
     file_of_the_folders_test_is_left_as_it_is,
     address_that_is_taken_cannot_be_listened_on,
-    address_with_no_port_cannot_be_listened_on,
+    address_of_no_machine_cannot_be_listened_on,
     path_of_the_control_socket_is_named,
     without_a_descriptor_for_its_table_it_cannot_listen,
 ]

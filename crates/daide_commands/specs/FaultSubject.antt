@@ -4,16 +4,8 @@ use Rattle.daide_settings.specs.declared.settings.SettingsError.TheVariants as s
 use Rattle.daide_run.specs.declared.gateway.GatewayFault.TheVariants as gateway_faults
 use Rattle.daide_run.specs.declared.running.RunFault.{RunFault}
 use Rattle.daide_run.specs.declared.running.RunFault.TheVariants as run_faults
-use Rattle.daide_tools.specs.declared.settings_file.SettingsFileFault.{SettingsFileFault}
-use Rattle.daide_tools.specs.declared.settings_file.SettingsFileFault.TheVariants as file_faults
 use Rattle.daide_commands.specs.declared.causes.FaultSubject.{FaultSubject}
-use Rattle.daide_commands.specs.declared.causes.FaultSubject.TheVariants.{File, Folder, Value, Text, Memory}
-
--- the fault of a run whose file gives no settings
-abbrev pub run_fault_by : SettingsFileFault → RunFault
-run_fault_by (file_faults.Unreadable cause) = run_faults.Unreadable cause
-run_fault_by (file_faults.Settings fault) = run_faults.Settings fault
-run_fault_by file_faults.Memory = run_faults.Memory
+use Rattle.daide_commands.specs.declared.causes.FaultSubject.TheVariants.{Folder, Value, Text, Memory}
 
 -- a fault of settings is about their text, unless memory was refused
 abbrev pub subject_of_settings : SettingsError → FaultSubject
@@ -25,7 +17,6 @@ subject_of_settings (settings_faults.Range key) = Text
 subject_of_settings settings_faults.Memory = Memory
 
 abbrev pub subject_by : RunFault → FaultSubject
-subject_by (run_faults.Unreadable cause) = File cause
 subject_by (run_faults.Settings fault) = subject_of_settings fault
 subject_by run_faults.Memory = Memory
 subject_by (run_faults.Record cause) = Folder cause

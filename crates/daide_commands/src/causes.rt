@@ -1,22 +1,23 @@
-//! The lines after a fault of a run, which `--verbose` requests: the file, the folder or the value that it is about,
-//! and the system's error.
+//! The lines of a fault of a run: the fault, and, if `--verbose` requests that, the folder or the value that it is about,
+//! with the system's error. A fault of the settings is the first line of their report, or all its lines.
 
-ghost use Rattle.std.specs.Prelude.{◌≡◌};
+ghost use Rattle.std.specs.Prelude.{◌≡◌, IfOk};
 ghost use Rattle.daide_commands.specs.FaultSubject.{subject_of_settings, subject_by};
 
 use daide_command_line::arguments::RunOrder;
 use daide_run::gateway::GatewayFault;
 use daide_run::running::RunFault;
-use daide_settings::{Key, Settings, SettingsError, judge_settings, read_settings};
+use daide_settings::{Key, Settings, SettingsError, read_settings};
+use daide_tools::faults::{FAULT, tell};
+use daide_tools::settings_file::report_of;
 use std::alloc::Global;
+use std::io;
 use std::io::{ErrorKind, Write};
 use thiserror::Error;
 
 /// What a fault of a run is about.
 #[derive(Clone, Copy)]
 pub(crate) enum FaultSubject {
-    /// The file of the settings, with the system's error.
-    File(ErrorKind),
     /// The folder of the records, with the system's error.
     Folder(ErrorKind),
     /// The value of this key, with the system's error.
@@ -30,8 +31,6 @@ pub(crate) enum FaultSubject {
 /// A log line after a fault of a run.
 #[derive(Clone, Copy, Debug, Error)]
 enum CauseNotice<'a> {
-    #[error("file {0}: {1}")]
-    File(&'a str, ErrorKind),
     #[error("folder {0}: {1}")]
     Folder(&'a str, ErrorKind),
     #[error("{0} {1}: {2}")]
@@ -53,7 +52,6 @@ fn subject_of(fault: RunFault) -> FaultSubject
     ensures { result ≡ subject_by fault }
 {
     match fault {
-        RunFault::Unreadable(cause) => FaultSubject::File(cause),
         RunFault::Settings(fault) => subject_of_settings(fault),
         RunFault::Record(cause) => FaultSubject::Folder(cause),
         RunFault::Gateway(GatewayFault::Listen(key, cause)) => FaultSubject::Value(key, cause),
@@ -64,7 +62,7 @@ fn subject_of(fault: RunFault) -> FaultSubject
 }
 
 /// Writes a line. The program goes on if it cannot be written.
-fn tell<E: Write>(errors: &mut E, notice: CauseNotice<'_>) {
+fn notice<E: Write>(errors: &mut E, notice: CauseNotice<'_>) {
     let _ = writeln!(errors, "daide-gate: {notice}");
 }
 
@@ -80,46 +78,56 @@ fn value_at(settings: &Settings, key: Key) -> &str {
 /// Writes the value of a key that cannot be bound, from the text of the settings.
 fn tell_value<E: Write>(alloc: Global, text: &str, key: Key, cause: ErrorKind, errors: &mut E) {
     if let Ok(settings) = read_settings(alloc, text) {
-        tell(
+        notice(
             errors,
             CauseNotice::Value(key, value_at(&settings, key), cause),
         );
     }
 }
 
-/// Writes the faults of a text of settings, each in a line.
-fn tell_faults<E: Write>(alloc: Global, text: &str, errors: &mut E) {
-    let mut lines = Vec::new(alloc);
-    if judge_settings(alloc, text, &mut lines) != Ok(false) {
-        return;
-    }
-    let Ok(lines) = str::from_utf8(lines.as_slice()) else {
-        return;
+/// Writes the first fault of a text of settings, or all of them, each in a line. Returns the status.
+fn tell_faults<E: Write>(alloc: Global, text: &str, are_all: bool, errors: &mut E) -> io::Result<u8>
+    ensures { IfOk result (λ status. status ≡ FAULT) }
+{
+    let Ok(report) = report_of(alloc, text) else {
+        return tell(errors, RunFault::Memory, FAULT);
     };
-    for line in lines.lines() {
-        let _ = writeln!(errors, "daide-gate: {line}");
+    for line in report.lines() {
+        tell(errors, line, FAULT)?;
+        if !are_all {
+            break;
+        }
     }
+    Ok(FAULT)
 }
 
-/// Writes what a fault of a run is about, and why: the file or the folder of the order, or what it is in the text of the
-/// settings. Nothing is written if memory for that is refused.
-pub(crate) fn tell_cause<E: Write>(
+/// Reports a fault of a run. If the order is verbose, a further line says what the fault is about, and why: the folder of
+/// the order, or a value of the settings. Returns the status.
+pub(crate) fn end_failed<E: Write>(
     alloc: Global,
     order: RunOrder<'_>,
     text: &str,
     fault: RunFault,
     errors: &mut E,
-) {
-    match subject_of(fault) {
-        FaultSubject::File(cause) => tell(errors, CauseNotice::File(order.settings, cause)),
-        FaultSubject::Folder(cause) => {
-            tell(
-                errors,
-                CauseNotice::Folder(order.record.unwrap_or(""), cause),
-            );
-        }
-        FaultSubject::Value(key, cause) => tell_value(alloc, text, key, cause, errors),
-        FaultSubject::Text => tell_faults(alloc, text, errors),
-        FaultSubject::Memory => {}
+) -> io::Result<u8>
+    ensures { IfOk result (λ status. status ≡ FAULT) }
+{
+    let subject = subject_of(fault);
+    if matches!(subject, FaultSubject::Text) {
+        return tell_faults(alloc, text, order.is_verbose, errors);
     }
+    let status = tell(errors, fault, FAULT)?;
+    if order.is_verbose {
+        match subject {
+            FaultSubject::Folder(cause) => {
+                notice(
+                    errors,
+                    CauseNotice::Folder(order.record.unwrap_or(""), cause),
+                );
+            }
+            FaultSubject::Value(key, cause) => tell_value(alloc, text, key, cause, errors),
+            FaultSubject::Text | FaultSubject::Memory => {}
+        }
+    }
+    Ok(status)
 }

@@ -1,8 +1,8 @@
 //! What `daide-gate` does with the words of its command line, over any streams.
 //!
 //! `program` parses the words into an order (`daide_command_line`) and carries it out: `run_order` runs the gateway
-//! (`daide_run`), and `daide_tools` has the other commands. `causes` has the lines that say what a fault of a run is
-//! about. `terminal` is a standard input with a prompt.
+//! (`daide_run`), and `daide_tools` has the other commands. `causes` has the lines of a fault of a run. `terminal` is a
+//! standard input with a prompt.
 #![tactic(auto)]
 
 mod causes;

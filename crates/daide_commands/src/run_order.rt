@@ -3,30 +3,17 @@
 ghost use Rattle.std.specs.Prelude.{◌≡◌, ◌≤◌, IfOk, OnOk};
 ghost use Rattle.daide_log.specs.Recording.{HasFailed};
 ghost use Rattle.daide_run.specs.Gateway.{Announces};
-ghost use Rattle.daide_commands.specs.FaultSubject.{run_fault_by};
 
-use crate::causes::tell_cause;
+use crate::causes::end_failed;
 use daide_command_line::arguments::RunOrder;
 use daide_log::Sink;
 use daide_run::{RunFault, run_recorded, run_text};
 use daide_tools::faults::{CLEAN, FAULT, tell};
-use daide_tools::settings_file::{SettingsFileFault, text_at};
-use std::alloc::Global;
+use daide_tools::settings_file::text_at;
 use std::io;
 use std::io::Write;
 use std::net::Net;
 use std::rt::{Clock, Files};
-
-/// Returns the fault of a run whose file gives no settings.
-fn run_fault_of(fault: SettingsFileFault) -> RunFault
-    ensures { result ≡ run_fault_by fault }
-{
-    match fault {
-        SettingsFileFault::Unreadable(cause) => RunFault::Unreadable(cause),
-        SettingsFileFault::Settings(fault) => RunFault::Settings(fault),
-        SettingsFileFault::Memory => RunFault::Memory,
-    }
-}
 
 /// Carries out the order to serve, with the text of its settings.
 fn run_ordered<R: AllocGlobal + Files + Clock + Net, O: Sink, E: Write>(
@@ -44,23 +31,6 @@ fn run_ordered<R: AllocGlobal + Files + Clock + Net, O: Sink, E: Write>(
     run_text(rt, text, order.is_verbose, output, errors)
 }
 
-/// Reports a fault of a run, and its cause if the order asks for that. Returns the status.
-fn end_failed<E: Write>(
-    alloc: Global,
-    order: RunOrder<'_>,
-    text: &str,
-    fault: RunFault,
-    errors: &mut E,
-) -> io::Result<u8>
-    ensures { IfOk result (λ status. status ≡ FAULT) }
-{
-    let status = tell(errors, fault, FAULT)?;
-    if order.is_verbose {
-        tell_cause(alloc, order, text, fault, errors);
-    }
-    Ok(status)
-}
-
 /// Reads the settings of a file, binds the address, prints `listening`, and serves until all bots were served. Returns
 /// the status. Fails only if a fault could not be reported.
 pub(crate) fn run<R: AllocGlobal + Files + Clock + Net, O: Sink, E: Write>(
@@ -75,7 +45,7 @@ pub(crate) fn run<R: AllocGlobal + Files + Clock + Net, O: Sink, E: Write>(
 {
     let text = match text_at(rt, order.settings) {
         Ok(text) => text,
-        Err(fault) => return end_failed(rt.alloc(), order, "", run_fault_of(fault), errors),
+        Err(fault) => return tell(errors, fault, FAULT),
     };
     match run_ordered(rt, text.as_str(), order, output, errors) {
         Ok(()) => Ok(CLEAN),

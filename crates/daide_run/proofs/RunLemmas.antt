@@ -79,7 +79,6 @@ module _ {P S T : Type 0} (to_give taken : S → Option (List ℕ)) (calls : S �
   run_ends settings failed before after begun (Err (Gateway (gateway_faults.Listen key cause))) h none = absurd h
   run_ends settings failed before after begun (Err (Gateway gateway_faults.Memory)) h none = absurd h
   run_ends settings failed before after begun (Err run_faults.Memory) h none = absurd h
-  run_ends settings failed before after begun (Err (run_faults.Unreadable cause)) h none = absurd h
   run_ends settings failed before after begun (Err (run_faults.Record cause)) h none = absurd h
   run_ends settings failed before after begun (Err (run_faults.Settings fault)) h none = absurd h
 
@@ -98,7 +97,6 @@ module _ {P S : Type 0} (to_give taken : S → Option (List ℕ)) (calls : S →
       IfErr result (λ fault. IsOfText fault → X)
   unrefused settings failed before after X (Ok done) ends = tt
   unrefused settings failed before after X (Err (run_faults.Settings fault)) ends = absurd ends
-  unrefused settings failed before after X (Err (run_faults.Unreadable cause)) ends = λ h. absurd h
   unrefused settings failed before after X (Err run_faults.Memory) ends = λ h. absurd h
   unrefused settings failed before after X (Err (run_faults.Record cause)) ends = λ h. absurd h
   unrefused settings failed before after X (Err (Gateway fault)) ends = λ h. absurd h

@@ -20,7 +20,7 @@ use Rattle.daide_sockets.specs.Times.{IsIdleTime}
 use Rattle.daide_run.specs.Gateway.{Announces}
 use Rattle.daide_run.specs.declared.gateway.GatewayFault.TheVariants as gateway_faults
 use Rattle.daide_run.specs.declared.running.RunFault.{RunFault}
-use Rattle.daide_run.specs.declared.running.RunFault.TheVariants.{Unreadable, Memory, Record, Gateway}
+use Rattle.daide_run.specs.declared.running.RunFault.TheVariants.{Memory, Record, Gateway}
 use Rattle.daide_run.specs.declared.running.RunFault.TheVariants as run_faults
 
 -- sockets to which no bot came, and of which none closes; a peer of one that closes has so many seconds to take bytes
@@ -54,7 +54,6 @@ RunsOn {P} {T} transition port_transition settings failed old new begun (Err (Ga
 RunsOn transition port_transition settings failed old new begun (Err (Gateway (gateway_faults.Listen key cause))) = ⊥
 RunsOn transition port_transition settings failed old new begun (Err (Gateway gateway_faults.Memory)) = ⊥
 RunsOn transition port_transition settings failed old new begun (Err Memory) = ⊥
-RunsOn transition port_transition settings failed old new begun (Err (Unreadable cause)) = ⊥
 RunsOn transition port_transition settings failed old new begun (Err (Record cause)) = ⊥
 RunsOn transition port_transition settings failed old new begun (Err (run_faults.Settings fault)) = ⊥
 
@@ -72,14 +71,12 @@ RunEnds to_give taken calls pair transition settings failed old new (Err (Gatewa
 RunEnds to_give taken calls pair transition settings failed old new (Err (Gateway (gateway_faults.Listen key cause))) = new ≡ old
 RunEnds to_give taken calls pair transition settings failed old new (Err (Gateway gateway_faults.Memory)) = new ≡ old
 RunEnds to_give taken calls pair transition settings failed old new (Err Memory) = new ≡ old
-RunEnds to_give taken calls pair transition settings failed old new (Err (Unreadable cause)) = ⊥
 RunEnds to_give taken calls pair transition settings failed old new (Err (Record cause)) = ⊥
 RunEnds to_give taken calls pair transition settings failed old new (Err (run_faults.Settings fault)) = ⊥
 
 -- a fault of a text, which is found before any socket is opened
 abbrev pub IsOfText : RunFault → Type 0
 IsOfText (run_faults.Settings fault) = Unit {0}
-IsOfText (Unreadable cause) = ⊥
 IsOfText Memory = ⊥
 IsOfText (Record cause) = ⊥
 IsOfText (Gateway fault) = ⊥

@@ -30,9 +30,6 @@ use thiserror::Error;
 /// Why a run does not begin, or ends early.
 #[derive(Clone, Copy, Debug, Error)]
 pub enum RunFault {
-    /// The file cannot be read, is too long, or is not UTF-8, with the system's error. A run of a text never returns it.
-    #[error("settings could not be read")]
-    Unreadable(ErrorKind),
     /// The text of the file has no settings.
     #[error("{0}")]
     Settings(SettingsError),

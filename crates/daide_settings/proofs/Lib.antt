@@ -4,7 +4,11 @@ pub mod RangeItems
 pub mod LimitLemmas
 pub mod JudgedLemmas
 pub mod ReportLemmas
+pub mod PartLemmas
+pub mod LineLemmas
 mod ReportFacts
+mod AddressFacts
+mod PartFacts
 pub mod WordEntries
 pub mod SettingsFacts
 mod PairFacts

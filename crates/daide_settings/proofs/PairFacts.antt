@@ -15,7 +15,7 @@ use Rattle.daide_settings.specs.declared.settings.ranges.Host.TheVariants.{V4}
 use Rattle.std.specs.Net.Reader.{read_number, read_octet, read_ipv4}
 use Rattle.daide_settings.specs.declared.settings.SettingsError.{SettingsError}
 use Rattle.daide_settings.specs.declared.settings.SettingsError.TheVariants.{Unknown, WrongType, Range}
-use Rattle.daide_settings.specs.Settings.{Given, is_in_range, text_judged, judged_members}
+use Rattle.daide_settings.specs.Settings.{Given, is_in_range, address_judged, judged_members}
 
 -- ---- documents with all sixteen keys
 
@@ -35,14 +35,14 @@ at values n = slice_index_or values n (boolean false)
 -- values in range, all different
 abbrev right : List Data
 right =
-    string (codes "l") ∷ string (codes "s") ∷ integer (pos 20) ∷ integer (pos 1024) ∷ integer (pos 13)
+    string (codes "l:1") ∷ string (codes "s:2") ∷ integer (pos 20) ∷ integer (pos 1024) ∷ integer (pos 13)
     ∷ integer (pos 4) ∷ integer (pos 5) ∷ integer (pos 6) ∷ integer (pos 7) ∷ integer (pos 8) ∷ array no_items
     ∷ integer (pos 9) ∷ boolean true ∷ array (item (string (codes "127.0.0.0/8")) no_items)
     ∷ integer (pos 10) ∷ string (codes "c") ∷ []
 
 each_key_has_its_field : judged_members (document (at right)) ≡ Ok (record {
-  listen = codes "l";
-  server = codes "s";
+  listen = codes "l:1";
+  server = codes "s:2";
   top_level = 20;
   max_body = 1024;
   max_depth = 13;
@@ -144,12 +144,15 @@ ranges : (map (is_in_range Listen) (range_with_len 0 300) ≡ false ∷ replicat
     × (map (is_in_range Words) (range_with_len 0 300) ≡ replicate 17 true ++ replicate 283 false)
 ranges = (refl, refl, refl, refl, refl)
 
--- the length is in bytes, not in letters: 127 letters of two bytes and one of one byte are 255, and 128 of two bytes
--- are 256
+-- the length is in bytes, not in letters: 126 letters of two bytes and one of one byte are 255 with a port, and 127 of two
+-- bytes are 256
 abbrev letters : ℕ → List ℕ
 letters n = concat (replicate n (0xC3 ∷ 0xA4 ∷ []))
 
-bytes_counted : (text_judged Listen (Some (letters 127 ++ 97 ∷ [])) ≡ Ok (letters 127 ++ 97 ∷ []))
-    × (text_judged Listen (Some (letters 128)) ≡ Err (Range Listen))
-    × (text_judged Server (Some (letters 128)) ≡ Err (Range Server))
+abbrev with_port : List ℕ → List ℕ
+with_port host = host ++ codes ":1"
+
+bytes_counted : (address_judged Listen (Some (with_port (letters 126 ++ 97 ∷ []))) ≡ Ok (with_port (letters 126 ++ 97 ∷ [])))
+    × (address_judged Listen (Some (with_port (letters 127))) ≡ Err (Range Listen))
+    × (address_judged Server (Some (with_port (letters 127))) ≡ Err (Range Server))
 bytes_counted = (refl, refl, refl)

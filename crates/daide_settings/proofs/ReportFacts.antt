@@ -1,5 +1,7 @@
 -- What `settings` prints of some documents, worked out from docs/FORMATS.md.
 use Rattle.std.proofs.Common.{◌≡◌, ℕ, List, [], ◌∷◌, ◌++◌, Option, Some, None, refl, ap, ◌∙◌, codes}
+use Rattle.std.proofs.Common.{length, arith}
+use Rattle.std.proofs.lemmas.List.Sorted.{length_permutation}
 use Rattle.std.specs.Fmt.{digits}
 use Rattle.toml.specs.Data.{no_members}
 use Rattle.daide_settings.specs.declared.settings.key.Key.{Key}
@@ -10,7 +12,12 @@ use Rattle.daide_settings.specs.declared.settings.key.TheConstants.Key.{ALL}
 use Rattle.daide_settings.specs.declared.settings.SettingsError.{SettingsError}
 use Rattle.daide_settings.specs.declared.settings.SettingsError.TheVariants.{WrongType, Range}
 use Rattle.daide_settings.specs.Judged.{fault_at}
-use Rattle.daide_settings.specs.Report.{default_line, fault_words, must_be, AreFaultLines, IsFaultPart, IsSettingsReport}
+use Rattle.daide_settings.specs.declared.settings.parts.Field.TheVariants.{Level}
+use Rattle.daide_settings.specs.declared.settings.parts.ValuePart.{ValuePart}
+use Rattle.daide_settings.specs.declared.settings.parts.ValuePart.TheVariants.{Whole, Entry, Member}
+use Rattle.daide_settings.specs.Settings.{key_text}
+use Rattle.daide_settings.specs.Report.{default_line, failing_words, part_words, path_text, range_words, AreFaultLines}
+use Rattle.daide_settings.specs.Report.{AreParts, AreUnknownLines, IsFaultPart, IsSettingsReport, IsUnknownLine}
 
 -- ---- the lines of keys that are not set
 
@@ -28,19 +35,35 @@ other_defaults = refl
 
 -- ---- the lines of faults
 
-depth_out_of_range : fault_words (Range MaxDepth) ++ (codes ": 255" ++ must_be MaxDepth)
-    ≡ codes "max_depth out of range: 255; it must be an integer from 4 to 254\n"
+-- a line without its place
+abbrev told : Key → ValuePart → SettingsError → List ℕ → List ℕ
+told key part fault value =
+    path_text key part ++ (codes " = " ++ (value ++ (failing_words fault ++ (codes "; it must be " ++ part_words key part))))
+
+depth_out_of_range : told MaxDepth Whole (Range MaxDepth) (codes "255")
+    ≡ codes "max_depth = 255 is out of range; it must be an integer from 4 to 254"
 depth_out_of_range = refl
 
-turns_of_wrong_type : fault_words (WrongType Turns) ++ (codes ": \"x\"" ++ must_be Turns)
-    ≡ codes "wrong type for turns: \"x\"; it must be an integer from 1 to 1000000000000\n"
+turns_of_wrong_type : told Turns Whole (WrongType Turns) (codes "\"x\"")
+    ≡ codes "turns = \"x\" is of the wrong type; it must be an integer from 1 to 1000000000000"
 turns_of_wrong_type = refl
+
+level_of_a_word : told Words (Member 2 Level) (Range Words) (codes "25")
+    ≡ codes "words[2].level = 25 is out of range; it must be an integer: 10, 20, 30, 40, 50 or 60"
+unfolding digits
+level_of_a_word = refl
+
+range_of_type : told Allow (Entry 10) (WrongType Allow) (codes "1")
+    ≡ codes "allow[10] = 1 is of the wrong type; it must be a string, an IPv4 or IPv6 address with or without /PREFIX, and not IPv4-mapped"
+unfolding digits
+range_of_type = refl
 
 -- ---- a document without a key
 
 abbrev part_text : Key → Option SettingsError → List ℕ
 part_text key None = []
-part_text key (Some fault) = fault_words fault ++ must_be key
+part_text key (Some fault) =
+    codes "missing " ++ (key_text key ++ (codes "; it must be " ++ (range_words key ++ codes "\n")))
 
 absent_part : (key : Key) (fault : Option SettingsError) (part : List ℕ) → IsFaultPart key fault None part →
     part ≡ part_text key fault
@@ -56,7 +79,16 @@ absent_parts [] text h = h
 absent_parts (key ∷ keys) text h = h.4 ∙ (ap (λ (l : List ℕ). l ++ h.1) (absent_part key (fault_at key no_members) h.0 h.2)
     ∙ ap (λ (l : List ℕ). part_text key (fault_at key no_members) ++ l) (absent_parts keys h.1 h.3))
 
+-- a document without a key has no unknown key
+no_lines : (keys : List (List ℕ)) (text : List ℕ) → length keys ≡ 0 → AreParts IsUnknownLine keys text → text ≡ []
+no_lines [] text none h = h
+no_lines (key ∷ keys) text none h = absurd (omega (arith, none))
+
+no_unknown_lines : (text : List ℕ) → AreUnknownLines no_members text → text ≡ []
+no_unknown_lines text h = no_lines h.0 text (length_permutation [] h.0 h.1) h.2
+
 -- an empty document has two faults, and its report is their two lines
 empty_document : (report : List ℕ) → IsSettingsReport (Some no_members) report → report
-    ≡ codes "missing listen; it must be a string of 1 to 255 bytes\nmissing server; it must be a string of 1 to 255 bytes\n"
-empty_document report h = h.4 ∙ (ap (λ (l : List ℕ). l ++ h.1) h.2 ∙ absent_parts ALL h.1 h.3)
+    ≡ codes "missing listen; it must be a string HOST:PORT of at most 255 bytes, with a port from 0 to 65535 and without a scheme\nmissing server; it must be a string HOST:PORT of at most 255 bytes, with a port from 0 to 65535 and without a scheme\n"
+empty_document report h =
+    h.4 ∙ (ap (λ (l : List ℕ). l ++ h.1) (no_unknown_lines h.0 h.2) ∙ absent_parts ALL h.1 h.3)

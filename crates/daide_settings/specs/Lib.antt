@@ -6,3 +6,5 @@ pub mod BotsInAll
 pub mod Judged
 pub mod Report
 pub mod LimitSettings
+pub mod Addresses
+pub mod Parts

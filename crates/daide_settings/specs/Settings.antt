@@ -18,6 +18,7 @@ use Rattle.daide_words.specs.declared.word.Word.{Word}
 use Rattle.daide_settings.specs.WordSettings.{has_only, words_judged}
 use Rattle.daide_settings.specs.declared.settings.ranges.AddressRange.{AddressRange}
 use Rattle.daide_settings.specs.Ranges.{most_ranges, allow_judged}
+use Rattle.daide_settings.specs.Addresses.{is_address}
 
 -- ---- the table of keys
 
@@ -107,10 +108,16 @@ abbrev pub text_judged : Key → Option (List ℕ) → Result (List ℕ) Setting
 text_judged key None = Err (WrongType key)
 text_judged key (Some text) = if is_in_range key (length text) then Ok text else Err (Range key)
 
+-- the text of an address must have its form, and its length in bytes be in range
+abbrev pub address_judged : Key → Option (List ℕ) → Result (List ℕ) SettingsError
+address_judged key None = Err (WrongType key)
+address_judged key (Some text) =
+    if is_in_range key (length text) && is_address text then Ok text else Err (Range key)
+
 -- an address must exist, be a text, and be in range, in this order
 abbrev pub address_of : Key → Option Data → Result (List ℕ) SettingsError
 address_of key None = Err (Missing key)
-address_of key (Some value) = text_judged key (as_str value)
+address_of key (Some value) = address_judged key (as_str value)
 
 abbrev pub integer_judged : Key → Option ℤ → Result ℕ SettingsError
 integer_judged key None = Err (WrongType key)

@@ -9,10 +9,12 @@ mod bots;
 mod control_path;
 mod judged;
 mod key;
+mod parts;
 mod ranges;
 mod reading;
 mod suggestion;
 mod words;
+mod written;
 
 ghost use Rattle.std.specs.Prelude.{◌≡◌, Ok, Some};
 ghost use Rattle.daide_protocol.specs.Bounds.{IsSessionCount};

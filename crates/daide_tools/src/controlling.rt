@@ -196,7 +196,10 @@ fn end_refused<E: Write>(fault: RequestFault, path: &ControlPath, errors: &mut E
 }
 
 /// Reports that settings have no control socket, or why there are none.
-fn end_without_path<E: Write>(fault: Option<SettingsFileFault>, errors: &mut E) -> io::Result<u8>
+fn end_without_path<E: Write>(
+    fault: Option<SettingsFileFault<'_>>,
+    errors: &mut E,
+) -> io::Result<u8>
     ensures { IfOk result (λ status. status ≡ FAULT) }
 {
     match fault {

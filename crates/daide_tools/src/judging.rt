@@ -1,7 +1,6 @@
 //! `settings`: the faults of a file of settings, or its values and what its run needs.
 
 ghost use Rattle.std.specs.Prelude.{◌≡◌, ◌≤◌, [], false, IfOk, IfSome, is_ok};
-ghost use Rattle.std.specs.Io.KnownBytes.{Appends};
 ghost use Rattle.toml.specs.Parse.{parse_document};
 ghost use Rattle.daide_driver.specs.Hub.{session_bound};
 ghost use Rattle.daide_event_loop.specs.Served.{run_limits};
@@ -26,11 +25,11 @@ const OWN_DESCRIPTORS: usize = 4;
 const CONTROL_DESCRIPTORS: usize = 5;
 
 /// Why settings were not judged.
-#[derive(Clone, Copy, Debug, Error)]
-pub(crate) enum SettingsFault {
+#[derive(Debug, Drop, Error)]
+pub(crate) enum SettingsFault<'a> {
     /// The file cannot be read, is too long or is not UTF-8, or the allocator refused its text.
     #[error("{0}")]
-    Text(SettingsFileFault),
+    Text(SettingsFileFault<'a>),
     /// The output failed, or the allocator refused the settings.
     #[error("{0}")]
     Judge(JudgeFault),
@@ -85,7 +84,7 @@ fn needs_of(alloc: Global, settings: &Settings) -> io::Result<Vec<u8>> {
 }
 
 /// Returns what the run of a text needs; nothing if the text has no settings.
-fn needs_of_text(alloc: Global, text: &str) -> Result<Vec<u8>, SettingsFault>
+fn needs_of_text<'a>(alloc: Global, text: &str) -> Result<Vec<u8>, SettingsFault<'a>>
     ensures { IfOk result (λ needs. is_ok (judged_settings (parse_document text.now)) ≡ false → needs.items ≡ []) }
 {
     match read_settings(alloc, text) {
@@ -97,43 +96,41 @@ fn needs_of_text(alloc: Global, text: &str) -> Result<Vec<u8>, SettingsFault>
     }
 }
 
-/// Writes what a run needs, after a judgement. Returns the judgement.
-fn write_needs<O: Write>(good: bool, needs: &[u8], output: &mut O) -> Result<bool, SettingsFault>
-    ensures { IfOk result (λ same. (same ≡ good) × Appends (O.contents output.old) (O.contents output.new) needs.now) }
-{
-    match output.write_all(needs) {
-        Ok(()) => Ok(good),
-        Err(_) => Err(SettingsFault::Judge(JudgeFault::Write)),
-    }
-}
-
 /// Judges a text of settings. Returns true if it has settings. All memory is allocated before anything is written.
-fn judge_text<O: Write>(alloc: Global, text: &str, output: &mut O) -> Result<bool, SettingsFault>
+fn judge_text<'a, O: Write>(
+    alloc: Global,
+    text: &str,
+    output: &mut O,
+) -> Result<bool, SettingsFault<'a>>
     ensures { IfOk result (λ good. IsJudgement text.now good) }
 {
     let needs = needs_of_text(alloc, text)?;
     match judge_settings(alloc, text, output) {
-        Ok(good) => write_needs(good, needs.as_slice(), output),
+        Ok(good) => match output.write_all(needs.as_slice()) {
+            Ok(()) => Ok(good),
+            Err(_) => Err(SettingsFault::Judge(JudgeFault::Write)),
+        },
         Err(fault) => Err(SettingsFault::Judge(fault)),
     }
 }
 
-/// Judges the settings in a reader.
-fn judge_input<I: Read, O: Write>(
+/// Judges the settings in a reader, which is the file of this name.
+fn judge_input<'a, I: Read, O: Write>(
     alloc: Global,
+    path: &'a str,
     input: &mut I,
     output: &mut O,
-) -> Result<bool, SettingsFault>
+) -> Result<bool, SettingsFault<'a>>
     ensures { IfOk result (λ good. IfSome (I.remaining input.old) (λ text. IsJudgement text good)) }
 {
-    match read_text(alloc, input) {
+    match read_text(alloc, path, input) {
         Ok(text) => judge_text(alloc, text.as_str(), output),
         Err(fault) => Err(SettingsFault::Text(fault)),
     }
 }
 
 /// Returns the status of a judgement. Reports a fault on standard error.
-fn end_judged<E: Write>(answer: Result<bool, SettingsFault>, errors: &mut E) -> io::Result<u8>
+fn end_judged<E: Write>(answer: Result<bool, SettingsFault<'_>>, errors: &mut E) -> io::Result<u8>
     ensures { IfOk result (λ status. status ≡ settings_status answer) }
 {
     match answer {
@@ -143,9 +140,10 @@ fn end_judged<E: Write>(answer: Result<bool, SettingsFault>, errors: &mut E) -> 
     }
 }
 
-/// Judges the settings in a reader. Returns the status.
+/// Judges the settings in a reader, which is the file of this name. Returns the status.
 fn judge_read<I: Read, O: Write, E: Write>(
     alloc: Global,
+    path: &str,
     input: &mut I,
     output: &mut O,
     errors: &mut E,
@@ -153,7 +151,7 @@ fn judge_read<I: Read, O: Write, E: Write>(
     ensures bounded { IfOk result (λ status. status ≤ FAULT) }
     ensures judged { IfOk result (SettingsEnds (I.remaining input.old)) }
 {
-    let answer = judge_input(alloc, input, output);
+    let answer = judge_input(alloc, path, input, output);
     end_judged(answer, errors)
 }
 
@@ -170,10 +168,14 @@ pub fn run_settings<R: AllocGlobal + Files, I: Read, O: Write, E: Write>(
 {
     let SettingsOrder { path } = order;
     if path == "-" {
-        return judge_read(rt.alloc(), input, output, errors);
+        return judge_read(rt.alloc(), path, input, output, errors);
     }
     match fs::open(rt, path) {
-        Ok(mut file) => judge_read(rt.alloc(), &mut file, output, errors),
-        Err(error) => tell(errors, SettingsFileFault::Unreadable(error.kind()), FAULT),
+        Ok(mut file) => judge_read(rt.alloc(), path, &mut file, output, errors),
+        Err(error) => tell(
+            errors,
+            SettingsFileFault::Unreadable(path, error.kind()),
+            FAULT,
+        ),
     }
 }

@@ -3,9 +3,9 @@
 ghost use Rattle.std.specs.Prelude.{◌≡◌, ◌≤◌, None, [], length, string_bytes, IfOk, IfSome, IsOkAnd};
 ghost use Rattle.daide_words.specs.Words.{words_of};
 
-use daide_settings::{Settings, SettingsError, read_settings};
+use daide_settings::{Settings, SettingsError, judge_settings, read_settings};
 use daide_words::Words;
-use std::alloc::Allocator;
+use std::alloc::{AllocError, Allocator, Global};
 use std::fs;
 use std::io::{ErrorKind, Read};
 use std::rt::Files;
@@ -15,26 +15,28 @@ use thiserror::Error;
 const MOST_BYTES: usize = 65_536;
 
 /// Why a file gives no settings.
-#[derive(Clone, Copy, Debug, PartialEq, Eq, Error)]
-pub enum SettingsFileFault {
-    /// It cannot be read, has too many bytes (`FileTooLarge`), or is not UTF-8 (`InvalidData`), with the system's error.
-    #[error("settings could not be read")]
-    Unreadable(ErrorKind),
-    /// Its text has no settings.
+#[derive(Debug, PartialEq, Eq, Drop, Error)]
+pub enum SettingsFileFault<'a> {
+    /// The file of this name cannot be read, has too many bytes (`FileTooLarge`), or is not UTF-8 (`InvalidData`), with
+    /// the system's error.
+    #[error("settings could not be read: {0}: {1}")]
+    Unreadable(&'a str, ErrorKind),
+    /// Its text has no settings: the first line of its report.
     #[error("{0}")]
-    Settings(SettingsError),
-    /// The allocator refused its text.
+    Refused(String),
+    /// The allocator refused its text, or its report.
     #[error("out of memory")]
     Memory,
 }
 
-/// Reads a text of settings of at most `MOST_BYTES` bytes.
+/// Reads a text of settings of at most `MOST_BYTES` bytes, from the file of this name.
 ///
 /// Fails with `Memory` if a growth was refused, otherwise with `Unreadable`.
-pub fn read_text<A: Allocator, I: Read>(
+pub fn read_text<'a, A: Allocator, I: Read>(
     alloc: A,
+    path: &'a str,
     input: &mut I,
-) -> Result<String<A>, SettingsFileFault>
+) -> Result<String<A>, SettingsFileFault<'a>>
     ensures fits { IfOk result (λ text. length (string_bytes text) ≤ 65_536) }
     ensures whole { IfOk result (λ text. IfSome (I.remaining input.old) (λ all. string_bytes text ≡ all)) }
 {
@@ -44,37 +46,64 @@ pub fn read_text<A: Allocator, I: Read>(
         Err(error) if error.kind() == ErrorKind::OutOfMemory => return Err(
             SettingsFileFault::Memory,
         ),
-        Err(error) => return Err(SettingsFileFault::Unreadable(error.kind())),
+        Err(error) => return Err(SettingsFileFault::Unreadable(path, error.kind())),
     }
     if bytes.len() > MOST_BYTES {
-        return Err(SettingsFileFault::Unreadable(ErrorKind::FileTooLarge));
+        return Err(SettingsFileFault::Unreadable(path, ErrorKind::FileTooLarge));
     }
     match String::from_utf8(bytes) {
         Ok(text) => Ok(text),
-        Err(_) => Err(SettingsFileFault::Unreadable(ErrorKind::InvalidData)),
+        Err(_) => Err(SettingsFileFault::Unreadable(path, ErrorKind::InvalidData)),
     }
 }
 
 /// Reads the text of a file of settings.
-pub fn text_at<R: AllocGlobal + Files>(rt: &R, path: &str) -> Result<String, SettingsFileFault> {
-    let mut file = fs::open(rt, path).map_err(|error| SettingsFileFault::Unreadable(error.kind()))?;
-    read_text(rt.alloc(), &mut file)
+pub fn text_at<'a, R: AllocGlobal + Files>(
+    rt: &R,
+    path: &'a str,
+) -> Result<String, SettingsFileFault<'a>> {
+    match fs::open(rt, path) {
+        Ok(mut file) => read_text(rt.alloc(), path, &mut file),
+        Err(error) => Err(SettingsFileFault::Unreadable(path, error.kind())),
+    }
+}
+
+/// Returns the report of a text of settings. Fails only if memory is refused.
+pub fn report_of(alloc: Global, text: &str) -> Result<String, AllocError> {
+    let mut report = Vec::new(alloc);
+    match judge_settings(alloc, text, &mut report) {
+        Ok(_) => String::from_utf8(report).map_err(|_| AllocError),
+        Err(_) => Err(AllocError),
+    }
+}
+
+/// Returns the first fault of a text without settings.
+fn refusal_of(alloc: Global, text: &str) -> Result<String, AllocError> {
+    let report = report_of(alloc, text)?;
+    String::from_str(alloc, report.lines().next().unwrap_or(""))
 }
 
 /// Reads the settings of a file.
-pub(crate) fn settings_at<R: AllocGlobal + Files>(
+pub(crate) fn settings_at<'a, R: AllocGlobal + Files>(
     rt: &R,
-    path: &str,
-) -> Result<Settings, SettingsFileFault> {
+    path: &'a str,
+) -> Result<Settings, SettingsFileFault<'a>> {
     let text = text_at(rt, path)?;
-    read_settings(rt.alloc(), text.as_str()).map_err(SettingsFileFault::Settings)
+    match read_settings(rt.alloc(), text.as_str()) {
+        Ok(settings) => Ok(settings),
+        Err(SettingsError::Memory) => Err(SettingsFileFault::Memory),
+        Err(_) => match refusal_of(rt.alloc(), text.as_str()) {
+            Ok(fault) => Err(SettingsFileFault::Refused(fault)),
+            Err(_) => Err(SettingsFileFault::Memory),
+        },
+    }
 }
 
 /// Returns the words of the settings at a path; without a path, no words.
-pub(crate) fn words_at<R: AllocGlobal + Files>(
+pub(crate) fn words_at<'a, R: AllocGlobal + Files>(
     rt: &R,
-    path: Option<&str>,
-) -> Result<Words, SettingsFileFault>
+    path: Option<&'a str>,
+) -> Result<Words, SettingsFileFault<'a>>
     ensures { path.entry ≡ None → IsOkAnd result (λ words. words_of words ≡ []) }
 {
     match path {

@@ -47,7 +47,7 @@ fn assert_log_limits(alloc: Global, body: u16, depth: u16) -> Result<(), Fail> {
 /// Checks that settings with these limits are accepted.
 fn assert_limits(alloc: Global, body: u16, depth: u16, sessions: u16) -> Result<(), Fail> {
     let text = format!(in alloc;
-        "listen = \"a\"\nserver = \"b\"\nmax_body = {body}\nmax_depth = {depth}\n\
+        "listen = \"a:1\"\nserver = \"b:2\"\nmax_body = {body}\nmax_depth = {depth}\n\
         max_sessions = {sessions}\n"
     )?;
     let settings = read_settings(alloc, text.as_str())?;
@@ -135,7 +135,7 @@ fn frame_of_each_length_is_shown(rt: HostRuntime) -> Result<(), Fail> {
 /// Returns the addresses, followed by a comment of `letters` letters.
 fn settings_of(alloc: Global, letters: usize) -> Result<String, Fail> {
     let mut text = String::new(alloc);
-    text.push_str("listen = \"a\"\nserver = \"b\"\n#")?;
+    text.push_str("listen = \"a:1\"\nserver = \"b:2\"\n#")?;
     for _letter in 0..letters {
         text.push('a')?;
     }

@@ -22,21 +22,28 @@ type Row = (&'static str, &'static str);
 #[rattlefmt::skip]
 const DOCUMENTS: &[Row] = &[
     ("listen =", "settings are not TOML"),
-    ("listen = \"a\"\nlisten = \"b\"", "settings are not TOML"),
+    ("listen = \"a:1\"\nlisten = \"b\"", "settings are not TOML"),
     ("", "missing listen"),
-    ("server = \"b\"", "missing listen"),
-    ("listen = \"a\"", "missing server"),
-    ("listen = \"a\"\nmax_depth = 255", "missing server"),
-    ("listen = \"a\"\nserver = 1", "wrong type for server"),
+    ("server = \"b:2\"", "missing listen"),
+    ("listen = \"a:1\"", "missing server"),
+    ("listen = \"a:1\"\nmax_depth = 255", "missing server"),
+    ("listen = \"a:1\"\nserver = 1", "wrong type for server"),
     ("listen = 1\nserver = 1", "wrong type for listen"),
-    ("listen = 1979-05-27\nserver = \"b\"", "wrong type for listen"),
+    ("listen = 1979-05-27\nserver = \"b:2\"", "wrong type for listen"),
     ("listen = \"\"\nserver = 1", "listen out of range"),
-    ("listen = \"a\"\nserver = \"\"", "server out of range"),
+    ("listen = \"a:1\"\nserver = \"\"", "server out of range"),
+    ("listen = \"a:1\"\nserver = \"b\"", "server out of range"),
+    ("listen = \"a:1\"\nserver = \"b:\"", "server out of range"),
+    ("listen = \"a:1\"\nserver = \":2\"", "server out of range"),
+    ("listen = \"a:1\"\nserver = \"b:65535\"", ""),
+    ("listen = \"a:1\"\nserver = \"b:65536\"", "server out of range"),
+    ("listen = \"a:1\"\nserver = \"http://b:2\"", "server out of range"),
+    ("listen = \"17030\"\nserver = \"b:2\"", "listen out of range"),
     ("depth = 5", "unknown key"),
     ("listen = 1\ndepth = 5", "unknown key"),
     ("[listen]\nport = 1", "wrong type for listen"),
-    ("listen = \"a\"\nserver = \"b\"\n[word]", "unknown key"),
-    ("listen = \"a\"\nserver = \"b\"\nmax_body = 511\nmax_depth = true", "max_body out of range"),
+    ("listen = \"a:1\"\nserver = \"b:2\"\n[word]", "unknown key"),
+    ("listen = \"a:1\"\nserver = \"b:2\"\nmax_body = 511\nmax_depth = true", "max_body out of range"),
 ];
 
 /// A line after the two addresses | its fault, if it has one.
@@ -244,22 +251,22 @@ fn shape_of_all_words_before_their_range(rt: HostRuntime) -> Result<(), Fail> {
     assert_fault(rt.alloc(), ADDRESSES, SEVENTEEN, "words out of range")
 }
 
-/// Returns the rest of an address of `count` bytes, and the end of its line.
+/// Returns the rest of an address whose host has `count` bytes, and the end of its line.
 fn address_of(alloc: Global, count: usize) -> Result<String, Fail> {
     let mut address = String::new(alloc);
     for _ in 0..count {
         address.push('a')?;
     }
-    address.push('"')?;
+    address.push_str(":1\"")?;
     Ok(address)
 }
 
 #[test]
 fn addresses_of_255_bytes_and_one_more(rt: HostRuntime) -> Result<(), Fail> {
-    let front = "listen = \"a\"\nserver = \"";
-    let longest = address_of(rt.alloc(), 255)?;
+    let front = "listen = \"a:1\"\nserver = \"";
+    let longest = address_of(rt.alloc(), 253)?;
     assert_fault(rt.alloc(), front, longest.as_str(), "")?;
-    let longer = address_of(rt.alloc(), 256)?;
+    let longer = address_of(rt.alloc(), 254)?;
     assert_fault(rt.alloc(), front, longer.as_str(), "server out of range")
 }
 

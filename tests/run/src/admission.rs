@@ -139,7 +139,7 @@ fn door_with_bot(
 
 /// Returns the settings of a run. Its addresses are not resolved.
 fn plain_settings(alloc: Global) -> Result<Settings, Fail> {
-    Ok(read_settings(alloc, "listen = 'a'\nserver = 'b'")?)
+    Ok(read_settings(alloc, "listen = 'a:1'\nserver = 'b:2'")?)
 }
 
 /// Returns whether a connection sends small writes without delay.

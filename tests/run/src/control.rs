@@ -380,7 +380,7 @@ const ASKED: &[Asked] = &[
 
 /// Returns the settings of a run. Its addresses are not resolved.
 fn plain_settings(alloc: Global) -> Result<Settings, Fail> {
-    Ok(read_settings(alloc, "listen = 'a'\nserver = 'b'")?)
+    Ok(read_settings(alloc, "listen = 'a:1'\nserver = 'b:2'")?)
 }
 
 /// Creates what a network sees.

@@ -17,7 +17,6 @@ use std::test::Fail;
 /// A fault of a run | its text.
 #[rattlefmt::skip]
 const FAULTS: &[(RunFault, &str)] = &[
-    (RunFault::Unreadable(ErrorKind::NotFound), "settings could not be read"),
     (RunFault::Memory, "out of memory"),
     (RunFault::Record(ErrorKind::PermissionDenied), "record could not be written"),
     (RunFault::Settings(SettingsError::Memory), "out of memory"),

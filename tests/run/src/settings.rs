@@ -39,17 +39,17 @@ impl Read for Halting {
 }
 
 /// Returns why a settings text is refused, if it is.
-fn refusal(alloc: Global, input: &mut impl Read) -> Option<SettingsFileFault> {
-    read_text(alloc, input).err()
+fn refusal(alloc: Global, input: &mut impl Read) -> Option<SettingsFileFault<'static>> {
+    read_text(alloc, "a file", input).err()
 }
 
 /// A text that is refused for this reason.
-fn unreadable(kind: ErrorKind) -> Option<SettingsFileFault> {
-    Some(SettingsFileFault::Unreadable(kind))
+fn unreadable(kind: ErrorKind) -> Option<SettingsFileFault<'static>> {
+    Some(SettingsFileFault::Unreadable("a file", kind))
 }
 
 /// Returns why a settings text is refused if a read fails with this kind of error.
-fn refusal_at(alloc: Global, kind: ErrorKind) -> Option<SettingsFileFault> {
+fn refusal_at(alloc: Global, kind: ErrorKind) -> Option<SettingsFileFault<'static>> {
     refusal(alloc, &mut Fails(kind))
 }
 
@@ -82,9 +82,12 @@ fn settings_that_cannot_be_read(rt: HostRuntime) -> Result<(), Fail> {
 }
 
 /// Returns why a settings text is refused if it is allocated on a heap of this size.
-fn refusal_within(alloc: Global, size: usize) -> Result<Option<SettingsFileFault>, Fail> {
+fn refusal_within(
+    alloc: Global,
+    size: usize,
+) -> Result<Option<SettingsFileFault<'static>>, Fail> {
     let heap = LocalHeap::new(alloc, size)?;
-    Ok(read_text(&heap, &mut b"listen = ".as_slice()).err())
+    Ok(read_text(&heap, "a file", &mut b"listen = ".as_slice()).err())
 }
 
 /// A refused allocation for a settings text is reported as such.
@@ -101,6 +104,6 @@ fn settings_that_come_in_parts(rt: HostRuntime) -> Result<(), Fail> {
         bytes: b"listen = ",
         is_next: false,
     };
-    let text = read_text(rt.alloc(), &mut parts)?;
+    let text = read_text(rt.alloc(), "a file", &mut parts)?;
     holds(text.as_str() == "listen = ", text.as_str())
 }

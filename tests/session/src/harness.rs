@@ -274,7 +274,7 @@ pub(crate) type Limits = (usize, u32, u64);
 pub(crate) fn settings(alloc: Global, limits: Limits) -> Result<Settings, Fail> {
     let (max_sessions, sessions, turns) = limits;
     let text = format!(in alloc;
-        "listen = \"a\"\nserver = \"b\"\nmax_body = 512
+        "listen = \"a:1\"\nserver = \"b:2\"\nmax_body = 512
         max_sessions = {max_sessions}\nsessions = {sessions}\nturns = {turns}\n"
     )?;
     Ok(read_settings(alloc, text.as_str())?)

@@ -462,10 +462,10 @@ fn each_of_many_bots_is_served(rt: HostRuntime) -> Result<(), Fail> {
 
 /// Settings for one bot, with and without an end.
 const ONE_BOT: &str =
-    "listen = \"a\"\nserver = \"b\"\nmax_body = 512\nmax_sessions = 1\nsessions = 1\n";
+    "listen = \"a:1\"\nserver = \"b:2\"\nmax_body = 512\nmax_sessions = 1\nsessions = 1\n";
 
 const ENDLESS: &str =
-    "listen = \"a\"\nserver = \"b\"\nmax_body = 512\nmax_sessions = 1\nsessions = 1\nendless = true\n";
+    "listen = \"a:1\"\nserver = \"b:2\"\nmax_body = 512\nmax_sessions = 1\nsessions = 1\nendless = true\n";
 
 /// Checks how many bots are served in these rounds, each of which serves one, and whether the run is done then.
 fn assert_served(alloc: Global, text: &str, rounds: usize, done: bool) -> Result<(), Fail> {

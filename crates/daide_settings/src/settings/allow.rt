@@ -63,7 +63,7 @@ fn has_range_count(values: &[Value]) -> bool
 }
 
 /// Returns the range of a value.
-fn range_of(value: &Value) -> Option<AddressRange>
+pub(super) fn range_of(value: &Value) -> Option<AddressRange>
     ensures { result ≡ range_of (view value.now) }
 {
     range_named(value.as_str()?)

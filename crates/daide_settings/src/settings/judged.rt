@@ -1,10 +1,10 @@
 //! All faults of a document, each with its line, and the values of a document without a fault.
 //!
-//! `toml` reports the place of its own errors, and no place of a key. So the line of a key is found by a scan of the
-//! text. The report is made in memory, and written whole.
+//! `toml` reports the place of its own errors, and no place of a key. So the line of a key, and its value as it is
+//! written, are found by a scan of the text (`written`). The report is made in memory, and written whole.
 
-ghost use Rattle.std.specs.Prelude.{◌≡◌, ◌++◌, ℕ, List, None, [], codes, false, true, is_ok, string_bytes};
-ghost use Rattle.std.specs.Prelude.{IfOk, IfErr, OnOk};
+ghost use Rattle.std.specs.Prelude.{◌≡◌, ◌++◌, ℕ, List, None, [], Some, Ok, false, true, is_ok, map, option_map};
+ghost use Rattle.std.specs.Prelude.{IfOk, IfErr, OnOk, string_bytes};
 ghost use Rattle.std.specs.Io.KnownBytes.{Appends};
 ghost use Rattle.toml.specs.Data.{get_member};
 ghost use Rattle.toml.specs.Parse.{parse_document};
@@ -12,21 +12,24 @@ ghost use Rattle.toml.specs.Text.{IsValueText};
 ghost use Rattle.toml.specs.View.{table_view, view};
 ghost use Rattle.daide_settings.specs.Settings.{judged_settings, key_text};
 ghost use Rattle.daide_settings.specs.Judged.{fault_at, is_right, is_right_document, keys_are_right};
-ghost use Rattle.daide_settings.specs.Report.{AreFaultLines, AreUnknownLines, AreValueLines, IsDocumentReport};
-ghost use Rattle.daide_settings.specs.Report.{IsLikeness, IsSettingsReport, IsUnknownLine, IsUnknownPart};
-ghost use Rattle.daide_settings.specs.Report.{IsFaultPart, IsPlaceText, IsValueLine, default_line, fault_words};
-ghost use Rattle.daide_settings.specs.Report.{must_be, range_words, unset_line};
+ghost use Rattle.daide_settings.specs.Report.{AreFaultLines, AreParts, AreUnknownLines, AreValueLines, IsDocumentReport};
+ghost use Rattle.daide_settings.specs.Report.{IsFaultLine, IsFaultPart, IsSettingsReport, IsShownValue, IsUnknownLine};
+ghost use Rattle.daide_settings.specs.Report.{IsValueLine, ReadsAs, default_line, entry_words, failing_words, field_words};
+ghost use Rattle.daide_settings.specs.Report.{likeness_text, part_words, path_text, place_text, range_words, unknown_keys};
+ghost use Rattle.daide_settings.specs.Report.{unset_line};
 
 use super::SettingsError;
 use super::allow::ranges_fault;
 use super::key::{Key, is_known};
+use super::parts::{Field, ValuePart, faulty_part, part_value};
 use super::reading::{address_fault, flag_fault, found, has_only_known, number_fault, text_fault};
 use super::suggestion::nearest_key;
 use super::words::words_fault;
+use super::written::{Spot, spot_of};
 use std::alloc::{AllocError, Global};
 use std::fmt::{Display, Formatter};
-use std::io;
 use std::io::{ErrorKind, Write};
+use std::{fmt, io};
 use thiserror::Error;
 use toml::{Table, Value};
 
@@ -79,19 +82,21 @@ fn is_right(table: &Table) -> bool
 }
 
 /// Returns the type and the range of a key's value.
-fn range_text(key: Key) -> &'static str
+fn value_text_of(key: Key) -> &'static str
     ensures { result.now ≡ range_words key }
 {
     match key {
-        Key::Listen | Key::Server => "a string of 1 to 255 bytes",
+        Key::Listen | Key::Server => {
+            "a string HOST:PORT of at most 255 bytes, with a port from 0 to 65535 and without a scheme"
+        }
         Key::TopLevel => "an integer: 0, 10, 20, 30, 40, 50 or 60",
         Key::MaxBody => "an even integer from 512 to 65526",
         Key::MaxDepth => "an integer from 4 to 254",
-        Key::ImSeconds => "an integer from 1 to 3600",
+        Key::ImSeconds => "a number of seconds, an integer from 1 to 3600",
         Key::MaxSessions => "an integer from 1 to 256",
         Key::Sessions => "an integer from 1 to 1000000",
         Key::Turns => "an integer from 1 to 1000000000000",
-        Key::IdleSeconds | Key::StallSeconds => "an integer from 0 to 86400",
+        Key::IdleSeconds | Key::StallSeconds => "a number of seconds, an integer from 0 to 86400",
         Key::Words =>
             "an array of at most 16 tables, each with name, code, slot, level and operand, and no word twice",
         Key::Endless => "true or false",
@@ -101,84 +106,186 @@ fn range_text(key: Key) -> &'static str
     }
 }
 
-/// Returns true if a line begins with a key and `=`, or is the head of its table.
-fn sets_key(line: &str, key: &str) -> bool {
-    let front = line.trim_start_matches(|letter: char| matches!(
-        letter,
-        ' ' | '\t' | '[' | '"' | '\''
-    ));
-    let Some(rest) = front.strip_prefix(key) else {
-        return false;
-    };
-    let rest = rest.trim_start_matches(|letter: char| matches!(letter, ' ' | '\t' | '"' | '\''));
-    matches!(rest.as_bytes().first(), Some(b'=' | b'.' | b']'))
+/// Returns the type and the range of an entry of a key's array.
+fn entry_text_of(key: Key) -> &'static str
+    ensures { result.now ≡ entry_words key }
+{
+    match key {
+        Key::Allow =>
+            "a string, an IPv4 or IPv6 address with or without /PREFIX, and not IPv4-mapped",
+        Key::Words
+        | Key::Listen
+        | Key::Server
+        | Key::TopLevel
+        | Key::MaxBody
+        | Key::MaxDepth
+        | Key::ImSeconds
+        | Key::MaxSessions
+        | Key::Sessions
+        | Key::Turns
+        | Key::IdleSeconds
+        | Key::StallSeconds
+        | Key::Endless
+        | Key::MaxPerAddress
+        | Key::Control => "a table with name, code, slot, level and operand, and no other key",
+    }
 }
 
-/// Returns the number of the first line that sets a key, counted from 1.
-fn line_of(text: &str, key: &str) -> Option<usize> {
-    let mut number = 0usize;
-    for line in text.lines() {
-        number = number.saturating_add(1);
-        if sets_key(line, key) {
-            return Some(number);
+/// Returns the type and the range of a field of a word.
+fn field_text_of(field: Field) -> &'static str
+    ensures { result.now ≡ field_words field }
+{
+    match field {
+        Field::Name => "three letters from A to Z, no name of the protocol's or of an earlier word",
+        Field::Code =>
+            "an integer from 0x4A00 to 0x4AFF, no token of the protocol's or of an earlier word, and none of 0x4A0D, 0x4A12 and 0x4A1B",
+        Field::Slot => "\"press\" or \"arrangement\"",
+        Field::Level => "an integer: 10, 20, 30, 40, 50 or 60",
+        Field::Operand =>
+            "\"power\", \"powers\", \"provinces\", \"order\", \"arrangement\" or, if the word forms a press, \"press\"",
+    }
+}
+
+/// A fault of a key, and the part of its value that has it. It is written as the path of the part.
+#[derive(Clone, Copy)]
+struct Finding {
+    key: Key,
+    part: ValuePart,
+    fault: SettingsError,
+}
+
+impl Finding {
+    /// Returns the type and the range of the part.
+    fn must_be(self) -> &'static str
+        ensures { result.now ≡ part_words self.key self.part }
+    {
+        match self.part {
+            ValuePart::Whole => value_text_of(self.key),
+            ValuePart::Entry(_) => entry_text_of(self.key),
+            ValuePart::Member(_, field) => field_text_of(field),
         }
     }
-    None
 }
 
-/// Writes the line of a key, if it is found.
-fn write_line_of(text: &str, key: &str, report: &mut Vec<u8>) -> io::Result<()>
-    ensures { OnOk result ((place : List ℕ) × IsPlaceText place
-        × (report.new.items ≡ report.old.items ++ place)) }
-{
-    match line_of(text, key) {
-        Some(number) => write!(report, "line {number}: "),
-        None => Ok(()),
+impl fmt::Display for Finding {
+    ghost output = { λ finding. Some (path_text finding.key finding.part) };
+
+    fn fmt<W: fmt::Write>(&self, f: &mut Formatter<W>) -> fmt::Result {
+        let key = self.key;
+        match self.part {
+            ValuePart::Whole => write!(f, "{key}"),
+            ValuePart::Entry(index) => write!(f, "{key}[{index}]"),
+            ValuePart::Member(index, field) => write!(f, "{key}[{index}].{field}"),
+        }
     }
 }
 
-/// Writes the known key that an unknown one resembles, if there is one.
-fn write_likeness(key: &str, report: &mut Vec<u8>) -> io::Result<()>
-    ensures { OnOk result ((likeness : List ℕ) × IsLikeness likeness
-        × (report.new.items ≡ report.old.items ++ likeness)) }
-{
-    match nearest_key(key) {
-        Some(known) => write!(report, "; did you mean {known}?"),
-        None => Ok(()),
+/// The line of a text at which a fault is, if a scan finds it.
+#[derive(Clone, Copy)]
+struct Place {
+    line: Option<usize>,
+}
+
+impl fmt::Display for Place {
+    ghost output = { λ place. Some (place_text place.line) };
+
+    fn fmt<W: fmt::Write>(&self, f: &mut Formatter<W>) -> fmt::Result {
+        match self.line {
+            Some(line) => write!(f, "line {line}: "),
+            None => f.write_str(""),
+        }
+    }
+}
+
+/// The known key that an unknown one resembles, if there is one.
+#[derive(Clone, Copy)]
+struct Likeness {
+    known: Option<Key>,
+}
+
+impl fmt::Display for Likeness {
+    ghost output = { λ likeness. Some (likeness_text likeness.known) };
+
+    fn fmt<W: fmt::Write>(&self, f: &mut Formatter<W>) -> fmt::Result {
+        match self.known {
+            Some(known) => write!(f, "; did you mean \"{known}\"?"),
+            None => f.write_str(""),
+        }
+    }
+}
+
+/// Returns the line of a spot in a text.
+fn place_of(text: &str, spot: Option<Spot<'_>>) -> Place {
+    Place {
+        line: spot
+            .and_then(|spot| spot.front_in(text))
+            .map(|front| last_line(front)),
     }
 }
 
 /// Writes the line of an unknown key, with the known key that it resembles.
-fn write_unknown(text: &str, key: &str, report: &mut Vec<u8>) -> io::Result<()>
+fn write_unknown(alloc: Global, text: &str, key: &str, report: &mut Vec<u8>) -> io::Result<()>
     ensures { OnOk result ((line : List ℕ) × IsUnknownLine key.now line
         × (report.new.items ≡ report.old.items ++ line)) }
 {
-    write_line_of(text, key, report)?;
-    write!(report, "unknown key: {key}")?;
-    write_likeness(key, report)?;
-    report.write_all(b"\n")
+    let place = place_of(text, spot_of(text, key, ValuePart::Whole));
+    let known = nearest_key(alloc, key)?;
+    let likeness = Likeness { known };
+    writeln!(report, "{place}unknown key \"{key}\"{likeness}")
 }
 
-/// Writes the line of a key, if it is unknown.
-fn write_if_unknown(text: &str, key: &str, report: &mut Vec<u8>) -> io::Result<()>
-    ensures { OnOk result ((part : List ℕ) × IsUnknownPart key.now part
-        × (report.new.items ≡ report.old.items ++ part)) }
-{
-    if is_known(key) {
-        return Ok(());
+/// Returns the number of bytes of a text before a key; those of the whole text if the key is not found.
+fn offset_of(text: &str, key: &str) -> usize {
+    match spot_of(text, key, ValuePart::Whole).and_then(|spot| spot.front_in(text)) {
+        Some(front) => front.len(),
+        None => text.len(),
     }
-    write_unknown(text, key, report)
 }
 
-/// Writes the lines of the unknown keys of a document.
-fn write_all_unknown(table: &Table, text: &str, report: &mut Vec<u8>) -> io::Result<()>
+/// Returns the unknown keys of a document.
+fn unknown_keys<'a>(alloc: Global, table: &'a Table) -> Result<Vec<&'a str>, AllocError>
+    ensures { IfOk result (λ unknown. map (λ key. key.now) unknown.items ≡ unknown_keys (table_view table.now)) }
+{
+    let mut unknown = Vec::new(alloc);
+    for key in table.keys() {
+        if !is_known(key.as_str()) {
+            unknown.push(key.as_str())?;
+        }
+    }
+    Ok(unknown)
+}
+
+/// Writes the lines of unknown keys, in their order.
+fn write_unknown_lines(
+    alloc: Global,
+    text: &str,
+    keys: &[&str],
+    report: &mut Vec<u8>,
+) -> io::Result<()>
+    ensures { OnOk result ((lines : List ℕ) × AreParts IsUnknownLine (map (λ key. key.now) keys.now) lines
+        × (report.new.items ≡ report.old.items ++ lines)) }
+{
+    let mut rest = keys;
+    while let [key, others @ ..] = rest {
+        write_unknown(alloc, text, key, report)?;
+        rest = others;
+    }
+    Ok(())
+}
+
+/// Writes the lines of the unknown keys of a document, in the order of the text.
+fn write_all_unknown(
+    alloc: Global,
+    table: &Table,
+    text: &str,
+    report: &mut Vec<u8>,
+) -> io::Result<()>
     ensures { OnOk result ((lines : List ℕ) × AreUnknownLines (table_view table.now) lines
         × (report.new.items ≡ report.old.items ++ lines)) }
 {
-    for key in table.keys() {
-        write_if_unknown(text, key.as_str(), report)?;
-    }
-    Ok(())
+    let mut unknown = unknown_keys(alloc, table)?;
+    unknown.sort_by_key(|key| offset_of(text, key))?;
+    write_unknown_lines(alloc, text, unknown.as_slice(), report)
 }
 
 /// Returns a value as TOML.
@@ -192,29 +299,73 @@ fn value_text(alloc: Global, value: &Value) -> Result<String, AllocError>
     }
 }
 
-/// Writes the end of a fault's line: what the value must be.
-fn write_must_be(key: Key, report: &mut Vec<u8>) -> io::Result<()>
-    ensures { OnOk result (report.new.items ≡ report.old.items ++ must_be key) }
+/// Returns true if a text reads as a value that TOML prints as this other text.
+fn reads_as(alloc: Global, written: &str, printed: &str) -> Result<bool, AllocError>
+    ensures { result ≡ Ok true → ReadsAs written.now printed.now }
 {
-    let range = range_text(key);
-    writeln!(report, "; it must be {range}")
+    match Value::from_str(alloc, written) {
+        Ok(value) => Ok(value_text(alloc, &value)?.as_str() == printed),
+        Err(error) if error.is_memory() => Err(AllocError),
+        Err(_) => Ok(false),
+    }
 }
 
-/// Writes a fault and the value that has it.
-fn write_faulty(
+/// Returns a value as it is written, if it is found and is in one line; else as TOML.
+fn shown_value(alloc: Global, spot: Option<Spot<'_>>, value: &Value) -> Result<String, AllocError>
+    ensures { IfOk result (λ text. IsShownValue (view value.now) (string_bytes text)) }
+{
+    let printed = value_text(alloc, value)?;
+    let Some(written) = spot.and_then(|spot| spot.value_in_line()) else {
+        return Ok(printed);
+    };
+    if reads_as(alloc, written, printed.as_str())? {
+        String::from_str(alloc, written)
+    } else {
+        Ok(printed)
+    }
+}
+
+/// Returns in words how a value fails.
+fn failing_text(fault: SettingsError) -> &'static str
+    ensures { result.now ≡ failing_words fault }
+{
+    match fault {
+        SettingsError::WrongType(_) => " is of the wrong type",
+        SettingsError::NotToml
+        | SettingsError::Unknown
+        | SettingsError::Missing(_)
+        | SettingsError::Range(_)
+        | SettingsError::Memory => " is out of range",
+    }
+}
+
+/// Writes a fault: its line, the key with the entry and the field, the value of that, and what it must be.
+fn write_fault(
     alloc: Global,
-    fault: SettingsError,
-    value: &Value,
+    text: &str,
+    finding: Finding,
+    value: Option<&Value>,
     report: &mut Vec<u8>,
 ) -> io::Result<()>
-    ensures { OnOk result ((shown : List ℕ) × IsValueText false (view value.now) shown
-        × (report.new.items ≡ report.old.items ++ (fault_words fault ++ (codes ": " ++ shown)))) }
+    ensures { OnOk result ((line : List ℕ)
+        × IsFaultLine finding.key finding.part finding.fault (option_map (λ value. view value.now) value.entry) line
+        × (report.new.items ≡ report.old.items ++ line)) }
 {
-    let shown = value_text(alloc, value)?;
-    write!(report, "{fault}: {shown}")
+    let range = finding.must_be();
+    let Some(value) = value else {
+        return writeln!(report, "missing {finding}; it must be {range}");
+    };
+    let spot = spot_of(text, finding.key.text(), finding.part);
+    let place = place_of(text, spot);
+    let shown = shown_value(alloc, spot, value)?;
+    let failing = failing_text(finding.fault);
+    writeln!(
+        report,
+        "{place}{finding} = {shown}{failing}; it must be {range}"
+    )
 }
 
-/// Writes the fault of a key, if it has one: its line, the fault, the value and what it must be.
+/// Writes the fault of a key, if it has one.
 fn write_fault_of(
     alloc: Global,
     table: &Table,
@@ -228,13 +379,10 @@ fn write_fault_of(
     let Some(fault) = fault_at(table, key) else {
         return Ok(());
     };
-    let Some(value) = found(table, key) else {
-        write!(report, "{fault}")?;
-        return write_must_be(key, report);
-    };
-    write_line_of(text, key.text(), report)?;
-    write_faulty(alloc, fault, value, report)?;
-    write_must_be(key, report)
+    let value = found(table, key);
+    let part = faulty_part(key, fault, value);
+    let finding = Finding { key, part, fault };
+    write_fault(alloc, text, finding, part_value(part, value), report)
 }
 
 /// Writes the faults of some keys, in their order.
@@ -261,7 +409,7 @@ fn write_faults(alloc: Global, table: &Table, text: &str, report: &mut Vec<u8>) 
     ensures { OnOk result ((lines : List ℕ) × IsDocumentReport false (table_view table.now) lines
         × (report.new.items ≡ report.old.items ++ lines)) }
 {
-    write_all_unknown(table, text, report)?;
+    write_all_unknown(alloc, table, text, report)?;
     write_key_faults(alloc, table, text, &Key::ALL, report)
 }
 
@@ -380,17 +528,19 @@ fn write_report(alloc: Global, text: &str, report: &mut Vec<u8>) -> io::Result<b
 }
 
 /// Judges a text of settings, and writes its report (`IsSettingsReport`). For a text without a fault this is the value
-/// of each key, as TOML. For another it is the fault of each key: the line, the fault, the value and what it must be.
+/// of each key, as TOML. For another it is the fault of each key: the line, the key with the entry and the field at fault,
+/// its value, and what that must be.
 ///
 /// `judged`: it returns true exactly if `read_settings` accepts the text (`judged_settings`).
 ///
 /// `written`: the report has a line for each key: its value or default. If there is a fault, it has one for each unknown
-/// key, and then one for each key with a fault.
+/// key, and then one for each key with a fault. The value is in it as TOML prints it, or by a text that reads as a value
+/// printed so.
 ///
 /// `kept`: after `Memory` the output is unchanged.
 ///
-/// Not said: the number of a line, the known key that an unknown one resembles, the reason why a text is no document; nor
-/// that a failed write or refused memory is the reason for an error.
+/// Not said: the number of a line, the order of the unknown keys, the known key that an unknown one resembles, the reason
+/// why a text is no document; nor that a failed write or refused memory is the reason for an error.
 pub fn judge_settings<O: Write>(
     alloc: Global,
     text: &str,

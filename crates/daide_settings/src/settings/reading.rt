@@ -15,7 +15,7 @@ ghost use Rattle.daide_settings.specs.Settings.{key_text, is_known as is_known_k
 ghost use Rattle.daide_settings.specs.Settings.{address_of, read_flag, read_number as judged_number, read_text, has_only_known as knows_all};
 ghost use Rattle.daide_settings.specs.Settings.{judged_members, judged_settings};
 
-use crate::settings::address::Address;
+use crate::settings::address::{Address, is_address};
 use crate::settings::allow::ranges_at;
 use crate::settings::control_path::ControlPath;
 use crate::settings::key::{Key, is_known};
@@ -67,7 +67,7 @@ fn address_at<'a>(table: &'a Table, key: Key) -> Result<&'a str, SettingsError>
     let Some(text) = value.as_str() else {
         return Err(SettingsError::WrongType(key));
     };
-    if !key.is_in_range(text.len() as u64) {
+    if !key.is_in_range(text.len() as u64) || !is_address(text.as_bytes()) {
         return Err(SettingsError::Range(key));
     }
     Ok(text)

@@ -53,7 +53,7 @@ fn field<'a>(table: &'a Table, name: &str) -> Option<&'a Value>
 }
 
 /// Returns the text of a key in an entry.
-fn text_in<'a>(table: &'a Table, name: &str) -> Option<&'a str>
+pub(super) fn text_in<'a>(table: &'a Table, name: &str) -> Option<&'a str>
     ensures { option_copied result ≡ text_in name.now (table_view table.now) }
 {
     match field(table, name) {
@@ -63,7 +63,7 @@ fn text_in<'a>(table: &'a Table, name: &str) -> Option<&'a str>
 }
 
 /// Returns the number of a key in an entry.
-fn number_in(table: &Table, name: &str) -> Option<i64>
+pub(super) fn number_in(table: &Table, name: &str) -> Option<i64>
     ensures { result ≡ number_in name.now (table_view table.now) }
 {
     match field(table, name) {
@@ -85,7 +85,7 @@ fn has_fields(table: &Table) -> bool
 }
 
 /// Returns true if a value is a table with exactly the fields of a word, each of its type.
-fn is_entry(value: &Value) -> bool
+pub(super) fn is_entry(value: &Value) -> bool
     ensures { result ≡ is_entry (view value.now) }
 {
     match value.as_table() {
@@ -95,7 +95,7 @@ fn is_entry(value: &Value) -> bool
 }
 
 /// Returns the name of an entry, which has three bytes.
-fn name_in(table: &Table) -> Option<[u8; 3]>
+pub(super) fn name_in(table: &Table) -> Option<[u8; 3]>
     ensures { result ≡ option_and_then three_of (text_in (codes "name") (table_view table.now)) }
 {
     match text_in(table, "name")?.as_bytes() {
@@ -105,7 +105,7 @@ fn name_in(table: &Table) -> Option<[u8; 3]>
 }
 
 /// Returns the token with the number of an entry.
-fn code_in(table: &Table) -> Option<Token>
+pub(super) fn code_in(table: &Table) -> Option<Token>
     ensures { result ≡ option_and_then code_of_integer (number_in (codes "code") (table_view table.now)) }
 {
     match u16::try_from(number_in(table, "code")?) {
@@ -115,14 +115,14 @@ fn code_in(table: &Table) -> Option<Token>
 }
 
 /// Returns the slot of an entry.
-fn slot_in(table: &Table) -> Option<Slot>
+pub(super) fn slot_in(table: &Table) -> Option<Slot>
     ensures { result ≡ option_and_then slot_named (text_in (codes "slot") (table_view table.now)) }
 {
     Slot::by_name(text_in(table, "slot")?.as_bytes())
 }
 
 /// Returns the level with the number of an entry.
-fn level_in(table: &Table) -> Option<Level>
+pub(super) fn level_in(table: &Table) -> Option<Level>
     ensures { result ≡ option_and_then level_of_integer (number_in (codes "level") (table_view table.now)) }
 {
     match u16::try_from(number_in(table, "level")?) {
@@ -132,7 +132,7 @@ fn level_in(table: &Table) -> Option<Level>
 }
 
 /// Returns the operand of an entry.
-fn operand_in(table: &Table) -> Option<Operand>
+pub(super) fn operand_in(table: &Table) -> Option<Operand>
     ensures { result ≡ option_and_then operand_named (text_in (codes "operand") (table_view table.now)) }
 {
     Operand::by_name(text_in(table, "operand")?.as_bytes())
@@ -152,7 +152,7 @@ fn word_of_members(table: &Table) -> Option<Word>
 }
 
 /// Returns the word of an entry.
-fn word_of(entry: &Value) -> Option<Word>
+pub(super) fn word_of(entry: &Value) -> Option<Word>
     ensures { result ≡ word_of (view entry.now) }
 {
     match entry.as_table() {

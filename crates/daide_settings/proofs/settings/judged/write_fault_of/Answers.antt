@@ -1,20 +1,18 @@
-use Rattle.std.proofs.Common.{◌++◌, refl, codes}
+use Rattle.std.proofs.Common.{ap, ◌∙◌}
 use Rattle.std.proofs.lemmas.Result.{on_ok_weaker}
-use Rattle.daide_settings.specs.Report.{fault_words, must_be}
-use Rattle.daide_settings.proofs.ReportLemmas.{fault_part, in_sequence}
+use Rattle.daide_settings.specs.Parts.{faulty_part, part_value}
+use Rattle.daide_settings.proofs.LineLemmas.{fault_part}
 use Rattle.daide_settings.proofs.settings.judged.write_fault_of.Goals as goal
 
 pub returns : goal.returns
 returns c =
-    let place = c.in_ok-write_line_of.ensures in
-    let faulty = c.in_ok-write_faulty.ensures in
-    let words = fault_words c.in-Some.fault ++ (codes ": " ++ faulty.0) in
-    let part = place.0 ++ (words ++ must_be c.args.key) in
-    on_ok_weaker c.write_must_be-2.result
-    (λ last. (
-      part,
-      fault_part c.args.key _ _ _ c.in-Some.fault part c.in-Some.ensures c.in-Some-found.ensures
-          (place.0, faulty.0, place.1, faulty.1, refl),
-      in_sequence _ place.0 words (must_be c.args.key) _ _ _ place.2 faulty.2 last,
+    on_ok_weaker c.write_fault.result
+    (λ line. (
+      line.0,
+      fault_part c.args.key _ _ _ c.in-Some.fault c.faulty_part-part.result line.0 c.in-Some.ensures
+          (c.faulty_part-part.ensures ∙ ap (faulty_part c.args.key c.in-Some.fault) c.found-value.ensures)
+          (c.part_value.ensures ∙ ap (part_value c.faulty_part-part.result) c.found-value.ensures)
+          line.1,
+      line.2,
     ))
-    c.write_must_be-2.ensures
+    c.write_fault.ensures

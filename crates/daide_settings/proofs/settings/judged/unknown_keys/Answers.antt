@@ -1,0 +1,9 @@
+use Rattle.std.proofs.Common.{◌++◌, map, sym, ap, ◌∙◌, append-nil}
+use Rattle.daide_settings.proofs.ReportLemmas.{unknown_members, unknown_of}
+use Rattle.daide_settings.proofs.settings.judged.unknown_keys.Goals as goal
+
+pub returns : goal.returns
+returns c =
+    let known = map (λ key. key.now) c.loop-key.unknown.items in
+    sym (append-nil known) ∙ sym (ap (λ left. known ++ unknown_of left) c.in-None.ensures.steps.0)
+    ∙ c.loop-key.invariant ∙ unknown_members c.args.table.now.entries

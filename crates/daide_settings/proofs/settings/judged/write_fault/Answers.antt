@@ -1,0 +1,17 @@
+use Rattle.std.proofs.Common.{ap, option_map, refl}
+use Rattle.std.proofs.lemmas.Result.{on_ok_weaker}
+use Rattle.toml.specs.View.{view}
+use Rattle.daide_settings.proofs.LineLemmas.{given_line}
+use Rattle.daide_settings.proofs.settings.judged.write_fault.Goals as goal
+
+pub returns : goal.returns
+returns c =
+    on_ok_weaker c.writeln-2.result
+    (λ e. (
+      _,
+      given_line c.args.finding.key _ c.args.finding.fault _ _ c.place_of-place.result.line _ _ _ _
+          (ap (option_map (λ value. view value.now)) c.in-Some.is) c.in_ok-shown.ensures
+          c.failing_text-failing.ensures c.must_be-range.ensures refl,
+      e,
+    ))
+    c.writeln-2.ensures.bytes

@@ -1,5 +1,0 @@
-use Rattle.std.proofs.Common.{length}
-use Rattle.daide_settings.proofs.settings.suggestion.after_common.Given as goal
-
-abbrev pub decreases-loop-one : goal.decreases-loop-one
-decreases-loop-one l = length l.one
