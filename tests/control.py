@@ -527,6 +527,10 @@ def stale_socket_is_replaced(program):
         same(pathlib.Path(path).read_text(encoding="utf-8"), "kept\n", "the file")
 
 
+# What a path of a control socket must be.
+PATH = "it must be a string of 1 to 100 bytes"
+
+
 def requests_without_a_run_say_why(program):
     """No `control` in the settings, nobody at its path, a file there, and a timeout or a form that there isn't."""
     with tempfile.TemporaryDirectory() as room:
@@ -536,11 +540,11 @@ def requests_without_a_run_say_why(program):
             ("", "stop --now", "settings have no control", 1),
             (f"control = '{path}'", "status", f"{path}: nobody listens", 1),
             (f"control = '{path}'", "stop", f"{path}: nobody listens", 1),
-            ("control = 1", "stop", "wrong type for control", 1),
-            ("control = ''", "status", "control out of range", 1),
-            (f"control = '{path}'", "status --format xml", "bad format", 2),
-            (f"control = '{path}'", "stop --timeout 0", "bad timeout", 2),
-            (f"control = '{path}'", "stop --timeout 86401", "bad timeout", 2),
+            ("control = 1", "stop", f"line 3: control = 1 is of the wrong type; {PATH}", 1),
+            ("control = ''", "status", f"line 3: control = '' is out of range; {PATH}", 1),
+            (f"control = '{path}'", "status --format xml", "bad format; it must be table, json or prometheus", 2),
+            (f"control = '{path}'", "stop --timeout 0", "bad timeout; it must be 1 to 86400 seconds", 2),
+            (f"control = '{path}'", "stop --timeout 86401", "bad timeout; it must be 1 to 86400 seconds", 2),
         )
         for text, words, told, status in rows:
             settings.write_text(f"listen = '{HOST}:1'\nserver = '{HOST}:1'\n{text}\n", encoding="utf-8")

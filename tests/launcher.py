@@ -228,7 +228,8 @@ def version_says_whether_it_is_proved(program):
         clone.has_proved()
         same((clone.version(), clone.calls()), ("proved at commit 0", 0), "a proved program, and calls of the compiler")
         told = clone.run("run", "--verbose", "none.toml")[1].splitlines()
-        same(told[:2], ["daide-gate: proved at commit 0", "daide-gate: settings could not be read"], "told of a proved program")
+        wanted = ["proved at commit 0", "settings could not be read: none.toml: entity not found"]
+        same(told, [f"daide-gate: {line}" for line in wanted], "told of a proved program")
         clone.source.write_text("// changed", encoding="utf-8")
         wanted = ("proved at commit 0, older than the sources", 0)
         same((clone.version(), clone.calls()), wanted, "an older proved program, and calls of the compiler")

@@ -53,6 +53,18 @@ recorded_folder : option_map (λ p. first_of (codes "record") p.1) (subcommand_o
 unfolding clap_on_literals
 recorded_folder = refl
 
+-- a letter in place of `--verbose`
+abbrev lettered : List Text
+lettered = codes "daide-gate" ∷ codes "run" ∷ codes "-v" ∷ codes "a.toml" ∷ []
+
+lettered_is_verbose : option_map (λ p. is_set (codes "verbose") p.1) (subcommand_of gate_app lettered) ≡ Some true
+unfolding clap_on_literals
+lettered_is_verbose = refl
+
+lettered_is_taken : fault_of gate_app lettered ≡ []
+unfolding clap_on_literals
+lettered_is_taken = refl
+
 -- no command; a run without settings; an unknown option
 nothing_asked : subcommand_of gate_app (codes "daide-gate" ∷ []) ≡ None
 unfolding clap_on_literals

@@ -40,6 +40,10 @@ option_rule name = record (new_rule name) { long = Some name; action = Some Set;
 abbrev pub flag_rule : Text → Rule
 flag_rule name = record (new_rule name) { long = Some name; action = Some SetTrue }
 
+-- a flag, which a letter gives too
+abbrev pub lettered_rule : Text → ℕ → Rule
+lettered_rule name letter = record (flag_rule name) { short = Some letter }
+
 abbrev pub words_rule : Text → Rule
 words_rule name = record (new_rule name) {
   action = Some Append;
@@ -70,7 +74,7 @@ settings_app = with_rules (codes "settings") (word_rule (codes "FILE") true ∷ 
 
 abbrev pub run_app : App
 run_app = with_rules (codes "run")
-    (flag_rule (codes "verbose") ∷ option_rule (codes "record") ∷ word_rule (codes "SETTINGS") true ∷ [])
+    (lettered_rule (codes "verbose") 118 ∷ option_rule (codes "record") ∷ word_rule (codes "SETTINGS") true ∷ [])
 
 abbrev pub status_app : App
 status_app = with_rules (codes "status") (option_rule (codes "format") ∷ word_rule (codes "SETTINGS") true ∷ [])

@@ -17,6 +17,8 @@ enum Takes {
     Value(&'static str),
     /// Nothing: the argument is a flag.
     Nothing,
+    /// Nothing: the argument is a flag, which this letter gives too.
+    NothingOr(char),
     /// One word that is not an option.
     Word,
     /// One word that is not an option, and that must be given.
@@ -233,7 +235,7 @@ const COMMANDS: &[CommandRow] = &[
         arguments: &[
             Argument {
                 name: "verbose",
-                takes: Takes::Nothing,
+                takes: Takes::NothingOr('v'),
                 help: "Tell where each session begins, and how it ended, on standard error",
             },
             Argument {
@@ -301,6 +303,7 @@ fn arg_of<'a>(alloc: Global, row: &'a Argument, takes_negative: bool) -> Arg<'a>
     match row.takes {
         Takes::Value(value) => arg.long(row.name).action(ArgAction::Set).value_name(value),
         Takes::Nothing => arg.long(row.name).action(ArgAction::SetTrue),
+        Takes::NothingOr(letter) => { arg.long(row.name).short(letter).action(ArgAction::SetTrue) }
         Takes::Word => arg.action(ArgAction::Set),
         Takes::RequiredWord => arg.required(true).action(ArgAction::Set),
         Takes::Words => arg

@@ -64,12 +64,24 @@ fn carry_out<R: AllocGlobal + Files + Clock + Net, I: Read, O: Sink, E: Write>(
         Order::Frame(order) => run_frame(rt, order, input, output, errors),
         Order::Settings(order) => run_settings(rt, order, input, output, errors),
         Order::Run(order) => run(rt, order, output, errors),
-        Order::BadSide => tell(errors, "bad side", USAGE),
-        Order::BadLevel => tell(errors, "bad level", USAGE),
+        Order::BadSide => tell(errors, "bad side; it must be bot or server", USAGE),
+        Order::BadLevel => {
+            tell(
+                errors,
+                "bad level; it must be 0, 10, 20, 30, 40, 50 or 60",
+                USAGE,
+            )
+        }
         Order::Status(order) => run_status(rt, order, output, errors),
         Order::Stop(order) => run_stop(rt, order, errors),
-        Order::BadFormat => tell(errors, "bad format", USAGE),
-        Order::BadTimeout => tell(errors, "bad timeout", USAGE),
+        Order::BadFormat => {
+            tell(
+                errors,
+                "bad format; it must be table, json or prometheus",
+                USAGE,
+            )
+        }
+        Order::BadTimeout => tell(errors, "bad timeout; it must be 1 to 86400 seconds", USAGE),
     }
 }
 
