@@ -1,5 +1,5 @@
 -- How a run ends, by the calls that the loop made of a system over sockets.
-use Rattle.std.proofs.Common.{◌≡◌, ℕ, List, [], ◌∷◌, Option, None, Some, Result, Ok, Err, refl, inl, inr, ap, ◌∙◌}
+use Rattle.std.proofs.Common.{◌≡◌, ℕ, List, [], ◌∷◌, Option, None, Some, Result, Ok, Err, inl, inr, ap, ◌∙◌}
 use Rattle.std.specs.Prelude.{IfSome}
 use Rattle.std.specs.Result.{OnOk, IfErr}
 use Rattle.std.specs.declared.time.Duration.{Duration}
@@ -13,13 +13,12 @@ use Rattle.daide_io.specs.Streams.{StreamCall}
 use Rattle.daide_sockets.specs.Lingering.{ClosingList, no_closing}
 use Rattle.daide_sockets.specs.Pairing.{Arriving, Paired, RunSockets, Transits}
 use Rattle.daide_sockets.specs.Times.{IsIdleTime}
-use Rattle.daide_run.specs.declared.gateway.GatewayFault.{GatewayFault}
 use Rattle.daide_run.specs.declared.gateway.GatewayFault.TheVariants as gateway_faults
 use Rattle.daide_run.specs.declared.running.RunFault.{RunFault}
 use Rattle.daide_run.specs.declared.running.RunFault.TheVariants.{Gateway}
 use Rattle.daide_run.specs.declared.running.RunFault.TheVariants as run_faults
-use Rattle.daide_run.specs.Gateway.{Announces, IsBeforeServing}
-use Rattle.daide_run.specs.Running.{HasNoSockets, RunsBy, RunsOn, RunEnds, TextRuns, RecordedTextRuns, IsOfText, ending_by}
+use Rattle.daide_run.specs.Gateway.{Announces}
+use Rattle.daide_run.specs.Running.{HasNoSockets, RunsBy, RunsOn, RunEnds, TextRuns, RecordedTextRuns, ending_by}
 
 -- a run on a system ends by the result of its loop
 pub ran_on : {P T : Type 0} (transition : T → SystemCall P → T → Type 0) (port_transition : P → PortCall → P → Type 0)
@@ -84,23 +83,6 @@ module _ {P S T : Type 0} (to_give taken : S → Option (List ℕ)) (calls : S �
 
 module _ {P S : Type 0} (to_give taken : S → Option (List ℕ)) (calls : S → Option (List StreamCall)) (pair : P → Paired S)
     (transition : P → PortCall → P → Type 0) where
-  -- a run that does not begin leaves the output unchanged
-  pub unbegun : (settings : Settings) (failed : Type 0) (known : Option (List ℕ)) (fault : GatewayFault) →
-      IsBeforeServing fault → RunEnds to_give taken calls pair transition settings failed known known (Err (Gateway fault))
-  unbegun settings failed known (gateway_faults.Listen key cause) before = refl
-  unbegun settings failed known gateway_faults.Memory before = refl
-  unbegun settings failed known (gateway_faults.Serve fault) before = absurd before
-
-  -- a run of settings has no fault of a text
-  pub unrefused : (settings : Settings) (failed : Type 0) (before after : Option (List ℕ)) (X : Type 0)
-      (result : Result (Unit {0}) RunFault) → RunEnds to_give taken calls pair transition settings failed before after result →
-      IfErr result (λ fault. IsOfText fault → X)
-  unrefused settings failed before after X (Ok done) ends = tt
-  unrefused settings failed before after X (Err (run_faults.Settings fault)) ends = absurd ends
-  unrefused settings failed before after X (Err run_faults.Memory) ends = λ h. absurd h
-  unrefused settings failed before after X (Err (run_faults.Record cause)) ends = λ h. absurd h
-  unrefused settings failed before after X (Err (Gateway fault)) ends = λ h. absurd h
-
   -- a run that ends well has printed `listening`
   pub said : (settings : Settings) (failed : Type 0) (before after : Option (List ℕ))
       (result : Result (Unit {0}) RunFault) → RunEnds to_give taken calls pair transition settings failed before after result →

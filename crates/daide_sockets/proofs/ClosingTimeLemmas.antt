@@ -84,19 +84,6 @@ abbrev nanos_or : ℕ → Option Instant → ℕ
 nanos_or d None = d
 nanos_or d (Some moment) = instant_nanos moment
 
--- a moment after a moment after a reading
-pub after_both : (now : Option Instant) (a b : ℕ) (mid moment : Option Instant) → IsAfter now a mid → IsAfter mid b moment →
-    IsAfter now (a + b) moment
-after_both None a b mid moment h k = ap_none mid moment h k
-  where
-    ap_none : (mid moment : Option Instant) → mid ≡ None → IsAfter mid b moment → moment ≡ None
-    ap_none None moment h k = k
-    ap_none (Some at) moment h k = absurd (cc)
-after_both (Some now) a b None moment h k = subst (λ (m : Option Instant). IsAfter (Some now) (a + b) m) (sym k)
-    (λ fits. h (omega (arith, fits)))
-after_both (Some now) a b (Some mid) None h k = λ fits. k (omega (arith, fits, h))
-after_both (Some now) a b (Some mid) (Some moment) h k = omega (arith, h, k)
-
 after_there : (now : Instant) (time : ℕ) (moment : Option Instant) → FitsClock (instant_nanos now + time) →
     IsAfter (Some now) time moment → (at : Instant) × (moment ≡ Some at) × (instant_nanos at ≡ instant_nanos now + time)
 after_there now time None fits h = absurd (h fits)

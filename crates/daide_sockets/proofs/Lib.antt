@@ -7,7 +7,6 @@ mod ControlRowLemmas
 pub mod RunRowLemmas
 mod AtRestLemmas
 pub mod InterestLemmas
-mod GroupLemmas
 mod WatchLemmas
 pub mod InTimeLemmas
 mod BesideLemmas

@@ -28,17 +28,6 @@ module _ {S : Type 0} where
       by (inl a) (inl b) = inl (b ∙ a)
       by (inr a) (inl b) = inr (subst IsFreshConnect (sym b) a)
 
-  pub nothing_looked_at : (old : List (Arriving S)) → ChecksArrivals 0 old old
-  nothing_looked_at old = record {
-    seen = [];
-    rest = old;
-    moved = [];
-    split = refl;
-    now = sym (append-nil old);
-    goes = refl;
-    len = refl;
-  }
-
   go_on_snoc : (xs ys : List (Arriving S)) (x y : Arriving S) → AllStayPending xs ys → StaysPending x y →
       AllStayPending (xs ++ x ∷ []) (ys ++ y ∷ [])
   go_on_snoc [] ys x y h k = (y, [], ap (λ (l : List (Arriving S)). l ++ y ∷ []) h, k, refl)

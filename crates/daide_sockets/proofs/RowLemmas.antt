@@ -1,14 +1,13 @@
 -- Which rows of a table are taken, and who holds them.
 use Rattle.std.proofs.Common.{◌≡◌, ℕ, zero, suc, ◌+◌, ◌≤◌, Bool, true, false, List, [], ◌∷◌, ◌++◌}
 use Rattle.std.proofs.Common.{refl, ap, sym, ◌∙◌, subst, arith}
-use Rattle.std.specs.Prelude.{if◌then◌else◌, slice_get, slice_set, remove, option_map, Option, Some, None}
+use Rattle.std.specs.Prelude.{if◌then◌else◌, slice_get, slice_set, remove, Option, Some}
 use Rattle.std.proofs.Common.{◌<◌, get_or, length}
 use Rattle.std.proofs.lemmas.Option.{get_or_from_slice_get, slice_get_read}
 use Rattle.std.specs.declared.time.Duration.{Duration}
 use Rattle.std.specs.declared.time.Instant.{Instant}
 use Rattle.daide_io.specs.Network.{NetworkCall}
 use Rattle.daide_io.specs.declared.network.SocketEvent.{SocketEvent}
-use Rattle.daide_sockets.specs.declared.socket.Socket.{Socket}
 use Rattle.daide_sockets.specs.InTime.{watching_all}
 use Rattle.daide_sockets.specs.Wakeups.{RestsOnce}
 use Rattle.daide_sockets.specs.Table.{Row}
@@ -16,7 +15,7 @@ use Rattle.daide_sockets.specs.Table.{Table, row_at, free_row, taken_row, change
 use Rattle.daide_sockets.specs.Table.{TakesRow, PollsOnce, freed, without_report, no_report}
 use Rattle.daide_sockets.specs.Lingering.{ClosingStream}
 use Rattle.daide_sockets.specs.Pairing.{Arriving}
-use Rattle.daide_sockets.specs.Rows.{is_key, one_if_taken, taken_at, occurrences_of, AreHeld, HandsRows, KeepsRows, closing_keys, arrival_keys, connect_key, key_in}
+use Rattle.daide_sockets.specs.Rows.{is_key, one_if_taken, taken_at, occurrences_of, HandsRows, KeepsRows, closing_keys, arrival_keys, connect_key}
 use Rattle.daide_sockets.proofs.InTimeLemmas.{same_rows}
 
 -- whether the row with a key is taken
@@ -108,28 +107,15 @@ keeps old new e key = ap (λ (t : Table). taken_at t key) e
 pub keeps_rows : (old new : Table) → new.rows ≡ old.rows → KeepsRows old new
 keeps_rows old new e key = ap (λ (rows : List Row). one_if_taken (bit rows key)) e
 
-pub keeps_both : (old mid new : Table) → KeepsRows old mid → KeepsRows mid new → KeepsRows old new
-keeps_both old mid new h k key = k key ∙ h key
-
 pub report_taken : (old : Table) (at : ℕ) (new : Table) → new ≡ without_report old at → KeepsRows old new
 report_taken old at new e key = ap (λ (t : Table). taken_at t key) e
     ∙ ap one_if_taken (same_bits old.rows at (record (row_at old.rows at) { report = no_report }) key refl)
-
-pub two_reports_taken : (old : Table) (one other : ℕ) (new : Table) →
-    new.rows ≡ (without_report (without_report old one) other).rows → KeepsRows old new
-two_reports_taken old one other new e key =
-    keeps_rows (without_report (without_report old one) other) new e key
-    ∙ report_taken (without_report old one) other (without_report (without_report old one) other) refl key
-    ∙ report_taken old one (without_report old one) refl key
 
 events_bits : (rows : List Row) (events : List SocketEvent) (key : ℕ) → bit (with_events rows events) key ≡ bit rows key
 events_bits rows [] key = refl
 events_bits rows (event ∷ events) key = events_bits (with_event rows event) events key ∙ same_bits rows event.key _ key refl
 
 -- ---- rows that change hands
-
-pub nothing_held : (table : Table) → AreHeld table []
-nothing_held table key = omega arith
 
 -- no row changes hands
 pub none_handed : (old new : Table) (keys : List ℕ) → KeepsRows old new → HandsRows old keys new keys
@@ -161,23 +147,6 @@ handed_both old mid new one two three h k = record {
       let first = h.hands held in
       let second = k.hands (λ (n : ℕ). omega (arith, first n, held n)) in
       omega (arith, first key, second key);
-}
-
--- keys of others, before and after those of a call, stay held
-pub handed_beside : (old new : Table) (given left more : List ℕ) → HandsRows old given new left →
-    HandsRows old (given ++ more) new (left ++ more)
-handed_beside old new given left more h = record {
-  hands = λ held key.
-      let first = h.hands (λ (n : ℕ). omega (arith, held n, occurrences_of_both n given more)) in
-      omega (arith, first key, occurrences_of_both key given more, occurrences_of_both key left more);
-}
-
-pub handed_after : (old new : Table) (given left more : List ℕ) → HandsRows old given new left →
-    HandsRows old (more ++ given) new (more ++ left)
-handed_after old new given left more h = record {
-  hands = λ held key.
-      let first = h.hands (λ (n : ℕ). omega (arith, held n, occurrences_of_both n more given)) in
-      omega (arith, first key, occurrences_of_both key more given, occurrences_of_both key more left);
 }
 
 -- ---- closing streams
@@ -242,28 +211,6 @@ module _ {S : Type 0} where
         omega (arith, first key, keys_appended left last key, ap (λ (n : ℕ). is_key n key) e);
   }
 
--- ---- bots with pending connects
-
--- the key of a connect that was dropped, or none
-connect_keys_are : {S : Type 0} (server : Option (Socket S)) →
-    connect_key (option_map (λ socket. record { key = socket.key; known = socket.readiness }) server)
-    ≡ key_in (option_map (λ socket. socket.key) server)
-connect_keys_are None = refl
-connect_keys_are (Some socket) = refl
-
--- the connect of one is dropped
-pub connect_dropped : {S : Type 0} (old new : Table) (bot : ℕ) (server : Option (Socket S)) →
-    HandsRows old (key_in (option_map (λ socket. socket.key) server)) new [] →
-    HandsRows old (bot ∷ connect_key (option_map (λ socket. record { key = socket.key; known = socket.readiness }) server)) new
-    (bot ∷ [])
-connect_dropped old new bot server h = record {
-  hands = λ held key.
-      let same : (n : ℕ) → occurrences_of n (connect_key (option_map (λ socket. record { key = socket.key; known = socket.readiness }) server))
-      ≡ occurrences_of n (key_in (option_map (λ socket. socket.key) server)) = λ n. ap (λ (l : List ℕ). occurrences_of n l) (connect_keys_are server) in
-      let first = h.hands (λ (n : ℕ). omega (arith, held n, same n)) in
-      omega (arith, first key, same key);
-}
-
 -- ---- polls and waits
 
 pub polls_keep : {N C : Type 0} (transition : N → NetworkCall C → N → Type 0) (time : Option Duration) (old : N) (before : Table)
@@ -289,25 +236,6 @@ framed old new given left rest more all before after h = record {
       let first = h.hands (λ (n : ℕ). omega (arith, held n, before n)) in
       omega (arith, first key, before key, after key);
 }
-
--- none changes hands beside others
-pub beside_none : (old new : Table) (others : List ℕ) → HandsRows old [] new [] → HandsRows old others new others
-beside_none old new others h = framed old new [] [] others others others (λ n. omega arith) (λ n. omega arith) h
-
--- a connect begins, or none does
-pub connect_begun : {S : Type 0} (old new : Table) (was bot : ℕ) (begun : Option ℕ) (server : Option (Socket S)) → bot ≡ was →
-    option_map (λ socket. socket.key) server ≡ begun → HandsRows old [] new (key_in begun) →
-    HandsRows old (was ∷ []) new
-    (bot ∷ connect_key (option_map (λ socket. record { key = socket.key; known = socket.readiness }) server))
-connect_begun old new was bot begun server e f h =
-    let keys = connect_keys_are server ∙ ap (λ (key : Option ℕ). key_in key) f in
-    framed old new [] (key_in begun) (was ∷ []) (was ∷ [])
-    (bot ∷ connect_key (option_map (λ socket. record { key = socket.key; known = socket.readiness }) server))
-    (λ n. omega arith)
-    (λ n. let same : occurrences_of n (connect_key (option_map (λ socket. record { key = socket.key; known = socket.readiness }) server))
-    ≡ occurrences_of n (key_in begun) = ap (λ (l : List ℕ). occurrences_of n l) keys in
-    let own : is_key bot n ≡ is_key was n = ap (λ (k : ℕ). is_key k n) e in
-    omega (arith, same, own)) h
 
 -- a pending connect keeps its row
 pub same_arrival : {S : Type 0} (old new : Table) (was is : Arriving S) → KeepsRows old new → is.bot_key ≡ was.bot_key →

@@ -1,25 +1,16 @@
 -- Walks along the rows of a table, and along the events of a poll.
-use Rattle.std.proofs.Common.{◌≡◌, ℕ, zero, suc, ◌+◌, ◌<◌, ◌≤◌, Bool, true, false, List, [], ◌∷◌, ◌++◌, length, drop, get_or}
-use Rattle.std.proofs.Common.{refl, ap, sym, ◌∙◌, subst, arith, ◌==◌, ◌≢◌}
+use Rattle.std.proofs.Common.{◌≡◌, ℕ, zero, suc, ◌+◌, ◌<◌, ◌≤◌, Bool, true, false, List, [], ◌∷◌, ◌++◌, length}
+use Rattle.std.proofs.Common.{refl, ap, sym, ◌∙◌, subst, arith, ◌==◌}
 use Rattle.std.proofs.lemmas.Bool.{eqb-true, eqb-false}
 use Rattle.std.specs.Prelude.{slice_set, if◌then◌else◌}
-use Rattle.std.proofs.Math.Seq.{drop-cons}
 use Rattle.std.specs.Prelude.{◌||◌}
 use Rattle.daide_buffered_io.specs.declared.readiness.Readiness.{Readiness}
-use Rattle.daide_io.specs.declared.network.SocketEvent.{SocketEvent}
 use Rattle.daide_sockets.specs.Table.{Row}
-use Rattle.daide_sockets.specs.Table.{with_events, with_event}
 use Rattle.daide_sockets.specs.Table.{Table, taken_row, row_at, first_free, with_taken, changed, no_report, report_at, TakesRow}
 use Rattle.daide_sockets.specs.Table.{AreReportsWithin, has_report, is_reported_at, merged, without_report}
 
 true_not_false : true ≡ false → ⊥
 true_not_false h = absurd (cc)
-
-pub next_noted : (rows : List Row) (news : List SocketEvent) (i : ℕ) (event : SocketEvent) → i < length news →
-    event ≡ get_or news i event → with_events rows (drop i news) ≡ with_events (with_event rows event) (drop (suc i) news)
-next_noted rows news i event lt is =
-    ap (λ (l : List SocketEvent). with_events rows l) (drop-cons news i event lt)
-    ∙ ap (λ (e : SocketEvent). with_events (with_event rows e) (drop (suc i) news)) (sym is)
 
 -- ---- the first free row
 
@@ -179,41 +170,6 @@ within_changed rows at row first after new_first new_after within others own = �
         let far : key ≡ at → ⊥ = λ same. differ same in
         let was = within key (subst (λ (r : Row). has_report r.report ≡ true) (changed_elsewhere rows at row key far) some) in
         others key far was.0 was.1
-
--- a row behind the others
-pub within_behind : (rows : List Row) (row : Row) (first after : ℕ) → has_report row.report ≡ false →
-    AreReportsWithin first after rows → AreReportsWithin first after (rows ++ row ∷ [])
-within_behind rows row first after none within = λ key some. within key (by rows key some)
-  where
-    by : (rows : List Row) (key : ℕ) → has_report (row_at (rows ++ row ∷ []) key).report ≡ true →
-        has_report (row_at rows key).report ≡ true
-    by [] zero some = absurd (true_not_false (sym some ∙ none))
-    by [] (suc key) some = some
-    by (other ∷ rows) zero some = some
-    by (other ∷ rows) (suc key) some = by rows key some
-
--- the first row has no report
-pub within_later : (rows : List Row) (first after : ℕ) → has_report (row_at rows first).report ≡ false →
-    AreReportsWithin first after rows → AreReportsWithin (first + 1) after rows
-within_later rows first after none within = λ key some. by key some (key == first) refl
-  where
-    by : (key : ℕ) → has_report (row_at rows key).report ≡ true → (here : Bool) → (key == first) ≡ here →
-        (first + 1 ≤ key) × (key < after)
-    by key some true e = absurd (true_not_false (sym some
-        ∙ (ap (λ (k : ℕ). has_report (row_at rows k).report) (eqb-true key first e) ∙ none)))
-    by key some false e =
-        let was = within key some in
-        let differ : key ≢ first = eqb-false key first e in
-        (omega (arith, was, differ), was.1)
-
--- no row outside the bounds has a report
-pub none_outside : (rows : List Row) (first after key : ℕ) → AreReportsWithin first after rows →
-    ((first ≤ key) × (key < after) → ⊥) → has_report (row_at rows key).report ≡ false
-none_outside rows first after key within outside = by (has_report (row_at rows key).report) refl
-  where
-    by : (some : Bool) → has_report (row_at rows key).report ≡ some → some ≡ false
-    by true e = absurd (outside (within key e))
-    by false e = refl
 
 -- a row without its report has none
 pub cleared : {A : Type 0} {report : Readiness} → has_report report ≡ true → report ≡ no_report → A

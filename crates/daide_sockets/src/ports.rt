@@ -405,16 +405,6 @@ impl<'w, S: Drop> SocketPorts<'w, S> {
 }
 
 impl<S: Duplex + Drop> SocketPorts<'_, S> {
-    /// Adds reports to the readiness of the bot's socket and of the server's.
-    pub fn note_reports(&mut self, bot: Readiness, server: Readiness)
-        ensures bot { self.new.bot ≡ record self.old.bot { readiness = merged self.old.bot.readiness bot } }
-        ensures server { self.new.server ≡ record self.old.server { readiness = merged self.old.server.readiness server } }
-        ensures rest { self.new ≡ record self.old { bot = self.new.bot; server = self.new.server } }
-    {
-        self.bot.note_report(bot);
-        self.server.note_report(server);
-    }
-
     /// Takes the reports of both rows.
     fn take_reports(&mut self, table: &mut SocketTable)
         ensures bot { self.new.bot ≡ record self.old.bot {

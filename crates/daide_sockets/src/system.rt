@@ -235,13 +235,6 @@ impl<'w, N: Network, E: Write + Drop> Sockets<'w, N, E> {
         self.present.address_of(number)
     }
 
-    /// Returns the table.
-    pub fn table(&self) -> &SocketTable
-        ensures { result.now ≡ self.now.poller.table }
-    {
-        &self.poller.table
-    }
-
     /// Sets whether the beginning and the end of each session are logged, and the capacity of the run.
     pub fn set_verbose(&mut self, is_verbose: bool)
         ensures { self.new ≡ record self.old { is_verbose = is_verbose } }

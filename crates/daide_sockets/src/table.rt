@@ -340,11 +340,6 @@ impl SocketTable {
         is_past(self.reading, moment)
     }
 
-    /// Returns the number of rows that a socket has.
-    pub fn taken_rows(&self) -> usize {
-        self.rows.iter().filter(|row| row.is_taken).count()
-    }
-
     /// Takes the first free row, for a socket of which nothing is known, and returns its key, by which a poll names it.
     /// Returns `None` if there is none (`full`).
     pub fn take_row(&mut self) -> Option<usize>

@@ -5,7 +5,7 @@
 //! and sent in pieces. The other streams accept each write whole, and their writes are counted.
 
 use crate::frames::{FM, IM, ITS_PRN, OBS, RM, UNCLOSED};
-use crate::wires::{READY, table};
+use crate::wires::{READY, StillPoller, poller_of_two, report_all};
 use daide_buffered_io::pool::Pool;
 use daide_driver::relaying::{RelayEnd, relay};
 use daide_io::duplex::Duplex;
@@ -13,7 +13,6 @@ use daide_protocol::config::Config;
 use daide_session::session::Session;
 use daide_sockets::ports::SocketPorts;
 use daide_sockets::socket::Socket;
-use daide_sockets::table::SocketTable;
 use daide_test_support::rows::same;
 use std::alloc::{Allocator, Global};
 use std::io;
@@ -154,11 +153,11 @@ struct Talk {
 fn relay_to_the_end<A: Allocator>(
     session: &mut Session<A>,
     ports: &mut SocketPorts<'_, Line>,
-    table: &mut SocketTable,
+    poller: &mut StillPoller,
 ) -> bool {
     for _ in 0..MOST_TURNS {
-        ports.note_reports(READY, READY);
-        ports.begin_turn(table);
+        report_all(poller);
+        ports.begin_turn(&mut poller.table);
         if relay(session, ports, 1) == RelayEnd::Closed {
             return true;
         }
@@ -210,21 +209,21 @@ fn have_taken(ports: SocketPorts<'_, Line>, to_bot: &[&[u8]], to_server: &[&[u8]
 fn is_talked(
     session: &mut Session,
     ports: SocketPorts<'_, Line>,
-    table: &mut SocketTable,
+    poller: &mut StillPoller,
     talk: &Talk,
 ) -> (bool, (bool, bool)) {
     let mut ports = ports;
-    let is_closed = relay_to_the_end(session, &mut ports, table);
+    let is_closed = relay_to_the_end(session, &mut ports, poller);
     (is_closed, have_taken(ports, talk.to_bot, talk.to_server))
 }
 
 /// Checks a session between the two ends of a conversation until it is closed.
 fn talks(rt: &HostRuntime, talk: &Talk) -> Result<(), Fail> {
     let pool = Pool::new(rt.alloc());
-    let mut table = table(rt)?;
+    let mut poller = poller_of_two(rt)?;
     let mut session = Session::new(rt.alloc(), CONFIG)?;
     let ports = ports_of(rt.alloc(), &pool, talk);
-    let told = is_talked(&mut session, ports, &mut table, talk);
+    let told = is_talked(&mut session, ports, &mut poller, talk);
     same(
         &told,
         &(true, (true, true)),

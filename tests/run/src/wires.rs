@@ -103,7 +103,7 @@ pub fn row_of(table: &mut SocketTable) -> Result<usize, Fail> {
 }
 
 /// Creates a table for three sockets.
-pub fn table(rt: &HostRuntime) -> Result<SocketTable, Fail> {
+fn table(rt: &HostRuntime) -> Result<SocketTable, Fail> {
     Ok(SocketTable::new(rt.alloc(), 3)?)
 }
 
@@ -232,6 +232,7 @@ const WRITTEN: &[Written] = &[
         &[
             Puts(Side::Server, 16_000),
             Idles(Side::Bot),
+            Turns(1),
             Puts(Side::Server, 500),
         ],
         (0, 16_000),
@@ -270,6 +271,7 @@ const WRITTEN: &[Written] = &[
         &[
             Puts(Side::Server, 3),
             Puts(Side::Server, 17_000),
+            Turns(1),
             Puts(Side::Server, 17_000),
         ],
         (0, 32_768),
@@ -278,53 +280,61 @@ const WRITTEN: &[Written] = &[
 
 const BYTES: &[u8] = &[7; 17_000];
 
-/// Makes a call of the ports, and returns whether its result is right: no failure of a put, and an idle pull.
-fn does(ports: &mut WirePorts<'_>, table: &mut SocketTable, step: Step) -> bool {
+/// Makes a call of the ports, and returns whether its result is right: no failure of a put, and an idle pull. Before
+/// turns a poll reports both streams as ready.
+fn does(ports: &mut WirePorts<'_>, poller: &mut StillPoller, step: Step) -> bool {
     match step {
         Puts(side, count) => ports.put(side, &BYTES[..count.min(BYTES.len())]) != Put::Failed,
         Idles(side) => ports.pull(side, &mut [0; 8]) == Pull::Idle,
         Turns(count) => {
+            report_all(poller);
             for _ in 0..count {
-                ports.begin_turn(table);
+                ports.begin_turn(&mut poller.table);
             }
             true
         }
     }
 }
 
-/// Makes the calls of a row, with both streams ready before each, and returns whether all results are right.
-fn does_all(ports: &mut WirePorts<'_>, table: &mut SocketTable, steps: &[Step]) -> bool {
+/// Makes the calls of a row, and returns whether all results are right.
+fn does_all(ports: &mut WirePorts<'_>, poller: &mut StillPoller, steps: &[Step]) -> bool {
     let mut are_right = true;
     for step in steps.iter() {
-        ports.note_reports(READY, READY);
-        are_right &= does(ports, table, *step);
+        are_right &= does(ports, poller, *step);
     }
     are_right
 }
 
+/// Returns a socket over a stream whose writes accept these numbers of bytes, ready and with this key.
+fn ready_socket<'w>(pool: &'w Pool, takes: &'static [usize], key: usize) -> Socket<'w, Wire> {
+    let mut socket = Socket::over(pool, Wire::new(takes, 0), key);
+    socket.note_report(READY);
+    socket
+}
+
 /// Returns the bytes that the streams of a row accepted, if all results are right.
-fn took_of(pool: &Pool, table: &mut SocketTable, written: &Written) -> Option<(usize, usize)> {
+fn took_of(pool: &Pool, poller: &mut StillPoller, written: &Written) -> Option<(usize, usize)> {
     let (bot_takes, server_takes, steps, _) = *written;
-    let bot = Socket::over(pool, Wire::new(bot_takes, 0), 0);
-    let server = Socket::over(pool, Wire::new(server_takes, 0), 1);
+    let bot = ready_socket(pool, bot_takes, 0);
+    let server = ready_socket(pool, server_takes, 1);
     let mut ports = SocketPorts::new(bot, server);
-    let are_right = does_all(&mut ports, table, steps);
+    let are_right = does_all(&mut ports, poller, steps);
     let (bot, server) = ports.into_sockets();
     let took = (bot.connection().took, server.connection().took);
     if are_right { Some(took) } else { None }
 }
 
-/// Checks each row, with this table.
-fn are_written(pool: &Pool, table: &mut SocketTable) -> Result<(), Fail> {
+/// Checks each row, with this poller.
+fn are_written(pool: &Pool, poller: &mut StillPoller) -> Result<(), Fail> {
     for (row, written) in WRITTEN.iter().enumerate() {
-        same(&took_of(pool, table, written), &Some(written.3), &row)?;
+        same(&took_of(pool, poller, written), &Some(written.3), &row)?;
     }
     Ok(())
 }
 
 #[test]
 fn bytes_are_held_and_written_by_rows(rt: HostRuntime) -> Result<(), Fail> {
-    are_written(&Pool::new(rt.alloc()), &mut table(&rt)?)
+    are_written(&Pool::new(rt.alloc()), &mut poller_of_two(&rt)?)
 }
 
 /// A call of one socket: a put, a flush or a pull.
@@ -516,6 +526,20 @@ pub fn still_poller(rt: &HostRuntime) -> Result<StillPoller, Fail> {
         timeout: None,
     };
     Ok(Poller::new(rt.alloc(), network, table(rt)?)?)
+}
+
+/// Returns such a poller, with rows for two sockets, whose keys are 0 and 1.
+pub fn poller_of_two(rt: &HostRuntime) -> Result<StillPoller, Fail> {
+    let mut poller = still_poller(rt)?;
+    row_of(&mut poller.table)?;
+    row_of(&mut poller.table)?;
+    Ok(poller)
+}
+
+/// Polls, and reports every socket as ready.
+pub fn report_all(poller: &mut StillPoller) {
+    poller.network.ready = [true; 3];
+    poller.wait();
 }
 
 /// The milliseconds that pass between two reads of the clock.

@@ -420,7 +420,7 @@ impl Write for Lines<'_> {
 /// The sockets of a run, observed.
 #[derive(Drop)]
 pub struct ObservedSockets<'w, 'n> {
-    pub sockets: Sockets<'w, MemoryNetwork<'n>, Lines<'n>>,
+    sockets: Sockets<'w, MemoryNetwork<'n>, Lines<'n>>,
     world: &'n World,
     alloc: Global,
     config: Config,

@@ -110,11 +110,6 @@ impl Operator {
         true
     }
 
-    /// Returns the number of rows that the operator's listener and client have.
-    pub fn rows(&self) -> usize {
-        usize::from(self.listener.is_some()).saturating_add(usize::from(self.client.is_some()))
-    }
-
     /// Returns the time at which a client comes; the greatest number for never, and while one is there.
     pub fn next_time(&self) -> u64 {
         if self.listener.is_none() || self.waiting.is_some() || self.client.is_some() {

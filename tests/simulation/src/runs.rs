@@ -84,17 +84,17 @@ fn end_of(served: Result<(), ServeFault>) -> RunEnd {
 }
 
 /// Makes a run over this network, with these rows. The places and bodies of its sessions are on a heap of this size, if
-/// one is named. Returns how it ended, and how many rows are taken then, without those of the operator.
+/// one is named. Returns how it ended.
 fn run_on(
     alloc: Global,
     settings: &Settings,
     ground: (MemoryNetwork<'_>, &[SocketAddr], SocketTable, &Pool),
     heap: Option<&LocalHeap>,
-) -> (RunEnd, usize) {
+) -> RunEnd {
     let world = ground.0.world;
     let lines = Lines::new(alloc, world);
     let Some(mut sockets) = sockets_on(alloc, settings, ground, lines) else {
-        return (RunEnd::GivenUp, 0);
+        return RunEnd::GivenUp;
     };
     sockets.set_verbose(true);
     let mut system = ObservedSockets::new(alloc, settings, world, sockets);
@@ -103,16 +103,11 @@ fn run_on(
         None => serve(alloc, settings, &mut system),
     };
     system.finish();
-    let operators = match world.state.try_borrow_mut() {
-        Ok(state) => state.operator.rows(),
-        Err(_) => 0,
-    };
-    let taken = system.sockets.table().taken_rows();
-    (end_of(served), taken.saturating_sub(operators))
+    end_of(served)
 }
 
-/// Notes what is left of a run: wires, rows, or a session that was dropped before its end.
-fn check_rest(state: &mut State, end: RunEnd, taken_rows: usize) {
+/// Notes what is left of a run: wires, or a session that was dropped before its end.
+fn check_rest(state: &mut State, end: RunEnd) {
     state.is_over = false;
     if state.fault.is_some() {
         return;
@@ -126,11 +121,6 @@ fn check_rest(state: &mut State, end: RunEnd, taken_rows: usize) {
     }
     if state.has_dropped && !is_refused {
         state.fail("a wire was dropped although no memory was refused", 0);
-    }
-    // The listener has a row until it is closed.
-    let listeners = usize::from(state.listener.is_some());
-    if end == RunEnd::Served && taken_rows != listeners {
-        state.fail("a row is left behind the run", 0);
     }
 }
 
@@ -160,10 +150,10 @@ fn run(alloc: Global, seed: u64, limit: u64) -> io::Result<(u64, Tally, Option<F
     let count = if random.one_in(2) { 1 } else { 2 };
     let network = MemoryNetwork { world: &world };
     let ground = (network, &servers[..count], table, &pool);
-    let (end, taken_rows) = run_on(alloc, &settings, ground, heap.as_ref());
+    let end = run_on(alloc, &settings, ground, heap.as_ref());
     let World { state } = world;
     let mut state = state.into_inner();
-    check_rest(&mut state, end, taken_rows);
+    check_rest(&mut state, end);
     Ok((state.polls, state.tally, state.fault))
 }
 
