@@ -25,15 +25,6 @@ pub is_not : (b : Bool) → not b ≡ true → b ≡ false
 is_not false h = refl
 is_not true h = absurd (cc)
 
-or_false : (b : Bool) → (b || false) ≡ b
-or_false true = refl
-or_false false = refl
-
-module _ {X : Type 0} where
-  abbrev value_or : X → Option X → X
-  value_or x None = x
-  value_or x (Some y) = y
-
 below_it : (k i : ℕ) → k < i + 1 → (k ≡ i → ⊥) → k < i
 below_it k i few far = by (k == i) refl
   where

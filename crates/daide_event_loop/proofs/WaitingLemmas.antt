@@ -13,8 +13,8 @@ use Rattle.daide_protocol.specs.Wires.{SessionView, is_closed}
 use Rattle.daide_io.specs.Ports.{PortCall, TurnBegins, events_of}
 use Rattle.daide_io.specs.declared.system.Connect.{Connect}
 use Rattle.daide_io.specs.declared.system.Connect.TheVariants.{Ready, Failed, Pending}
-use Rattle.daide_io.specs.System.{SystemCall, Begins, Shows, ReportsNews, BeginsTurn, Watches, Accepts, Connects}
-use Rattle.daide_io.specs.System.{Retires, Notifies, Waits}
+use Rattle.daide_io.specs.System.{SystemCall, ReportsNews, BeginsTurn, Watches, Accepts, Connects}
+use Rattle.daide_io.specs.System.{Retires, Waits}
 use Rattle.daide_driver.specs.Hub.{HubView}
 use Rattle.daide_settings.specs.declared.settings.Settings.{Settings}
 use Rattle.daide_event_loop.specs.declared.admission_counters.AdmissionCounters.{AdmissionCounters}
@@ -241,16 +241,8 @@ module _ {P : Type 0} (port_transition : P → PortCall → P → Type 0) where
 
 module _ {P : Type 0} where
   abbrev waits : SystemCall P → ℕ
-  waits (Begins orders) = 0
-  waits (Shows ports status) = 0
-  waits (ReportsNews ports news) = 0
-  waits (BeginsTurn before after) = 0
-  waits (Watches ports) = 0
-  waits (Accepts came) = 0
-  waits (Connects connect) = 0
-  waits (Retires ports end) = 0
-  waits (Notifies notice) = 0
   waits Waits = 1
+  waits _ = 0
 
   admission_waits : (may : Bool) (old : AdmissionCounters) (answers : List (SystemCall P)) (new : AdmissionCounters) →
       AdmitsWhere may old answers new → sum_over_calls waits answers ≡ 0

@@ -13,7 +13,7 @@ use Rattle.daide_driver.specs.Headline.{untouched, IsBoundedAndExact}
 use Rattle.daide_driver.specs.Totals.{HasTotals}
 use Rattle.daide_driver.specs.Hub.{IsBegun, IsTurned}
 use Rattle.daide_settings.specs.declared.settings.Settings.{Settings}
-use Rattle.daide_io.specs.declared.system.Connect.TheVariants.{Ready, Failed, Pending}
+use Rattle.daide_io.specs.declared.system.Connect.TheVariants.{Ready, Failed}
 use Rattle.daide_io.specs.declared.system.Orders.{Orders}
 use Rattle.daide_io.specs.declared.system.Cause.{Cause}
 use Rattle.daide_io.specs.declared.system.Cause.TheVariants as Causes
@@ -90,57 +90,20 @@ RetiresClosed transition settings answers Waits = Unit {0}
 -- the number of ports that a call delivered, and the number that it retired
 abbrev pub connects : {P : Type 0} → SystemCall P → ℕ
 connects (Connects (Ready ports)) = 1
-connects (Connects Failed) = 0
-connects (Connects Pending) = 0
-connects (Begins orders) = 0
-connects (Shows ports status) = 0
-connects (ReportsNews ports news) = 0
-connects (BeginsTurn before after) = 0
-connects (Watches ports) = 0
-connects (Accepts came) = 0
-connects (Retires ports end) = 0
-connects (Notifies notice) = 0
-connects Waits = 0
+connects _ = 0
 
 abbrev pub retires : {P : Type 0} → SystemCall P → ℕ
 retires (Retires ports end) = 1
-retires (Begins orders) = 0
-retires (Shows ports status) = 0
-retires (ReportsNews ports news) = 0
-retires (BeginsTurn before after) = 0
-retires (Watches ports) = 0
-retires (Accepts came) = 0
-retires (Connects connect) = 0
-retires (Notifies notice) = 0
-retires Waits = 0
+retires _ = 0
 
 -- the number of bots that a call accepted, and the number whose server could not be reached
 abbrev pub comes : {P : Type 0} → SystemCall P → ℕ
 comes (Accepts true) = 1
-comes (Accepts false) = 0
-comes (Begins orders) = 0
-comes (Shows ports status) = 0
-comes (ReportsNews ports news) = 0
-comes (BeginsTurn before after) = 0
-comes (Watches ports) = 0
-comes (Connects connect) = 0
-comes (Retires ports end) = 0
-comes (Notifies notice) = 0
-comes Waits = 0
+comes _ = 0
 
 abbrev pub unreached : {P : Type 0} → SystemCall P → ℕ
 unreached (Connects Failed) = 1
-unreached (Connects (Ready ports)) = 0
-unreached (Connects Pending) = 0
-unreached (Begins orders) = 0
-unreached (Shows ports status) = 0
-unreached (ReportsNews ports news) = 0
-unreached (BeginsTurn before after) = 0
-unreached (Watches ports) = 0
-unreached (Accepts came) = 0
-unreached (Retires ports end) = 0
-unreached (Notifies notice) = 0
-unreached Waits = 0
+unreached _ = 0
 
 abbrev pub sum_over_calls : {P : Type 0} → (SystemCall P → ℕ) → List (SystemCall P) → ℕ
 sum_over_calls count [] = 0
@@ -151,40 +114,16 @@ sum_over_calls count (answer ∷ answers) = count answer + sum_over_calls count 
 -- 1 if the call accepts a bot or finds none; 1 if it shows the status of a session
 abbrev pub accept_calls : {P : Type 0} → SystemCall P → ℕ
 accept_calls (Accepts came) = 1
-accept_calls (Begins orders) = 0
-accept_calls (Shows ports status) = 0
-accept_calls (ReportsNews ports news) = 0
-accept_calls (BeginsTurn before after) = 0
-accept_calls (Watches ports) = 0
-accept_calls (Connects connect) = 0
-accept_calls (Retires ports end) = 0
-accept_calls (Notifies notice) = 0
-accept_calls Waits = 0
+accept_calls _ = 0
 
 abbrev pub show_calls : {P : Type 0} → SystemCall P → ℕ
 show_calls (Shows ports status) = 1
-show_calls (Begins orders) = 0
-show_calls (ReportsNews ports news) = 0
-show_calls (BeginsTurn before after) = 0
-show_calls (Watches ports) = 0
-show_calls (Accepts came) = 0
-show_calls (Connects connect) = 0
-show_calls (Retires ports end) = 0
-show_calls (Notifies notice) = 0
-show_calls Waits = 0
+show_calls _ = 0
 
 -- 1 if the call returns orders with this property
 abbrev pub orders_with : {P : Type 0} → (Orders → Bool) → SystemCall P → ℕ
 orders_with Has (Begins orders) = if Has orders then 1 else 0
-orders_with Has (Shows ports status) = 0
-orders_with Has (ReportsNews ports news) = 0
-orders_with Has (BeginsTurn before after) = 0
-orders_with Has (Watches ports) = 0
-orders_with Has (Accepts came) = 0
-orders_with Has (Connects connect) = 0
-orders_with Has (Retires ports end) = 0
-orders_with Has (Notifies notice) = 0
-orders_with Has Waits = 0
+orders_with Has _ = 0
 
 -- how many orders to stop accepting, and to show the sessions, there were in a trace
 abbrev pub stop_orders : {P : Type 0} → List (SystemCall P) → ℕ
