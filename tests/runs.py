@@ -215,7 +215,7 @@ def words_of_a_frame_are_joined(program):
                 (["show", "--", "02000002480F"], "DM 2/OBS/relay/", "", 0),
                 (["frame", "NME ('a')", "('b')"], "02 00 00 0E 48 0C 40 00 4B 61 40 01 40 00 4B 62 40 01/", "", 0),
                 (["frame", "NME ('a", "b') ('')"], "02 00 00 10 48 0C 40 00 4B 61 4B 20 4B 62 40 01 40 00 40 01/", "", 0),
-                (["frame", "GOF", "NME ('a", "OBS"], "", "line 1: not a message: 10", 1),
+                (["frame", "GOF", "NME ('a", "OBS"], "", "line 1: not a message: 10/column 10: the quote is not closed", 1),
                 (["frame", ""], "02 00 00 00/", "", 0))
         for words, printed, told, status in runs:
             check_ran(folder.run(words), (printed, told, str(status)), str(words))

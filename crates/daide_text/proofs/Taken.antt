@@ -81,17 +81,6 @@ module _ (added : List Named) where
 
   -- the result for a line whose front was parsed
 
-  read_after_none : (outcome : Result (List ℕ) ℕ) → read_on 0 (Some []) outcome ≡ outcome
-  read_after_none (Ok ts) = refl
-  read_after_none (Err column) = refl
-
-  pub nothing_read : (line : List ℕ) → IsReadUpTo added line line []
-  nothing_read line = record {
-    front = [];
-    whole = refl;
-    goes_on = λ outcome h. subst (IsReadAs added line) (sym (read_after_none outcome)) h;
-  }
-
   read_both : (ts us : List ℕ) (column : ℕ) (outcome : Result (List ℕ) ℕ) →
       read_on 0 (Some ts) (read_on column (Some us) outcome) ≡ read_on 0 (Some (ts ++ us)) outcome
   read_both ts us column (Ok vs) = ap Ok (sym (append_assoc ts us vs))

@@ -4,9 +4,9 @@ use Rattle.std.proofs.Common.{append-nil, Option, Some, None, Result, Ok, Err, I
 use Rattle.std.specs.Result.{IsErrAnd}
 use Rattle.std.specs.Io.KnownBytes.{Appends}
 use Rattle.daide_token.specs.Names.{Named}
-use Rattle.daide_text.specs.Frames.{AreFrameLines, AreLinesOf, IsFaultOfNext, IsFrameLine, Writes, WritesUpTo, text_lines}
+use Rattle.daide_text.specs.Frames.{AreFrameLines, AreLinesOf, IsFaultOfNext, IsFrameLine, WritesUpTo, text_lines}
 use Rattle.daide_text.specs.Frames.{most_text_lines}
-use Rattle.daide_text.specs.Lines.{AreWritten, IsInputFault, IsLineFrom, IsNoLine, LeaveLines, LeavesLines}
+use Rattle.daide_text.specs.Lines.{AreWritten, IsInputFault, IsLineFrom, LeaveLines, LeavesLines}
 use Rattle.daide_text.specs.declared.frames.TextFault.{TextFault}
 use Rattle.daide_text.specs.declared.frames.TextFault.TheVariants as fault
 
@@ -35,13 +35,6 @@ known_next (Some input) None new lines line h next = absurd h
 known_next (Some input) (Some rest) None lines line h next = absurd next
 known_next (Some input) (Some rest) (Some others) lines line h next =
     h ∙ ap (λ (l : List (List ℕ)). lines ++ l) next
-
-known_all : (old now : Option (List ℕ)) (lines : List (List ℕ)) → LeaveLines old now lines → IsNoLine now →
-    AreLinesOf old lines
-known_all None now lines h none = tt
-known_all (Some input) None lines h none = absurd h
-known_all (Some input) (Some rest) lines h none =
-    h ∙ ap (λ (l : List (List ℕ)). lines ++ l) none ∙ append-nil lines
 
 known_given : (old now : Option (List ℕ)) (lines next : List (List ℕ)) → LeaveLines old now lines →
     AreLinesOf now next → AreLinesOf old (lines ++ next)
@@ -81,7 +74,7 @@ module _ (added : List Named) where
     pub fault_of_input : (given : TextFault) → IsInputFault now (count + 1) given → WritesUpTo added input old new given
     fault_of_input fault.Read h =
         (so.lines, lines_left now, known_lines input now so.lines so.read, tt, so.text, so.framed, λ _. so.written)
-    fault_of_input (fault.NotMessage number column) h = absurd h
+    fault_of_input (fault.NotMessage number column reason) h = absurd h
     fault_of_input (fault.TooLong number) h = (
       so.lines,
       h.1.0 ∷ h.1.1,
@@ -95,9 +88,6 @@ module _ (added : List Named) where
     fault_of_input fault.Memory h =
         (so.lines, lines_left now, known_lines input now so.lines so.read, tt, so.text, so.framed, λ _. so.written)
     fault_of_input fault.Write h = absurd h
-
-    pub all_written : IsNoLine now → Writes added input old new
-    all_written none = (so.lines, known_all input now so.lines so.read none, so.text, so.framed, so.written)
 
     -- after the next line
     module _ (rest : Option (List ℕ)) (line : List ℕ) (next : IsLineFrom now rest line) where

@@ -83,11 +83,11 @@ OfNext P [] = ⊥
 OfNext P (line ∷ lines) = P line
 
 -- A fault of the next lines, after `count` lines that are messages: the number of the line at fault, counted from 1,
--- and the column of the text that is not an item. A refused read or allocation states nothing about the lines. A write
+-- and the column of the text that is not an item; any reason. A refused read or allocation states nothing about the lines. A write
 -- fails only if there is a frame to write.
 abbrev pub IsFaultOfNext : List Named → ℕ → List (List ℕ) → TextFault → Type 0
 IsFaultOfNext added count next Read = ⊤
-IsFaultOfNext added count next (NotMessage number column) =
+IsFaultOfNext added count next (NotMessage number column reason) =
     (number ≡ count + 1)
     × OfNext (λ line. (length line ≤ longest_text_line) × IsReadAs added (trimmed line) (Err column)) next
 IsFaultOfNext added count next (TooLong number) = (number ≡ count + 1) × OfNext (IsTooLong added) next

@@ -29,7 +29,7 @@ IsLongLine known =
 -- a fault of the input, at a line of this number
 abbrev pub IsInputFault : Option (List ℕ) → ℕ → TextFault → Type 0
 IsInputFault known number Read = ⊤
-IsInputFault known number (NotMessage line column) = ⊥
+IsInputFault known number (NotMessage line column reason) = ⊥
 IsInputFault known number (TooLong line) = (line ≡ number) × IsLongLine known
 IsInputFault known number TooManyLines = ⊥
 IsInputFault known number Memory = ⊤

@@ -10,6 +10,7 @@ ghost use Rattle.daide_text.specs.Frames.{frame_line, longest_text_line, more_pa
 
 use crate::input::read_line;
 use crate::line::{LineFault, read_tokens};
+use crate::reason::{Reason, reason_at};
 use daide_token::{Token, digits_of_byte};
 use daide_words::Words;
 use std::alloc::{AllocError, Allocator};
@@ -31,9 +32,9 @@ pub enum TextFault {
     /// A read failed.
     #[error("input could not be read")]
     Read,
-    /// The text at this column of this line, counted from 1 in bytes, is not an item.
+    /// The text at this column of this line, counted from 1 in bytes, is not an item. The reason is for people.
     #[error("line {0}: not a message: {1}")]
-    NotMessage(u32, usize),
+    NotMessage(u32, usize, Reason),
     /// This line has more than 400,000 bytes, or more than 32,763 tokens.
     #[error("line {0}: too long")]
     TooLong(u32),
@@ -103,9 +104,12 @@ fn frame_text<A: Allocator + Copy>(
         → IsFaultOfNext (names_of (words_of words.now)) count (line.now ∷ more) fault) }
     ensures written { result ≡ Err TextFault.Write → ⊥ }
 {
-    let tokens = match read_tokens(alloc, words, trimmed(line)) {
+    let message = trimmed(line);
+    let tokens = match read_tokens(alloc, words, message) {
         Ok(tokens) => tokens,
-        Err(LineFault::NotItem(column)) => return Err(TextFault::NotMessage(number, column)),
+        Err(LineFault::NotItem(column)) => {
+            return Err(TextFault::NotMessage(number, column, reason_at(message, column)));
+        }
         Err(LineFault::Memory) => return Err(TextFault::Memory),
     };
     if tokens.len() > MOST_TOKENS {

@@ -7,7 +7,9 @@ mod law_facts;
 pub mod laws;
 mod line;
 mod pieces;
+mod reason;
 mod word;
 
 pub use frames::{TextFault, write_frames};
 pub use line::{LineFault, read_tokens};
+pub use reason::{Problem, Reason};

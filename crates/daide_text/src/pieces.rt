@@ -130,7 +130,7 @@ fn are_printable(characters: &[u8]) -> bool
 }
 
 /// Returns the length of the word at the start of the bytes.
-fn word_end(bytes: &[u8]) -> usize
+pub(crate) fn word_end(bytes: &[u8]) -> usize
     ensures within { result ≤ length bytes.now }
     ensures word { list_all is_in_word (take result bytes.now) ≡ true }
     ensures end { begins_in_word (drop result bytes.now) ≡ false }
@@ -150,7 +150,7 @@ fn is_in_word(byte: u8) -> bool
 }
 
 /// Returns the number of bytes before the first quote, if there is one.
-fn quote_end(bytes: &[u8]) -> Option<usize>
+pub(crate) fn quote_end(bytes: &[u8]) -> Option<usize>
     ensures { MatchOption result (list_all is_in_quote bytes.now ≡ true) (λ end. EndsQuote end bytes.now) }
 {
     for end in 0..bytes.len() {

@@ -17,14 +17,19 @@ use std::io;
 use std::io::{Read, Write};
 use std::rt::Files;
 
-/// Reports a fault of a message on standard error. Returns the status.
+/// Reports a fault of a message on standard error, and what is wrong with a text that is not an item. Returns the
+/// status. A failure to write the latter has no effect.
 fn end_frame<E: Write>(answer: Result<(), TextFault>, errors: &mut E) -> io::Result<u8>
     ensures { IfOk result (λ status. status ≡ frame_status answer) }
 {
-    match answer {
-        Ok(()) => Ok(CLEAN),
-        Err(fault) => tell(errors, fault, FAULT),
+    let Err(fault) = answer else {
+        return Ok(CLEAN);
+    };
+    let status = tell(errors, fault, FAULT)?;
+    if let TextFault::NotMessage(_, _, reason) = fault {
+        let _ = writeln!(errors, "daide-gate: {reason}");
     }
+    Ok(status)
 }
 
 /// Writes the frames of the messages in a reader, one a line.
