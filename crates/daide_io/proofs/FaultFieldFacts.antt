@@ -1,10 +1,8 @@
 -- The field that each fault is about, worked out by hand from the frame's bytes. Each value is another one, so that the
 -- field of another place is seen.
-use Rattle.std.proofs.Common.{◌≡◌, ℕ, true, false, List, [], ◌∷◌, Option, Some, None, refl}
-use Rattle.std.specs.Int.{from_be_bytes}
-use Rattle.daide_frame.specs.declared.side.Side.{Side}
+use Rattle.std.proofs.Common.{◌≡◌, ℕ, List, [], ◌∷◌, codes, Option, Some, None, refl}
+use Rattle.std.specs.Fmt.{char_count, digits, padded_integral}
 use Rattle.daide_frame.specs.declared.side.Side.TheVariants.{Bot, Server}
-use Rattle.daide_frame.specs.declared.code.Code.{Code}
 use Rattle.daide_frame.specs.declared.code.Code.TheVariants.{ImTimeout, ImNotFirst, WrongEndian, WrongMagic}
 use Rattle.daide_frame.specs.declared.code.Code.TheVariants.{WrongVersion, SecondIm, ImFromServer, UnknownMessage}
 use Rattle.daide_frame.specs.declared.code.Code.TheVariants.{WrongLength, DmBeforeRm, RmNotFirst, SecondRm}
@@ -15,10 +13,10 @@ use Rattle.daide_grammar.specs.declared.level.Level.TheVariants.{L60}
 use Rattle.daide_protocol.specs.declared.ending.Ending.{Ending}
 use Rattle.daide_protocol.specs.declared.ending.Ending.TheVariants.{Ended, Final, Fault}
 use Rattle.daide_protocol.specs.declared.phase.SessionPhase.TheVariants.{Over}
-use Rattle.daide_protocol.specs.Machine.{Limits, SessionState, initial_state, with_pending}
+use Rattle.daide_protocol.specs.Machine.{Limits, initial_state, with_pending}
 use Rattle.daide_io.specs.declared.fault_field.FaultField.{FaultField}
 use Rattle.daide_io.specs.declared.fault_field.FaultField.TheVariants.{Kind, Length, Version, MagicNumber, Token}
-use Rattle.daide_io.specs.FaultField.{fault_field_of}
+use Rattle.daide_io.specs.FaultField.{cause_text, fault_field_of}
 use Rattle.daide_io.specs.ByteCounts.{bytes_of}
 use Rattle.daide_io.specs.declared.ports.ClockEvent.TheVariants.{NoEvent}
 use Rattle.daide_io.specs.declared.ports.Pull.TheVariants as Pulls
@@ -76,6 +74,21 @@ no_field :
     × (field (Ended Bot) (0x02 ∷ 0x00 ∷ 0x00 ∷ 0x06 ∷ 0x48 ∷ 0x03 ∷ []) [] ≡ None)
     × (field (Final Server) (0x02 ∷ 0x00 ∷ 0x00 ∷ 0x06 ∷ []) [] ≡ None)
 no_field = (refl, refl, refl)
+
+-- each name with a field that it is about, and one without
+texts :
+    (cause_text InvalidToken (Some (Token 0x6000 6)) ≡ codes "invalid token 6000 at byte 6")
+    × (cause_text UnknownMessage (Some (Kind 7)) ≡ codes "unknown message, type 07 at byte 0")
+    × (cause_text UnknownMessage (Some (Length 0xFFFE)) ≡ codes "body above max_body, length FFFE at byte 2")
+    × (cause_text WrongEndian (Some (Length 0x0400)) ≡ codes "wrong byte order, length 0400 at byte 2")
+    × (cause_text WrongEndian (Some (MagicNumber 0x10DA)) ≡ codes "wrong byte order, magic number 10DA at byte 6")
+    × (cause_text WrongMagic (Some (MagicNumber 0x1234)) ≡ codes "wrong magic number 1234 at byte 6")
+    × (cause_text WrongVersion (Some (Version 2)) ≡ codes "wrong version 0002 at byte 4")
+    × (cause_text WrongLength (Some (Length 3)) ≡ codes "wrong length 0003 at byte 2")
+    × (cause_text DmBeforeRm (Some (Kind 2)) ≡ codes "DM before RM, type 02 at byte 0")
+    × (cause_text ImTimeout None ≡ codes "no IM in time")
+unfolding char_count digits padded_integral
+texts = (refl, refl, refl, refl, refl, refl, refl, refl, refl, refl)
 
 -- ---- bytes
 

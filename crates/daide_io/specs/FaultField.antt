@@ -1,13 +1,15 @@
 -- The field of a frame that a fault is about, by the bytes received. Its value and its place are what an operator and the
 -- author of a bot see. (own)
-use Rattle.std.specs.Prelude.{ℕ, ◌+◌, ◌-◌, ◌&&◌, Bool, false, not, nat_le, List, [], ◌∷◌, length, take, drop, slice_index}
-use Rattle.std.specs.Prelude.{Option, Some, None, is_some, if◌then◌else◌}
+use Rattle.std.specs.Prelude.{ℕ, ◌+◌, ◌-◌, ◌^◌, ◌&&◌, Bool, true, false, not, nat_le, List, [], ◌∷◌, ◌++◌, length, take, drop}
+use Rattle.std.specs.Prelude.{codes, slice_index, Option, Some, None, is_some, if◌then◌else◌}
+use Rattle.std.specs.Fmt.{decimal, digits, format_spec, padded_integral}
 use Rattle.std.specs.Int.{w16, from_be_bytes}
 use Rattle.daide_frame.specs.declared.code.Code.{Code}
 use Rattle.daide_frame.specs.declared.code.Code.TheVariants.{ImTimeout, ImNotFirst, WrongEndian, WrongMagic}
 use Rattle.daide_frame.specs.declared.code.Code.TheVariants.{WrongVersion, SecondIm, ImFromServer, UnknownMessage}
 use Rattle.daide_frame.specs.declared.code.Code.TheVariants.{WrongLength, DmBeforeRm, RmNotFirst, SecondRm}
 use Rattle.daide_frame.specs.declared.code.Code.TheVariants.{RmFromClient, InvalidToken}
+use Rattle.daide_frame.specs.Code.{code_name}
 use Rattle.daide_frame.specs.Head.{kind_of}
 use Rattle.daide_frame.specs.Frames.{head_in}
 use Rattle.daide_protocol.specs.declared.ending.Ending.{Ending}
@@ -90,6 +92,48 @@ place_of (Length value) = 2
 place_of (Version value) = 4
 place_of (MagicNumber value) = 6
 place_of (Token value place) = place
+
+-- ---- the text of a fault
+
+-- a number in upper-case hexadecimal digits, this many at least
+abbrev pub hex_text : ℕ → ℕ → List ℕ
+hex_text width value = padded_integral (format_spec 32 0 4 width (2 ^ 64 - 1)) false [] (digits 16 true value)
+
+abbrev pub value_text : FaultField → List ℕ
+value_text (Kind value) = hex_text 2 value
+value_text (Length value) = hex_text 4 value
+value_text (Version value) = hex_text 4 value
+value_text (MagicNumber value) = hex_text 4 value
+value_text (Token value place) = hex_text 4 value
+
+-- the value of a field, and its place: `6000 at byte 6`
+abbrev pub field_text : FaultField → List ℕ
+field_text field = value_text field ++ codes " at byte " ++ decimal (place_of field)
+
+abbrev pub label_of : FaultField → List ℕ
+label_of (Kind value) = codes ", type "
+label_of (Length value) = codes ", length "
+label_of (Version value) = codes ", version "
+label_of (MagicNumber value) = codes ", magic number "
+label_of (Token value place) = codes ", token "
+
+-- what is between the name of a fault and the value: the field, unless the name ends with it
+abbrev pub label_after : Code → FaultField → List ℕ
+label_after InvalidToken field = codes " "
+label_after WrongLength field = codes " "
+label_after WrongMagic field = codes " "
+label_after WrongVersion field = codes " "
+label_after code field = label_of field
+
+-- the name of a fault; a message of an unknown length is too long
+abbrev pub name_by_field : Code → FaultField → List ℕ
+name_by_field UnknownMessage (Length value) = codes "body above max_body"
+name_by_field code field = code_name code
+
+-- the name of a fault, and the field that it is about: `invalid token 6000 at byte 6`
+abbrev pub cause_text : Code → Option FaultField → List ℕ
+cause_text code None = code_name code
+cause_text code (Some field) = name_by_field code field ++ label_after code field ++ field_text field
 
 -- ---- the field of a session's fault
 

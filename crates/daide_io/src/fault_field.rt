@@ -4,11 +4,12 @@
 //! byte 0: type   bytes 2, 3: length   an IM: bytes 4, 5: version, 6, 7: magic number   a DM: from byte 4: tokens
 //! ```
 
-ghost use Rattle.std.specs.Prelude.{◌≡◌, ◌≤◌, length, is_some};
+ghost use Rattle.std.specs.Prelude.{◌≡◌, ◌≤◌, length, is_some, Some};
 ghost use Rattle.daide_frame.specs.Head.{kind_of};
 ghost use Rattle.daide_protocol.specs.Bounds.{longest_body};
 ghost use Rattle.daide_io.specs.FaultField.{fault_field, type_field, length_field, version_field, magic_field, token_field};
 ghost use Rattle.daide_io.specs.FaultField.{byte_order_field, unknown_field, two_bytes_at, has_known_type, place_of};
+ghost use Rattle.daide_io.specs.FaultField.{cause_text, field_text, label_after, name_by_field};
 
 use daide_frame::code::Code;
 use std::fmt;
@@ -173,6 +174,8 @@ impl FaultField {
 }
 
 impl fmt::Display for FaultField {
+    ghost output = { λ field. Some (field_text field) };
+
     /// Writes the value in hexadecimal digits, and the place, as `6000 at byte 6`.
     fn fmt<W: fmt::Write>(&self, f: &mut fmt::Formatter<W>) -> fmt::Result {
         let place = self.place();
@@ -183,5 +186,53 @@ impl fmt::Display for FaultField {
             | FaultField::MagicNumber(value)
             | FaultField::Token(value, _) => write!(f, "{value:04X} at byte {place}"),
         }
+    }
+}
+
+/// A fault with the field that it is about.
+#[derive(Clone, Copy)]
+pub struct FaultCause {
+    /// The code of the fault.
+    pub code: Code,
+    /// The field, if there is one.
+    pub field: Option<FaultField>,
+}
+
+/// Returns what comes between the name of a fault and the value of the field that it is about: the field, unless the
+/// name ends with it.
+fn label_after(code: Code, field: FaultField) -> &'static str
+    ensures { result.now ≡ label_after code field }
+{
+    match (code, field) {
+        (Code::InvalidToken | Code::WrongLength | Code::WrongMagic | Code::WrongVersion, _) => " ",
+        (_, FaultField::Kind(_)) => ", type ",
+        (_, FaultField::Length(_)) => ", length ",
+        (_, FaultField::Version(_)) => ", version ",
+        (_, FaultField::MagicNumber(_)) => ", magic number ",
+        (_, FaultField::Token(_, _)) => ", token ",
+    }
+}
+
+/// Returns the name of a fault that is about a field.
+fn name_by_field(code: Code, field: FaultField) -> &'static str
+    ensures { result.now ≡ name_by_field code field }
+{
+    match (code, field) {
+        (Code::UnknownMessage, FaultField::Length(_)) => "body above max_body",
+        _ => code.name(),
+    }
+}
+
+impl fmt::Display for FaultCause {
+    ghost output = { λ cause. Some (cause_text cause.code cause.field) };
+
+    /// Writes the name of the fault, and the field, as `invalid token 6000 at byte 6`.
+    fn fmt<W: fmt::Write>(&self, f: &mut fmt::Formatter<W>) -> fmt::Result {
+        let Some(field) = self.field else {
+            return f.write_str(self.code.name());
+        };
+        let name = name_by_field(self.code, field);
+        let label = label_after(self.code, field);
+        write!(f, "{name}{label}{field}")
     }
 }

@@ -19,7 +19,7 @@ pub mod system;
 
 pub use byte_counts::ByteCounts;
 pub use duplex::Duplex;
-pub use fault_field::FaultField;
+pub use fault_field::{FaultCause, FaultField};
 pub use interest::{GroupInterest, Interest};
 pub use network::{ConnectStatus, Network, SocketEvent};
 pub use outcome::IoResult;

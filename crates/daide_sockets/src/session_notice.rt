@@ -7,7 +7,7 @@ ghost use Rattle.daide_sockets.specs.Lines.{why_by, why_ended, milliseconds_betw
 use crate::timed::{Timed, timed_at};
 use daide_frame::code::Code;
 use daide_frame::side::Side;
-use daide_io::fault_field::FaultField;
+use daide_io::fault_field::{FaultCause, FaultField};
 use daide_io::system::{Cause, SessionEnd};
 use daide_protocol::account::Account;
 use daide_protocol::ending::Ending;
@@ -181,19 +181,6 @@ fn name_of(side: Side) -> &'static str {
     }
 }
 
-/// Returns what comes between the name of a fault and the value of the field that it is about: the field, unless the name
-/// ends with it.
-fn field_name(code: Code, field: FaultField) -> &'static str {
-    match (code, field) {
-        (Code::InvalidToken | Code::WrongLength | Code::WrongMagic | Code::WrongVersion, _) => " ",
-        (_, FaultField::Kind(_)) => ", type ",
-        (_, FaultField::Length(_)) => ", length ",
-        (_, FaultField::Version(_)) => ", version ",
-        (_, FaultField::MagicNumber(_)) => ", magic number ",
-        (_, FaultField::Token(_, _)) => ", token ",
-    }
-}
-
 /// Writes a side's fault, with the field that it is about.
 fn write_fault<W: fmt::Write>(
     f: &mut fmt::Formatter<W>,
@@ -201,12 +188,9 @@ fn write_fault<W: fmt::Write>(
     code: Code,
     field: Option<FaultField>,
 ) -> fmt::Result {
-    let (number, name) = (code.number(), code.name());
-    write!(f, "fault {number:02X} of {}: {name}", name_of(side))?;
-    match field {
-        Some(field) => write!(f, "{}{field}", field_name(code, field)),
-        None => Ok(()),
-    }
+    let number = code.number();
+    let cause = FaultCause { code, field };
+    write!(f, "fault {number:02X} of {}: {cause}", name_of(side))
 }
 
 /// Writes an event of a side, with what comes before the side's name and after it.
