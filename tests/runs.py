@@ -211,7 +211,7 @@ def words_of_a_frame_are_joined(program):
     with Folder(program) as folder:
         runs = ((["show", "0200", "0002", "480F"], "DM 2/OBS/relay/", "", 0),
                 (["show", "02 00\t00\n02", "", "480F"], "DM 2/OBS/relay/", "", 0),
-                (["show", ""], "", "input is not one frame", 1),
+                (["show", ""], "", "input is not one frame/tip: 'show --explain' says why", 1),
                 (["show", "--", "02000002480F"], "DM 2/OBS/relay/", "", 0),
                 (["frame", "NME ('a')", "('b')"], "02 00 00 0E 48 0C 40 00 4B 61 40 01 40 00 4B 62 40 01/", "", 0),
                 (["frame", "NME ('a", "b') ('')"], "02 00 00 10 48 0C 40 00 4B 61 4B 20 4B 62 40 01 40 00 40 01/", "", 0),

@@ -6,6 +6,7 @@ pub mod OneWay
 pub mod OnlyAdded
 pub mod OddGroups
 pub mod NoteLemmas
+pub mod AsBefore
 mod InputFacts
 mod NoteFacts
 mod FrameFacts

@@ -1,8 +1,8 @@
 -- Notes and odd groups of small inputs, worked out from docs/FORMATS.md.
 use Rattle.std.proofs.Common.{◌≡◌, [], ◌∷◌, codes, Some, None, refl}
 use Rattle.std.specs.Fmt.{digits}
-use Rattle.daide_show.specs.declared.notes.InputNote.TheVariants.{BadByte, OddDigits, ShortHeader, ShortBody}
-use Rattle.daide_show.specs.declared.notes.InputNote.TheVariants.{AnotherFrame}
+use Rattle.daide_show.specs.declared.notes.InputNote.TheVariants.{BadByte, OpenQuote, OddDigits, ShortHeader}
+use Rattle.daide_show.specs.declared.notes.InputNote.TheVariants.{ShortBody, AnotherFrame}
 use Rattle.daide_show.specs.Note.{byte_text, digits_note, frame_note, note_text}
 use Rattle.daide_show.specs.Groups.{odd_group_of}
 
@@ -10,9 +10,15 @@ use Rattle.daide_show.specs.Groups.{odd_group_of}
 letter_for_digit : digits_note (codes "02 00 O0") ≡ BadByte 7 79
 letter_for_digit = refl
 
--- a byte that is not a letter, after digits of either case
-first_of_two : digits_note (codes "aF,9;") ≡ BadByte 3 44
+-- a byte that is not a letter, after digits of either case and a comma
+first_of_two : digits_note (codes "aF,9;/") ≡ BadByte 5 59
 first_of_two = refl
+
+-- a prefix before half a byte, and in a literal an unknown escape, a quote that is not closed, and no digit after `\x`
+each_form : (digits_note (codes "0x02 0x2") ≡ BadByte 7 120) × (digits_note (codes "\\x00AB") ≡ BadByte 1 92)
+    × (digits_note (codes "b'a\\q'") ≡ BadByte 5 113) × (digits_note (codes "b'\\x02") ≡ OpenQuote)
+    × (digits_note (codes "b'\\x0'") ≡ BadByte 6 39) × (digits_note (codes "'02'") ≡ BadByte 1 39)
+each_form = (refl, refl, refl, refl, refl, refl)
 
 -- three digits and no bad byte
 three_digits : digits_note (codes "0 2\t0") ≡ OddDigits 3
@@ -40,12 +46,13 @@ another = refl
 
 -- the texts
 texts : (note_text (BadByte 7 79) ≡ codes "byte 7 is 'O'") × (note_text (BadByte 7 0xC3) ≡ codes "byte 7 is 0xC3")
+    × (note_text OpenQuote ≡ codes "the quote is not closed")
     × (note_text (OddDigits 3) ≡ codes "the number of digits is odd: 3")
     × (note_text (ShortHeader 3) ≡ codes "a header has 4 bytes, the input has 3")
     × (note_text (ShortBody 4 2) ≡ codes "the header announces 4 bytes, 2 follow")
     × (note_text (AnotherFrame 6) ≡ codes "another frame begins after byte 6")
 unfolding digits
-texts = (refl, refl, refl, refl, refl, refl)
+texts = (refl, refl, refl, refl, refl, refl, refl)
 
 -- the second group has three digits; empty parts between blanks are not counted
 second_group : odd_group_of (codes "  02 \r\n000 048") ≡ Some (record { place = 2; digits = 3 })

@@ -1,22 +1,41 @@
 -- The note of an input belongs to its fault.
-use Rattle.std.proofs.Common.{◌≡◌, ℕ, Bool, true, false, ltb, List, length, position, Option, Some, None, Result, Ok, Err}
+use Rattle.std.proofs.Common.{◌≡◌, ℕ, Bool, true, false, ltb, List, [], ◌∷◌, length, ◌+◌, Some, None, Result, Ok, Err}
 use Rattle.std.proofs.Common.{if◌then◌else◌, ap, sym, refl, ◌∙◌}
-use Rattle.std.specs.Prelude.{option_map}
+use Rattle.std.specs.Prelude.{option_map, unwrap_or}
 use Rattle.std.specs.Bool.{MatchBool}
 use Rattle.hex.specs.declared.error.FromHexError.{FromHexError}
 use Rattle.daide_protocol.specs.Bounds.{longest_body}
 use Rattle.daide_show.specs.declared.frame_view.ShowFault.{ShowFault}
 use Rattle.daide_show.specs.declared.frame_view.ShowFault.TheVariants.{TooLong, NotHex, NotOneFrame}
-use Rattle.daide_show.specs.declared.notes.InputNote.TheVariants.{ShortHeader, ShortBody, AnotherFrame}
-use Rattle.daide_show.specs.Input.{limit, parse_hex}
+use Rattle.daide_show.specs.declared.frame_view.places.Place.{Place}
+use Rattle.daide_show.specs.declared.frame_view.places.Place.TheVariants.{Outside}
+use Rattle.daide_show.specs.declared.notes.InputNote.{InputNote}
+use Rattle.daide_show.specs.declared.notes.InputNote.TheVariants.{BadByte, OpenQuote, OddDigits, ShortHeader, ShortBody}
+use Rattle.daide_show.specs.declared.notes.InputNote.TheVariants.{AnotherFrame}
+use Rattle.daide_show.specs.Input.{limit, digits_of, is_closed, next_place, parse_hex, part_of}
 use Rattle.daide_show.specs.Shown.{ShowRequest, Shown, OneFrame, faulty, whole, not_one, parse_frame, IsOneShownAs, IsShownAs}
-use Rattle.daide_show.specs.Note.{is_bad, digits_note_at, announced_length, note_of_frame}
+use Rattle.daide_show.specs.Note.{is_bad, refusal_from, announced_length, note_of_frame}
 use Rattle.daide_show.specs.Note.{note_of_bytes, input_note_of, fault_of_note, noted_fault}
 use Rattle.daide_show.proofs.OneWay.{Decoded}
 
-of_digits : (input : List ℕ) (o : Option ℕ) → fault_of_note (digits_note_at input o) ≡ NotHex
-of_digits input None = refl
-of_digits input (Some i) = refl
+of_refusal : (number : ℕ) (place : Place) (bytes : List ℕ) (other : InputNote) → fault_of_note other ≡ NotHex →
+    fault_of_note (unwrap_or (refusal_from number place bytes) other) ≡ NotHex
+of_refusal number place [] other is = at_end (is_closed place)
+  where
+    at_end : (closed : Bool) → fault_of_note (unwrap_or (if closed then None else Some OpenQuote) other) ≡ NotHex
+    at_end true = is
+    at_end false = refl
+of_refusal number place (b ∷ rest) other is =
+    at_byte (is_bad (part_of place b rest)) (of_refusal (number + 1) (next_place place b rest) rest other is)
+  where
+    at_byte : (bad : Bool) →
+        fault_of_note (unwrap_or (refusal_from (number + 1) (next_place place b rest) rest) other) ≡ NotHex →
+        fault_of_note
+        (unwrap_or
+        (if bad then Some (BadByte number b) else refusal_from (number + 1) (next_place place b rest) rest) other)
+        ≡ NotHex
+    at_byte true later = refl
+    at_byte false later = later
 
 of_bytes : (count announced at end : ℕ) (short few : Bool) →
     fault_of_note (if short then ShortHeader count else if few then ShortBody announced at else AnotherFrame end)
@@ -39,7 +58,7 @@ module _ (asked : ShowRequest) (input : List ℕ) where
       Decoded asked bytes outcome → option_map fault_of_note (note_of_bytes input bytes) ≡ noted_fault outcome
   of_decoded (Ok bytes) outcome x = of_frame (parse_frame longest_body bytes) bytes outcome x
   of_decoded (Err e) outcome x =
-      ap (λ (f : ShowFault). Some f) (of_digits input (position is_bad input)) ∙ sym (ap noted_fault x)
+      ap (λ (f : ShowFault). Some f) (of_refusal 1 Outside input (OddDigits (length (digits_of input))) refl) ∙ sym (ap noted_fault x)
 
   pub of_the_fault : (outcome : Result Shown ShowFault) → IsShownAs asked input outcome →
       option_map fault_of_note (input_note_of input) ≡ noted_fault outcome

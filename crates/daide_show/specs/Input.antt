@@ -1,8 +1,15 @@
--- The input of `show`: the bytes of one frame in hexadecimal digits, with blanks anywhere (own).
-use Rattle.std.specs.Prelude.{ℕ, ◌≤◌, ◌==◌, ◌||◌, Bool, not, List, filter, length, Option, Result}
+-- The input of `show`: the bytes of one frame as hexadecimal digits, or as a bytes literal of Python (own).
+use Rattle.std.specs.Prelude.{ℕ, ◌≤◌, ◌%◌, ◌==◌, ◌||◌, ◌&&◌, nat_le, nat_lt, Bool, true, false, not, if◌then◌else◌}
+use Rattle.std.specs.Prelude.{List, [], ◌∷◌, ◌++◌, length, position, unwrap_or, Option, Result}
 use Rattle.std.specs.Io.KnownBytes.{Consumes}
-use Rattle.hex.specs.Hex.{decode_of}
+use Rattle.hex.specs.Hex.{decode_of, is_hex_digit}
 use Rattle.hex.specs.declared.error.FromHexError.{FromHexError}
+use Rattle.daide_token.specs.HexDigits.{digits_of_byte}
+use Rattle.daide_show.specs.declared.frame_view.places.Place.{Place}
+use Rattle.daide_show.specs.declared.frame_view.places.Place.TheVariants.{Outside, After, Marked, Opened, Quoted, Escaped, High}
+use Rattle.daide_show.specs.declared.frame_view.places.Place.TheVariants.{Low}
+use Rattle.daide_show.specs.declared.frame_view.places.Part.{Part}
+use Rattle.daide_show.specs.declared.frame_view.places.Part.TheVariants.{Nothing, Kept, Byte}
 
 -- the most bytes of an input (own)
 abbrev pub limit : ℕ
@@ -12,9 +19,135 @@ limit = 200000
 abbrev pub is_blank : ℕ → Bool
 is_blank b = b == 32 || b == 9 || b == 13 || b == 10
 
--- an input without its blanks
+-- a digit or a blank
+abbrev pub is_plain : ℕ → Bool
+is_plain b = is_hex_digit b || is_blank b
+
+-- ---- digits: separators and prefixes are dropped
+
+-- a blank, a comma or a colon
+abbrev pub is_separator : ℕ → Bool
+is_separator b = is_blank b || (b == 44 || b == 58)
+
+-- an `x` of either case
+abbrev pub is_x : ℕ → Bool
+is_x b = b == 120 || b == 88
+
+abbrev pub is_no_digit : ℕ → Bool
+is_no_digit b = not (is_hex_digit b)
+
+-- the number of digits at the start of some bytes
+abbrev pub leading_digits : List ℕ → ℕ
+leading_digits bytes = unwrap_or (position is_no_digit bytes) (length bytes)
+
+-- the same after an `x`; 0 without one
+abbrev pub digits_after_x : List ℕ → ℕ
+digits_after_x [] = 0
+digits_after_x (b ∷ bytes) = if is_x b then leading_digits bytes else 0
+
+-- the digits of one byte or more
+abbrev pub are_pairs : ℕ → Bool
+are_pairs count = nat_lt 0 count && count % 2 == 0
+
+-- the `0` before an `x` and whole bytes, and the backslash before an `x` and one byte
+abbrev pub opens_prefix : ℕ → List ℕ → Bool
+opens_prefix b rest = b == 48 && are_pairs (digits_after_x rest)
+
+abbrev pub opens_escape : ℕ → List ℕ → Bool
+opens_escape b rest = b == 92 && digits_after_x rest == 2
+
+-- ---- a literal: `b` and a text in quotes; with a backslash after the `b`, a text whose quotes a shell has removed
+
+-- `'` and `"`
+abbrev pub is_quote : ℕ → Bool
+is_quote b = b == 39 || b == 34
+
+-- the first of some bytes is such a byte
+abbrev pub begins_with : (ℕ → Bool) → List ℕ → Bool
+begins_with test [] = false
+begins_with test (b ∷ bytes) = test b
+
+-- the `b` before a quote, and before a backslash
+abbrev pub opens_quoted : ℕ → List ℕ → Bool
+opens_quoted b rest = b == 98 && begins_with is_quote rest
+
+abbrev pub opens_bare : ℕ → List ℕ → Bool
+opens_bare b rest = b == 98 && begins_with (λ c. c == 92) rest
+
+-- from space to tilde
+abbrev pub is_printable : ℕ → Bool
+is_printable b = nat_le 32 b && nat_le b 126
+
+-- what the byte after a backslash means, other than `x`: n, r, t, a backslash or a quote
+abbrev pub escaped : ℕ → Part
+escaped b =
+    if b == 110 then Byte 10
+    else if b == 114 then Byte 13
+    else if b == 116 then Byte 9
+    else if b == 92 || is_quote b then Byte b
+    else Kept 92
+
+-- ---- both
+
+-- what a byte gives, by its place and the bytes after it. In a literal a printable byte is itself. A byte that is kept
+-- must be a digit.
+abbrev pub part_of : Place → ℕ → List ℕ → Part
+part_of Outside b rest =
+    if is_separator b || (opens_escape b rest || (opens_prefix b rest || (opens_quoted b rest || opens_bare b rest)))
+    then Nothing
+    else Kept b
+part_of After b rest = if is_separator b || opens_escape b rest then Nothing else Kept b
+part_of Marked b rest = Nothing
+part_of Opened b rest = Nothing
+part_of (Quoted quote) b rest =
+    if b == 92 || b == quote then Nothing else if is_printable b then Byte b else Kept b
+part_of (Escaped quote) b rest = if b == 120 then Nothing else escaped b
+part_of (High quote) b rest = Kept b
+part_of (Low quote) b rest = Kept b
+
+-- the place after a byte outside of a literal
+abbrev pub place_after : ℕ → Place
+place_after b = if is_hex_digit b then After else Outside
+
+-- the place of the next byte
+abbrev pub next_place : Place → ℕ → List ℕ → Place
+next_place Outside b rest =
+    if opens_escape b rest || opens_prefix b rest then Marked
+    else if opens_quoted b rest then Opened
+    else if opens_bare b rest then Quoted 92
+    else place_after b
+next_place After b rest = if opens_escape b rest then Marked else place_after b
+next_place Marked b rest = Outside
+next_place Opened b rest = Quoted b
+next_place (Quoted quote) b rest = if b == 92 then Escaped quote else if b == quote then Outside else Quoted quote
+next_place (Escaped quote) b rest = if b == 120 then High quote else Quoted quote
+next_place (High quote) b rest = Low quote
+next_place (Low quote) b rest = Quoted quote
+
+-- an input may end at this place: no quote is open, and no escape
+abbrev pub is_closed : Place → Bool
+is_closed Outside = true
+is_closed After = true
+is_closed Marked = false
+is_closed Opened = false
+is_closed (Quoted quote) = quote == 92
+is_closed (Escaped quote) = false
+is_closed (High quote) = false
+is_closed (Low quote) = false
+
+abbrev pub digits_of_part : Part → List ℕ
+digits_of_part Nothing = []
+digits_of_part (Kept b) = b ∷ []
+digits_of_part (Byte b) = digits_of_byte b
+
+-- the digits of bytes from a place on; an open quote is kept, and so refused
+abbrev pub digits_from : Place → List ℕ → List ℕ
+digits_from place [] = if is_closed place then [] else 39 ∷ []
+digits_from place (b ∷ rest) = digits_of_part (part_of place b rest) ++ digits_from (next_place place b rest) rest
+
+-- the digits of an input
 abbrev pub digits_of : List ℕ → List ℕ
-digits_of input = filter (λ b. not (is_blank b)) input
+digits_of input = digits_from Outside input
 
 -- the bytes of an input, two digits each and in either case; an error if there is another character, or half a byte
 abbrev pub parse_hex : List ℕ → Result (List ℕ) FromHexError

@@ -1,33 +1,41 @@
 -- Why an input is not hexadecimal, or not one frame. (own)
-use Rattle.std.specs.Prelude.{ℕ, ◌+◌, ◌-◌, ◌/◌, ◌%◌, ◌||◌, ◌&&◌, nat_le, nat_lt, Bool, not, if◌then◌else◌}
-use Rattle.std.specs.Prelude.{List, [], ◌∷◌, ◌++◌, length, codes, slice_index, position, count_by, Option}
+use Rattle.std.specs.Prelude.{ℕ, ◌+◌, ◌-◌, ◌/◌, ◌%◌, ◌&&◌, nat_le, nat_lt, Bool, false, not, if◌then◌else◌}
+use Rattle.std.specs.Prelude.{List, [], ◌∷◌, ◌++◌, length, codes, slice_index, unwrap_or, Option}
 use Rattle.std.specs.Prelude.{Some, None, Result, Ok, Err}
 use Rattle.std.specs.Fmt.{decimal}
 use Rattle.std.specs.Int.{w16, from_be_bytes}
 use Rattle.hex.specs.Hex.{is_hex_digit, upper_digits}
 use Rattle.hex.specs.declared.error.FromHexError.{FromHexError}
 use Rattle.daide_protocol.specs.Bounds.{longest_body}
-use Rattle.daide_show.specs.Input.{limit, is_blank, parse_hex}
+use Rattle.daide_show.specs.Input.{limit, digits_of, is_closed, next_place, parse_hex, part_of}
 use Rattle.daide_show.specs.Shown.{Shown, OneFrame, faulty, whole, not_one, parse_frame}
 use Rattle.daide_show.specs.declared.frame_view.ShowFault.{ShowFault}
 use Rattle.daide_show.specs.declared.frame_view.ShowFault.TheVariants.{Read, TooLong, NotHex, NotOneFrame}
 use Rattle.daide_show.specs.declared.frame_view.ShowFault.TheVariants.{Memory, Write}
+use Rattle.daide_show.specs.declared.frame_view.places.Place.{Place}
+use Rattle.daide_show.specs.declared.frame_view.places.Place.TheVariants.{Outside}
+use Rattle.daide_show.specs.declared.frame_view.places.Part.{Part}
+use Rattle.daide_show.specs.declared.frame_view.places.Part.TheVariants.{Nothing, Kept, Byte}
 use Rattle.daide_show.specs.declared.notes.InputNote.{InputNote}
-use Rattle.daide_show.specs.declared.notes.InputNote.TheVariants.{BadByte, OddDigits, ShortHeader, ShortBody}
-use Rattle.daide_show.specs.declared.notes.InputNote.TheVariants.{AnotherFrame}
+use Rattle.daide_show.specs.declared.notes.InputNote.TheVariants.{BadByte, OpenQuote, OddDigits, ShortHeader}
+use Rattle.daide_show.specs.declared.notes.InputNote.TheVariants.{ShortBody, AnotherFrame}
 
--- neither a digit nor a blank
-abbrev pub is_bad : ℕ → Bool
-is_bad b = not (is_hex_digit b || is_blank b)
+-- a byte that is kept and is no digit
+abbrev pub is_bad : Part → Bool
+is_bad Nothing = false
+is_bad (Kept b) = not (is_hex_digit b)
+is_bad (Byte b) = false
 
--- the first bad byte, with its place counted from 1; if there is none, the number of digits
-abbrev pub digits_note_at : List ℕ → Option ℕ → InputNote
-digits_note_at input (Some i) = BadByte (i + 1) (slice_index input i)
-digits_note_at input None = OddDigits (count_by (λ b. not (is_blank b)) input)
+-- from a place on: the first bad byte with its number, or the quote that is open at the end
+abbrev pub refusal_from : ℕ → Place → List ℕ → Option InputNote
+refusal_from number place [] = if is_closed place then None else Some OpenQuote
+refusal_from number place (b ∷ rest) =
+    if is_bad (part_of place b rest) then Some (BadByte number b)
+    else refusal_from (number + 1) (next_place place b rest) rest
 
--- why an input is not hexadecimal
+-- why an input is not hexadecimal: that, with bytes numbered from 1; if there is none, the number of digits
 abbrev pub digits_note : List ℕ → InputNote
-digits_note input = digits_note_at input (position is_bad input)
+digits_note input = unwrap_or (refusal_from 1 Outside input) (OddDigits (length (digits_of input)))
 
 -- the length field of a header: its last two bytes, the high byte first
 abbrev pub announced_length : List ℕ → ℕ
@@ -58,6 +66,7 @@ input_note_of input = if nat_lt limit (length input) then None else note_of_byte
 -- the fault to which a note belongs
 abbrev pub fault_of_note : InputNote → ShowFault
 fault_of_note (BadByte place b) = NotHex
+fault_of_note OpenQuote = NotHex
 fault_of_note (OddDigits count) = NotHex
 fault_of_note (ShortHeader count) = NotOneFrame
 fault_of_note (ShortBody announced count) = NotOneFrame
@@ -82,6 +91,7 @@ byte_text b =
 -- the text of a note
 abbrev pub note_text : InputNote → List ℕ
 note_text (BadByte place b) = codes "byte " ++ decimal place ++ codes " is " ++ byte_text b
+note_text OpenQuote = codes "the quote is not closed"
 note_text (OddDigits count) = codes "the number of digits is odd: " ++ decimal count
 note_text (ShortHeader count) = codes "a header has 4 bytes, the input has " ++ decimal count
 note_text (ShortBody announced count) =

@@ -5,6 +5,7 @@
 
 pub(crate) mod input;
 pub(crate) mod one_frame;
+pub(crate) mod places;
 mod text;
 
 ghost use Rattle.std.specs.Prelude.{◌≢◌, ◌≤◌, ◌+◌, ℕ, List, length, IfOk, IfErr, IfSome, Ok, Err};
@@ -35,7 +36,7 @@ pub enum ShowFault {
     /// The input has more than 200,000 bytes.
     #[error("input is too long")]
     TooLong,
-    /// Apart from blanks, the input is not pairs of hexadecimal digits.
+    /// The input is not hexadecimal digits, two for each byte, nor a literal of bytes.
     #[error("input is not hexadecimal")]
     NotHex,
     /// The input has fewer bytes than the header announces, or more.
@@ -140,8 +141,8 @@ pub fn show_input<A: Allocator + Copy, W: Write>(
     }
 }
 
-/// Reads one frame in hexadecimal digits, and writes what it is and its verdict, judged as the side's at the level.
-/// Returns whether it would be relayed.
+/// Reads one frame, in hexadecimal digits or as a bytes literal, and writes what it is and its verdict, judged as the
+/// side's at the level. Returns whether it would be relayed.
 ///
 /// `shown`: what was written is what `IsShownAs` says of the input. The result is true if and only if the frame is
 /// relayed.

@@ -5,8 +5,7 @@ ghost use Rattle.std.specs.List.{list_all};
 ghost use Rattle.hex.specs.Hex.{is_hex_digit};
 ghost use Rattle.daide_show.specs.Groups.{is_odd_group, odd_group_of, odd_group_text};
 
-use crate::frame_view::input::is_blank;
-use crate::notes::is_hex_digit;
+use crate::frame_view::places::{is_blank, is_hex_digit};
 use std::fmt;
 
 /// A group of digits between blanks, with an odd number of digits.

@@ -7,6 +7,7 @@ ghost use Rattle.daide_grammar.specs.declared.level.Level.TheVariants.{L0};
 ghost use Rattle.daide_reader.specs.declared.verdict.Verdict.TheVariants.{Huh};
 ghost use Rattle.daide_show.specs.declared.frame_view.ShowFault.{ShowFault};
 ghost use Rattle.daide_show.specs.declared.frame_view.ShowFault.TheVariants.{NotHex};
+ghost use Rattle.daide_show.specs.Input.{digits_of};
 ghost use Rattle.daide_show.specs.Note.{noted_fault};
 ghost use Rattle.daide_show.specs.Shown.{IsShownAs, Shown, plain_request, verdict_lines};
 
@@ -21,6 +22,13 @@ fn one_way_at_two_inputs()
         outcome ≡ Err NotHex }
 {
     laws::input_is_shown_in_one_way();
+}
+
+/// A tab, a space and a line feed are dropped, also inside a byte.
+fn blanks_at_an_input()
+    ensures { digits_of (codes "0\t2 00\n") ≡ codes "0200" }
+{
+    laws::blanks_alone_are_dropped();
 }
 
 /// The explanation of an FM adds no line.

@@ -1,27 +1,30 @@
 //! Why an input is not hexadecimal, or not one frame.
 
-ghost use Rattle.std.specs.Prelude.{◌≡◌, ◌<◌, length, not, slice_index, position, count_by, IfOk, IfSome, Some};
+ghost use Rattle.std.specs.Prelude.{◌≡◌, ◌<◌, length, slice_index, IfOk, Some};
 ghost use Rattle.std.specs.Fmt.{WritesOnOk};
-ghost use Rattle.daide_show.specs.Input.{is_blank};
-ghost use Rattle.hex.specs.Hex.{is_hex_digit, upper_digits};
+ghost use Rattle.daide_show.specs.Input.{digits_of};
+ghost use Rattle.hex.specs.Hex.{upper_digits};
 ghost use Rattle.daide_protocol.specs.Bounds.{longest_body};
 ghost use Rattle.daide_show.specs.Shown.{parse_frame};
 ghost use Rattle.daide_show.specs.Note.{byte_text, is_bad, digits_note, frame_note, input_note_of, note_of_frame, note_text};
 
-use crate::frame_view::input::{LIMIT, digits_of, is_blank};
+use crate::frame_view::input::{LIMIT, digits_of};
 use crate::frame_view::one_frame::{ParsedInput, find_frame};
+use crate::frame_view::places::{Part, Place, is_closed, is_hex_digit, next_place, part_of};
 use daide_frame::Cutter;
 use daide_protocol::MAX_BODY;
 use hex::FromHexError;
 use std::alloc::{AllocError, Allocator};
 use std::fmt;
 
-/// Why an input is not hexadecimal (the first two), or not one frame.
+/// Why an input is not hexadecimal (the first three), or not one frame.
 #[derive(Clone, Copy, Debug, PartialEq, Eq)]
 pub enum InputNote {
-    /// This byte, at this place counted from 1, is neither a hexadecimal digit nor a blank.
+    /// This byte, at this place counted from 1, is neither a hexadecimal digit nor dropped.
     BadByte(usize, u8),
-    /// There are only digits and blanks, and this odd number of digits.
+    /// The quote of a literal is not closed.
+    OpenQuote,
+    /// Apart from what is dropped there are only digits, and this odd number of them.
     OddDigits(usize),
     /// There are only this many bytes, fewer than a header has.
     ShortHeader(usize),
@@ -62,6 +65,7 @@ impl fmt::Display for InputNote {
                 write!(f, "byte {place} is ")?;
                 write_byte(f, byte)
             }
+            InputNote::OpenQuote => f.write_str("the quote is not closed"),
             InputNote::OddDigits(count) => write!(f, "the number of digits is odd: {count}"),
             InputNote::ShortHeader(count) => write!(
                 f,
@@ -77,43 +81,34 @@ impl fmt::Display for InputNote {
     }
 }
 
-/// Returns whether a byte is a hexadecimal digit of either case.
-pub(crate) fn is_hex_digit(byte: u8) -> bool
-    ensures { result ≡ is_hex_digit byte }
+/// Returns whether what a byte gives is not a digit.
+fn is_bad(part: Part) -> bool
+    ensures { result ≡ is_bad part }
 {
-    matches!(byte, b'0'..=b'9' | b'a'..=b'f' | b'A'..=b'F')
+    match part {
+        Part::Kept(byte) => !is_hex_digit(byte),
+        Part::Nothing | Part::Byte(_) => false,
+    }
 }
 
-/// Returns whether a byte is neither a digit nor a blank.
-fn is_bad(byte: u8) -> bool
-    ensures { result ≡ is_bad byte }
-{
-    !(is_hex_digit(byte) || is_blank(byte))
-}
-
-/// Returns the index of the first bad byte of an input.
-fn first_bad(input: &[u8]) -> Option<usize>
-    ensures first { result ≡ position is_bad input.now }
-    ensures within { IfSome result (λ i. i < length input.now) }
-{
-    input.iter().position(|byte| is_bad(*byte))
-}
-
-/// Returns the number of bytes of an input that are not blanks.
-fn digit_count(input: &[u8]) -> usize
-    ensures { result ≡ count_by (λ b. not (is_blank b)) input.now }
-{
-    input.iter().filter(|byte| !is_blank(**byte)).count()
-}
-
-/// Returns why an input is not hexadecimal.
-fn digits_note(input: &[u8]) -> InputNote
+/// Returns why an input with this number of digits is not hexadecimal.
+fn digits_note(input: &[u8], digits: usize) -> InputNote
+    requires { digits ≡ length (digits_of input.now) }
     ensures { result ≡ digits_note input.now }
 {
-    match first_bad(input) {
-        Some(i) => InputNote::BadByte(i + 1, input[i]),
-        None => InputNote::OddDigits(digit_count(input)),
+    let mut place = Place::Outside;
+    let mut rest = input;
+    while let [byte, others @ ..] = rest {
+        if is_bad(part_of(place, *byte, others)) {
+            return InputNote::BadByte(input.len() - rest.len() + 1, *byte);
+        }
+        place = next_place(place, *byte, others);
+        rest = others;
     }
+    if is_closed(place) {
+        return InputNote::OddDigits(digits);
+    }
+    InputNote::OpenQuote
 }
 
 /// Returns why some bytes are not one frame.
@@ -156,6 +151,6 @@ pub fn input_note<A: Allocator + Copy>(
     match hex::decode(alloc, digits.as_slice()) {
         Ok(bytes) => note_of_frame(alloc, bytes.as_slice()),
         Err(FromHexError::OutOfMemory) => Err(AllocError),
-        Err(_) => Ok(Some(digits_note(input))),
+        Err(_) => Ok(Some(digits_note(input, digits.len()))),
     }
 }

@@ -38,6 +38,13 @@ fn is_of_input(answer: Result<bool, ShowFault>) -> bool {
     )
 }
 
+/// Points from a refused input to its explanation. A failure to write it has no effect.
+fn point_to_explanation<E: Write>(answer: Result<bool, ShowFault>, errors: &mut E) {
+    if answer.is_err() {
+        let _ = writeln!(errors, "  tip: 'show --explain' says why");
+    }
+}
+
 /// Reports the result for an input on standard error, unless its frame was shown and would be relayed. Returns the
 /// status.
 fn end_show<A: Allocator + Copy, E: Write>(
@@ -59,6 +66,9 @@ fn end_show<A: Allocator + Copy, E: Write>(
             write_note(alloc, input, errors);
         }
         write_odd_group(input, errors);
+        if !is_explained {
+            point_to_explanation(answer, errors);
+        }
     }
     Ok(status)
 }

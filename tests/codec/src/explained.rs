@@ -36,8 +36,11 @@ bot 0 | 020000044803 | input is not one frame
 /// An input, with `\t` for a tab | its note, if it has one | its odd group, if it has one.
 const NOTED: &str = "\
 02 00 O0 00 | byte 7 is 'O' |
-\t0x02 | byte 3 is 'x' |
-02,00 | byte 3 is ',' |
+\t0x02 | a header has 4 bytes, the input has 1 |
+02,00 | a header has 4 bytes, the input has 2 |
+0x2 0x0 | byte 2 is 'x' |
+02;00 | byte 3 is ';' |
+b'02 | the quote is not closed |
 02 00é | byte 6 is 0xC3 |
 0 | the number of digits is odd: 1 | group 1 has an odd number of digits, 1
 020000044803400 | the number of digits is odd: 15 | group 1 has an odd number of digits, 15

@@ -1,10 +1,12 @@
-//! The input: its bytes up to the limit, without their blanks.
+//! The input: its bytes up to the limit, and their digits.
 
-ghost use Rattle.std.specs.Prelude.{◌≡◌, ◌≤◌, ◌<◌, ◌+◌, ◌⊎◌, ℕ, List, length, IfOk, IfErr, IfSome};
+ghost use Rattle.std.specs.Prelude.{◌≡◌, ◌≤◌, ◌<◌, ◌+◌, ◌++◌, ◌⊎◌, ℕ, List, length, IfOk, IfErr, IfSome, OnOk};
 ghost use Rattle.std.specs.Io.KnownBytes.{Consumes};
-ghost use Rattle.daide_show.specs.Input.{is_blank, digits_of, limit};
+ghost use Rattle.daide_show.specs.Input.{digits_of, digits_of_part, limit};
 
 use super::ShowFault;
+use super::places::{Part, Place, is_closed, next_place, part_of};
+use daide_token::digits_of_byte;
 use std::alloc::{AllocError, Allocator};
 use std::io::Read;
 
@@ -47,20 +49,31 @@ pub fn read_input<A: Allocator, R: Read>(alloc: A, reader: &mut R) -> Result<Vec
     unreachable!()
 }
 
-/// Returns whether a byte is a blank. Blanks are ignored.
-pub(crate) fn is_blank(byte: u8) -> bool
-    ensures { result ≡ is_blank byte }
+/// Appends what a byte gives.
+fn push_part<A: Allocator>(part: Part, digits: &mut Vec<u8, A>) -> Result<(), AllocError>
+    ensures { OnOk result (digits.new.items ≡ digits.old.items ++ digits_of_part part) }
 {
-    matches!(byte, b' ' | b'\t' | b'\r' | b'\n')
+    match part {
+        Part::Nothing => Ok(()),
+        Part::Kept(digit) => digits.extend_from_slice(&[digit]),
+        Part::Byte(byte) => digits.extend_from_slice(&digits_of_byte(byte)),
+    }
 }
 
-/// Returns the input without its blanks.
+/// Returns the digits of an input.
 pub(crate) fn digits_of<A: Allocator>(alloc: A, input: &[u8]) -> Result<Vec<u8, A>, AllocError>
     ensures { IfOk result (λ digits. digits.items ≡ digits_of input.now) }
 {
-    input
-        .iter()
-        .copied()
-        .filter(|byte| !is_blank(*byte))
-        .collect(alloc)
+    let mut digits = Vec::new(alloc);
+    let mut place = Place::Outside;
+    let mut rest = input;
+    while let [byte, others @ ..] = rest {
+        push_part(part_of(place, *byte, others), &mut digits)?;
+        place = next_place(place, *byte, others);
+        rest = others;
+    }
+    if !is_closed(place) {
+        digits.push(b'\'')?;
+    }
+    Ok(digits)
 }
