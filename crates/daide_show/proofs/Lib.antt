@@ -7,6 +7,8 @@ pub mod OnlyAdded
 pub mod OddGroups
 pub mod NoteLemmas
 pub mod AsBefore
+pub mod FaultLines
 mod InputFacts
+mod CauseFacts
 mod NoteFacts
 mod FrameFacts

@@ -46,7 +46,7 @@ of_bytes count announced at end false false = refl
 
 module _ (asked : ShowRequest) (input : List ℕ) where
   of_frame : (frame : OneFrame) (bytes : List ℕ) (outcome : Result Shown ShowFault) →
-      IsOneShownAs asked frame outcome → option_map fault_of_note (note_of_frame frame bytes) ≡ noted_fault outcome
+      IsOneShownAs asked bytes frame outcome → option_map fault_of_note (note_of_frame frame bytes) ≡ noted_fault outcome
   of_frame (faulty code) bytes outcome x = sym (ap noted_fault x)
   of_frame (whole head body) bytes outcome x = sym (ap noted_fault x.1)
   of_frame not_one bytes outcome x =

@@ -20,7 +20,7 @@ use Rattle.daide_frame.specs.Frames.{fed_items, items_of_step, IsFault, head_par
 use Rattle.daide_frame.proofs.CutsAgree.{cut_piece}
 use Rattle.daide_frame.proofs.FramesLemmas.{take-nothing}
 use Rattle.daide_frame.proofs.ListLemmas.{leb_yes}
-use Rattle.daide_show.specs.Shown.{whole, not_one, parse_frame_events, parse_frame}
+use Rattle.daide_show.specs.Shown.{faulty, whole, not_one, parse_frame_events, parse_frame}
 use Rattle.daide_show.specs.Found.{parsed_input_of, parsed_input_by}
 use Rattle.daide_show.specs.declared.frame_view.one_frame.ParsedInput.{ParsedInput}
 
@@ -159,6 +159,15 @@ found_none n (Wrong code ∷ items) e = absurd cc
 pub found_short : (cap : ℕ) (b : List ℕ) → length b < 4 → not_one ≡ parse_frame cap b
 unfolding parse_frame
 found_short cap b few = rw (items_short cap b few) refl
+
+-- a frame at fault has a header
+pub fault_has_header : (cap : ℕ) (b : List ℕ) (code : Code) → faulty code ≡ parse_frame cap b → 4 ≤ length b
+fault_has_header cap [] code e = let short = found_short cap [] (omega arith) in absurd cc
+fault_has_header cap (p ∷ []) code e = let short = found_short cap (p ∷ []) (omega arith) in absurd cc
+fault_has_header cap (p ∷ q ∷ []) code e = let short = found_short cap (p ∷ q ∷ []) (omega arith) in absurd cc
+fault_has_header cap (p ∷ q ∷ r ∷ []) code e =
+    let short = found_short cap (p ∷ q ∷ r ∷ []) (omega arith) in absurd cc
+fault_has_header cap (p ∷ q ∷ r ∷ s ∷ w) code e = omega arith
 
 -- a complete header has an item
 header_items : (cap : ℕ) (h : List ℕ) → length h ≡ 4 → frame_events_of (first_items cap h) ≡ [] → ⊥

@@ -61,16 +61,16 @@ module _ (asked : ShowRequest) (once : IsOneExplanation asked) where
   frame_is_one Fm len body s t x y = x ∙ sym y
   frame_is_one Em len body s t x y = x ∙ sym y
 
-  one_is_one : (frame : OneFrame) (one other : Result Shown ShowFault) → IsOneShownAs asked frame one →
-      IsOneShownAs asked frame other → one ≡ other
-  one_is_one (faulty code) one other x y = x ∙ sym y
-  one_is_one not_one one other x y = x ∙ sym y
-  one_is_one (whole head body) one other x y =
+  one_is_one : (bytes : List ℕ) (frame : OneFrame) (one other : Result Shown ShowFault) →
+      IsOneShownAs asked bytes frame one → IsOneShownAs asked bytes frame other → one ≡ other
+  one_is_one bytes (faulty code) one other x y = x ∙ sym y
+  one_is_one bytes not_one one other x y = x ∙ sym y
+  one_is_one bytes (whole head body) one other x y =
       x.1 ∙ ap (λ (s : Shown). Ok s) (frame_is_one head.kind head.len body x.0 y.0 x.2 y.2) ∙ sym y.1
 
   bytes_are_one : (bytes : Result (List ℕ) FromHexError) (one other : Result Shown ShowFault) →
       Decoded asked bytes one → Decoded asked bytes other → one ≡ other
-  bytes_are_one (Ok bytes) one other x y = one_is_one (parse_frame longest_body bytes) one other x y
+  bytes_are_one (Ok bytes) one other x y = one_is_one bytes (parse_frame longest_body bytes) one other x y
   bytes_are_one (Err e) one other x y = x ∙ sym y
 
   pub shown_is_one : (input : List ℕ) (one other : Result Shown ShowFault) → IsShownAs asked input one →

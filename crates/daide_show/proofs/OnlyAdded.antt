@@ -1,10 +1,12 @@
 -- An explanation only adds lines to what is shown without it.
 use Rattle.std.proofs.Common.{◌≡◌, ℕ, Bool, true, false, ltb, List, [], ◌++◌, length, Result, Ok, Err, ap, sym, subst, refl}
-use Rattle.std.proofs.Common.{◌∙◌, append-nil}
+use Rattle.std.proofs.Common.{◌∙◌, append-nil, codes}
 use Rattle.std.specs.Bool.{MatchBool}
 use Rattle.hex.specs.declared.error.FromHexError.{FromHexError}
 use Rattle.daide_token.specs.Token.{tokens_of}
 use Rattle.daide_frame.specs.declared.side.Side.{Side}
+use Rattle.daide_frame.specs.declared.code.Code.{Code}
+use Rattle.daide_frame.specs.Code.{code_digits}
 use Rattle.daide_frame.specs.declared.head.Kind.{Kind}
 use Rattle.daide_frame.specs.declared.head.Kind.TheVariants.{Im, Rm, Dm, Fm, Em}
 use Rattle.daide_frame.specs.InitialMessage.{im_of}
@@ -23,7 +25,7 @@ use Rattle.daide_show.specs.declared.frame_view.ShowFault.TheVariants.{TooLong, 
 use Rattle.daide_show.specs.Input.{limit, parse_hex}
 use Rattle.daide_show.specs.Shown.{ShowRequest, Shown, OneFrame, faulty, whole, not_one, parse_frame}
 use Rattle.daide_show.specs.Shown.{kind_line, line, printed, verdict_lines, is_relay, message_shown, im_shown}
-use Rattle.daide_show.specs.Shown.{relayed_shown, fault_shown, OnlyAdds, IsMessageShownAs, IsFrameShownAs}
+use Rattle.daide_show.specs.Shown.{cause_lines, fault_lines, relayed_shown, fault_shown, OnlyAdds, IsMessageShownAs, IsFrameShownAs}
 use Rattle.daide_show.specs.Shown.{IsOneShownAs, IsShownAs}
 use Rattle.daide_show.proofs.OneWay.{Decoded}
 
@@ -31,6 +33,18 @@ adds_nothing : (r s t : Shown) → s ≡ r → t ≡ r → OnlyAdds (Ok s) (Ok t
 adds_nothing r s t x y =
     let same : t ≡ s = y ∙ sym x in
     ([], ap (λ (v : Shown). v.text) same ∙ sym (append-nil s.text), ap (λ (v : Shown). v.relayed) same, λ _. refl)
+
+adds_cause : (code : Code) (lines : List ℕ) (s t : Shown) → s ≡ fault_shown code [] → t ≡ fault_shown code lines →
+    OnlyAdds (Ok s) (Ok t)
+adds_cause code lines s t x y =
+    let front = line (codes "fault " ++ code_digits code) in
+    let plain : front ≡ s.text = sym (append-nil front) ∙ ap (λ (v : Shown). v.text) (sym x) in
+    let refused : s.relayed ≡ false = ap (λ (v : Shown). v.relayed) x in (
+      lines,
+      ap (λ (v : Shown). v.text) y ∙ ap (λ (l : List ℕ). l ++ lines) plain,
+      ap (λ (v : Shown). v.relayed) y ∙ sym refused,
+      λ relayed. absurd cc,
+    )
 
 moved : (one other a b : Result Shown ShowFault) → one ≡ a → other ≡ b → OnlyAdds a b → OnlyAdds one other
 moved one other a b x y adds =
@@ -72,26 +86,32 @@ module _ (words : List Word) (side : Side) (level : Level) where
             (ap is_relay same ∙ (ap (λ (v : Shown). v.relayed) (sym is_s) ∙ relayed)),
       )
 
+  im_adds : (len : ℕ) (body : List ℕ) (checked : Result (Unit {0}) Code) (s t : Shown) →
+      s ≡ im_shown false len body checked → t ≡ im_shown true len body checked → OnlyAdds (Ok s) (Ok t)
+  im_adds len body (Ok good) s t x y = adds_nothing (relayed_shown Im len) s t x y
+  im_adds len body (Err code) s t x y = adds_cause code (cause_lines code [] body) s t x y
+
   frame_adds : (kind : Kind) (len : ℕ) (body : List ℕ) (s t : Shown) → IsFrameShownAs plainly kind len body s →
       IsFrameShownAs explaining kind len body t → OnlyAdds (Ok s) (Ok t)
-  frame_adds Im len body s t x y = adds_nothing (im_shown len (im_of body)) s t x y
+  frame_adds Im len body s t x y = im_adds len body (im_of body) s t x y
   frame_adds Rm len body s t x y = adds_nothing (relayed_shown Rm len) s t x y
   frame_adds Dm len body s t x y = adds_lines len body s t x y
   frame_adds Fm len body s t x y = adds_nothing (relayed_shown Fm len) s t x y
   frame_adds Em len body s t x y = adds_nothing (relayed_shown Em len) s t x y
 
-  one_adds : (frame : OneFrame) (one other : Result Shown ShowFault) → IsOneShownAs plainly frame one →
-      IsOneShownAs explaining frame other → OnlyAdds one other
-  one_adds (faulty code) one other x y =
-      moved one other (Ok (fault_shown code)) (Ok (fault_shown code)) x y
-      (adds_nothing (fault_shown code) (fault_shown code) (fault_shown code) refl refl)
-  one_adds not_one one other x y = moved one other (Err NotOneFrame) (Err NotOneFrame) x y refl
-  one_adds (whole head body) one other x y =
+  one_adds : (bytes : List ℕ) (frame : OneFrame) (one other : Result Shown ShowFault) →
+      IsOneShownAs plainly bytes frame one → IsOneShownAs explaining bytes frame other → OnlyAdds one other
+  one_adds bytes (faulty code) one other x y =
+      let lines = fault_lines longest_body code bytes in
+      moved one other (Ok (fault_shown code [])) (Ok (fault_shown code lines)) x y
+      (adds_cause code lines (fault_shown code []) (fault_shown code lines) refl refl)
+  one_adds bytes not_one one other x y = moved one other (Err NotOneFrame) (Err NotOneFrame) x y refl
+  one_adds bytes (whole head body) one other x y =
       moved one other (Ok x.0) (Ok y.0) x.1 y.1 (frame_adds head.kind head.len body x.0 y.0 x.2 y.2)
 
   bytes_add : (bytes : Result (List ℕ) FromHexError) (one other : Result Shown ShowFault) →
       Decoded plainly bytes one → Decoded explaining bytes other → OnlyAdds one other
-  bytes_add (Ok bytes) one other x y = one_adds (parse_frame longest_body bytes) one other x y
+  bytes_add (Ok bytes) one other x y = one_adds bytes (parse_frame longest_body bytes) one other x y
   bytes_add (Err e) one other x y = moved one other (Err NotHex) (Err NotHex) x y refl
 
   pub only_adds : (input : List ℕ) (one other : Result Shown ShowFault) → IsShownAs plainly input one →

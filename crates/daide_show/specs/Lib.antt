@@ -1,4 +1,5 @@
 pub mod Input
+pub mod Cause
 pub mod Shown
 pub mod Found
 pub mod Note

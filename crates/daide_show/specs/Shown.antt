@@ -1,6 +1,7 @@
 -- The output of `show` for an input: the text of docs/FORMATS.md (own), and whether its frame would be relayed.
 use Rattle.std.specs.Prelude.{◌≡◌, ⊤, ℕ, ◌+◌, ◌==◌, nat_lt, Bool, true, false, if◌then◌else◌}
-use Rattle.std.specs.Prelude.{List, [], ◌∷◌, ◌++◌, length, codes, Option, Result, Ok, Err, MatchResult}
+use Rattle.std.specs.Prelude.{List, [], ◌∷◌, ◌++◌, length, codes, take, drop, Option, Some, None, Result, Ok, Err}
+use Rattle.std.specs.Prelude.{MatchResult}
 use Rattle.std.specs.Bool.{MatchBool}
 use Rattle.std.specs.Fmt.{decimal}
 use Rattle.std.specs.Io.KnownBytes.{Appends}
@@ -25,7 +26,10 @@ use Rattle.daide_reader.specs.declared.verdict.Verdict.TheVariants.{Relay, Prn, 
 use Rattle.daide_protocol.specs.Answers.{answer_body}
 use Rattle.daide_protocol.specs.Bounds.{longest_body, greatest_depth}
 use Rattle.daide_protocol.specs.Machine.{side2_of}
+use Rattle.daide_io.specs.declared.fault_field.FaultField.{FaultField}
+use Rattle.daide_io.specs.FaultField.{cause_text, fault_field}
 use Rattle.daide_explain.specs.Explained.{IsExplained}
+use Rattle.daide_show.specs.Cause.{expected_value, faulty_body}
 use Rattle.daide_show.specs.Input.{limit, parse_hex}
 use Rattle.daide_words.specs.Words.{words_of}
 use Rattle.daide_show.specs.declared.frame_view.Request.{Request}
@@ -33,8 +37,8 @@ use Rattle.daide_show.specs.declared.frame_view.ShowFault.{ShowFault}
 use Rattle.daide_show.specs.declared.frame_view.ShowFault.TheVariants.{Read, TooLong, NotHex, NotOneFrame}
 use Rattle.daide_show.specs.declared.frame_view.ShowFault.TheVariants.{Memory, Write}
 
--- a request: the operator's words, the side that sent the frame, the level, and whether a message that is not relayed
--- is explained
+-- a request: the operator's words, the side that sent the frame, the level, and whether a frame that is not relayed is
+-- explained
 pub record ShowRequest : Type 0 where
   pub words : List Word
   pub side : Side
@@ -93,18 +97,36 @@ is_relay (Huh place) = false
 abbrev pub kind_line : Kind → ℕ → List ℕ
 kind_line kind len = line (name_of_kind kind ++ 32 ∷ decimal len)
 
--- a frame at fault: its code in two digits, upper case
-abbrev pub fault_shown : Code → Shown
-fault_shown code = record { text = line (codes "fault " ++ code_digits code); relayed = false }
+-- the lines that explain a fault: its field, if it has one, and the values that are right there
+abbrev pub field_lines : Code → List ℕ → Option FaultField → List ℕ
+field_lines code header None = line (cause_text code None)
+field_lines code header (Some field) =
+    line (cause_text code (Some field)) ++ line (codes "expected: " ++ expected_value code header field)
+
+-- the same, by the header and the body up to the fault
+abbrev pub cause_lines : Code → List ℕ → List ℕ → List ℕ
+cause_lines code header body = field_lines code header (fault_field code false header body)
+
+-- the same for a fault of the header, or in the body, of some bytes under a cap
+unfoldable pub fault_lines : ℕ → Code → List ℕ → List ℕ
+fault_lines cap code bytes = cause_lines code (take 4 bytes) (faulty_body code (take cap (drop 4 bytes)))
+
+-- lines, if an explanation was requested
+abbrev pub lines_if : Bool → List ℕ → List ℕ
+lines_if explained lines = if explained then lines else []
+
+-- a frame at fault: its code in two digits, upper case, and the lines that explain it
+abbrev pub fault_shown : Code → List ℕ → Shown
+fault_shown code lines = record { text = line (codes "fault " ++ code_digits code) ++ lines; relayed = false }
 
 -- a valid frame that is not a message
 abbrev pub relayed_shown : Kind → ℕ → Shown
 relayed_shown kind len = record { text = kind_line kind len ++ line (codes "relay"); relayed = true }
 
 -- an IM, by the check of its body
-abbrev pub im_shown : ℕ → Result (Unit {0}) Code → Shown
-im_shown len (Ok good) = relayed_shown Im len
-im_shown len (Err code) = fault_shown code
+abbrev pub im_shown : Bool → ℕ → List ℕ → Result (Unit {0}) Code → Shown
+im_shown explained len body (Ok good) = relayed_shown Im len
+im_shown explained len body (Err code) = fault_shown code (lines_if explained (cause_lines code [] body))
 
 -- a message, its verdict, and the lines that explain it
 abbrev pub message_shown : List Word → ℕ → List ℕ → Verdict → List ℕ → Shown
@@ -134,7 +156,7 @@ WritesShown old new relayed shown = (new ≡ old ++ shown.text) × (relayed ≡ 
 
 -- the text of a complete frame
 abbrev pub IsFrameShownAs : ShowRequest → Kind → ℕ → List ℕ → Shown → Type 0
-IsFrameShownAs asked Im len body shown = shown ≡ im_shown len (im_of body)
+IsFrameShownAs asked Im len body shown = shown ≡ im_shown asked.explained len body (im_of body)
 IsFrameShownAs asked Rm len body shown = shown ≡ relayed_shown Rm len
 IsFrameShownAs asked Dm len body shown = IsMessageShownAs asked len body shown
 IsFrameShownAs asked Fm len body shown = shown ≡ relayed_shown Fm len
@@ -157,16 +179,17 @@ parse_frame_events count (Whole head body ∷ items) = if 4 + length body == cou
 unfoldable pub parse_frame : ℕ → List ℕ → OneFrame
 parse_frame cap bytes = parse_frame_events (length bytes) (frame_events_of (first_items cap bytes))
 
--- what is shown of a frame, or the fault if there is not exactly one
-abbrev pub IsOneShownAs : ShowRequest → OneFrame → Result Shown ShowFault → Type 0
-IsOneShownAs asked (faulty code) outcome = outcome ≡ Ok (fault_shown code)
-IsOneShownAs asked (whole head body) outcome =
+-- what is shown of the frame in some bytes, or the fault if there is not exactly one
+abbrev pub IsOneShownAs : ShowRequest → List ℕ → OneFrame → Result Shown ShowFault → Type 0
+IsOneShownAs asked bytes (faulty code) outcome =
+    outcome ≡ Ok (fault_shown code (lines_if asked.explained (fault_lines longest_body code bytes)))
+IsOneShownAs asked bytes (whole head body) outcome =
     (shown : Shown) × (outcome ≡ Ok shown) × IsFrameShownAs asked head.kind head.len body shown
-IsOneShownAs asked not_one outcome = outcome ≡ Err NotOneFrame
+IsOneShownAs asked bytes not_one outcome = outcome ≡ Err NotOneFrame
 
 -- what is shown of some bytes
 abbrev pub AreShownAs : ShowRequest → List ℕ → Result Shown ShowFault → Type 0
-AreShownAs asked bytes outcome = IsOneShownAs asked (parse_frame longest_body bytes) outcome
+AreShownAs asked bytes outcome = IsOneShownAs asked bytes (parse_frame longest_body bytes) outcome
 
 -- what is shown of an input, or the fault of the input
 abbrev pub IsShownAs : ShowRequest → List ℕ → Result Shown ShowFault → Type 0

@@ -3,6 +3,7 @@
 //! The input is read up to its limit before anything is judged, and the text is complete before any of it is written.
 //! So after a fault of the input, or a refused allocation, nothing is written.
 
+mod cause;
 pub(crate) mod input;
 pub(crate) mod one_frame;
 pub(crate) mod places;
@@ -23,7 +24,7 @@ use input::{LIMIT, digits_of};
 use one_frame::{ParsedInput, find_frame};
 use std::alloc::Allocator;
 use std::io::{Read, Write};
-use text::{write_fault, write_frame};
+use text::{write_bytes_fault, write_frame};
 use thiserror::Error;
 
 /// Why nothing is shown, in the order of the tests. `Memory` is returned by the allocation that was refused, before
@@ -59,7 +60,7 @@ pub struct Request<'a> {
     pub level: Level,
     /// The operator's words. Messages are judged with them and printed with their names.
     pub words: &'a Words,
-    /// Whether a message that is not relayed is explained.
+    /// Whether a frame that is not relayed is explained.
     pub is_explained: bool,
 }
 
@@ -80,7 +81,9 @@ fn show_bytes<A: Allocator + Copy>(
     let mut text = Vec::new(alloc);
     let written = match find_frame(&mut cutter, bytes) {
         ParsedInput::NotOneFrame => return Err(ShowFault::NotOneFrame),
-        ParsedInput::Fault(code) => write_fault(code, &mut text),
+        ParsedInput::Fault(code) => {
+            write_bytes_fault(request.is_explained, code, bytes, &mut text)
+        }
         ParsedInput::Whole(head) => write_frame(alloc, request, head, cutter.body(), &mut text),
     };
     match written {

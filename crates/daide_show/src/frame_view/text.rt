@@ -1,6 +1,6 @@
 //! The text of a frame.
 
-ghost use Rattle.std.specs.Prelude.{◌≡◌, ◌≤◌, ◌%◌, ◌++◌, ℕ, List, length, true, IfOk, OnOk};
+ghost use Rattle.std.specs.Prelude.{◌≡◌, ◌≤◌, ◌%◌, ◌++◌, ℕ, List, length, take, true, IfOk, OnOk};
 ghost use Rattle.daide_token.specs.Token.{tokens_of};
 ghost use Rattle.daide_frame.specs.Head.{has_right_length};
 ghost use Rattle.daide_frame.specs.InitialMessage.{im_of};
@@ -12,13 +12,14 @@ ghost use Rattle.daide_protocol.specs.Bounds.{longest_body, greatest_depth};
 ghost use Rattle.daide_protocol.specs.Machine.{side2_of};
 ghost use Rattle.daide_show.specs.Shown.{Shown, WritesShown, AreLines, IsFrameShownAs, IsMessageShownAs, request_of};
 ghost use Rattle.daide_show.specs.Shown.{line, printed, kind_line, fault_shown, relayed_shown, im_shown};
-ghost use Rattle.daide_show.specs.Shown.{verdict_lines, is_relay};
+ghost use Rattle.daide_show.specs.Shown.{cause_lines, fault_lines, lines_if, verdict_lines, is_relay};
 
 use super::Request;
+use super::cause::{faulty_body, write_cause};
 use daide_explain::{Rules, answer_of, verdict_of, write_explained};
 use daide_frame::{Code, Head, Kind, check_im};
-use daide_protocol::MAX_DEPTH;
 use daide_protocol::transitions::side2_of;
+use daide_protocol::{MAX_BODY, MAX_DEPTH};
 use daide_reader::Verdict;
 use daide_token::write_text_with;
 use daide_words::Words;
@@ -87,14 +88,52 @@ fn write_verdict<A: Allocator + Copy>(
     Ok(false)
 }
 
-/// Writes the fault of a frame. Returns false.
-pub(super) fn write_fault<A: Allocator>(code: Code, text: &mut Vec<u8, A>) -> io::Result<bool>
-    ensures { IfOk result (λ relayed. WritesShown text.old.items text.new.items relayed (fault_shown code)) }
+/// Writes the fault of a frame, and explains it if that is requested. Returns false.
+fn write_fault<A: Allocator>(
+    is_explained: bool,
+    code: Code,
+    header: &[u8],
+    body: &[u8],
+    text: &mut Vec<u8, A>,
+) -> io::Result<bool>
+    requires { length body.now ≤ longest_body }
+    ensures { IfOk result (λ relayed. WritesShown text.old.items text.new.items relayed
+        (fault_shown code (lines_if is_explained (cause_lines code header.now body.now)))) }
 {
     text.write_all(b"fault ")?;
     text.write_all(&code.digits())?;
     text.write_all(b"\n")?;
+    if is_explained {
+        write_cause(code, header, body, text)?;
+    }
     Ok(false)
+}
+
+/// Returns the first bytes, this many at most.
+fn front(bytes: &[u8], count: usize) -> &[u8]
+    ensures value { result.now ≡ take count bytes.now }
+    ensures within { length result.now ≤ count }
+{
+    if bytes.len() > count {
+        return &bytes[..count];
+    }
+    bytes
+}
+
+/// Writes the fault of the header or of the body in some bytes, and explains it if that is requested. Returns false.
+pub(super) fn write_bytes_fault<A: Allocator>(
+    is_explained: bool,
+    code: Code,
+    bytes: &[u8],
+    text: &mut Vec<u8, A>,
+) -> io::Result<bool>
+    requires { 4 ≤ length bytes.now }
+    ensures { IfOk result (λ relayed. WritesShown text.old.items text.new.items relayed
+        (fault_shown code (lines_if is_explained (fault_lines longest_body code bytes.now)))) }
+{
+    let (header, rest) = bytes.split_at(4);
+    let body = faulty_body(code, front(rest, usize::from(MAX_BODY)));
+    write_fault(is_explained, code, header, body, text)
 }
 
 /// Writes a valid frame that is not a message. Returns true.
@@ -106,15 +145,21 @@ fn write_relayed<A: Allocator>(head: Head, text: &mut Vec<u8, A>) -> io::Result<
     Ok(true)
 }
 
-/// Writes an IM, or the fault of its body. Returns whether it is relayed.
-fn write_im<A: Allocator>(head: Head, body: &[u8], text: &mut Vec<u8, A>) -> io::Result<bool>
+/// Writes an IM, or the fault of its body, which is explained if that is requested. Returns whether it is relayed.
+fn write_im<A: Allocator>(
+    is_explained: bool,
+    head: Head,
+    body: &[u8],
+    text: &mut Vec<u8, A>,
+) -> io::Result<bool>
     requires im { head.kind ≡ Kind.Im }
     requires four { length body.now ≡ 4 }
-    ensures { IfOk result (λ relayed. WritesShown text.old.items text.new.items relayed (im_shown head.len (im_of body.now))) }
+    ensures { IfOk result (λ relayed. WritesShown text.old.items text.new.items relayed
+        (im_shown is_explained head.len body.now (im_of body.now))) }
 {
     match check_im([body[0], body[1], body[2], body[3]]) {
         Ok(()) => write_relayed(head, text),
-        Err(code) => write_fault(code, text),
+        Err(code) => write_fault(is_explained, code, &[], body, text),
     }
 }
 
@@ -176,7 +221,7 @@ pub(super) fn write_frame<A: Allocator + Copy>(
         × WritesShown text.old.items text.new.items relayed shown) }
 {
     match head.kind {
-        Kind::Im => write_im(head, body, text),
+        Kind::Im => write_im(request.is_explained, head, body, text),
         Kind::Dm => write_message(alloc, request, head, body, text),
         Kind::Rm | Kind::Fm | Kind::Em => write_relayed(head, text),
     }
