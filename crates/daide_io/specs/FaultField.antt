@@ -96,15 +96,15 @@ place_of (Token value place) = place
 -- ---- the text of a fault
 
 -- a number in upper-case hexadecimal digits, this many at least
-abbrev pub hex_text : ℕ → ℕ → List ℕ
-hex_text width value = padded_integral (format_spec 32 0 4 width (2 ^ 64 - 1)) false [] (digits 16 true value)
+abbrev pub padded_hex : ℕ → ℕ → List ℕ
+padded_hex width value = padded_integral (format_spec 32 0 4 width (2 ^ 64 - 1)) false [] (digits 16 true value)
 
 abbrev pub value_text : FaultField → List ℕ
-value_text (Kind value) = hex_text 2 value
-value_text (Length value) = hex_text 4 value
-value_text (Version value) = hex_text 4 value
-value_text (MagicNumber value) = hex_text 4 value
-value_text (Token value place) = hex_text 4 value
+value_text (Kind value) = padded_hex 2 value
+value_text (Length value) = padded_hex 4 value
+value_text (Version value) = padded_hex 4 value
+value_text (MagicNumber value) = padded_hex 4 value
+value_text (Token value place) = padded_hex 4 value
 
 -- the value of a field, and its place: `6000 at byte 6`
 abbrev pub field_text : FaultField → List ℕ

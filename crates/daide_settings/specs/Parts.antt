@@ -20,12 +20,12 @@ use Rattle.daide_settings.specs.WordSettings.{text_in, number_in, is_entry, word
 use Rattle.daide_settings.specs.Ranges.{range_of}
 
 -- a field as an entry of `words` writes it
-abbrev pub field_text : Field → List ℕ
-field_text Name = codes "name"
-field_text Code = codes "code"
-field_text Slot = codes "slot"
-field_text Level = codes "level"
-field_text Operand = codes "operand"
+abbrev pub field_key : Field → List ℕ
+field_key Name = codes "name"
+field_key Code = codes "code"
+field_key Slot = codes "slot"
+field_key Level = codes "level"
+field_key Operand = codes "operand"
 
 -- a field of an entry, or the entry itself
 abbrev pub part_in : ℕ → Option Field → ValuePart
@@ -139,7 +139,7 @@ faulty_part key fault (Some value) = part_of_items key (is_wrong_type fault) (as
 abbrev pub value_in : ValuePart → Data → Option Data
 value_in Whole value = Some value
 value_in (Entry place) value = at place value
-value_in (Member place field) value = option_and_then (get (field_text field)) (at place value)
+value_in (Member place field) value = option_and_then (get (field_key field)) (at place value)
 
 abbrev pub part_value : ValuePart → Option Data → Option Data
 part_value part value = option_and_then (value_in part) value

@@ -20,7 +20,7 @@ use Rattle.daide_settings.specs.declared.settings.parts.Field.TheVariants.{Name,
 use Rattle.daide_settings.specs.declared.settings.parts.ValuePart.{ValuePart}
 use Rattle.daide_settings.specs.declared.settings.parts.ValuePart.TheVariants.{Whole, Entry, Member}
 use Rattle.daide_settings.specs.Judged.{fault_at, is_right}
-use Rattle.daide_settings.specs.Parts.{field_text, faulty_part, part_value}
+use Rattle.daide_settings.specs.Parts.{field_key, faulty_part, part_value}
 
 -- ---- texts
 
@@ -112,7 +112,7 @@ abbrev pub path_text : Key → ValuePart → List ℕ
 path_text key Whole = key_text key
 path_text key (Entry index) = key_text key ++ (codes "[" ++ (decimal index ++ codes "]"))
 path_text key (Member index field) =
-    key_text key ++ (codes "[" ++ (decimal index ++ (codes "]." ++ field_text field)))
+    key_text key ++ (codes "[" ++ (decimal index ++ (codes "]." ++ field_key field)))
 
 -- ---- lines
 

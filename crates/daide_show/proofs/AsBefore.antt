@@ -5,11 +5,11 @@ use Rattle.std.specs.List.{list_all}
 use Rattle.std.proofs.lemmas.Bool.{eqb-true}
 use Rattle.daide_show.specs.declared.frame_view.places.Place.{Place}
 use Rattle.daide_show.specs.declared.frame_view.places.Place.TheVariants.{Outside, After}
-use Rattle.daide_show.specs.declared.frame_view.places.Part.{Part}
-use Rattle.daide_show.specs.declared.frame_view.places.Part.TheVariants.{Nothing, Kept}
-use Rattle.daide_show.specs.Input.{are_pairs, begins_with, digits_after_x, digits_from, digits_of_part, is_blank, is_plain}
+use Rattle.daide_show.specs.declared.frame_view.places.InputByte.{InputByte}
+use Rattle.daide_show.specs.declared.frame_view.places.InputByte.TheVariants.{Nothing, Kept}
+use Rattle.daide_show.specs.Input.{are_pairs, first_byte_passes, digits_after_x, digits_from, digits_of_input_byte, is_blank, is_digit_or_blank}
 use Rattle.daide_show.specs.Input.{is_quote, is_separator, is_x, next_place, opens_bare, opens_escape, opens_prefix}
-use Rattle.daide_show.specs.Input.{opens_quoted, part_of, place_after}
+use Rattle.daide_show.specs.Input.{opens_quoted, input_byte, following_place}
 use Rattle.hex.specs.Hex.{is_hex_digit}
 
 both : (a b : Bool) → (a && b) ≡ true → (a ≡ true) × (b ≡ true)
@@ -22,38 +22,38 @@ and_false true b e = e
 and_false false b e = refl
 
 -- a plain byte is none that is not
-never : (b n : ℕ) → is_plain b ≡ true → is_plain n ≡ false → (b == n) ≡ false
+never : (b n : ℕ) → is_digit_or_blank b ≡ true → is_digit_or_blank n ≡ false → (b == n) ≡ false
 never b n plain other = go (b == n) refl
   where
     go : (same : Bool) → (b == n) ≡ same → same ≡ false
     go false e = refl
-    go true e = absurd (let is : is_plain n ≡ true = subst (λ (k : ℕ). is_plain k ≡ true) (eqb-true b n e) plain in cc)
+    go true e = absurd (let is : is_digit_or_blank n ≡ true = subst (λ (k : ℕ). is_digit_or_blank k ≡ true) (eqb-true b n e) plain in cc)
 
-not_x : (b : ℕ) → is_plain b ≡ true → is_x b ≡ false
+not_x : (b : ℕ) → is_digit_or_blank b ≡ true → is_x b ≡ false
 not_x b plain = rw (never b 120 plain refl, never b 88 plain refl) refl
 
-no_x : (rest : List ℕ) → list_all is_plain rest ≡ true → digits_after_x rest ≡ 0
+no_x : (rest : List ℕ) → list_all is_digit_or_blank rest ≡ true → digits_after_x rest ≡ 0
 no_x [] all = refl
-no_x (b ∷ rest) all = rw (not_x b (both (is_plain b) (list_all is_plain rest) all).0) refl
+no_x (b ∷ rest) all = rw (not_x b (both (is_digit_or_blank b) (list_all is_digit_or_blank rest) all).0) refl
 
 -- no quote and no backslash begins the rest
-no_quote : (rest : List ℕ) → list_all is_plain rest ≡ true → begins_with is_quote rest ≡ false
+no_quote : (rest : List ℕ) → list_all is_digit_or_blank rest ≡ true → first_byte_passes is_quote rest ≡ false
 no_quote [] all = refl
 no_quote (b ∷ rest) all =
-    let plain = (both (is_plain b) (list_all is_plain rest) all).0 in
+    let plain = (both (is_digit_or_blank b) (list_all is_digit_or_blank rest) all).0 in
     rw (never b 39 plain refl, never b 34 plain refl) refl
 
-no_backslash : (rest : List ℕ) → list_all is_plain rest ≡ true → begins_with (λ c. c == 92) rest ≡ false
+no_backslash : (rest : List ℕ) → list_all is_digit_or_blank rest ≡ true → first_byte_passes (λ c. c == 92) rest ≡ false
 no_backslash [] all = refl
-no_backslash (b ∷ rest) all = never b 92 (both (is_plain b) (list_all is_plain rest) all).0 refl
+no_backslash (b ∷ rest) all = never b 92 (both (is_digit_or_blank b) (list_all is_digit_or_blank rest) all).0 refl
 
-no_escape : (b : ℕ) (rest : List ℕ) → is_plain b ≡ true → opens_escape b rest ≡ false
+no_escape : (b : ℕ) (rest : List ℕ) → is_digit_or_blank b ≡ true → opens_escape b rest ≡ false
 no_escape b rest plain = rw (never b 92 plain refl) refl
 
-no_prefix : (b : ℕ) (rest : List ℕ) → list_all is_plain rest ≡ true → opens_prefix b rest ≡ false
+no_prefix : (b : ℕ) (rest : List ℕ) → list_all is_digit_or_blank rest ≡ true → opens_prefix b rest ≡ false
 no_prefix b rest all = and_false (b == 48) (are_pairs (digits_after_x rest)) (ap are_pairs (no_x rest all))
 
-separated : (b : ℕ) → is_plain b ≡ true → is_separator b ≡ is_blank b
+separated : (b : ℕ) → is_digit_or_blank b ≡ true → is_separator b ≡ is_blank b
 separated b plain = rw (never b 44 plain refl, never b 58 plain refl) (go (is_blank b))
   where
     go : (blank : Bool) → (blank || (false || false)) ≡ blank
@@ -65,9 +65,9 @@ abbrev outer : Bool → Place
 outer true = After
 outer false = Outside
 
-plain_part : (after : Bool) (b : ℕ) (rest : List ℕ) → is_plain b ≡ true → list_all is_plain rest ≡ true →
-    part_of (outer after) b rest ≡ (if is_blank b then Nothing else Kept b)
-plain_part true b rest plain all =
+plain_byte : (after : Bool) (b : ℕ) (rest : List ℕ) → is_digit_or_blank b ≡ true → list_all is_digit_or_blank rest ≡ true →
+    input_byte (outer after) b rest ≡ (if is_blank b then Nothing else Kept b)
+plain_byte true b rest plain all =
     go (is_separator b) (opens_escape b rest) (is_blank b) (separated b plain) (no_escape b rest plain)
   where
     go : (separates escapes blank : Bool) → separates ≡ blank → escapes ≡ false →
@@ -77,11 +77,11 @@ plain_part true b rest plain all =
     go true escapes false s e = absurd cc
     go false escapes true s e = absurd cc
     go false true false s e = absurd cc
-plain_part false b rest plain all =
+plain_byte false b rest plain all =
     go (is_separator b) (opens_escape b rest) (opens_prefix b rest) (opens_quoted b rest) (opens_bare b rest) (is_blank b)
     (separated b plain) (no_escape b rest plain) (no_prefix b rest all)
-    (and_false (b == 98) (begins_with is_quote rest) (no_quote rest all))
-    (and_false (b == 98) (begins_with (λ c. c == 92) rest) (no_backslash rest all))
+    (and_false (b == 98) (first_byte_passes is_quote rest) (no_quote rest all))
+    (and_false (b == 98) (first_byte_passes (λ c. c == 92) rest) (no_backslash rest all))
   where
     go : (separates escapes prefixed quoted bare blank : Bool) → separates ≡ blank → escapes ≡ false → prefixed ≡ false →
         quoted ≡ false → bare ≡ false →
@@ -97,11 +97,11 @@ plain_part false b rest plain all =
     go false false false false true false s e p q r = absurd cc
 
 -- the place after it is outside of a literal too
-plain_place : (after : Bool) (b : ℕ) (rest : List ℕ) → is_plain b ≡ true → list_all is_plain rest ≡ true →
+plain_place : (after : Bool) (b : ℕ) (rest : List ℕ) → is_digit_or_blank b ≡ true → list_all is_digit_or_blank rest ≡ true →
     next_place (outer after) b rest ≡ outer (is_hex_digit b)
 plain_place true b rest plain all = rw (no_escape b rest plain) (placed b)
   where
-    placed : (c : ℕ) → place_after c ≡ outer (is_hex_digit c)
+    placed : (c : ℕ) → following_place c ≡ outer (is_hex_digit c)
     placed c = go (is_hex_digit c)
       where
         go : (digit : Bool) → (if digit then After else Outside) ≡ outer digit
@@ -111,8 +111,8 @@ plain_place false b rest plain all =
     rw (
       no_escape b rest plain,
       no_prefix b rest all,
-      and_false (b == 98) (begins_with is_quote rest) (no_quote rest all),
-      and_false (b == 98) (begins_with (λ c. c == 92) rest) (no_backslash rest all),
+      and_false (b == 98) (first_byte_passes is_quote rest) (no_quote rest all),
+      and_false (b == 98) (first_byte_passes (λ c. c == 92) rest) (no_backslash rest all),
     )
     (go (is_hex_digit b))
   where
@@ -120,25 +120,25 @@ plain_place false b rest plain all =
     go true = refl
     go false = refl
 
-blanks_dropped : (after : Bool) (input : List ℕ) → list_all is_plain input ≡ true →
+blanks_dropped : (after : Bool) (input : List ℕ) → list_all is_digit_or_blank input ≡ true →
     digits_from (outer after) input ≡ filter (λ b. not (is_blank b)) input
 blanks_dropped true [] all = refl
 blanks_dropped false [] all = refl
 blanks_dropped after (b ∷ rest) all =
-    let parts = both (is_plain b) (list_all is_plain rest) all in
-    ap (λ (p : Part). digits_of_part p ++ digits_from (next_place (outer after) b rest) rest)
-    (plain_part after b rest parts.0 parts.1)
-    ∙ (ap (λ (place : Place). digits_of_part (if is_blank b then Nothing else Kept b) ++ digits_from place rest)
+    let parts = both (is_digit_or_blank b) (list_all is_digit_or_blank rest) all in
+    ap (λ (p : InputByte). digits_of_input_byte p ++ digits_from (next_place (outer after) b rest) rest)
+    (plain_byte after b rest parts.0 parts.1)
+    ∙ (ap (λ (place : Place). digits_of_input_byte (if is_blank b then Nothing else Kept b) ++ digits_from place rest)
     (plain_place after b rest parts.0 parts.1)
-    ∙ (ap (λ (l : List ℕ). digits_of_part (if is_blank b then Nothing else Kept b) ++ l)
+    ∙ (ap (λ (l : List ℕ). digits_of_input_byte (if is_blank b then Nothing else Kept b) ++ l)
     (blanks_dropped (is_hex_digit b) rest parts.1)
     ∙ go (is_blank b)))
   where
-    go : (blank : Bool) → digits_of_part (if blank then Nothing else Kept b) ++ filter (λ b. not (is_blank b)) rest
+    go : (blank : Bool) → digits_of_input_byte (if blank then Nothing else Kept b) ++ filter (λ b. not (is_blank b)) rest
         ≡ (if not blank then b ∷ filter (λ b. not (is_blank b)) rest else filter (λ b. not (is_blank b)) rest)
     go true = refl
     go false = refl
 
-pub blanks_alone : (input : List ℕ) → list_all is_plain input ≡ true →
+pub blanks_alone : (input : List ℕ) → list_all is_digit_or_blank input ≡ true →
     digits_from Outside input ≡ filter (λ b. not (is_blank b)) input
 blanks_alone input all = blanks_dropped false input all

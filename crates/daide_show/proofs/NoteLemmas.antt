@@ -12,7 +12,7 @@ use Rattle.daide_show.specs.declared.frame_view.places.Place.TheVariants.{Outsid
 use Rattle.daide_show.specs.declared.notes.InputNote.{InputNote}
 use Rattle.daide_show.specs.declared.notes.InputNote.TheVariants.{BadByte, OpenQuote, OddDigits, ShortHeader, ShortBody}
 use Rattle.daide_show.specs.declared.notes.InputNote.TheVariants.{AnotherFrame}
-use Rattle.daide_show.specs.Input.{limit, digits_of, is_closed, next_place, parse_hex, part_of}
+use Rattle.daide_show.specs.Input.{limit, digits_of, may_end_at, next_place, parse_hex, input_byte}
 use Rattle.daide_show.specs.Shown.{ShowRequest, Shown, OneFrame, faulty, whole, not_one, parse_frame, IsOneShownAs, IsShownAs}
 use Rattle.daide_show.specs.Note.{is_bad, refusal_from, announced_length, note_of_frame}
 use Rattle.daide_show.specs.Note.{note_of_bytes, input_note_of, fault_of_note, noted_fault}
@@ -20,13 +20,13 @@ use Rattle.daide_show.proofs.OneWay.{Decoded}
 
 of_refusal : (number : ℕ) (place : Place) (bytes : List ℕ) (other : InputNote) → fault_of_note other ≡ NotHex →
     fault_of_note (unwrap_or (refusal_from number place bytes) other) ≡ NotHex
-of_refusal number place [] other is = at_end (is_closed place)
+of_refusal number place [] other is = at_end (may_end_at place)
   where
     at_end : (closed : Bool) → fault_of_note (unwrap_or (if closed then None else Some OpenQuote) other) ≡ NotHex
     at_end true = is
     at_end false = refl
 of_refusal number place (b ∷ rest) other is =
-    at_byte (is_bad (part_of place b rest)) (of_refusal (number + 1) (next_place place b rest) rest other is)
+    at_byte (is_bad (input_byte place b rest)) (of_refusal (number + 1) (next_place place b rest) rest other is)
   where
     at_byte : (bad : Bool) →
         fault_of_note (unwrap_or (refusal_from (number + 1) (next_place place b rest) rest) other) ≡ NotHex →

@@ -25,7 +25,7 @@ use Rattle.daide_show.specs.declared.frame_view.ShowFault.TheVariants.{TooLong, 
 use Rattle.daide_show.specs.Input.{limit, parse_hex}
 use Rattle.daide_show.specs.Shown.{ShowRequest, Shown, OneFrame, faulty, whole, not_one, parse_frame}
 use Rattle.daide_show.specs.Shown.{kind_line, line, printed, verdict_lines, is_relay, message_shown, im_shown}
-use Rattle.daide_show.specs.Shown.{cause_lines, fault_lines, relayed_shown, fault_shown, OnlyAdds, IsMessageShownAs, IsFrameShownAs}
+use Rattle.daide_show.specs.Shown.{cause_lines, frame_fault_lines, relayed_shown, fault_shown, OnlyAdds, IsMessageShownAs, IsFrameShownAs}
 use Rattle.daide_show.specs.Shown.{IsOneShownAs, IsShownAs}
 use Rattle.daide_show.proofs.OneWay.{Decoded}
 
@@ -102,7 +102,7 @@ module _ (words : List Word) (side : Side) (level : Level) where
   one_adds : (bytes : List ℕ) (frame : OneFrame) (one other : Result Shown ShowFault) →
       IsOneShownAs plainly bytes frame one → IsOneShownAs explaining bytes frame other → OnlyAdds one other
   one_adds bytes (faulty code) one other x y =
-      let lines = fault_lines longest_body code bytes in
+      let lines = frame_fault_lines longest_body code bytes in
       moved one other (Ok (fault_shown code [])) (Ok (fault_shown code lines)) x y
       (adds_cause code lines (fault_shown code []) (fault_shown code lines) refl refl)
   one_adds bytes not_one one other x y = moved one other (Err NotOneFrame) (Err NotOneFrame) x y refl

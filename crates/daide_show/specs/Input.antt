@@ -8,8 +8,8 @@ use Rattle.daide_token.specs.HexDigits.{digits_of_byte}
 use Rattle.daide_show.specs.declared.frame_view.places.Place.{Place}
 use Rattle.daide_show.specs.declared.frame_view.places.Place.TheVariants.{Outside, After, Marked, Opened, Quoted, Escaped, High}
 use Rattle.daide_show.specs.declared.frame_view.places.Place.TheVariants.{Low}
-use Rattle.daide_show.specs.declared.frame_view.places.Part.{Part}
-use Rattle.daide_show.specs.declared.frame_view.places.Part.TheVariants.{Nothing, Kept, Byte}
+use Rattle.daide_show.specs.declared.frame_view.places.InputByte.{InputByte}
+use Rattle.daide_show.specs.declared.frame_view.places.InputByte.TheVariants.{Nothing, Kept, Byte}
 
 -- the most bytes of an input (own)
 abbrev pub limit : ℕ
@@ -20,8 +20,8 @@ abbrev pub is_blank : ℕ → Bool
 is_blank b = b == 32 || b == 9 || b == 13 || b == 10
 
 -- a digit or a blank
-abbrev pub is_plain : ℕ → Bool
-is_plain b = is_hex_digit b || is_blank b
+abbrev pub is_digit_or_blank : ℕ → Bool
+is_digit_or_blank b = is_hex_digit b || is_blank b
 
 -- ---- digits: separators and prefixes are dropped
 
@@ -63,23 +63,23 @@ abbrev pub is_quote : ℕ → Bool
 is_quote b = b == 39 || b == 34
 
 -- the first of some bytes is such a byte
-abbrev pub begins_with : (ℕ → Bool) → List ℕ → Bool
-begins_with test [] = false
-begins_with test (b ∷ bytes) = test b
+abbrev pub first_byte_passes : (ℕ → Bool) → List ℕ → Bool
+first_byte_passes test [] = false
+first_byte_passes test (b ∷ bytes) = test b
 
 -- the `b` before a quote, and before a backslash
 abbrev pub opens_quoted : ℕ → List ℕ → Bool
-opens_quoted b rest = b == 98 && begins_with is_quote rest
+opens_quoted b rest = b == 98 && first_byte_passes is_quote rest
 
 abbrev pub opens_bare : ℕ → List ℕ → Bool
-opens_bare b rest = b == 98 && begins_with (λ c. c == 92) rest
+opens_bare b rest = b == 98 && first_byte_passes (λ c. c == 92) rest
 
 -- from space to tilde
-abbrev pub is_printable : ℕ → Bool
-is_printable b = nat_le 32 b && nat_le b 126
+abbrev pub is_in_text : ℕ → Bool
+is_in_text b = nat_le 32 b && nat_le b 126
 
 -- what the byte after a backslash means, other than `x`: n, r, t, a backslash or a quote
-abbrev pub escaped : ℕ → Part
+abbrev pub escaped : ℕ → InputByte
 escaped b =
     if b == 110 then Byte 10
     else if b == 114 then Byte 13
@@ -91,23 +91,23 @@ escaped b =
 
 -- what a byte gives, by its place and the bytes after it. In a literal a printable byte is itself. A byte that is kept
 -- must be a digit.
-abbrev pub part_of : Place → ℕ → List ℕ → Part
-part_of Outside b rest =
+abbrev pub input_byte : Place → ℕ → List ℕ → InputByte
+input_byte Outside b rest =
     if is_separator b || (opens_escape b rest || (opens_prefix b rest || (opens_quoted b rest || opens_bare b rest)))
     then Nothing
     else Kept b
-part_of After b rest = if is_separator b || opens_escape b rest then Nothing else Kept b
-part_of Marked b rest = Nothing
-part_of Opened b rest = Nothing
-part_of (Quoted quote) b rest =
-    if b == 92 || b == quote then Nothing else if is_printable b then Byte b else Kept b
-part_of (Escaped quote) b rest = if b == 120 then Nothing else escaped b
-part_of (High quote) b rest = Kept b
-part_of (Low quote) b rest = Kept b
+input_byte After b rest = if is_separator b || opens_escape b rest then Nothing else Kept b
+input_byte Marked b rest = Nothing
+input_byte Opened b rest = Nothing
+input_byte (Quoted quote) b rest =
+    if b == 92 || b == quote then Nothing else if is_in_text b then Byte b else Kept b
+input_byte (Escaped quote) b rest = if b == 120 then Nothing else escaped b
+input_byte (High quote) b rest = Kept b
+input_byte (Low quote) b rest = Kept b
 
 -- the place after a byte outside of a literal
-abbrev pub place_after : ℕ → Place
-place_after b = if is_hex_digit b then After else Outside
+abbrev pub following_place : ℕ → Place
+following_place b = if is_hex_digit b then After else Outside
 
 -- the place of the next byte
 abbrev pub next_place : Place → ℕ → List ℕ → Place
@@ -115,8 +115,8 @@ next_place Outside b rest =
     if opens_escape b rest || opens_prefix b rest then Marked
     else if opens_quoted b rest then Opened
     else if opens_bare b rest then Quoted 92
-    else place_after b
-next_place After b rest = if opens_escape b rest then Marked else place_after b
+    else following_place b
+next_place After b rest = if opens_escape b rest then Marked else following_place b
 next_place Marked b rest = Outside
 next_place Opened b rest = Quoted b
 next_place (Quoted quote) b rest = if b == 92 then Escaped quote else if b == quote then Outside else Quoted quote
@@ -125,25 +125,25 @@ next_place (High quote) b rest = Low quote
 next_place (Low quote) b rest = Quoted quote
 
 -- an input may end at this place: no quote is open, and no escape
-abbrev pub is_closed : Place → Bool
-is_closed Outside = true
-is_closed After = true
-is_closed Marked = false
-is_closed Opened = false
-is_closed (Quoted quote) = quote == 92
-is_closed (Escaped quote) = false
-is_closed (High quote) = false
-is_closed (Low quote) = false
+abbrev pub may_end_at : Place → Bool
+may_end_at Outside = true
+may_end_at After = true
+may_end_at Marked = false
+may_end_at Opened = false
+may_end_at (Quoted quote) = quote == 92
+may_end_at (Escaped quote) = false
+may_end_at (High quote) = false
+may_end_at (Low quote) = false
 
-abbrev pub digits_of_part : Part → List ℕ
-digits_of_part Nothing = []
-digits_of_part (Kept b) = b ∷ []
-digits_of_part (Byte b) = digits_of_byte b
+abbrev pub digits_of_input_byte : InputByte → List ℕ
+digits_of_input_byte Nothing = []
+digits_of_input_byte (Kept b) = b ∷ []
+digits_of_input_byte (Byte b) = digits_of_byte b
 
 -- the digits of bytes from a place on; an open quote is kept, and so refused
 abbrev pub digits_from : Place → List ℕ → List ℕ
-digits_from place [] = if is_closed place then [] else 39 ∷ []
-digits_from place (b ∷ rest) = digits_of_part (part_of place b rest) ++ digits_from (next_place place b rest) rest
+digits_from place [] = if may_end_at place then [] else 39 ∷ []
+digits_from place (b ∷ rest) = digits_of_input_byte (input_byte place b rest) ++ digits_from (next_place place b rest) rest
 
 -- the digits of an input
 abbrev pub digits_of : List ℕ → List ℕ

@@ -7,30 +7,30 @@ use Rattle.std.specs.Int.{w16, from_be_bytes}
 use Rattle.hex.specs.Hex.{is_hex_digit, upper_digits}
 use Rattle.hex.specs.declared.error.FromHexError.{FromHexError}
 use Rattle.daide_protocol.specs.Bounds.{longest_body}
-use Rattle.daide_show.specs.Input.{limit, digits_of, is_closed, next_place, parse_hex, part_of}
+use Rattle.daide_show.specs.Input.{limit, digits_of, may_end_at, next_place, parse_hex, input_byte}
 use Rattle.daide_show.specs.Shown.{Shown, OneFrame, faulty, whole, not_one, parse_frame}
 use Rattle.daide_show.specs.declared.frame_view.ShowFault.{ShowFault}
 use Rattle.daide_show.specs.declared.frame_view.ShowFault.TheVariants.{Read, TooLong, NotHex, NotOneFrame}
 use Rattle.daide_show.specs.declared.frame_view.ShowFault.TheVariants.{Memory, Write}
 use Rattle.daide_show.specs.declared.frame_view.places.Place.{Place}
 use Rattle.daide_show.specs.declared.frame_view.places.Place.TheVariants.{Outside}
-use Rattle.daide_show.specs.declared.frame_view.places.Part.{Part}
-use Rattle.daide_show.specs.declared.frame_view.places.Part.TheVariants.{Nothing, Kept, Byte}
+use Rattle.daide_show.specs.declared.frame_view.places.InputByte.{InputByte}
+use Rattle.daide_show.specs.declared.frame_view.places.InputByte.TheVariants.{Nothing, Kept, Byte}
 use Rattle.daide_show.specs.declared.notes.InputNote.{InputNote}
 use Rattle.daide_show.specs.declared.notes.InputNote.TheVariants.{BadByte, OpenQuote, OddDigits, ShortHeader}
 use Rattle.daide_show.specs.declared.notes.InputNote.TheVariants.{ShortBody, AnotherFrame}
 
 -- a byte that is kept and is no digit
-abbrev pub is_bad : Part → Bool
+abbrev pub is_bad : InputByte → Bool
 is_bad Nothing = false
 is_bad (Kept b) = not (is_hex_digit b)
 is_bad (Byte b) = false
 
 -- from a place on: the first bad byte with its number, or the quote that is open at the end
 abbrev pub refusal_from : ℕ → Place → List ℕ → Option InputNote
-refusal_from number place [] = if is_closed place then None else Some OpenQuote
+refusal_from number place [] = if may_end_at place then None else Some OpenQuote
 refusal_from number place (b ∷ rest) =
-    if is_bad (part_of place b rest) then Some (BadByte number b)
+    if is_bad (input_byte place b rest) then Some (BadByte number b)
     else refusal_from (number + 1) (next_place place b rest) rest
 
 -- why an input is not hexadecimal: that, with bytes numbered from 1; if there is none, the number of digits

@@ -108,8 +108,8 @@ abbrev pub cause_lines : Code → List ℕ → List ℕ → List ℕ
 cause_lines code header body = field_lines code header (fault_field code false header body)
 
 -- the same for a fault of the header, or in the body, of some bytes under a cap
-unfoldable pub fault_lines : ℕ → Code → List ℕ → List ℕ
-fault_lines cap code bytes = cause_lines code (take 4 bytes) (faulty_body code (take cap (drop 4 bytes)))
+unfoldable pub frame_fault_lines : ℕ → Code → List ℕ → List ℕ
+frame_fault_lines cap code bytes = cause_lines code (take 4 bytes) (faulty_body code (take cap (drop 4 bytes)))
 
 -- lines, if an explanation was requested
 abbrev pub lines_if : Bool → List ℕ → List ℕ
@@ -182,7 +182,7 @@ parse_frame cap bytes = parse_frame_events (length bytes) (frame_events_of (firs
 -- what is shown of the frame in some bytes, or the fault if there is not exactly one
 abbrev pub IsOneShownAs : ShowRequest → List ℕ → OneFrame → Result Shown ShowFault → Type 0
 IsOneShownAs asked bytes (faulty code) outcome =
-    outcome ≡ Ok (fault_shown code (lines_if asked.explained (fault_lines longest_body code bytes)))
+    outcome ≡ Ok (fault_shown code (lines_if asked.explained (frame_fault_lines longest_body code bytes)))
 IsOneShownAs asked bytes (whole head body) outcome =
     (shown : Shown) × (outcome ≡ Ok shown) × IsFrameShownAs asked head.kind head.len body shown
 IsOneShownAs asked bytes not_one outcome = outcome ≡ Err NotOneFrame

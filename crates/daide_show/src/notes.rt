@@ -10,7 +10,9 @@ ghost use Rattle.daide_show.specs.Note.{byte_text, is_bad, digits_note, frame_no
 
 use crate::frame_view::input::{LIMIT, digits_of};
 use crate::frame_view::one_frame::{ParsedInput, find_frame};
-use crate::frame_view::places::{Part, Place, is_closed, is_hex_digit, next_place, part_of};
+use crate::frame_view::places::{
+    InputByte, Place, input_byte, is_hex_digit, may_end_at, next_place,
+};
 use daide_frame::Cutter;
 use daide_protocol::MAX_BODY;
 use hex::FromHexError;
@@ -82,12 +84,12 @@ impl fmt::Display for InputNote {
 }
 
 /// Returns whether what a byte gives is not a digit.
-fn is_bad(part: Part) -> bool
+fn is_bad(part: InputByte) -> bool
     ensures { result ≡ is_bad part }
 {
     match part {
-        Part::Kept(byte) => !is_hex_digit(byte),
-        Part::Nothing | Part::Byte(_) => false,
+        InputByte::Kept(byte) => !is_hex_digit(byte),
+        InputByte::Nothing | InputByte::Byte(_) => false,
     }
 }
 
@@ -99,13 +101,13 @@ fn digits_note(input: &[u8], digits: usize) -> InputNote
     let mut place = Place::Outside;
     let mut rest = input;
     while let [byte, others @ ..] = rest {
-        if is_bad(part_of(place, *byte, others)) {
+        if is_bad(input_byte(place, *byte, others)) {
             return InputNote::BadByte(input.len() - rest.len() + 1, *byte);
         }
         place = next_place(place, *byte, others);
         rest = others;
     }
-    if is_closed(place) {
+    if may_end_at(place) {
         return InputNote::OddDigits(digits);
     }
     InputNote::OpenQuote

@@ -182,11 +182,11 @@ impl fmt::Display for Finding {
 
 /// The line of a text at which a fault is, if a scan finds it.
 #[derive(Clone, Copy)]
-struct Place {
+struct LineNumber {
     line: Option<usize>,
 }
 
-impl fmt::Display for Place {
+impl fmt::Display for LineNumber {
     ghost output = { λ place. Some (place_text place.line) };
 
     fn fmt<W: fmt::Write>(&self, f: &mut Formatter<W>) -> fmt::Result {
@@ -215,8 +215,8 @@ impl fmt::Display for Likeness {
 }
 
 /// Returns the line of a spot in a text.
-fn place_of(text: &str, spot: Option<Spot<'_>>) -> Place {
-    Place {
+fn place_of(text: &str, spot: Option<Spot<'_>>) -> LineNumber {
+    LineNumber {
         line: spot
             .and_then(|spot| spot.front_in(text))
             .map(|front| last_line(front)),

@@ -3,7 +3,7 @@
 ghost use Rattle.std.specs.Prelude.{◌≡◌, [], Some, Ok, Err, MatchResult, option_map};
 ghost use Rattle.toml.specs.View.{items_view, view};
 ghost use Rattle.daide_words.specs.Words.{words_of};
-ghost use Rattle.daide_settings.specs.Parts.{added, failing_part, field_text, is_wrong_type, mistyped, mistyped_part, part_in};
+ghost use Rattle.daide_settings.specs.Parts.{added, failing_part, field_key, is_wrong_type, mistyped, mistyped_part, part_in};
 ghost use Rattle.daide_settings.specs.Parts.{faulty_part, passes, refused_by, unfit_in, unfit_part, unread, value_in, part_value, words_part};
 
 use super::SettingsError;
@@ -35,7 +35,7 @@ pub(super) enum Field {
 impl Field {
     /// Returns the field as an entry writes it.
     pub(super) fn text(self) -> &'static str
-        ensures { result.now ≡ field_text self }
+        ensures { result.now ≡ field_key self }
     {
         match self {
             Field::Name => "name",
@@ -48,7 +48,7 @@ impl Field {
 }
 
 impl fmt::Display for Field {
-    ghost output = { λ field. Some (field_text field) };
+    ghost output = { λ field. Some (field_key field) };
 
     fn fmt<W: fmt::Write>(&self, f: &mut fmt::Formatter<W>) -> fmt::Result {
         f.write_str(self.text())

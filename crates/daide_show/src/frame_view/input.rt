@@ -2,10 +2,10 @@
 
 ghost use Rattle.std.specs.Prelude.{◌≡◌, ◌≤◌, ◌<◌, ◌+◌, ◌++◌, ◌⊎◌, ℕ, List, length, IfOk, IfErr, IfSome, OnOk};
 ghost use Rattle.std.specs.Io.KnownBytes.{Consumes};
-ghost use Rattle.daide_show.specs.Input.{digits_of, digits_of_part, limit};
+ghost use Rattle.daide_show.specs.Input.{digits_of, digits_of_input_byte, limit};
 
 use super::ShowFault;
-use super::places::{Part, Place, is_closed, next_place, part_of};
+use super::places::{InputByte, Place, input_byte, may_end_at, next_place};
 use daide_token::digits_of_byte;
 use std::alloc::{AllocError, Allocator};
 use std::io::Read;
@@ -50,13 +50,13 @@ pub fn read_input<A: Allocator, R: Read>(alloc: A, reader: &mut R) -> Result<Vec
 }
 
 /// Appends what a byte gives.
-fn push_part<A: Allocator>(part: Part, digits: &mut Vec<u8, A>) -> Result<(), AllocError>
-    ensures { OnOk result (digits.new.items ≡ digits.old.items ++ digits_of_part part) }
+fn push_input_byte<A: Allocator>(part: InputByte, digits: &mut Vec<u8, A>) -> Result<(), AllocError>
+    ensures { OnOk result (digits.new.items ≡ digits.old.items ++ digits_of_input_byte part) }
 {
     match part {
-        Part::Nothing => Ok(()),
-        Part::Kept(digit) => digits.extend_from_slice(&[digit]),
-        Part::Byte(byte) => digits.extend_from_slice(&digits_of_byte(byte)),
+        InputByte::Nothing => Ok(()),
+        InputByte::Kept(digit) => digits.extend_from_slice(&[digit]),
+        InputByte::Byte(byte) => digits.extend_from_slice(&digits_of_byte(byte)),
     }
 }
 
@@ -68,11 +68,11 @@ pub(crate) fn digits_of<A: Allocator>(alloc: A, input: &[u8]) -> Result<Vec<u8, 
     let mut place = Place::Outside;
     let mut rest = input;
     while let [byte, others @ ..] = rest {
-        push_part(part_of(place, *byte, others), &mut digits)?;
+        push_input_byte(input_byte(place, *byte, others), &mut digits)?;
         place = next_place(place, *byte, others);
         rest = others;
     }
-    if !is_closed(place) {
+    if !may_end_at(place) {
         digits.push(b'\'')?;
     }
     Ok(digits)

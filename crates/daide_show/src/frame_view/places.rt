@@ -2,8 +2,8 @@
 
 ghost use Rattle.std.specs.Prelude.{◌≡◌, position};
 ghost use Rattle.daide_show.specs.Input.{are_pairs, digits_after_x, is_blank, is_separator, leading_digits, opens_escape};
-ghost use Rattle.daide_show.specs.Input.{escaped, is_closed, is_no_digit, is_quote, next_place, opens_bare, opens_prefix};
-ghost use Rattle.daide_show.specs.Input.{opens_quoted, part_of, place_after};
+ghost use Rattle.daide_show.specs.Input.{escaped, may_end_at, is_no_digit, is_quote, next_place, opens_bare, opens_prefix};
+ghost use Rattle.daide_show.specs.Input.{opens_quoted, input_byte, following_place};
 ghost use Rattle.hex.specs.Hex.{is_hex_digit};
 
 /// The place of a byte in an input.
@@ -29,7 +29,7 @@ pub(crate) enum Place {
 
 /// What a byte of an input gives.
 #[derive(Clone, Copy)]
-pub(crate) enum Part {
+pub(crate) enum InputByte {
     /// Nothing: it is dropped.
     Nothing,
     /// This byte, which must be a digit.
@@ -133,50 +133,50 @@ fn opens_bare(byte: u8, rest: &[u8]) -> bool
 }
 
 /// Returns what a byte after a backslash means.
-fn escaped(byte: u8) -> Part
+fn escaped(byte: u8) -> InputByte
     ensures { result ≡ escaped byte }
 {
     match byte {
-        b'n' => Part::Byte(b'\n'),
-        b'r' => Part::Byte(b'\r'),
-        b't' => Part::Byte(b'\t'),
-        b'\\' | b'\'' | b'"' => Part::Byte(byte),
-        _ => Part::Kept(b'\\'),
+        b'n' => InputByte::Byte(b'\n'),
+        b'r' => InputByte::Byte(b'\r'),
+        b't' => InputByte::Byte(b'\t'),
+        b'\\' | b'\'' | b'"' => InputByte::Byte(byte),
+        _ => InputByte::Kept(b'\\'),
     }
 }
 
 /// Returns what a byte gives outside of a literal, not right after a digit.
-fn outer_part(byte: u8, rest: &[u8]) -> Part
-    ensures { result ≡ part_of Place.Outside byte rest.now }
+fn outer_byte(byte: u8, rest: &[u8]) -> InputByte
+    ensures { result ≡ input_byte Place.Outside byte rest.now }
 {
     if is_separator(byte) || opens_escape(byte, rest) {
-        return Part::Nothing;
+        return InputByte::Nothing;
     }
     if opens_prefix(byte, rest) || opens_quoted(byte, rest) || opens_bare(byte, rest) {
-        return Part::Nothing;
+        return InputByte::Nothing;
     }
-    Part::Kept(byte)
+    InputByte::Kept(byte)
 }
 
 /// Returns what a byte gives, by its place and the bytes after it.
-pub(crate) fn part_of(place: Place, byte: u8, rest: &[u8]) -> Part
-    ensures { result ≡ part_of place byte rest.now }
+pub(crate) fn input_byte(place: Place, byte: u8, rest: &[u8]) -> InputByte
+    ensures { result ≡ input_byte place byte rest.now }
 {
     match place {
-        Place::Outside => outer_part(byte, rest),
-        Place::After if is_separator(byte) || opens_escape(byte, rest) => Part::Nothing,
-        Place::Marked | Place::Opened => Part::Nothing,
-        Place::Quoted(quote) if byte == b'\\' || byte == quote => Part::Nothing,
-        Place::Quoted(_) if matches!(byte, b' '..=b'~') => Part::Byte(byte),
-        Place::Escaped(_) if byte == b'x' => Part::Nothing,
+        Place::Outside => outer_byte(byte, rest),
+        Place::After if is_separator(byte) || opens_escape(byte, rest) => InputByte::Nothing,
+        Place::Marked | Place::Opened => InputByte::Nothing,
+        Place::Quoted(quote) if byte == b'\\' || byte == quote => InputByte::Nothing,
+        Place::Quoted(_) if matches!(byte, b' '..=b'~') => InputByte::Byte(byte),
+        Place::Escaped(_) if byte == b'x' => InputByte::Nothing,
         Place::Escaped(_) => escaped(byte),
-        Place::After | Place::Quoted(_) | Place::High(_) | Place::Low(_) => Part::Kept(byte),
+        Place::After | Place::Quoted(_) | Place::High(_) | Place::Low(_) => InputByte::Kept(byte),
     }
 }
 
 /// Returns the place after a byte outside of a literal.
-fn place_after(byte: u8) -> Place
-    ensures { result ≡ place_after byte }
+fn following_place(byte: u8) -> Place
+    ensures { result ≡ following_place byte }
 {
     if is_hex_digit(byte) {
         Place::After
@@ -198,7 +198,7 @@ fn outer_place(byte: u8, rest: &[u8]) -> Place
     if opens_bare(byte, rest) {
         return Place::Quoted(b'\\');
     }
-    place_after(byte)
+    following_place(byte)
 }
 
 /// Returns the place of the byte after a byte.
@@ -208,7 +208,7 @@ pub(crate) fn next_place(place: Place, byte: u8, rest: &[u8]) -> Place
     match place {
         Place::Outside => outer_place(byte, rest),
         Place::After if opens_escape(byte, rest) => Place::Marked,
-        Place::After => place_after(byte),
+        Place::After => following_place(byte),
         Place::Marked => Place::Outside,
         Place::Opened => Place::Quoted(byte),
         Place::Quoted(quote) if byte == b'\\' => Place::Escaped(quote),
@@ -220,8 +220,8 @@ pub(crate) fn next_place(place: Place, byte: u8, rest: &[u8]) -> Place
 }
 
 /// Returns whether an input may end at this place.
-pub(crate) fn is_closed(place: Place) -> bool
-    ensures { result ≡ is_closed place }
+pub(crate) fn may_end_at(place: Place) -> bool
+    ensures { result ≡ may_end_at place }
 {
     match place {
         Place::Outside | Place::After => true,

@@ -12,7 +12,7 @@ ghost use Rattle.daide_protocol.specs.Bounds.{longest_body, greatest_depth};
 ghost use Rattle.daide_protocol.specs.Machine.{side2_of};
 ghost use Rattle.daide_show.specs.Shown.{Shown, WritesShown, AreLines, IsFrameShownAs, IsMessageShownAs, request_of};
 ghost use Rattle.daide_show.specs.Shown.{line, printed, kind_line, fault_shown, relayed_shown, im_shown};
-ghost use Rattle.daide_show.specs.Shown.{cause_lines, fault_lines, lines_if, verdict_lines, is_relay};
+ghost use Rattle.daide_show.specs.Shown.{cause_lines, frame_fault_lines, lines_if, verdict_lines, is_relay};
 
 use super::Request;
 use super::cause::{faulty_body, write_cause};
@@ -129,7 +129,7 @@ pub(super) fn write_bytes_fault<A: Allocator>(
 ) -> io::Result<bool>
     requires { 4 ≤ length bytes.now }
     ensures { IfOk result (λ relayed. WritesShown text.old.items text.new.items relayed
-        (fault_shown code (lines_if is_explained (fault_lines longest_body code bytes.now)))) }
+        (fault_shown code (lines_if is_explained (frame_fault_lines longest_body code bytes.now)))) }
 {
     let (header, rest) = bytes.split_at(4);
     let body = faulty_body(code, front(rest, usize::from(MAX_BODY)));
