@@ -17,7 +17,7 @@ import tempfile
 import time
 
 from frames import FM, HUH_OF_GOF, IAM_ENG, IM, IM_FM, ITS_PRN, NAMED, OBS, RM, UNCLOSED, WILD_NAME, YES
-from held import NotPlayed, Wrong, same
+from held import NotPlayed, Wrong, same, take_signals
 from runs import TOP
 from stage import HOST, free_port
 
@@ -33,11 +33,6 @@ HOSTILE = 300
 COLUMNS = """\
                       from the bot   from the server
 session  phase   relayed  PRN  HUH relayed  PRN  HUH  to bot to server    bot sent server sent    bot took server took  bot idle server idle   port bot and its name"""
-
-
-def hears_interrupts():
-    """A shell that runs the tests in the background has them ignore SIGINT, and a script can't trap what is ignored."""
-    signal.signal(signal.SIGINT, signal.SIG_DFL)
 
 
 class Match:
@@ -62,7 +57,7 @@ class Match:
         self.process = subprocess.Popen(
             [*self.program, "run", *self.words, str(self.settings)], stdin=subprocess.DEVNULL, cwd=self.room,
             stdout=subprocess.PIPE, stderr=subprocess.PIPE, bufsize=0, start_new_session=True,
-            preexec_fn=hears_interrupts,
+            preexec_fn=take_signals,
         )
         same(self.process.stdout.read(len(b"listening\n")), b"listening\n", "printed by the run")
         return self

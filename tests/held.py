@@ -2,6 +2,7 @@
 
 import itertools
 import re
+import signal
 
 
 class Wrong(Exception):
@@ -10,6 +11,16 @@ class Wrong(Exception):
 
 class NotPlayed(Exception):
     """This machine can't show the result, so the test neither passes nor fails."""
+
+
+# The signals at which the script at the top ends what it began.
+SIGNALS = (signal.SIGINT, signal.SIGTERM, signal.SIGHUP)
+
+
+def take_signals():
+    """Has a process take these signals. Its caller may ignore some, as `nohup` does, and a shell can't trap those."""
+    for number in SIGNALS:
+        signal.signal(number, signal.SIG_DFL)
 
 
 MOST = 160

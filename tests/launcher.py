@@ -13,7 +13,7 @@ import subprocess
 import tempfile
 import time
 
-from held import Wrong, same
+from held import SIGNALS, Wrong, same, take_signals
 from runs import SECONDS, TOP
 
 # Replaces scripts/unproved-program. It waits as long as there is a file `wait`, and fails if there is a file `fail`.
@@ -90,7 +90,7 @@ class Clone:
         return subprocess.Popen(
             ["sh", "-c", f'ulimit {limit} && exec "$@"', "sh", self.top / "daide-gate", *words], cwd=self.room.name,
             text=True, stdin=subprocess.PIPE, stdout=subprocess.PIPE, stderr=subprocess.PIPE,
-            env={**os.environ, "PATH": path}, preexec_fn=lambda: signal.signal(signal.SIGINT, signal.SIG_DFL),
+            env={**os.environ, "PATH": path}, preexec_fn=take_signals,
         )
 
     def run(self, *words, given="", **how):
@@ -193,7 +193,7 @@ def stopped_making_leaves_nothing(program):
     """A signal while the program is made ends the command and leaves no program."""
     with Clone(program) as clone:
         (clone.top / "wait").touch()
-        for calls, number in enumerate((signal.SIGINT, signal.SIGTERM, signal.SIGHUP), 1):
+        for calls, number in enumerate(SIGNALS, 1):
             with clone.begin("frame", "GOF") as process:
                 clone.awaits(calls)
                 process.send_signal(number)
@@ -242,7 +242,7 @@ def version_says_whether_it_is_proved(program):
 
 def signal_before_a_run_listens_ends_it(program):
     """Each signal ends a run that can't be reached yet, whether it goes to the script or to all its processes."""
-    for number in (signal.SIGINT, signal.SIGTERM, signal.SIGHUP):
+    for number in SIGNALS:
         with Clone(program) as clone:
             clone.has_proved(DEAF)
             began = clone.bin / "daide-gate.began"
