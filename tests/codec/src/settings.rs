@@ -325,7 +325,7 @@ fn in_range(host: Host, prefix: u8) -> AddressRange {
 const EACH_KEY: &str =
     "control = \"c\"\nmax_per_address = 10\nallow = [ \"127.0.0.0/8\", \"::1\" ]\nendless = true\nstall_seconds = 9\nwords = [ { name = \"XYZ\", code = 0x4A40, slot = \"press\", level = 20, operand = \"power\" } ]\n\
     idle_seconds = 8\nturns = 7\nsessions = 6\nmax_sessions = 5\nim_seconds = 4\nmax_depth = 13\nmax_body = 1024\n\
-    top_level = 20\nserver = \"s\"\nlisten = \"l\"\n";
+    top_level = 20\nserver = \"s:2\"\nlisten = \"l:1\"\n";
 
 /// The limits of a session in `EACH_KEY`.
 const OWN_LIMITS: Config = Config {
@@ -338,7 +338,7 @@ const OWN_LIMITS: Config = Config {
 fn each_key_sets_its_own_field(rt: HostRuntime) -> Result<(), Fail> {
     let settings = read_settings(rt.alloc(), EACH_KEY)?;
     let run = (5, 6, 7, 8, 9, true, 10);
-    assert_settings(&settings, ("l", "s"), (OWN_LIMITS, 4), run, 1)?;
+    assert_settings(&settings, ("l:1", "s:2"), (OWN_LIMITS, 4), run, 1)?;
     let control = settings.control.as_ref().map(|path| path.as_str());
     same(&control, &Some("c"), &"control")?;
     let word = Word {

@@ -34,7 +34,7 @@ const CAUSES: &[(Why, &str)] = &[
     (Why::Ended(Cause::Session(Ending::Fault(Side::Bot, Code::WrongMagic)), Some(FaultField::MagicNumber(0x1234))), "fault 04 of bot: wrong magic number 1234 at byte 6"),
     (Why::Ended(Cause::Session(Ending::Fault(Side::Bot, Code::WrongVersion)), Some(FaultField::Version(2))), "fault 05 of bot: wrong version 0002 at byte 4"),
     (Why::Ended(Cause::Session(Ending::Fault(Side::Bot, Code::UnknownMessage)), Some(FaultField::Kind(7))), "fault 08 of bot: unknown message, type 07 at byte 0"),
-    (Why::Ended(Cause::Session(Ending::Fault(Side::Server, Code::UnknownMessage)), Some(FaultField::Length(0xFFFE))), "fault 08 of server: unknown message, length FFFE at byte 2"),
+    (Why::Ended(Cause::Session(Ending::Fault(Side::Server, Code::UnknownMessage)), Some(FaultField::Length(0xFFFE))), "fault 08 of server: body above max_body, length FFFE at byte 2"),
     (Why::Ended(Cause::Session(Ending::Fault(Side::Bot, Code::WrongLength)), Some(FaultField::Length(3))), "fault 09 of bot: wrong length 0003 at byte 2"),
     (Why::Ended(Cause::Session(Ending::Fault(Side::Bot, Code::InvalidToken)), Some(FaultField::Token(0x6000, 6))), "fault 0E of bot: invalid token 6000 at byte 6"),
     (Why::Ended(Cause::Session(Ending::Stopped), None), "stopped by the operator"),

@@ -82,10 +82,7 @@ fn settings_that_cannot_be_read(rt: HostRuntime) -> Result<(), Fail> {
 }
 
 /// Returns why a settings text is refused if it is allocated on a heap of this size.
-fn refusal_within(
-    alloc: Global,
-    size: usize,
-) -> Result<Option<SettingsFileFault<'static>>, Fail> {
+fn refusal_within(alloc: Global, size: usize) -> Result<Option<SettingsFileFault<'static>>, Fail> {
     let heap = LocalHeap::new(alloc, size)?;
     Ok(read_text(&heap, "a file", &mut b"listen = ".as_slice()).err())
 }
