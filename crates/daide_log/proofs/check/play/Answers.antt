@@ -1,7 +1,6 @@
 use Rattle.std.proofs.Common.{◌≡◌, ◌+◌, ◌*◌, ◌≤◌, arith, refl, sym, ap, ◌∙◌, subst, Ok, Some, None, List, ℕ, ◌⊎◌, length, All, IfOk, IfErr}
 use Rattle.daide_log_lines.specs.declared.lines.LineEnd.{LineEnd}
 use Rattle.daide_log_lines.specs.declared.lines.LineEnd.TheVariants.{Line}
-use Rattle.daide_log_lines.specs.declared.fault.LogFault.{LogFault}
 use Rattle.daide_log_lines.specs.declared.fault.LogFault.TheVariants.{BadLine}
 use Rattle.daide_log_lines.specs.Input.{line_at, rest_after}
 use Rattle.daide_log_lines.specs.Lines.{IsFound}

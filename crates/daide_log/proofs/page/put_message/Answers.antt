@@ -1,4 +1,3 @@
-use Rattle.std.proofs.Common.{◌++◌, codes}
 use Rattle.daide_log_lines.specs.Output.{all_of}
 use Rattle.daide_token.specs.Token.{tokens_of}
 use Rattle.daide_words.specs.Words.{words_of}
