@@ -50,7 +50,8 @@ use daide_reader::Verdict;
 use daide_session::{Ending, Session};
 use daide_token::{digits_of_byte, write_text_with};
 use daide_words::Words;
-use std::alloc::{AllocError, Allocator};
+use std::alloc::Allocator;
+use std::io;
 use std::io::{Read, Write};
 
 /// The result for a log without a fault.
@@ -71,19 +72,13 @@ struct Explaining<B: Allocator> {
 }
 
 /// Writes tokens on a line of their own, with the operator's words by their names.
-fn write_tokens<B: Allocator>(
-    words: &Words,
-    tokens: &[u8],
-    text: &mut Vec<u8, B>,
-) -> Result<(), AllocError>
+fn write_tokens<B: Allocator>(words: &Words, tokens: &[u8], text: &mut Vec<u8, B>) -> io::Result<()>
     requires { length tokens.now % 2 ≡ 0 }
     ensures { OnOk result (text.new.items ≡ text.old.items
         ++ with_line_feed (message_text (words_of words.now) (tokens_of tokens.now))) }
 {
-    match write_text_with(words.names(), tokens, text) {
-        Ok(()) => text.extend_from_slice(b"\n"),
-        Err(_) => Err(AllocError),
-    }
+    write_text_with(words.names(), tokens, text)?;
+    text.write_all(b"\n")
 }
 
 /// Writes the text of a refused message, its level, its answer and the reason.
@@ -93,7 +88,7 @@ fn write_refused<B: Allocator + Copy>(
     verdict: Verdict,
     body: &[u8],
     text: &mut Vec<u8, B>,
-) -> Result<(), AllocError>
+) -> io::Result<()>
     requires ruled { IsRuled rules.now.max_depth body.now }
     requires within { IsPlaceIn body.now verdict }
     requires verdict { HasVerdict (IsMessageOver (grammar_words (words_of rules.now.words.now)) rules.now.end
@@ -105,14 +100,9 @@ fn write_refused<B: Allocator + Copy>(
     let answer = answer_of(alloc, verdict, body)?;
     write_tokens(rules.words, body, text)?;
     let level = rules.level.number();
-    let Ok(()) = writeln!(text, "judged at level {level}") else {
-        return Err(AllocError);
-    };
+    writeln!(text, "judged at level {level}")?;
     write_tokens(rules.words, answer.as_slice(), text)?;
-    match write_explained(alloc, rules, verdict, body, text) {
-        Ok(()) => Ok(()),
-        Err(_) => Err(AllocError),
-    }
+    write_explained(alloc, rules, verdict, body, text)
 }
 
 /// Writes the lines that explain a message.
@@ -122,7 +112,7 @@ fn write_message<B: Allocator + Copy>(
     verdict: Verdict,
     body: &[u8],
     text: &mut Vec<u8, B>,
-) -> Result<(), AllocError>
+) -> io::Result<()>
     requires ruled { IsRuled rules.now.max_depth body.now }
     requires within { IsPlaceIn body.now verdict }
     requires verdict { HasVerdict (IsMessageOver (grammar_words (words_of rules.now.words.now)) rules.now.end
@@ -150,21 +140,21 @@ fn verdict_by(deed: Deed) -> Verdict
 }
 
 /// Writes a byte as two upper-case hexadecimal digits.
-fn write_pair<B: Allocator>(byte: u8, text: &mut Vec<u8, B>) -> Result<(), AllocError>
+fn write_pair<B: Allocator>(byte: u8, text: &mut Vec<u8, B>) -> io::Result<()>
     ensures { OnOk result (text.new.items ≡ text.old.items ++ digits_in byte) }
 {
-    text.extend_from_slice(&digits_of_byte(byte))
+    text.write_all(&digits_of_byte(byte))
 }
 
 /// Writes bytes as pairs of upper-case digits, separated by spaces.
-fn write_pairs<B: Allocator>(bytes: &[u8], text: &mut Vec<u8, B>) -> Result<(), AllocError>
+fn write_pairs<B: Allocator>(bytes: &[u8], text: &mut Vec<u8, B>) -> io::Result<()>
     ensures { OnOk result (text.new.items ≡ text.old.items ++ pairs bytes.now) }
 {
     let mut rest = bytes;
     'bytes: while let [byte, more @ ..] = rest {
         write_pair(*byte, text)?;
         if !more.is_empty() {
-            text.extend_from_slice(b" ")?;
+            text.write_all(b" ")?;
         }
         rest = more;
     }
@@ -172,40 +162,33 @@ fn write_pairs<B: Allocator>(bytes: &[u8], text: &mut Vec<u8, B>) -> Result<(), 
 }
 
 /// Writes the last two bytes, which are an invalid token, and its index in the message.
-fn write_token<B: Allocator>(bytes: &[u8], text: &mut Vec<u8, B>) -> Result<(), AllocError>
+fn write_token<B: Allocator>(bytes: &[u8], text: &mut Vec<u8, B>) -> io::Result<()>
     ensures { OnOk result (text.new.items ≡ text.old.items ++ token_line bytes.now) }
 {
-    text.extend_from_slice(b"bytes: ")?;
+    text.write_all(b"bytes: ")?;
     write_pairs(&bytes[bytes.len().saturating_sub(2)..], text)?;
     let place = bytes.len().saturating_sub(6) / 2;
-    match writeln!(text, " at token {place}") {
-        Ok(()) => Ok(()),
-        Err(_) => Err(AllocError),
-    }
+    writeln!(text, " at token {place}")
 }
 
 /// Writes the bytes of a fault on a line, if there are any.
-fn write_bytes<B: Allocator>(bytes: &[u8], text: &mut Vec<u8, B>) -> Result<(), AllocError>
+fn write_bytes<B: Allocator>(bytes: &[u8], text: &mut Vec<u8, B>) -> io::Result<()>
     ensures { OnOk result (text.new.items ≡ text.old.items ++ bytes_line bytes.now) }
 {
     if bytes.is_empty() {
         return Ok(());
     }
-    text.extend_from_slice(b"bytes: ")?;
+    text.write_all(b"bytes: ")?;
     write_pairs(bytes, text)?;
-    text.extend_from_slice(b"\n")
+    text.write_all(b"\n")
 }
 
 /// Writes the lines for a fault, from the bytes since the last complete frame.
-fn write_fault<B: Allocator>(
-    code: Code,
-    bytes: &[u8],
-    text: &mut Vec<u8, B>,
-) -> Result<(), AllocError>
+fn write_fault<B: Allocator>(code: Code, bytes: &[u8], text: &mut Vec<u8, B>) -> io::Result<()>
     ensures { OnOk result (text.new.items ≡ text.old.items ++ fault_lines code bytes.now) }
 {
-    text.extend_from_slice(code.name().as_bytes())?;
-    text.extend_from_slice(b"\n")?;
+    let name = code.name();
+    writeln!(text, "{name}")?;
     match code {
         Code::InvalidToken => write_token(bytes, text),
         _ => write_bytes(bytes, text),
@@ -229,7 +212,7 @@ fn write_held<A: Allocator, B: Allocator + Copy>(
     side: Side,
     deed: Deed,
     text: &mut Vec<u8, B>,
-) -> Result<(), AllocError>
+) -> io::Result<()>
     requires right { IsRightFate (words_of head.now.words) head.now.limits.config side deed session.now }
     ensures { OnOk result ((lines : List ℕ)
         × AreMessageLines (words_of head.now.words) (side2_of side) (coming session.now.state side).noted
@@ -257,7 +240,7 @@ fn write_faulty<A: Allocator, B: Allocator + Copy>(
     side: Side,
     code: Code,
     text: &mut Vec<u8, B>,
-) -> Result<(), AllocError>
+) -> io::Result<()>
     ensures { OnOk result (text.new.items ≡ text.old.items ++ fault_lines code (holding session.now side).held) }
 {
     let parts: [&[u8]; 2] = [session.header(side), session.body(side)];
@@ -272,7 +255,7 @@ fn write_lines<A: Allocator, B: Allocator + Copy>(
     side: Side,
     reported: Note,
     text: &mut Vec<u8, B>,
-) -> Result<(), AllocError>
+) -> io::Result<()>
     requires right { IsRightlyReported (words_of head.now.words) head.now.limits.config side reported session.now }
     ensures { OnOk result ((lines : List ℕ)
         × AreLinesBy (words_of head.now.words) head.now.limits.config.max_depth side reported session.now lines
