@@ -131,7 +131,7 @@ fn judge_input<'a, I: Read, O: Write>(
 
 /// Returns the status of a judgement. Reports a fault on standard error.
 fn end_judged<E: Write>(answer: Result<bool, SettingsFault<'_>>, errors: &mut E) -> io::Result<u8>
-    ensures { IfOk result (λ status. status ≡ settings_status answer) }
+    ensures { IfOk result (λ status. status ≡ settings_status answer.entry) }
 {
     match answer {
         Ok(true) => Ok(CLEAN),
