@@ -1,14 +1,10 @@
 -- A bracket is the only token of its class, and so is every other token with a class of its own.
-use Rattle.std.proofs.Common.{◌≡◌, ℕ, ◌+◌, ◌*◌, ◌/◌, ◌%◌, ◌==◌, nat_lt, nat_le, ◌&&◌, Bool, true, false, not}
-use Rattle.std.proofs.Common.{if◌then◌else◌, List, [], ◌∷◌, refl, ap, sym, ◌∙◌, subst, arith}
-use Rattle.std.proofs.lemmas.Bool.{eqb-true}
-use Rattle.std.specs.List.{list_all}
-use Rattle.daide_token.specs.declared.class.Class.{Class}
-use Rattle.daide_token.specs.declared.class.Class.TheVariants.{Num, Bra, Ket, Power, Note, Outcome, Coast, Season, Text}
-use Rattle.daide_token.specs.declared.class.Class.TheVariants.{Province, Prn, Param, Other, Alien, Word}
-use Rattle.daide_token.specs.Token.{bra, ket, prn}
-use Rattle.daide_token.specs.Class.{brackets, class_in, class_of, commands, has_one_token, is_standard}
-use Rattle.daide_token.specs.Class.{listed, orders, parameters, press_classes, token_of, units}
+use Rattle.daide_token.proofs.Common.{◌≡◌, ℕ, ◌+◌, ◌*◌, ◌/◌, ◌%◌, ◌==◌, nat_lt, nat_le, ◌&&◌, Bool, true, false, not}
+use Rattle.daide_token.proofs.Common.{if◌then◌else◌, List, [], ◌∷◌, refl, ap, sym, ◌∙◌, subst, arith, eqb-true}
+use Rattle.daide_token.proofs.Common.{list_all, Class, Num, Bra, Ket, Power, Note, Outcome, Coast, Season, Text}
+use Rattle.daide_token.proofs.Common.{Province, Prn, Param, Other, Alien, Word, bra, ket, prn, class_in, class_of}
+use Rattle.daide_token.proofs.Common.{has_one_token, is_standard, token_of}
+use Rattle.daide_token.specs.Class.{brackets, commands, listed, orders, parameters, press_classes, units}
 
 -- the class of a token is standard, and if the class has one token, it is this one
 abbrev IsRight : ℕ → ℕ → Class → Type 0

@@ -1,9 +1,8 @@
 -- Two classes never have the same number.
-use Rattle.std.proofs.Common.{◌≡◌, ℕ, zero, suc, ◌+◌, ◌-◌, true, false, nat_lt, List, [], ◌∷◌, ◌↔◌, refl, sym, ◌∙◌, ap, if◌then◌else◌, arith}
-use Rattle.std.proofs.lemmas.Bool.{eqb-true, eq-eqb}
-use Rattle.std.proofs.lemmas.Bool.Decides.{nat_tests}
-use Rattle.daide_token.specs.declared.class.Class.{Class}
-use Rattle.daide_token.specs.declared.class.Class.TheVariants.{Alien, Word}
+use Rattle.std.proofs.Common.{◌↔◌}
+use Rattle.std.proofs.lemmas.Bool.{eq-eqb}
+use Rattle.daide_token.proofs.Common.{◌≡◌, ℕ, zero, suc, ◌+◌, ◌-◌, true, false, nat_lt, List, [], ◌∷◌, refl, sym, ◌∙◌}
+use Rattle.daide_token.proofs.Common.{ap, if◌then◌else◌, arith, eqb-true, nat_tests, Class, Alien, Word}
 use Rattle.daide_token.specs.ClassNumbers.{class_number, classes_in_order, own_classes, same_class}
 
 -- the class at an index of a list

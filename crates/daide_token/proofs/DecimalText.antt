@@ -1,13 +1,11 @@
 -- The decimal digits of a number, one after the other.
-use Rattle.std.proofs.Common.{ℤ, pos, negsuc, Bool, true, false}
-use Rattle.std.proofs.lemmas.Int.{ints, to_z-of_z}
+use Rattle.std.proofs.Common.{length-append}
 use Rattle.std.specs.Int.RustNames.{unsigned_abs}
+use Rattle.daide_token.proofs.Common.{ℤ, pos, negsuc, Bool, true, false, ◌≡◌, ℕ, ◌+◌, ◌/◌, ◌%◌, ◌^◌, ◌<◌, ◌≤◌, List, []}
+use Rattle.daide_token.proofs.Common.{◌∷◌, ◌++◌, length, append_assoc, ap, sym, ◌∙◌, arith, ints, to_z-of_z, w16}
+use Rattle.daide_token.proofs.Common.{signed_decimal, decimal}
 use lib.Signed.{lt_z}
-use mir.Syntax.{w16}
 use mir.Val.{SFits, of_z, to_z}
-use Rattle.std.specs.Fmt.{signed_decimal}
-use Rattle.std.proofs.Common.{◌≡◌, ℕ, ◌+◌, ◌/◌, ◌%◌, ◌^◌, ◌<◌, ◌≤◌, List, [], ◌∷◌, ◌++◌, length, length-append, append_assoc, ap, sym, ◌∙◌, arith}
-use Rattle.std.specs.Fmt.{decimal}
 use Rattle.std.proofs.lemmas.Fmt.{decimal_digit, decimal_step, length-decimal-le}
 
 -- the digits before the last one are one fewer

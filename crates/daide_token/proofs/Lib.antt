@@ -1,3 +1,4 @@
+mod Common
 pub mod ClassLaws
 mod TableLemmas
 mod NameLaws

@@ -1,10 +1,9 @@
 -- Names and tokens are inverse to each other: a row of the table is found by its token and by its name.
-use Rattle.std.proofs.Common.{◌≡◌, ◌==◌, ℕ, Bool, true, false, List, Option, Some, None, bytes_eq, nat_eq, length, refl, sym, ap, ◌∙◌}
-use Rattle.std.proofs.lemmas.Bool.{eqb-true}
+use Rattle.std.proofs.Common.{bytes_eq, nat_eq}
 use Rattle.std.proofs.lemmas.Slice.Eq.{bytes_eq-Decides}
-use Rattle.std.specs.List.{list_all}
+use Rattle.daide_token.proofs.Common.{◌≡◌, ◌==◌, ℕ, Bool, true, false, List, Option, Some, None, length, refl, sym, ap}
+use Rattle.daide_token.proofs.Common.{◌∙◌, eqb-true, list_all, Named, name_of, names, token_named}
 use Rattle.daide_token.proofs.TableLemmas.{found_passes}
-use Rattle.daide_token.specs.Names.{Named, name_of, names, token_named}
 
 -- whether a look-up found this token, or this name
 abbrev is_token : Option ℕ → ℕ → Bool

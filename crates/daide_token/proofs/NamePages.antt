@@ -1,14 +1,11 @@
 -- The pages of names contain the definition's name at each code.
-use Rattle.std.proofs.Common.{◌≡◌, ℕ, zero, suc, ◌+◌, ◌*◌, ◌-◌, ◌<◌, ◌≤◌, ◌⊎◌, ◌==◌, nat_le, Bool}
-use Rattle.std.proofs.Common.{List, [], ◌∷◌, length, map, get_or, Option, None, Some, option_map, cond}
-use Rattle.std.proofs.Common.{true, false, inl, inr, refl, sym, ap, ◌∙◌, arith}
+use Rattle.std.proofs.Common.{inl, inr}
 use Rattle.std.proofs.Math.ListN.{get_or-map, length-map}
-use Rattle.std.proofs.lemmas.Bool.{and_parts}
-use Rattle.std.proofs.lemmas.Bool.Decides.{nat_tests}
-use Rattle.std.specs.List.{find, list_all}
-use Rattle.daide_token.specs.NamePages.{Page, are_short, are_spaced, is_spaced, name_of_cell, name_on, row_before}
-use Rattle.daide_token.specs.NamePages.{rows_before, rows_on}
-use Rattle.daide_token.specs.Names.{Named, name_of, names}
+use Rattle.daide_token.proofs.Common.{◌≡◌, ℕ, zero, suc, ◌+◌, ◌*◌, ◌-◌, ◌<◌, ◌≤◌, ◌⊎◌, ◌==◌, nat_le, Bool, List, []}
+use Rattle.daide_token.proofs.Common.{◌∷◌, length, map, get_or, Option, None, Some, option_map, cond, true, false, refl}
+use Rattle.daide_token.proofs.Common.{sym, ap, ◌∙◌, arith, and_parts, nat_tests, find, list_all, is_spaced}
+use Rattle.daide_token.proofs.Common.{name_of_cell, Named, name_of, names}
+use Rattle.daide_token.specs.NamePages.{Page, are_short, are_spaced, name_on, row_before, rows_before, rows_on}
 
 -- the name of a token, by some rows
 abbrev name_by : ℕ → List Named → Option (List ℕ)

@@ -1,14 +1,14 @@
 -- A name is found among the tokens whose names begin with its first letter.
-use Rattle.std.proofs.Common.{◌≡◌, ◌⊎◌, ℕ, ◌+◌, ◌<◌, ◌==◌, ◌&&◌, nat_le, Bool, true, false, bytes_eq, cond, List, [], ◌∷◌, get_or, map, Some, option_map, unwrap_or, refl, sym, ap, ◌∙◌, arith}
+use Rattle.std.proofs.Common.{bytes_eq}
 use Rattle.std.proofs.Math.ListN.{get_or-map}
-use Rattle.std.proofs.lemmas.Bool.{and_parts}
-use Rattle.std.proofs.lemmas.Bool.Decides.{nat_tests}
 use Rattle.std.proofs.lemmas.Slice.Eq.{bytes_eq-Decides}
 use Rattle.std.proofs.lemmas.List.FromFn.{get_or-map-range_with_len}
-use Rattle.std.specs.List.{filter, find, list_all, range_with_len}
+use Rattle.std.specs.List.{filter}
+use Rattle.daide_token.proofs.Common.{◌≡◌, ◌⊎◌, ℕ, ◌+◌, ◌<◌, ◌==◌, ◌&&◌, nat_le, Bool, true, false, cond, List, [], ◌∷◌}
+use Rattle.daide_token.proofs.Common.{get_or, map, Some, option_map, unwrap_or, refl, sym, ap, ◌∙◌, arith, and_parts}
+use Rattle.daide_token.proofs.Common.{nat_tests, find, list_all, range_with_len, Named, name_of, names, token_named}
 use Rattle.daide_token.proofs.NameLaws.{each_name_back, has_name, is_name-same}
 use Rattle.daide_token.proofs.TableLemmas.{find_in_map}
-use Rattle.daide_token.specs.Names.{Named, name_of, names, token_named}
 use Rattle.daide_token.specs.NamesByLetter.{codes_with, first_letter, is_named, named_with}
 
 -- one more item, by whether it is kept and whether it is found

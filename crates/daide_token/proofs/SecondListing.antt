@@ -1,21 +1,16 @@
 -- The names and classes of tokens, listed a second time by category and second byte, and compared with the tables. A
 -- table with a shifted, swapped or missing row does not check. Written from the protocol's table of categories.
+use Rattle.daide_token.proofs.Common.{◌≡◌, ℕ, ◌+◌, ◌*◌, ◌-◌, nat_le, true, false, codes, refl, List, [], ◌∷◌, ◌++◌, map}
+use Rattle.daide_token.proofs.Common.{replicate, Some, option_map, range_with_len, Class, Bra, Ket, Prn, Num, Power}
+use Rattle.daide_token.proofs.Common.{Note, Outcome, Coast, Season, Text, Province, Param, Other, Alien, class_of}
+use Rattle.daide_token.proofs.Common.{Named, names, token_named}
 use Prim.Native.String.{String}
-use Rattle.std.proofs.Common.{◌≡◌, ℕ, ◌+◌, ◌*◌, ◌-◌, nat_le, true, false, codes, refl}
-use Rattle.std.proofs.Common.{List, [], ◌∷◌, ◌++◌, map, replicate, Some, option_map}
-use Rattle.std.specs.List.{range_with_len}
-use Rattle.daide_token.specs.declared.class.Class.{Class}
-use Rattle.daide_token.specs.declared.class.Class.TheVariants.{Bra, Ket, Amy, Flt, Cto, Cvy, Hld, Mto, Sup, Via, Dsb}
-use Rattle.daide_token.specs.declared.class.Class.TheVariants.{Rto, Bld, Rem, Wve, Ccd, Drw, Frm, Gof, Hlo, Hst, Huh}
-use Rattle.daide_token.specs.declared.class.Class.TheVariants.{Iam, Lod, Map, Mdf, Mis, Nme, Not, Now, Obs, Off, Ord}
-use Rattle.daide_token.specs.declared.class.Class.TheVariants.{Out, Prn, Rej, Sco, Slo, Snd, Sub, Sve, Thx, Tme, Yes}
-use Rattle.daide_token.specs.declared.class.Class.TheVariants.{Adm, Smr, Lvl, Mrt, Uno, Aly, And, Bwx, Dmz, Fct, Idk}
-use Rattle.daide_token.specs.declared.class.Class.TheVariants.{Ins, Occ, Orr, Pce, Prp, Qry, Scd, Sry, Sug, Thk, Try}
-use Rattle.daide_token.specs.declared.class.Class.TheVariants.{Vss, Xdo}
-use Rattle.daide_token.specs.declared.class.Class.TheVariants.{Num, Power, Note, Outcome, Coast}
-use Rattle.daide_token.specs.declared.class.Class.TheVariants.{Season, Text, Province, Param, Other, Alien}
-use Rattle.daide_token.specs.Class.{class_of}
-use Rattle.daide_token.specs.Names.{Named, names, token_named}
+use Rattle.daide_token.specs.declared.class.Class.TheVariants.{Amy, Flt, Cto, Cvy, Hld, Mto, Sup, Via, Dsb, Rto, Bld}
+use Rattle.daide_token.specs.declared.class.Class.TheVariants.{Rem, Wve, Ccd, Drw, Frm, Gof, Hlo, Hst, Huh, Iam, Lod}
+use Rattle.daide_token.specs.declared.class.Class.TheVariants.{Map, Mdf, Mis, Nme, Not, Now, Obs, Off, Ord, Out, Rej}
+use Rattle.daide_token.specs.declared.class.Class.TheVariants.{Sco, Slo, Snd, Sub, Sve, Thx, Tme, Yes, Adm, Smr, Lvl}
+use Rattle.daide_token.specs.declared.class.Class.TheVariants.{Mrt, Uno, Aly, And, Bwx, Dmz, Fct, Idk, Ins, Occ, Orr}
+use Rattle.daide_token.specs.declared.class.Class.TheVariants.{Pce, Prp, Qry, Scd, Sry, Sug, Thk, Try, Vss, Xdo}
 
 -- ---- names
 

@@ -1,11 +1,10 @@
 -- Worked examples, computed from the definitions: a wrong table does not check. (SecondListing has every listed token.)
-use Rattle.std.proofs.Common.{◌≡◌, codes, None, Some, [], ◌∷◌, false, length, negsuc, pos, refl, true}
 use Rattle.std.specs.Fmt.{digits}
+use Rattle.daide_token.proofs.Common.{◌≡◌, codes, None, Some, [], ◌∷◌, false, length, negsuc, pos, refl, true, class_of}
+use Rattle.daide_token.proofs.Common.{has_known_category, name_of, names, token_named, text_of, text_with, bra, ket}
+use Rattle.daide_token.proofs.Common.{number_of, prn, token_of_number, tokens_of}
 use Rattle.daide_token.specs.declared.class.Class.TheVariants as class
-use Rattle.daide_token.specs.Class.{class_of, has_known_category}
-use Rattle.daide_token.specs.Names.{name_of, names, token_named}
-use Rattle.daide_token.specs.Text.{text_of, text_with}
-use Rattle.daide_token.specs.Token.{bra, err, hlo, huh, ket, lvl, number_of, prn, token_of_number, tokens_of}
+use Rattle.daide_token.specs.Token.{err, hlo, huh, lvl}
 
 -- an unlisted token has a class by its category, and no name
 unlisted-4002 : (class_of 0x4002 ≡ class.Other) × (name_of 0x4002 ≡ None)

@@ -1,6 +1,6 @@
 -- Searches in a table.
-use Rattle.std.proofs.Common.{◌≡◌, ◌&&◌, Bool, true, false, List, [], ◌∷◌, map, Option, option_map, refl, Some, cond}
-use Rattle.std.specs.List.{find, list_all}
+use Rattle.daide_token.proofs.Common.{◌≡◌, ◌&&◌, Bool, true, false, List, [], ◌∷◌, map, Option, option_map, refl, Some}
+use Rattle.daide_token.proofs.Common.{cond, find, list_all}
 
 -- one more row, by whether it passes the test
 found : {X Y : Type 0} (v : X → Y) (p : Y → Bool) (x : X) (xs : List X) (b : Bool)

@@ -1,20 +1,14 @@
 -- The text of tokens is injective: two lists with the same text are the same list.
-use Rattle.std.proofs.Common.{◌≡◌, ℕ, zero, suc, ℤ, pos, negsuc, ◌+◌, ◌-◌, ◌/◌, ◌%◌, ◌^◌, ◌<◌, ◌==◌, ◌&&◌}
-use Rattle.std.proofs.Common.{nat_le, not, Bool, true, false, if◌then◌else◌, List, [], ◌∷◌, ◌++◌, Option}
-use Rattle.std.proofs.Common.{Some, None, refl, sym, ◌∙◌, ap, arith}
-use Rattle.std.specs.List.{All, list_all}
-use Rattle.std.specs.Fmt.{decimal, signed_decimal}
-use Rattle.std.proofs.lemmas.Bool.{eqb-true}
-use Rattle.std.proofs.lemmas.Bool.Decides.{nat_tests}
-use Rattle.std.proofs.lemmas.Int.{ints}
+use Rattle.std.specs.List.{All}
 use Rattle.std.specs.Int.Signed.{mag}
 use Rattle.std.proofs.lemmas.Fmt.{decimal_by_steps, signed_decimal_injective}
 use Rattle.std.proofs.lemmas.List.Folds.{list_all-append}
-use Rattle.daide_token.specs.Token.{bra, ket, number_of, token_of_number}
-use Rattle.daide_token.specs.Names.{Named, names, name_of, token_named}
-use Rattle.daide_token.specs.Text.{hex_digit_of, hex_text, text_of_token, is_quotable, text_of, text_with}
-use Rattle.daide_token.specs.TextSteps.{place_after, rest_of_text}
-use Rattle.daide_token.specs.declared.text.PrinterState.{PrinterState}
+use Rattle.daide_token.proofs.Common.{◌≡◌, ℕ, zero, suc, ℤ, pos, negsuc, ◌+◌, ◌-◌, ◌/◌, ◌%◌, ◌^◌, ◌<◌, ◌==◌, ◌&&◌}
+use Rattle.daide_token.proofs.Common.{nat_le, not, Bool, true, false, if◌then◌else◌, List, [], ◌∷◌, ◌++◌, Option, Some}
+use Rattle.daide_token.proofs.Common.{None, refl, sym, ◌∙◌, ap, arith, list_all, decimal, signed_decimal, eqb-true}
+use Rattle.daide_token.proofs.Common.{nat_tests, ints, bra, ket, number_of, token_of_number, Named, names, name_of}
+use Rattle.daide_token.proofs.Common.{token_named, hex_digit_of, hex_text, text_of_token, is_quotable, text_of}
+use Rattle.daide_token.proofs.Common.{text_with, place_after, rest_of_text, PrinterState}
 use Rattle.daide_token.specs.declared.text.PrinterState.TheVariants as place
 use Rattle.daide_token.proofs.TableLemmas.{found_passes}
 use Rattle.daide_token.proofs.NameLaws.{token_named-name_of}

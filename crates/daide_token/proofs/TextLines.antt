@@ -1,17 +1,13 @@
 -- The text of tokens is on one line: no byte of it is a line feed, if no added name contains one.
-use Rattle.std.proofs.Common.{◌≡◌, ◌==◌, ◌&&◌, not, ℕ, zero, suc, ℤ, pos, negsuc, ◌+◌, ◌/◌, ◌%◌, ◌^◌, ◌<◌, Bool, true, false}
-use Rattle.std.proofs.Common.{if◌then◌else◌, List, [], ◌∷◌, ◌++◌, codes, Option, Some, None, option_map, unwrap_or, refl, sym}
-use Rattle.std.proofs.Common.{ap, ◌∙◌, arith}
-use Rattle.std.specs.List.{list_all}
-use Rattle.std.specs.Fmt.{decimal, signed_decimal}
-use Rattle.std.proofs.lemmas.Bool.Decides.{nat_tests}
 use Rattle.std.proofs.lemmas.Fmt.{decimal_by_steps}
 use Rattle.std.proofs.lemmas.List.Folds.{list_all-append}
-use Rattle.daide_token.specs.Token.{bra, ket, number_of}
-use Rattle.daide_token.specs.Names.{Named, names, name_of}
-use Rattle.daide_token.specs.Text.{added_name_of, hex_digit_of, hex_text, is_quotable, text_with, text_of_token}
-use Rattle.daide_token.specs.TextSteps.{before_character, before_item, place_after, rest_of_text, token_text}
-use Rattle.daide_token.specs.declared.text.PrinterState.{PrinterState}
+use Rattle.daide_token.proofs.Common.{◌≡◌, ◌==◌, ◌&&◌, not, ℕ, zero, suc, ℤ, pos, negsuc, ◌+◌, ◌/◌, ◌%◌, ◌^◌, ◌<◌, Bool}
+use Rattle.daide_token.proofs.Common.{true, false, if◌then◌else◌, List, [], ◌∷◌, ◌++◌, codes, Option, Some, None}
+use Rattle.daide_token.proofs.Common.{option_map, unwrap_or, refl, sym, ap, ◌∙◌, arith, list_all, decimal}
+use Rattle.daide_token.proofs.Common.{signed_decimal, nat_tests, bra, ket, number_of, Named, names, name_of}
+use Rattle.daide_token.proofs.Common.{hex_digit_of, hex_text, is_quotable, text_with, text_of_token, before_character}
+use Rattle.daide_token.proofs.Common.{before_item, place_after, rest_of_text, token_text, PrinterState}
+use Rattle.daide_token.specs.Text.{added_name_of}
 use Rattle.daide_token.specs.declared.text.PrinterState.TheVariants as place
 use Rattle.daide_token.proofs.TableLemmas.{found_passes}
 use Rattle.daide_token.proofs.TextParts.{first_text}

@@ -1,16 +1,12 @@
 -- A text in parts: the first tokens, and the rest.
-use Rattle.std.proofs.Common.{◌≡◌, ℕ, ◌+◌, ◌-◌, ◌*◌, ◌%◌, ◌<◌, ◌≤◌, List, [], ◌∷◌, ◌++◌, length, take, drop}
-use Rattle.std.proofs.Common.{get_or, Option, Some, None, refl, sym, ap, ◌∙◌, subst, arith, append_assoc, append-nil}
-use Rattle.std.proofs.Common.{◌==◌, true, zero, suc}
-use Rattle.std.proofs.lemmas.Bool.Decides.{nat_tests}
+use Rattle.std.proofs.Common.{append-nil}
 use Rattle.std.proofs.lemmas.Grind.{common_steps}
-use Rattle.std.specs.Io.KnownBytes.{Appends}
-use Rattle.daide_token.specs.Token.{tokens_of}
-use Rattle.daide_token.specs.Names.{Named}
-use Rattle.daide_token.specs.Text.{text_with}
+use Rattle.daide_token.proofs.Common.{◌≡◌, ℕ, ◌+◌, ◌-◌, ◌*◌, ◌%◌, ◌<◌, ◌≤◌, List, [], ◌∷◌, ◌++◌, length, take, drop}
+use Rattle.daide_token.proofs.Common.{get_or, Option, Some, None, refl, sym, ap, ◌∙◌, subst, arith, append_assoc, ◌==◌}
+use Rattle.daide_token.proofs.Common.{true, zero, suc, nat_tests, Appends, tokens_of, Named, text_with, place_after}
+use Rattle.daide_token.proofs.Common.{place_past, token_text, rest_of_text, some_text, PrinterState}
 use Rattle.daide_token.proofs.WholeText.{rest_of_text-start}
-use Rattle.daide_token.specs.TextSteps.{end_text, place_after, place_past, token_text, rest_of_text, some_text}
-use Rattle.daide_token.specs.declared.text.PrinterState.{PrinterState}
+use Rattle.daide_token.specs.TextSteps.{end_text}
 use Rattle.daide_token.specs.declared.text.PrinterState.TheVariants as place
 
 pub first_text : (added : List Named) (p : PrinterState) (t : ℕ) (ts : List ℕ) →

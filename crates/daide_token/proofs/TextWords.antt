@@ -1,17 +1,9 @@
 -- The text of one token, by its kind.
-use Rattle.std.proofs.Common.{◌≡◌, ◌==◌, ◌&&◌, Bool, nat_le, not, ℕ, ℤ, pos, negsuc, ◌<◌, true, false, List, [], ◌∷◌}
-use Rattle.std.proofs.Common.{length, get_or, Some, None, refl, sym, ap, ◌∙◌, arith}
-use Rattle.std.proofs.lemmas.Bool.{eqb-true}
-use Rattle.std.proofs.lemmas.Bool.Decides.{nat_tests}
-use Rattle.std.proofs.lemmas.Int.{ints}
 use Rattle.std.specs.Int.RustNames.{unsigned_abs}
-use Rattle.std.specs.Fmt.{signed_decimal}
-use Rattle.std.specs.List.{list_all}
-use Rattle.daide_token.specs.Token.{bra, ket, number_of}
-use Rattle.daide_token.specs.Names.{Named, names, name_of}
-use Rattle.daide_token.specs.NamePages.{is_spaced, name_of_cell}
-use Rattle.daide_token.specs.Text.{is_quotable, text_of_token}
-use Rattle.daide_token.specs.TextSteps.{place_after, token_text}
+use Rattle.daide_token.proofs.Common.{◌≡◌, ◌==◌, ◌&&◌, Bool, nat_le, not, ℕ, ℤ, pos, negsuc, ◌<◌, true, false, List, []}
+use Rattle.daide_token.proofs.Common.{◌∷◌, length, get_or, Some, None, refl, sym, ap, ◌∙◌, arith, eqb-true, nat_tests}
+use Rattle.daide_token.proofs.Common.{ints, signed_decimal, list_all, bra, ket, number_of, Named, names, name_of}
+use Rattle.daide_token.proofs.Common.{is_spaced, name_of_cell, is_quotable, text_of_token, place_after, token_text}
 use Rattle.daide_token.specs.declared.text.PrinterState.TheVariants.{Word}
 use Rattle.daide_token.proofs.TableLemmas.{found_passes}
 

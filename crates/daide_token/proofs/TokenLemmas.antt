@@ -1,6 +1,6 @@
 -- Tokens are recovered from their bytes.
-use Rattle.std.proofs.Common.{◌≡◌, ◌+◌, ◌*◌, ◌/◌, ◌%◌, ℕ, List, [], ◌∷◌, refl, arith}
-use Rattle.daide_token.specs.Token.{bytes_of_tokens, tokens_of}
+use Rattle.daide_token.proofs.Common.{◌≡◌, ◌+◌, ◌*◌, ◌/◌, ◌%◌, ℕ, List, [], ◌∷◌, refl, arith, tokens_of}
+use Rattle.daide_token.specs.Token.{bytes_of_tokens}
 
 same_head : (s t : ℕ) (ss ts : List ℕ) → s ≡ t → ss ≡ ts → s ∷ ss ≡ t ∷ ts
 same_head s t ss ts e f = cc

@@ -1,6 +1,7 @@
 -- The token at an index of a body, among the body's tokens.
-use Rattle.std.proofs.Common.{◌≡◌, ℕ, zero, suc, ◌+◌, ◌*◌, ◌<◌, List, [], ◌∷◌, ◌++◌, length, take, drop, refl, ap, arith}
-use Rattle.daide_token.specs.Token.{token_at, tokens_of}
+use Rattle.daide_token.proofs.Common.{◌≡◌, ℕ, zero, suc, ◌+◌, ◌*◌, ◌<◌, List, [], ◌∷◌, ◌++◌, length, take, drop, refl}
+use Rattle.daide_token.proofs.Common.{ap, arith, tokens_of}
+use Rattle.daide_token.specs.Token.{token_at}
 
 -- one more token of a body
 pub tokens_of-next : (i : ℕ) (b : List ℕ) → 2 * i + 1 < length b

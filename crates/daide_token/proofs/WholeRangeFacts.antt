@@ -1,13 +1,9 @@
 -- Printed text, categories and numbers over whole ranges of codes. Written from the protocol's token table and the
 -- rules of printed text. Code that is right for one value and wrong for the next does not check.
-use Rattle.std.proofs.Common.{◌≡◌, ℕ, zero, suc, ◌+◌, ◌*◌, true, false, codes, List, [], ◌∷◌, ◌++◌, map, refl}
-use Rattle.std.proofs.Common.{replicate, Some, None, pos, negsuc}
-use Rattle.std.specs.Prelude.{slice_index}
-use Rattle.std.specs.List.{range_with_len}
-use Rattle.daide_token.specs.Class.{has_known_category}
-use Rattle.daide_token.specs.Names.{name_of, names}
-use Rattle.daide_token.specs.Text.{text_of, text_with}
-use Rattle.daide_token.specs.Token.{number_of}
+use Rattle.std.proofs.Common.{slice_index}
+use Rattle.daide_token.proofs.Common.{◌≡◌, ℕ, zero, suc, ◌+◌, ◌*◌, true, false, codes, List, [], ◌∷◌, ◌++◌, map, refl}
+use Rattle.daide_token.proofs.Common.{replicate, Some, None, pos, negsuc, range_with_len, has_known_category, name_of}
+use Rattle.daide_token.proofs.Common.{names, text_of, text_with, number_of}
 
 -- ---- characters
 

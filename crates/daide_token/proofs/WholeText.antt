@@ -1,12 +1,10 @@
 -- The text that is written token by token is the items with spaces between them.
-use Rattle.std.proofs.Common.{◌≡◌, ℕ, ◌%◌, Bool, true, false, if◌then◌else◌, List, [], ◌∷◌}
-use Rattle.std.proofs.Common.{◌++◌, map, refl, ap, append_assoc, ◌∙◌, sym}
 use Rattle.std.proofs.lemmas.List.{append-nil}
 use Rattle.std.specs.List.{join_with_byte}
-use Rattle.daide_token.specs.Text.{TextItem, Word, Quote, before_items, is_quotable, text_items_of, item_text, text_with, text_of_token}
-use Rattle.daide_token.specs.Names.{Named}
-use Rattle.daide_token.specs.TextSteps.{before_item, before_character, rest_of_text}
-use Rattle.daide_token.specs.declared.text.PrinterState.{PrinterState}
+use Rattle.daide_token.proofs.Common.{◌≡◌, ℕ, ◌%◌, Bool, true, false, if◌then◌else◌, List, [], ◌∷◌, ◌++◌, map, refl, ap}
+use Rattle.daide_token.proofs.Common.{append_assoc, ◌∙◌, sym, is_quotable, text_with, text_of_token, Named, before_item}
+use Rattle.daide_token.proofs.Common.{before_character, rest_of_text, PrinterState}
+use Rattle.daide_token.specs.Text.{TextItem, Word, Quote, before_items, text_items_of, item_text}
 use Rattle.daide_token.specs.declared.text.PrinterState.TheVariants as place
 
 module _ (added : List Named) where

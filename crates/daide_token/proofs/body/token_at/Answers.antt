@@ -1,5 +1,4 @@
-use Rattle.std.proofs.Common.{ℕ, ◌+◌, ◌++◌, ◌∷◌, [], take, drop, sym, ap, ◌∙◌, arith}
-use Rattle.daide_token.specs.Token.{tokens_of}
+use Rattle.daide_token.proofs.Common.{ℕ, ◌+◌, ◌++◌, ◌∷◌, [], take, drop, sym, ap, ◌∙◌, arith, tokens_of}
 use Rattle.daide_token.proofs.TokenPlaces.{tokens_of-next, tokens_of-rest}
 use Rattle.daide_token.proofs.body.token_at.Goals as goal
 

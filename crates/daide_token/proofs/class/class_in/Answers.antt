@@ -1,5 +1,4 @@
-use Rattle.std.proofs.Common.{ℕ, sym, ap, ◌∙◌}
-use Rattle.daide_token.specs.Class.{class_in}
+use Rattle.daide_token.proofs.Common.{ℕ, sym, ap, ◌∙◌, class_in}
 use Rattle.daide_token.proofs.class.class_in.Goals as goal
 
 pub returns-in-64 : goal.returns-in-64

@@ -1,5 +1,5 @@
-use Rattle.std.proofs.Common.{sym, ap, ◌∙◌, arith}
-use Rattle.daide_token.specs.Token.{token_of_bytes, tokens_of}
+use Rattle.daide_token.proofs.Common.{sym, ap, ◌∙◌, arith, tokens_of}
+use Rattle.daide_token.specs.Token.{token_of_bytes}
 use Rattle.daide_token.proofs.law_facts.bytes_at_values.Goals as goal
 
 pub returns-clause-token : goal.returns-clause-token

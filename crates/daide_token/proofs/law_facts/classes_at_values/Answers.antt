@@ -1,5 +1,4 @@
-use Rattle.std.proofs.Common.{◌≡◌, true, false, sym, ap, ◌∙◌}
-use Rattle.daide_token.specs.Class.{class_of, has_one_token, is_standard, token_of}
+use Rattle.daide_token.proofs.Common.{◌≡◌, true, false, sym, ap, ◌∙◌, class_of, has_one_token, is_standard, token_of}
 use Rattle.daide_token.specs.declared.class.Class.TheVariants as classes
 use Rattle.daide_token.proofs.law_facts.classes_at_values.Goals as goal
 

@@ -1,5 +1,4 @@
-use Rattle.std.proofs.Common.{◌≡◌, Some, codes}
-use Rattle.daide_token.specs.Names.{name_of, names, token_named}
+use Rattle.daide_token.proofs.Common.{◌≡◌, Some, codes, name_of, names, token_named}
 use Rattle.daide_token.proofs.law_facts.names_at_values.Goals as goal
 
 pub returns-clause-token : goal.returns-clause-token

@@ -1,4 +1,4 @@
-use Rattle.std.proofs.Common.{◌≡◌, Some, negsuc}
+use Rattle.daide_token.proofs.Common.{◌≡◌, Some, negsuc}
 use Rattle.daide_token.proofs.law_facts.numbers_at_values.Goals as goal
 
 pub returns-clause-token : goal.returns-clause-token

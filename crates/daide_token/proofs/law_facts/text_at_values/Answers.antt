@@ -1,6 +1,4 @@
-use Rattle.std.proofs.Common.{◌≡◌, [], ◌∷◌, codes, refl, sym, ◌∙◌, rules}
-use Rattle.daide_token.specs.Names.{name_of, names}
-use Rattle.daide_token.specs.Text.{text_of}
+use Rattle.daide_token.proofs.Common.{◌≡◌, [], ◌∷◌, codes, refl, sym, ◌∙◌, rules, name_of, names, text_of}
 use Rattle.daide_token.proofs.law_facts.text_at_values.Goals as goal
 
 pub returns : goal.returns

@@ -1,4 +1,4 @@
-use Rattle.std.proofs.Common.{◌<◌, ◌⊎◌, sym, arith}
+use Rattle.daide_token.proofs.Common.{◌<◌, ◌⊎◌, sym, arith}
 use Rattle.daide_token.proofs.NamesByLetter.{at_letter, no_other_letter}
 use Rattle.daide_token.proofs.names.codes_with.Goals as goal
 

@@ -1,9 +1,8 @@
-use Rattle.std.proofs.Common.{◌≡◌, ◌≢◌, ℕ, true, List, [], ◌∷◌, Option, None, Some, option_map, ap, ◌∙◌, Bor}
+use Rattle.std.proofs.Common.{◌≢◌, Bor, lit<}
 use Rattle.std.specs.Option.{MatchOption}
-use Rattle.std.proofs.lemmas.Bool.{eqb-true}
 use Rattle.std.proofs.lemmas.Str.Pattern.{strip_prefix_char}
-use Rattle.std.proofs.Common.{lit<}
-use Rattle.daide_token.specs.NamePages.{is_spaced, name_of_cell}
+use Rattle.daide_token.proofs.Common.{◌≡◌, ℕ, true, List, [], ◌∷◌, Option, None, Some, option_map, ap, ◌∙◌, eqb-true}
+use Rattle.daide_token.proofs.Common.{is_spaced, name_of_cell}
 use Rattle.daide_token.proofs.names.name_of.Goals as goal
 
 -- a cell without its space is its name

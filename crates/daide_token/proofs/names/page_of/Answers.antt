@@ -1,4 +1,4 @@
-use Rattle.std.proofs.Common.{◌<◌, ◌+◌, ◌-◌, ◌≤◌, ◌⊎◌, length, map, sym, arith}
+use Rattle.daide_token.proofs.Common.{◌<◌, ◌+◌, ◌-◌, ◌≤◌, ◌⊎◌, length, map, sym, arith}
 use Rattle.daide_token.proofs.NamePages.{cell_told, no_page, page_spaced}
 use Rattle.daide_token.proofs.names.page_of.Goals as goal
 

@@ -1,5 +1,4 @@
-use Rattle.std.proofs.Common.{ap, ◌∙◌, refl, map}
-use Rattle.daide_token.specs.NamePages.{is_spaced}
+use Rattle.daide_token.proofs.Common.{ap, ◌∙◌, refl, map, is_spaced}
 use Rattle.daide_token.proofs.NamePages.{each_of}
 use Rattle.daide_token.proofs.names.spaced_name.Goals as goal
 

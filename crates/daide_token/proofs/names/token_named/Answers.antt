@@ -1,5 +1,4 @@
-use Rattle.std.proofs.Common.{ap, ◌∙◌}
-use Rattle.std.specs.List.{find}
+use Rattle.daide_token.proofs.Common.{ap, ◌∙◌, find}
 use Rattle.daide_token.proofs.NamesByLetter.{told_by_letter}
 use Rattle.daide_token.specs.NamesByLetter.{codes_with, is_named}
 use Rattle.daide_token.proofs.names.token_named.Goals as goal

@@ -1,4 +1,4 @@
-use Rattle.std.proofs.Common.{◌+◌, arith, ◌∙◌, take}
+use Rattle.daide_token.proofs.Common.{◌+◌, arith, ◌∙◌, take}
 use Rattle.daide_token.proofs.DecimalText.{digit_behind, front_shorter, only_digit, only_length}
 use Rattle.daide_token.proofs.text.+put_digits.Goals as goal
 

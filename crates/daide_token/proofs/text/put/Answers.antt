@@ -1,5 +1,5 @@
-use Rattle.std.proofs.Common.{◌+◌, ◌-◌, List, ℕ, ◌++◌, ap, ◌∙◌, arith, take}
 use Rattle.std.proofs.lemmas.Slice.{take-put_mid}
+use Rattle.daide_token.proofs.Common.{◌+◌, ◌-◌, List, ℕ, ◌++◌, ap, ◌∙◌, arith, take}
 use Rattle.daide_token.proofs.text.put.Goals as goal
 
 pub returns-clause-text : goal.returns-clause-text

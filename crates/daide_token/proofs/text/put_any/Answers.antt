@@ -1,6 +1,5 @@
-use Rattle.std.proofs.Common.{sym, ap, ◌∙◌, append_assoc, refl, ◌++◌, List, ℕ, take, ◌∷◌, [], ◌%◌}
-use Rattle.daide_token.specs.Text.{text_of_token}
-use Rattle.daide_token.specs.TextSteps.{before_item, before_character}
+use Rattle.daide_token.proofs.Common.{sym, ap, ◌∙◌, append_assoc, refl, ◌++◌, List, ℕ, take, ◌∷◌, [], ◌%◌}
+use Rattle.daide_token.proofs.Common.{text_of_token, before_item, before_character}
 use Rattle.daide_token.proofs.text.put_any.Goals as goal
 
 pub returns-then-quotable-clause-text : goal.returns-then-quotable-clause-text

@@ -1,6 +1,4 @@
-use Rattle.std.proofs.Common.{ap, sym, ◌∙◌, ◌++◌, take, List, ℕ, rules}
-use Rattle.std.proofs.lemmas.Int.{to_z-of_z}
-use mir.Syntax.{w16}
+use Rattle.daide_token.proofs.Common.{ap, sym, ◌∙◌, ◌++◌, take, List, ℕ, rules, to_z-of_z, w16}
 use mir.Val.{SFits}
 use Rattle.daide_token.proofs.TextWords.{number_few, number_word}
 use Rattle.daide_token.proofs.text.put_by_itself.Goals as goal

@@ -1,6 +1,5 @@
-use Rattle.std.proofs.Common.{◌≡◌, ◌*◌, ◌+◌, ◌<◌, ◌==◌, false, sym, ap, ◌∙◌, ◌++◌, List, ℕ, length, take, arith}
-use Rattle.std.proofs.lemmas.Bool.Decides.{nat_tests}
-use Rattle.daide_token.specs.Token.{bra, ket}
+use Rattle.daide_token.proofs.Common.{◌≡◌, ◌*◌, ◌+◌, ◌<◌, ◌==◌, false, sym, ap, ◌∙◌, ◌++◌, List, ℕ, length, take, arith}
+use Rattle.daide_token.proofs.Common.{nat_tests, bra, ket}
 use Rattle.daide_token.proofs.TextWords.{cell_place, cell_text, four}
 use Rattle.daide_token.proofs.text.put_if_word.Goals as goal
 

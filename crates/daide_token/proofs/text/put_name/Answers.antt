@@ -1,4 +1,4 @@
-use Rattle.std.proofs.Common.{◌≡◌, ℕ, List, [], ◌∷◌, ◌++◌, length, get_or, refl, ap, ◌∙◌, arith, take}
+use Rattle.daide_token.proofs.Common.{◌≡◌, ℕ, List, [], ◌∷◌, ◌++◌, length, get_or, refl, ap, ◌∙◌, arith, take}
 use Rattle.daide_token.proofs.text.put_name.Goals as goal
 
 letters : (name : List ℕ) → length name ≡ 3 → get_or name 0 0 ∷ get_or name 1 0 ∷ get_or name 2 0 ∷ [] ≡ name

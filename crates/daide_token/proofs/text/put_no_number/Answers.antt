@@ -1,4 +1,4 @@
-use Rattle.std.proofs.Common.{sym}
+use Rattle.daide_token.proofs.Common.{sym}
 use Rattle.daide_token.proofs.NameLaws.{name_of-length}
 use Rattle.daide_token.proofs.text.put_no_number.Goals as goal
 

@@ -1,5 +1,4 @@
-use Rattle.std.proofs.Common.{ℕ, List, [], ◌∷◌, ◌++◌, ◌<◌, take, ap, ◌∙◌, append_assoc, arith}
-use Rattle.std.specs.Fmt.{decimal}
+use Rattle.daide_token.proofs.Common.{ℕ, List, [], ◌∷◌, ◌++◌, ◌<◌, take, ap, ◌∙◌, append_assoc, arith, decimal}
 use Rattle.daide_token.proofs.DecimalText.{four_digits, negative, positive, value_is}
 use Rattle.daide_token.proofs.text.put_number.Goals as goal
 

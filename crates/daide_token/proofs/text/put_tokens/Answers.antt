@@ -1,6 +1,4 @@
-use Rattle.std.proofs.Common.{arith, take, ap, ◌∙◌, ◌++◌, List, ℕ}
-use Rattle.daide_token.specs.Token.{tokens_of}
-use Rattle.daide_token.specs.TextSteps.{place_past, some_text}
+use Rattle.daide_token.proofs.Common.{arith, take, ap, ◌∙◌, ◌++◌, List, ℕ, tokens_of, place_past, some_text}
 use Rattle.daide_token.proofs.TextParts.{left_length, place_on, place_put, text_put, token_on}
 use Rattle.daide_token.proofs.text.put_tokens.Goals as goal
 

@@ -1,6 +1,4 @@
-use Rattle.std.proofs.Common.{◌≡◌, ◌≤◌, ◌+◌, ◌*◌, ◌++◌, length, take}
-use Rattle.daide_token.specs.Token.{tokens_of}
-use Rattle.daide_token.specs.TextSteps.{place_past, some_text}
+use Rattle.daide_token.proofs.Common.{◌≡◌, ◌≤◌, ◌+◌, ◌*◌, ◌++◌, length, take, tokens_of, place_past, some_text}
 use Rattle.daide_token.proofs.text.put_tokens.Given as goal
 
 abbrev pub invariant-tokens : goal.invariant-tokens

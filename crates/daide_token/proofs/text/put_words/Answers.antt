@@ -1,4 +1,4 @@
-use Rattle.std.proofs.Common.{arith, refl, take}
+use Rattle.daide_token.proofs.Common.{arith, refl, take}
 use Rattle.daide_token.proofs.TextParts.{past_on, word_on}
 use Rattle.daide_token.proofs.text.put_words.Goals as goal
 

@@ -1,7 +1,5 @@
-use Rattle.std.proofs.Common.{◌≡◌, ◌≤◌, ◌+◌, ◌-◌, ◌*◌, ◌++◌, List, length, take, drop}
-use Rattle.daide_token.specs.Names.{Named}
-use Rattle.daide_token.specs.Token.{tokens_of}
-use Rattle.daide_token.specs.TextSteps.{place_past, some_text}
+use Rattle.daide_token.proofs.Common.{◌≡◌, ◌≤◌, ◌+◌, ◌-◌, ◌*◌, ◌++◌, List, length, take, drop, Named, tokens_of}
+use Rattle.daide_token.proofs.Common.{place_past, some_text}
 use Rattle.daide_token.specs.declared.text.PrinterState.TheVariants.{Word}
 use Rattle.daide_token.proofs.text.put_words.Given as goal
 

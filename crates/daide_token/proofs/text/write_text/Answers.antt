@@ -1,4 +1,4 @@
-use Rattle.daide_token.specs.Text.{text_of, text_with}
+use Rattle.daide_token.proofs.Common.{text_of, text_with}
 use Rattle.daide_token.proofs.text.write_text.Goals as goal
 
 pub returns : goal.returns

@@ -1,9 +1,8 @@
-use Rattle.std.proofs.Common.{◌≡◌, ◌%◌, ◌++◌, ℕ, List, length, take, arith, sym, ap, ◌∙◌}
 use Rattle.std.proofs.lemmas.Result.{on_ok_weaker}
 use Rattle.std.proofs.lemmas.List.{take-append-drop}
+use Rattle.daide_token.proofs.Common.{◌≡◌, ◌%◌, ◌++◌, ℕ, List, length, take, arith, sym, ap, ◌∙◌, tokens_of}
 use Rattle.daide_token.proofs.WholeText.{rest_of_text-start}
 use Rattle.daide_token.proofs.TextParts.{end_on, part_on}
-use Rattle.daide_token.specs.Token.{tokens_of}
 use Rattle.daide_token.proofs.text.write_text_with.Goals as goal
 
 pub tokens-init : goal.tokens-init

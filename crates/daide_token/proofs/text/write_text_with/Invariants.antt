@@ -1,8 +1,4 @@
-use Rattle.std.proofs.Common.{length, List, ℕ, Option, ◌≡◌, ◌%◌}
-use Rattle.std.specs.Io.KnownBytes.{Appends}
-use Rattle.daide_token.specs.Text.{text_with}
-use Rattle.daide_token.specs.Token.{tokens_of}
-use Rattle.daide_token.specs.TextSteps.{rest_of_text}
+use Rattle.daide_token.proofs.Common.{length, List, ℕ, Option, ◌≡◌, ◌%◌, Appends, text_with, tokens_of, rest_of_text}
 use Rattle.daide_token.proofs.text.write_text_with.Given as goal
 
 -- the text so far, completed by the text of the remaining tokens, is the whole text

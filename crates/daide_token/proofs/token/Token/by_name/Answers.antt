@@ -1,4 +1,4 @@
-use Rattle.std.proofs.Common.{Some, sym, ap, ◌∙◌}
+use Rattle.daide_token.proofs.Common.{Some, sym, ap, ◌∙◌}
 use Rattle.daide_token.proofs.token.Token.by_name.Goals as goal
 
 pub returns-in_err-code : goal.returns-in_err-code

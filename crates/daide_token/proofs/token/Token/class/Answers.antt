@@ -1,5 +1,4 @@
-use Rattle.std.proofs.Common.{ℕ, List, get_or, sym, ap, ◌∙◌}
-use Rattle.daide_token.specs.Class.{class_in, class_of}
+use Rattle.daide_token.proofs.Common.{ℕ, List, get_or, sym, ap, ◌∙◌, class_in, class_of}
 use Rattle.daide_token.proofs.token.Token.class.Goals as goal
 
 pub returns-in-16384 : goal.returns-in-16384

@@ -1,5 +1,4 @@
-use Rattle.std.proofs.Common.{ap, ◌∙◌}
-use Rattle.daide_token.specs.Names.{name_of}
+use Rattle.daide_token.proofs.Common.{ap, ◌∙◌, name_of}
 use Rattle.daide_token.proofs.token.Token.name.Goals as goal
 
 pub returns : goal.returns

@@ -1,4 +1,4 @@
-use Rattle.std.proofs.Common.{◌≡◌, ◌/◌, ◌%◌, ◌<◌, ℕ, [], ◌∷◌, refl, ap, ◌∙◌, arith}
+use Rattle.daide_token.proofs.Common.{◌≡◌, ◌/◌, ◌%◌, ◌<◌, ℕ, [], ◌∷◌, refl, ap, ◌∙◌, arith}
 use Rattle.daide_token.specs.Token.{token_bytes}
 use Rattle.daide_token.proofs.token.Token.to_be.Goals as goal
 
