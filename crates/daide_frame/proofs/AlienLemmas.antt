@@ -1,14 +1,11 @@
 -- The first alien token of a growing body.
-use Rattle.std.proofs.Common.{◌≡◌, ℕ, zero, suc, ◌+◌, ◌-◌, ◌*◌, ◌%◌, ◌<◌, ◌≤◌, Bool, true, false, cond, List, [], ◌∷◌, ◌++◌, length}
-use Rattle.std.proofs.Common.{get_or, take, drop, Option, Some, None, refl, sym, ap, ◌∙◌, arith, length-drop}
-use Rattle.std.proofs.Common.{length-take, drop-cons, subst, leb, inl, inr, ◌⊎◌}
-use Rattle.std.proofs.lemmas.Bool.Decides.{leb_tells}
-use Rattle.std.specs.Prelude.{not}
-use Rattle.std.proofs.lemmas.List.{take-append-drop}
+use Rattle.std.proofs.Common.{◌≡◌, ℕ, zero, suc, ◌+◌, ◌-◌, ◌*◌, ◌%◌, ◌<◌, ◌≤◌, Bool, true, false, cond, List, [], ◌∷◌}
+use Rattle.std.proofs.Common.{◌++◌, length, get_or, take, drop, Option, Some, None, refl, sym, ap, ◌∙◌, arith}
+use Rattle.std.proofs.Common.{length-drop, length-take, drop-cons, subst, leb, inl, inr, ◌⊎◌, not}
+use Rattle.daide_frame.proofs.Common.{leb_tells, take-append-drop, AreKnown}
 use Rattle.daide_token.specs.Token.{token_of_bytes}
 use Rattle.daide_token.specs.Class.{has_known_category}
 use Rattle.daide_frame.specs.Frames.{is_alien, shifted_place, first_alien}
-use Rattle.daide_frame.specs.Cutter.{AreKnown}
 
 pub is_alien-is : (high low : ℕ) → is_alien high low ≡ not (has_known_category (token_of_bytes (high ∷ low ∷ [])))
 unfolding is_alien

@@ -1,20 +1,13 @@
 -- What the fields of a cutter say about the bytes that it holds.
-use Rattle.std.proofs.Common.{◌≡◌, ℕ, inl, inr, ◌-◌, ◌<◌, ◌≤◌, Bool, true, false, leb, List, [], ◌++◌, length}
-use Rattle.std.proofs.Common.{take, drop, Option, Some, None, Result, Ok, Err, refl, sym, ap, ◌∙◌, subst, arith}
-use Rattle.std.proofs.Common.{length-append, length-take, append-nil}
-use Rattle.std.specs.Prelude.{is_some, MatchOption}
-use Rattle.std.proofs.lemmas.Bool.{lt-ltb}
-use Rattle.std.proofs.lemmas.Bool.Decides.{leb_tells}
+use Rattle.std.proofs.Common.{◌≡◌, ℕ, inl, inr, ◌-◌, ◌<◌, ◌≤◌, Bool, true, false, leb, List, [], ◌++◌, length, take}
+use Rattle.std.proofs.Common.{drop, Option, Some, None, Result, Ok, Err, refl, sym, ap, ◌∙◌, subst, arith}
+use Rattle.std.proofs.Common.{length-append, length-take, append-nil, is_some, MatchOption, ◌⊎◌}
 use Rattle.std.proofs.Math.Seq.{drop-append_seam}
-use Rattle.daide_frame.specs.declared.head.Head.{Head}
-use Rattle.daide_frame.specs.declared.code.Code.{Code}
-use Rattle.daide_frame.specs.declared.cutter.Step.{Step}
-use Rattle.daide_frame.specs.declared.cutter.Step.TheVariants.{Headed, Bodied}
-use Rattle.daide_frame.specs.Head.{parse_head}
-use Rattle.std.proofs.Common.{◌⊎◌}
+use Rattle.daide_frame.proofs.Common.{lt-ltb, leb_tells, Head, Code, Step, Bodied, parse_head, IsConsistent}
+use Rattle.daide_frame.specs.declared.cutter.Step.TheVariants.{Headed}
 use Rattle.daide_frame.specs.Frames.{alien_in, last_items, announced, announced_by, items_of_step, HoldsFrame, step_of_events}
 use Rattle.daide_frame.specs.Frames.{head_part, head_in, missing_of_body, missing}
-use Rattle.daide_frame.specs.Cutter.{has_alien, IsConsistent}
+use Rattle.daide_frame.specs.Cutter.{has_alien}
 use Rattle.daide_frame.proofs.ListLemmas.{eqb_apart, take_whole, take_whole', drop_past}
 use Rattle.daide_frame.proofs.HeadLemmas.{IsGood, parse_head-good}
 use Rattle.daide_frame.proofs.FramesLemmas.{head_in-short, head_in-whole, at_head, alien_in-nothing, last_items-head}

@@ -1,19 +1,12 @@
 -- A piece of a body that is fed all at once.
 use Rattle.std.proofs.Common.{◌≡◌, ℕ, inl, inr, ◌⊎◌, ◌+◌, ◌-◌, ◌<◌, ◌≤◌, Bool, true, false, cond, eqb, List, [], ◌∷◌}
 use Rattle.std.proofs.Common.{◌++◌, length, take, drop, Option, Some, None, Ok, refl, sym, ap, ◌∙◌, subst, arith}
-use Rattle.std.proofs.Common.{length-append, length-take, append_assoc}
-use Rattle.std.proofs.lemmas.Bool.Decides.{nat_tests}
-use Rattle.std.specs.Prelude.{◌&&◌, is_some}
-use Rattle.std.proofs.lemmas.List.{take-append-le, take-append-drop}
+use Rattle.std.proofs.Common.{length-append, length-take, append_assoc, ◌&&◌, is_some}
 use Rattle.std.proofs.Math.Seq.{drop-append_seam, take-append_seam}
-use Rattle.daide_frame.specs.declared.head.Head.{Head}
-use Rattle.daide_frame.specs.declared.code.Code.TheVariants.{InvalidToken}
-use Rattle.daide_frame.specs.Head.{kind_number, parse_head}
-use Rattle.daide_frame.specs.declared.cutter.Step.{Step}
-use Rattle.daide_frame.specs.declared.cutter.Step.TheVariants.{More, Bodied, Fault}
+use Rattle.daide_frame.proofs.Common.{nat_tests, take-append-le, take-append-drop, Head, InvalidToken, kind_number}
+use Rattle.daide_frame.proofs.Common.{parse_head, Step, More, Bodied, Fault, IsConsistent, IsFed}
 use Rattle.daide_frame.specs.Frames.{first_alien, alien_in, FrameEvent, Whole, Wrong, last_items, fed, fed_items, step_of_events}
 use Rattle.daide_frame.specs.Frames.{items_of_step, head_part, head_in, missing_of_body, missing}
-use Rattle.daide_frame.specs.Cutter.{IsConsistent, IsFed}
 use Rattle.daide_frame.proofs.AlienLemmas.{ends_alien, alien-push, first_alien-end, first_alien-grown, first_alien-part}
 use Rattle.daide_frame.proofs.FramesLemmas.{at_body, last_items-body, missing-four, head_in-whole, parse_head-append}
 use Rattle.daide_frame.proofs.FramesLemmas.{told_whole}

@@ -1,19 +1,11 @@
 -- The definitions of the first frame, by how much of it has arrived.
 use Rattle.std.proofs.Common.{◌≡◌, ℕ, zero, suc, ◌+◌, ◌-◌, ◌<◌, ◌≤◌, true, false, cond, leb, eqb, List, [], ◌∷◌, ◌++◌}
 use Rattle.std.proofs.Common.{length, take, drop, Option, Some, None, Result, Ok, Err, refl, sym, ap, ◌∙◌, subst, arith}
-use Rattle.std.proofs.Common.{length-append}
-use Rattle.std.specs.Prelude.{is_some}
-use Rattle.std.proofs.lemmas.Bool.{lt-ltb}
-use Rattle.std.proofs.lemmas.Bool.Decides.{nat_tests}
+use Rattle.std.proofs.Common.{length-append, is_some}
 use Rattle.std.proofs.lemmas.List.{take_all}
 use Rattle.std.proofs.Math.Seq.{drop-append_seam}
-use Rattle.daide_frame.specs.declared.head.Kind.{Kind}
-use Rattle.daide_frame.specs.declared.head.Kind.TheVariants.{Im, Rm, Dm, Fm, Em}
-use Rattle.daide_frame.specs.declared.head.Head.{Head}
-use Rattle.daide_frame.specs.declared.code.Code.{Code}
-use Rattle.daide_frame.specs.declared.code.Code.TheVariants.{InvalidToken}
-use Rattle.daide_frame.specs.declared.cutter.Step.TheVariants.{Bodied}
-use Rattle.daide_frame.specs.Head.{kind_number, parse_head}
+use Rattle.daide_frame.proofs.Common.{lt-ltb, nat_tests, Kind, Im, Rm, Dm, Fm, Em, Head, Code, InvalidToken, Bodied}
+use Rattle.daide_frame.proofs.Common.{kind_number, parse_head}
 use Rattle.daide_frame.specs.Frames.{first_alien, alien_in, FrameEvent, Begun, Whole, Wrong, items_of_body, items_from_head}
 use Rattle.daide_frame.specs.Frames.{first_items, events_ending_at, last_items, items_of_step}
 use Rattle.daide_frame.specs.Frames.{head_part, head_in, missing_of_body, missing}

@@ -1,16 +1,12 @@
 -- Reading a header: what holds of a good one, and of one that was written.
 use Rattle.std.proofs.Common.{◌≡◌, ℕ, ◌<◌, ◌≤◌, true, false, ltb, eqb, Option, Some, Ok, refl, ap, ◌∙◌, arith, suc, inl}
-use Rattle.std.proofs.Common.{inr, Bool, cond, List, [], ◌∷◌, None, Result, Err, sym, subst, ◌⊎◌}
-use Rattle.std.specs.Prelude.{◌^◌, ◌&&◌, slice_index}
+use Rattle.std.proofs.Common.{inr, Bool, cond, List, [], ◌∷◌, None, Result, Err, sym, subst, ◌⊎◌, ◌^◌, ◌&&◌}
+use Rattle.std.proofs.Common.{slice_index}
 use Rattle.std.specs.Int.{w16, from_be_bytes, to_be_bytes}
-use Rattle.std.proofs.lemmas.Bool.Decides.{nat_tests, leb_tells}
 use Rattle.std.proofs.lemmas.Nat.{from_be_bytes-to_be_bytes_2}
-use Rattle.daide_frame.specs.declared.head.Kind.{Kind}
-use Rattle.daide_frame.specs.declared.head.Kind.TheVariants.{Im, Rm, Dm, Fm, Em}
-use Rattle.daide_frame.specs.declared.head.Head.{Head}
-use Rattle.daide_frame.specs.Head.{kind_number, kind_of, has_right_length, is_im, judged, parse_head, head_bytes}
-use Rattle.daide_frame.specs.declared.code.Code.{Code}
-use Rattle.daide_frame.specs.declared.code.Code.TheVariants.{WrongEndian, UnknownMessage, WrongLength}
+use Rattle.daide_frame.proofs.Common.{nat_tests, leb_tells, Kind, Im, Rm, Dm, Fm, Em, Head, kind_number, parse_head}
+use Rattle.daide_frame.proofs.Common.{head_bytes, Code, WrongEndian, UnknownMessage, WrongLength}
+use Rattle.daide_frame.specs.Head.{kind_of, has_right_length, is_im, judged}
 use Rattle.daide_frame.proofs.ListLemmas.{ltb_no}
 
 -- a good header

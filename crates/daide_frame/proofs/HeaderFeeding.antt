@@ -1,10 +1,8 @@
 -- A piece of a header that is fed all at once.
 use Rattle.std.proofs.Common.{◌≡◌, ℕ, inr, ◌+◌, ◌<◌, ◌≤◌, List, [], ◌∷◌, ◌++◌, length, take, drop, refl, sym, ap, ◌∙◌}
 use Rattle.std.proofs.Common.{arith, length-append, append_assoc, append-nil}
-use Rattle.daide_frame.specs.declared.cutter.Step.{Step}
-use Rattle.daide_frame.specs.declared.cutter.Step.TheVariants.{More}
+use Rattle.daide_frame.proofs.Common.{Step, More, IsFed}
 use Rattle.daide_frame.specs.Frames.{last_items, fed, fed_items, step_of_events, items_of_step, head_in, missing, IsEnd, HoldsFrame}
-use Rattle.daide_frame.specs.Cutter.{IsFed}
 use Rattle.daide_frame.proofs.FramesLemmas.{last_items-short}
 use Rattle.daide_frame.proofs.FeedingLemmas.{fed-on, fed-one}
 

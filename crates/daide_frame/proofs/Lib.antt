@@ -1,3 +1,4 @@
+mod Common
 mod StandardFacts
 mod WholeRangeFacts
 pub mod ListLemmas

@@ -1,8 +1,8 @@
 -- Tests of numbers with a known result, and lists cut at their end.
 use Rattle.std.proofs.Common.{◌≡◌, ℕ, ◌<◌, ◌≤◌, true, false, ltb, leb, eqb, List, [], length}
 use Rattle.std.proofs.Common.{take, drop, arith, length-take}
-use Rattle.std.proofs.lemmas.Bool.Decides.{nat_tests}
 use Rattle.std.proofs.lemmas.Grind.{common_steps}
+use Rattle.daide_frame.proofs.Common.{nat_tests}
 
 pub ltb_no : (a b : ℕ) → b ≤ a → ltb a b ≡ false
 ltb_no a b h = grind (arith, nat_tests)

@@ -1,14 +1,10 @@
 -- The effect of one more byte of a frame: the events that it ends, and the state of the frame after it.
 use Rattle.std.proofs.Common.{◌≡◌, ℕ, inl, inr, ◌⊎◌, ◌+◌, ◌-◌, ◌<◌, ◌≤◌, Bool, true, false, cond, eqb, List, [], ◌∷◌}
 use Rattle.std.proofs.Common.{◌++◌, length, take, Option, Some, None, Result, Ok, Err, refl, sym, ap, ◌∙◌, subst, arith}
-use Rattle.std.proofs.Common.{length-append, append-nil}
-use Rattle.std.specs.Prelude.{◌&&◌, is_some}
+use Rattle.std.proofs.Common.{length-append, append-nil, ◌&&◌, is_some}
 use Rattle.std.proofs.lemmas.Bool.Decides.{eqb_tells}
 use Rattle.std.proofs.Math.Seq.{take-append_seam, take-append-add}
-use Rattle.daide_frame.specs.declared.head.Head.{Head}
-use Rattle.daide_frame.specs.declared.code.Code.{Code}
-use Rattle.daide_frame.specs.declared.code.Code.TheVariants.{InvalidToken}
-use Rattle.daide_frame.specs.Head.{parse_head}
+use Rattle.daide_frame.proofs.Common.{Head, Code, InvalidToken, parse_head}
 use Rattle.daide_frame.specs.Frames.{alien_in, FrameEvent, Begun, Whole, Wrong, EventAtOffset, items_of_body, first_items, is_whole_frame}
 use Rattle.daide_frame.specs.Frames.{is_wrong, frame_end, any_item, event_at_offset, last_items, head_part, missing_of_body}
 use Rattle.daide_frame.specs.Frames.{missing}

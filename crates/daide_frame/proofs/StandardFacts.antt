@@ -1,11 +1,7 @@
 -- Worked examples, computed from the definitions: a wrong table does not check.
 use Rattle.std.proofs.Common.{◌≡◌, [], ◌∷◌, Ok, Err, refl}
-use Rattle.daide_frame.specs.declared.code.Code.TheVariants.{WrongEndian, WrongMagic, WrongVersion, UnknownMessage}
-use Rattle.daide_frame.specs.declared.code.Code.TheVariants.{WrongLength, InvalidToken}
-use Rattle.daide_frame.specs.declared.head.Kind.TheVariants.{Im, Rm, Dm, Fm, Em}
-use Rattle.daide_frame.specs.declared.cutter.Step.TheVariants.{Bodied}
-use Rattle.daide_frame.specs.Head.{head_bytes, parse_head}
-use Rattle.daide_frame.specs.InitialMessage.{im_of}
+use Rattle.daide_frame.proofs.Common.{WrongEndian, WrongMagic, WrongVersion, UnknownMessage, WrongLength, InvalidToken}
+use Rattle.daide_frame.proofs.Common.{Im, Rm, Dm, Fm, Em, Bodied, head_bytes, parse_head, im_of}
 use Rattle.daide_frame.specs.Frames.{step_of_events, is_alien, Begun, Whole, Wrong, cut, fed, first_items, head_in}
 use Rattle.daide_frame.specs.Frames.{last_items, missing}
 

@@ -1,19 +1,12 @@
 -- Headers and initial messages over the whole range of their bytes. Written from the protocol's table of frames. A rule
 -- that is right for one value and wrong for the next does not check.
-use Rattle.std.proofs.Common.{◌≡◌, ℕ, zero, suc, ◌+◌, List, [], ◌∷◌, ◌++◌, map, replicate, refl}
-use Rattle.std.specs.Prelude.{Result, Ok, Err, codes}
+use Rattle.std.proofs.Common.{◌≡◌, ℕ, zero, suc, ◌+◌, List, [], ◌∷◌, ◌++◌, map, replicate, refl, Result, Ok, Err, codes}
 use Rattle.std.specs.List.{range_with_len}
-use Rattle.daide_frame.specs.declared.head.Kind.{Kind}
-use Rattle.daide_frame.specs.declared.head.Kind.TheVariants.{Im, Rm, Dm, Fm, Em}
-use Rattle.daide_frame.specs.declared.head.Head.{Head}
-use Rattle.daide_frame.specs.declared.code.Code.{Code}
-use Rattle.daide_frame.specs.declared.code.Code.TheVariants.{ImTimeout, ImNotFirst, WrongEndian, WrongMagic}
-use Rattle.daide_frame.specs.declared.code.Code.TheVariants.{WrongVersion, SecondIm, ImFromServer, UnknownMessage}
-use Rattle.daide_frame.specs.declared.code.Code.TheVariants.{WrongLength, DmBeforeRm, RmNotFirst, SecondRm}
-use Rattle.daide_frame.specs.declared.code.Code.TheVariants.{RmFromClient, InvalidToken}
+use Rattle.daide_frame.proofs.Common.{Kind, Im, Rm, Dm, Fm, Em, Head, Code, WrongEndian, WrongMagic, WrongVersion}
+use Rattle.daide_frame.proofs.Common.{UnknownMessage, WrongLength, InvalidToken, parse_head, im_of}
+use Rattle.daide_frame.specs.declared.code.Code.TheVariants.{ImTimeout, ImNotFirst, SecondIm, ImFromServer, DmBeforeRm}
+use Rattle.daide_frame.specs.declared.code.Code.TheVariants.{RmNotFirst, SecondRm, RmFromClient}
 use Rattle.daide_frame.specs.Code.{code_digits, code_number}
-use Rattle.daide_frame.specs.Head.{parse_head}
-use Rattle.daide_frame.specs.InitialMessage.{im_of}
 
 -- ---- headers
 

@@ -1,5 +1,4 @@
-use Rattle.std.proofs.Common.{◌≡◌, ◌+◌, ◌*◌, true, false, get_or, take, sym, ap, ◌∙◌, arith}
-use Rattle.std.specs.Prelude.{not}
+use Rattle.std.proofs.Common.{◌≡◌, ◌+◌, ◌*◌, true, false, get_or, take, sym, ap, ◌∙◌, arith, not}
 use Rattle.daide_token.specs.Class.{has_known_category}
 use Rattle.daide_frame.specs.Frames.{is_alien}
 use Rattle.daide_frame.proofs.AlienLemmas.{is_alien-is, first_alien-known, first_alien-here, first_alien-next, first_alien-none}

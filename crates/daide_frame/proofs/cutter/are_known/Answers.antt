@@ -1,5 +1,4 @@
-use Rattle.std.proofs.Common.{◌≡◌, Bool, true, false, ◌&&◌, get_or, ◌+◌, ◌*◌, refl, sym, ap, ◌∙◌}
-use Rattle.std.specs.Prelude.{not}
+use Rattle.std.proofs.Common.{◌≡◌, Bool, true, false, ◌&&◌, get_or, ◌+◌, ◌*◌, refl, sym, ap, ◌∙◌, not}
 use Rattle.daide_token.specs.Class.{has_known_category}
 use Rattle.daide_frame.specs.Frames.{is_alien}
 use Rattle.daide_frame.proofs.AlienLemmas.{is_alien-is, known_more}

@@ -1,5 +1,5 @@
 use Rattle.std.proofs.Common.{◌≡◌, true}
-use Rattle.daide_frame.specs.Cutter.{AreKnown}
+use Rattle.daide_frame.proofs.Common.{AreKnown}
 use Rattle.daide_frame.proofs.cutter.are_known.Given as goal
 
 -- none of the tokens so far is alien

@@ -1,7 +1,6 @@
 use Rattle.std.proofs.Common.{[], ◌∷◌, refl, arith}
+use Rattle.daide_frame.proofs.Common.{head_bytes, parse_head, Dm}
 use Rattle.daide_frame.specs.Frames.{cut, first_items, is_alien, last_items, missing}
-use Rattle.daide_frame.specs.Head.{head_bytes, parse_head}
-use Rattle.daide_frame.specs.declared.head.Kind.TheVariants.{Dm}
 use Rattle.daide_frame.proofs.law_facts.frames_at_values.Goals as goal
 
 pub returns-clause-head : goal.returns-clause-head

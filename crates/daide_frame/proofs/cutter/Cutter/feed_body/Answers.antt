@@ -1,10 +1,7 @@
 use Rattle.std.proofs.Common.{◌≡◌, ◌≤◌, ◌++◌, length, take, Option, Some, None, vec_len, sym, ap, ◌∙◌, subst, inl, inr}
 use Rattle.std.proofs.Common.{arith, length-append}
-use Rattle.daide_frame.specs.declared.head.Head.{Head}
-use Rattle.daide_frame.specs.declared.code.Code.TheVariants.{InvalidToken}
-use Rattle.daide_frame.specs.declared.cutter.Step.TheVariants.{Fault}
+use Rattle.daide_frame.proofs.Common.{Head, InvalidToken, Fault, IsFed}
 use Rattle.daide_frame.specs.Frames.{Cut, missing, missing_of_body, alien_in}
-use Rattle.daide_frame.specs.Cutter.{IsFed}
 use Rattle.daide_frame.proofs.CutterLemmas.{whole_header, missing-body}
 use Rattle.daide_frame.proofs.FeedingLemmas.{not_empty, ready, known_front, fed_wrong, fed_right, consistent_wrong}
 use Rattle.daide_frame.proofs.FeedingLemmas.{consistent_right}

@@ -1,10 +1,7 @@
 use Rattle.std.proofs.Common.{◌≡◌, ℕ, ◌+◌, ◌-◌, ◌<◌, ◌≤◌, List, [], ◌++◌, length, take, Some, Result, Ok, Err, refl, sym, ap, ◌∙◌, subst}
 use Rattle.std.proofs.Common.{arith, inl, inr}
-use Rattle.daide_frame.specs.declared.head.Head.{Head}
-use Rattle.daide_frame.specs.declared.code.Code.{Code}
-use Rattle.daide_frame.specs.declared.cutter.Step.TheVariants.{More, Fault}
+use Rattle.daide_frame.proofs.Common.{Head, Code, More, Fault, IsFed}
 use Rattle.daide_frame.specs.Frames.{Cut, missing, step_of_events, last_items, IsEnd}
-use Rattle.daide_frame.specs.Cutter.{IsFed}
 use Rattle.daide_frame.proofs.CutterLemmas.{in_header, refused_closed, empty_closed, IsHeaderStep, header_held, consistent_short}
 use Rattle.daide_frame.proofs.CutterLemmas.{consistent_head, header_told, told_ok, header_step, step_of_events-empty}
 use Rattle.daide_frame.proofs.CutterLemmas.{step_of_events-begun, missing-header, length_of_header}

@@ -1,10 +1,7 @@
 use Rattle.std.proofs.Common.{◌≡◌, ℕ, ◌<◌, ◌≤◌, ◌⊎◌, inl, inr, Bool, true, false, leb, List, ◌++◌, take, Option}
 use Rattle.std.proofs.Common.{sym, ap, ◌∙◌, subst, arith, append-nil, length-take}
-use Rattle.std.proofs.lemmas.Bool.Decides.{leb_tells}
-use Rattle.std.proofs.lemmas.List.{take-append-le}
-use Rattle.daide_frame.specs.declared.head.Head.{Head}
+use Rattle.daide_frame.proofs.Common.{leb_tells, take-append-le, Head, IsConsistent}
 use Rattle.daide_frame.specs.Frames.{Cut}
-use Rattle.daide_frame.specs.Cutter.{IsConsistent}
 use Rattle.daide_frame.proofs.ListLemmas.{take_whole}
 use Rattle.daide_frame.proofs.cutter.Cutter.header.Goals as goal
 

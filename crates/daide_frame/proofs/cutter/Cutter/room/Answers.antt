@@ -1,5 +1,5 @@
 use Rattle.std.proofs.Common.{◌≡◌, ℕ, ◌-◌, ◌++◌, length, take, Option, Some, sym, ap, ◌∙◌, arith}
-use Rattle.daide_frame.specs.declared.head.Head.{Head}
+use Rattle.daide_frame.proofs.Common.{Head}
 use Rattle.daide_frame.specs.Frames.{Cut, missing, missing_of_body}
 use Rattle.daide_frame.proofs.CutterLemmas.{missing-header, missing-body, missing_of-open, missing_of-spoilt, in_body}
 use Rattle.daide_frame.proofs.cutter.Cutter.room.Goals as goal
