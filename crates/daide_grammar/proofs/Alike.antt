@@ -1,10 +1,7 @@
 -- From a test over a constant table to a statement about each of its indices.
-use Rattle.std.proofs.Common.{◌≡◌, ℕ, zero, suc, ◌+◌, ◌<◌, Bool, true, List, [], ◌∷◌, length, get_or, map, refl, sym}
-use Rattle.std.proofs.Common.{ap, ◌∙◌, arith}
-use Rattle.std.proofs.Math.ListN.{get_or-map}
-use Rattle.std.proofs.lemmas.Bool.{and_parts}
 use Rattle.std.proofs.lemmas.List.FromFn.{get_or-range_with_len, length-map-range_with_len}
-use Rattle.std.specs.List.{list_all, range_with_len}
+use Rattle.daide_grammar.proofs.Common.{◌≡◌, ℕ, zero, suc, ◌+◌, ◌<◌, Bool, true, List, [], ◌∷◌, length, get_or, map}
+use Rattle.daide_grammar.proofs.Common.{refl, sym, ap, ◌∙◌, arith, get_or-map, and_parts, list_all, range_with_len}
 
 -- an item of a list does not depend on the default past its end
 pub any_default : {X : Type 0} (k : ℕ) (xs : List X) (d e : X) → k < length xs → get_or xs k d ≡ get_or xs k e

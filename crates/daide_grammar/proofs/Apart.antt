@@ -1,6 +1,5 @@
 -- Numbers that a test distinguishes.
-use Rattle.std.proofs.Common.{◌≡◌, ℕ, Bool, true, false, ◌==◌}
-use Rattle.std.proofs.lemmas.Bool.{eq-eqb}
+use Rattle.daide_grammar.proofs.Common.{◌≡◌, ℕ, Bool, true, false, ◌==◌, eq-eqb}
 
 both_ways : (b : Bool) → b ≡ true → b ≡ false → ⊥
 both_ways true t f = cc

@@ -1,24 +1,17 @@
 -- The brackets of every message balance, and `any` is every list whose brackets balance.
-use Rattle.std.proofs.Common.{◌≡◌, ◌≢◌, ℕ, Bool, true, ◌&&◌, List, [], ◌∷◌, ◌++◌, ◌↔◌, refl, sym}
-use Rattle.std.proofs.Common.{subst, append_assoc, append-nil}
-use Rattle.daide_token.specs.declared.class.Class.TheVariants.{Bra, Ket}
-use Rattle.daide_token.specs.Token.{bra, ket}
-use Rattle.daide_grammar.specs.declared.level.Level.{Level}
-use Rattle.daide_grammar.specs.declared.level.Level.TheVariants.{L60}
-use Rattle.daide_grammar.specs.declared.side.Side2.{Side2}
+use Rattle.daide_grammar.proofs.Common.{◌≡◌, ◌≢◌, ℕ, Bool, true, ◌&&◌, List, [], ◌∷◌, ◌++◌, ◌↔◌, refl, sym, subst}
+use Rattle.daide_grammar.proofs.Common.{append_assoc, append-nil, Bra, Ket, bra, ket, Level, L60, Side2, rule, Matches}
+use Rattle.daide_grammar.proofs.Common.{token, nothing, both, first, second, no_more, one_more, bracketed, by_name}
+use Rattle.daide_grammar.proofs.Common.{both-pass, is_of_kind}
 use Rattle.daide_grammar.specs.declared.side.Side2.TheVariants.{Client, ServerEnd}
 use Rattle.daide_grammar.specs.Forms.{is, any_but_brackets, Accepts, Slot, Nonterminal, Request_name, Send_name, Press_name}
 use Rattle.daide_grammar.specs.Forms.{Arrangement_name, Flat_name, Fact_name, Added, Form, one, never, empty, ◌·◌, ◌∣◌}
 use Rattle.daide_grammar.specs.Forms.{many, group, named, Dialect}
 use Rattle.daide_grammar.specs.Message.Lists.{any, anything}
-use Rattle.daide_grammar.specs.Matches.{rule, Matches, token, nothing, both, first, second, no_more, one_more}
-use Rattle.daide_grammar.specs.Matches.{bracketed, by_name}
 use Rattle.daide_grammar.specs.Balanced.{IsBalanced}
 use Rattle.daide_grammar.specs.Balanced as Rules
 use Rattle.daide_grammar.specs.SideMessages.{message_form}
-use Rattle.daide_grammar.specs.Proofs.Alternatives.{both-pass}
 use Rattle.daide_grammar.specs.Proofs.TokenTests.{accepted}
-use Rattle.daide_grammar.specs.Table.Symbols.{is_of_kind}
 
 -- a dialect in which a bracket is the only token of its class
 pub record KeepsBrackets (d : Dialect) : Type 0 where

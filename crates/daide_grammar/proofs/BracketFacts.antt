@@ -1,8 +1,6 @@
 -- The definitions of brackets at single lists. The expected results were worked out from the protocol.
-use Rattle.std.proofs.Common.{◌≡◌, ℕ, true, false, None, List, [], ◌∷◌, ◌++◌, get_or, inl, inr, refl, sym, ap}
-use Rattle.std.proofs.Common.{◌∙◌, arith}
-use Rattle.daide_token.specs.Token.{bra, ket, prn, huh}
-use Rattle.daide_grammar.specs.Paired.{IsPaired, IsPrnWrapped, begins_with_prn}
+use Rattle.daide_grammar.proofs.Common.{◌≡◌, ℕ, true, false, None, List, [], ◌∷◌, ◌++◌, get_or, inl, inr, refl, sym, ap}
+use Rattle.daide_grammar.proofs.Common.{◌∙◌, arith, bra, ket, prn, huh, IsPaired, IsPrnWrapped, begins_with_prn}
 use Rattle.daide_grammar.specs.Depth.{open_brackets, depth_of}
 use Rattle.daide_grammar.specs.Table.Brackets.{excess_or_none}
 

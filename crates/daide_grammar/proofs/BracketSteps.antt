@@ -1,16 +1,9 @@
 -- The table's column of bracket steps agrees with the definition.
-use Rattle.std.proofs.Common.{◌≡◌, ℕ, ◌<◌, Bool, true, false, map, refl, sym, ap, ◌∙◌}
-use Rattle.std.specs.List.{range_with_len}
-use Rattle.std.specs.Prelude.{if◌then◌else◌}
-use Rattle.std.proofs.lemmas.Bool.{eqb-true}
-use Rattle.daide_token.specs.Token.{bra, ket}
-use Rattle.daide_token.specs.Class.{class_of}
-use Rattle.daide_token.specs.declared.class.Class.{Class}
-use Rattle.daide_token.specs.declared.class.Class.TheVariants.{Bra, Ket}
+use Rattle.daide_grammar.proofs.Common.{◌≡◌, ℕ, ◌<◌, Bool, true, false, map, refl, sym, ap, ◌∙◌, if◌then◌else◌}
+use Rattle.daide_grammar.proofs.Common.{range_with_len, eqb-true, bra, ket, class_of, Class, Bra, Ket, all_classes}
+use Rattle.daide_grammar.proofs.Common.{bracket_step, class_at, only_bra, only_ket}
 use Rattle.daide_grammar.specs.Table.Brackets.{is_bra, is_ket}
 use Rattle.daide_grammar.specs.Table.Cells.{bracket_cell}
-use Rattle.daide_grammar.specs.Table.Numbers.{all_classes, bracket_step, class_at}
-use Rattle.daide_grammar.specs.Proofs.PlainLaws.{only_bra, only_ket}
 use Rattle.daide_grammar.proofs.Alike.{alike}
 
 steps : map bracket_cell (range_with_len 0 all_classes) ≡ map (λ n. bracket_step (class_at n)) (range_with_len 0 all_classes)

@@ -1,19 +1,13 @@
 -- The table's list of classes is that of the definition.
-use Rattle.std.proofs.Common.{◌≡◌, ℕ, zero, suc, ◌+◌, ◌*◌, ◌/◌, ◌%◌, ◌<◌, Bool, true, false, ◌&&◌, nat_eq, List, []}
-use Rattle.std.proofs.Common.{◌∷◌, ◌++◌, map, drop, length, get_or, refl, ap, sym, ◌∙◌, subst, arith}
-use Rattle.std.proofs.lemmas.Bool.{and_parts, eqb-true}
+use Rattle.std.proofs.Common.{replicate}
 use Rattle.std.proofs.lemmas.List.{get_or-drop}
 use Rattle.std.proofs.lemmas.List.FromFn.{get_or-map-range_with_len}
-use Rattle.std.specs.List.{range_with_len}
-use Rattle.std.specs.Prelude.{replicate}
-use Rattle.daide_token.specs.Class.{class_in, class_of, brackets, units, orders, commands, parameters, press_classes, listed}
-use Rattle.daide_token.specs.declared.class.Class.{Class}
-use Rattle.daide_token.specs.declared.class.Class.TheVariants.{Num, Power, Note, Outcome, Coast, Season, Text, Province}
-use Rattle.daide_token.specs.declared.class.Class.TheVariants.{Param, Other, Alien}
-use Rattle.daide_grammar.specs.declared.table.rows.TheConstants.{TABLE}
-use Rattle.daide_grammar.specs.Table.Cells.{class_cell, column_at}
-use Rattle.daide_grammar.specs.Classes.{class_number}
-use Rattle.daide_grammar.specs.Table.Numbers.{all_classes, class_at}
+use Rattle.daide_grammar.proofs.Common.{◌≡◌, ℕ, zero, suc, ◌+◌, ◌*◌, ◌/◌, ◌%◌, ◌<◌, Bool, true, false, ◌&&◌, nat_eq}
+use Rattle.daide_grammar.proofs.Common.{List, [], ◌∷◌, ◌++◌, map, drop, length, get_or, refl, ap, sym, ◌∙◌, subst}
+use Rattle.daide_grammar.proofs.Common.{arith, and_parts, eqb-true, range_with_len, class_of, Class, Num, Power, Season}
+use Rattle.daide_grammar.proofs.Common.{Text, Other, TABLE, class_cell, column_at, class_number, all_classes, class_at}
+use Rattle.daide_token.specs.Class.{class_in, brackets, units, orders, commands, parameters, press_classes, listed}
+use Rattle.daide_token.specs.declared.class.Class.TheVariants.{Note, Outcome, Coast, Province, Param, Alien}
 use Rattle.daide_grammar.proofs.WordColumns.{class_told, own_class}
 
 -- The classes of a code, category by category. Only six categories distinguish their codes, so a row is quick to

@@ -1,18 +1,15 @@
 -- Brackets counted from left to right.
-use Rattle.std.proofs.Common.{◌≡◌, ◌≢◌, ℕ, zero, suc, ◌+◌, ◌-◌, ◌≤◌, max, Bool, true, false, ◌||◌, nat_lt}
-use Rattle.std.proofs.Common.{cond, List, [], ◌∷◌, ◌++◌, map, Option, None, Some, refl, sym, ◌∙◌, ap, subst}
-use Rattle.std.proofs.Common.{arith, append_assoc, add-one, append-nil, if◌then◌else◌, ◌↔◌}
+use Rattle.std.proofs.Common.{add-one}
 use Rattle.std.specs.List.{list_any}
 use Rattle.std.proofs.lemmas.List.{map-append}
 use Rattle.std.proofs.lemmas.List.Folds.{list_any-append}
 use Rattle.std.proofs.lemmas.Grind.{fold-append}
 use Rattle.std.proofs.Math.Bool.{or-false}
-use Rattle.std.proofs.lemmas.Bool.{eqb-true, eq-eqb}
-use Rattle.std.proofs.lemmas.Bool.Decides.{nat_tests}
-use Rattle.daide_token.specs.Token.{bra, ket}
+use Rattle.daide_grammar.proofs.Common.{◌≡◌, ◌≢◌, ℕ, zero, suc, ◌+◌, ◌-◌, ◌≤◌, max, Bool, true, false, ◌||◌, nat_lt}
+use Rattle.daide_grammar.proofs.Common.{cond, List, [], ◌∷◌, ◌++◌, map, Option, None, Some, refl, sym, ◌∙◌, ap, subst}
+use Rattle.daide_grammar.proofs.Common.{arith, append_assoc, append-nil, if◌then◌else◌, ◌↔◌, eqb-true, eq-eqb}
+use Rattle.daide_grammar.proofs.Common.{nat_tests, bra, ket, begins_with_prn, no-yes}
 use Rattle.daide_grammar.specs.Balanced.{IsBalanced, empty, plain, joined, bracketed}
-use Rattle.daide_grammar.specs.Paired.{begins_with_prn}
-use Rattle.daide_grammar.specs.Proofs.MovesAgree.{no-yes}
 use Rattle.daide_grammar.specs.Depth.{bras, kets, excess, prefixes, has_unmatched_ket, greatest, depth_of}
 use Rattle.daide_grammar.specs.Table.Brackets.{is_bra, is_ket, excess_or_none, count_one}
 

@@ -1,10 +1,9 @@
 -- The depth of a bracketed list.
-use Rattle.std.proofs.Common.{◌≡◌, ℕ, ◌+◌, max, Bool, true, false, ◌||◌, ◌==◌, cond, List, [], ◌∷◌, ◌++◌, map, Option}
-use Rattle.std.proofs.Common.{None, Some, refl, sym, ◌∙◌, ap, arith, if◌then◌else◌}
 use Rattle.std.proofs.lemmas.List.Sums.{sum_by-cons}
-use Rattle.daide_token.specs.Token.{bra, ket, huh}
+use Rattle.daide_grammar.proofs.Common.{◌≡◌, ℕ, ◌+◌, max, Bool, true, false, ◌||◌, ◌==◌, cond, List, [], ◌∷◌, ◌++◌, map}
+use Rattle.daide_grammar.proofs.Common.{Option, None, Some, refl, sym, ◌∙◌, ap, arith, if◌then◌else◌, bra, ket, huh}
+use Rattle.daide_grammar.proofs.Common.{begins_with_prn}
 use Rattle.daide_grammar.specs.Balanced.{IsBalanced}
-use Rattle.daide_grammar.specs.Paired.{begins_with_prn}
 use Rattle.daide_grammar.specs.Depth.{bras, kets, excess, prefixes, has_unmatched_ket, greatest, depth_of}
 use Rattle.daide_grammar.proofs.Counting.{from_the_end, greatest_prefixes-snoc, has_unmatched_ket-snoc, kets_le_bras}
 use Rattle.daide_grammar.proofs.Counting.{bras-snoc, kets-snoc, balanced_counted}

@@ -1,10 +1,9 @@
 -- Inserting ERR at any index keeps the balance and the depth of a list.
-use Rattle.std.proofs.Common.{◌≡◌, ℕ, ◌≤◌, cond, ◌==◌, List, [], ◌∷◌, ◌++◌, take, drop, Option, None, Some}
-use Rattle.std.proofs.Common.{refl, sym, ◌∙◌, ap, subst, arith, append_assoc, append-nil}
 use Rattle.std.specs.List.{sum_by}
 use Rattle.std.proofs.lemmas.List.{take-append-drop}
 use Rattle.std.proofs.lemmas.List.Sums.{sum_by-cons, sum_by-append}
-use Rattle.daide_token.specs.Token.{bra, ket, huh, err}
+use Rattle.daide_grammar.proofs.Common.{◌≡◌, ℕ, ◌≤◌, cond, ◌==◌, List, [], ◌∷◌, ◌++◌, take, drop, Option, None, Some}
+use Rattle.daide_grammar.proofs.Common.{refl, sym, ◌∙◌, ap, subst, arith, append_assoc, append-nil, bra, ket, huh, err}
 use Rattle.daide_grammar.specs.Balanced.{IsBalanced}
 use Rattle.daide_grammar.specs.Depth.{bras, kets, excess, depth_of}
 use Rattle.daide_grammar.proofs.Counting.{from_the_end, greatest_prefixes-snoc, bras-snoc, kets-snoc}

@@ -1,27 +1,16 @@
 -- Facts about single messages, in the protocol's notation: the levels at which a side may send a message, computed by
 -- following the table.
+use Rattle.daide_grammar.proofs.Common.{◌≡◌, ℕ, ◌+◌, ◌*◌, ◌≤◌, ◌<◌, ◌==◌, nat_le, Bool, true, false, not, ◌&&◌, ◌||◌}
+use Rattle.daide_grammar.proofs.Common.{List, [], ◌∷◌, ◌++◌, Option, None, Some, ◌↔◌, inl, inr, refl, sym, ◌∙◌, ap}
+use Rattle.daide_grammar.proofs.Common.{subst, append-nil, arith, eqb-true, nat_tests, text_of, Level, L0, L10, L20}
+use Rattle.daide_grammar.proofs.Common.{L30, L40, L50, L60, Side2, Sym, level_number, begins_with_prn, StackMatches}
+use Rattle.daide_grammar.proofs.Common.{SymbolMatches, both-pass, no-yes, plain_begins}
 use Prim.Native.String.{String}
-use Rattle.std.proofs.Common.{◌≡◌, ℕ, ◌+◌, ◌*◌, ◌≤◌, ◌<◌, ◌==◌, nat_le, Bool, true, false, not, ◌&&◌, ◌||◌}
-use Rattle.std.proofs.Common.{codes, bytes_eq}
-use Rattle.std.proofs.Common.{List, [], ◌∷◌, ◌++◌, Option, None, Some, ◌↔◌, ◌⊎◌, inl, inr}
-use Rattle.std.proofs.Common.{refl, sym, ◌∙◌, ap, subst, append-nil, arith}
-use Rattle.std.proofs.lemmas.Bool.{eqb-true}
-use Rattle.std.proofs.lemmas.Bool.Decides.{nat_tests}
+use Rattle.std.proofs.Common.{codes, bytes_eq, ◌⊎◌}
 use Rattle.std.proofs.lemmas.Slice.Eq.{bytes_eq-Decides}
-use Rattle.daide_token.specs.Text.{text_of}
-use Rattle.daide_grammar.specs.declared.level.Level.{Level}
-use Rattle.daide_grammar.specs.declared.level.Level.TheVariants.{L0, L10, L20, L30, L40, L50, L60}
-use Rattle.daide_grammar.specs.declared.side.Side2.{Side2}
-use Rattle.daide_grammar.specs.declared.symbol.Sym.{Sym}
-use Rattle.daide_grammar.specs.Level.{level_number}
-use Rattle.daide_grammar.specs.Paired.{begins_with_prn}
 use Rattle.daide_grammar.specs.Table.Symbols.{start_symbol_of}
-use Rattle.daide_grammar.specs.Table.Stacks.{StackMatches}
 use Rattle.daide_grammar.specs.SideMessages.{IsMessage}
-use Rattle.daide_grammar.specs.Table.Languages.{SymbolMatches}
-use Rattle.daide_grammar.specs.Proofs.Alternatives.{both-pass, either-passes}
-use Rattle.daide_grammar.specs.Proofs.MovesAgree.{no-yes}
-use Rattle.daide_grammar.specs.Proofs.PlainLaws.{plain_begins}
+use Rattle.daide_grammar.specs.Proofs.Alternatives.{either-passes}
 use Rattle.daide_grammar.proofs.Languages.{start_symbol-language}
 use Rattle.daide_grammar.proofs.LevelsGrow.{levels-only-add}
 use Rattle.daide_grammar.proofs.MessageText.{tokens_of_text}

@@ -1,26 +1,17 @@
 -- The language of a start symbol, and the messages that a gateway sends in reply.
-use Rattle.std.proofs.Common.{◌≡◌, ℕ, Bool, true, false, ◌==◌, List, [], ◌∷◌, ◌++◌, inl, inr, ◌↔◌, refl, sym, ◌∙◌, ap}
-use Rattle.std.proofs.Common.{subst, append-nil}
-use Rattle.std.proofs.lemmas.Bool.{eqb-true}
-use Rattle.daide_token.specs.declared.class.Class.TheVariants.{Prn, Huh}
-use Rattle.daide_token.specs.Token.{bra, ket, prn, huh}
-use Rattle.daide_token.specs.Class.{class_of}
+use Rattle.daide_grammar.proofs.Common.{◌≡◌, ℕ, Bool, true, false, ◌==◌, List, [], ◌∷◌, ◌++◌, inl, inr, ◌↔◌, refl, sym}
+use Rattle.daide_grammar.proofs.Common.{◌∙◌, ap, subst, append-nil, eqb-true, Prn, Huh, bra, ket, prn, huh, class_of}
+use Rattle.daide_grammar.proofs.Common.{Level, L60, Side2, Matches, bracketed, begins_with_prn, IsPrnWrapped, IsPaired}
+use Rattle.daide_grammar.proofs.Common.{Take, Stop, entries, may_end_of, table_answer, SymbolMatches, only_bra}
+use Rattle.daide_grammar.proofs.Common.{only_ket, plain_laws}
 use Rattle.daide_token.proofs.ClassLaws.{class_of-prn}
-use Rattle.daide_grammar.specs.declared.level.Level.{Level}
-use Rattle.daide_grammar.specs.declared.level.Level.TheVariants.{L60}
-use Rattle.daide_grammar.specs.declared.side.Side2.{Side2}
 use Rattle.daide_grammar.specs.declared.side.Side2.TheVariants.{Client, ServerEnd}
 use Rattle.daide_grammar.specs.declared.symbol.Sym.TheVariants.{AnyGroup}
 use Rattle.daide_grammar.specs.Forms.{Form}
 use Rattle.daide_grammar.specs.Message.Lists.{any}
-use Rattle.daide_grammar.specs.Matches.{Matches, bracketed}
 use Rattle.daide_grammar.specs.Balanced.{IsBalanced}
-use Rattle.daide_grammar.specs.Paired.{begins_with_prn, IsPrnWrapped, IsPaired}
-use Rattle.daide_grammar.specs.Table.Answers.{Take, Stop}
-use Rattle.daide_grammar.specs.Table.Symbols.{form_of, entries, may_end_of, table_answer, start_symbol_of}
+use Rattle.daide_grammar.specs.Table.Symbols.{form_of, start_symbol_of}
 use Rattle.daide_grammar.specs.SideMessages.{standard, message_form, IsMessage}
-use Rattle.daide_grammar.specs.Table.Languages.{SymbolMatches}
-use Rattle.daide_grammar.specs.Proofs.PlainLaws.{only_bra, only_ket, plain_laws}
 use Rattle.daide_grammar.proofs.BalancedLemmas.{KeepsBrackets, message-balanced, any-balanced, paired, bra-accepted}
 use Rattle.daide_grammar.proofs.BalancedLemmas.{ket-accepted}
 

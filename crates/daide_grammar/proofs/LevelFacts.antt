@@ -1,13 +1,11 @@
 -- The levels of press over the whole range of their numbers: the number of each level, and the level that an LVL allows
 -- under each top level. Written from the protocol's table of press and its session rules. A definition that is right
 -- for one number and wrong for the next does not check.
-use Rattle.std.proofs.Common.{◌≡◌, ℕ, pos, negsuc, List, [], ◌∷◌, ◌++◌, map, replicate, Option, Some, None, refl}
-use Rattle.std.specs.Prelude.{option_map}
-use Rattle.std.specs.List.{range_with_len}
+use Rattle.std.proofs.Common.{pos, negsuc, replicate, option_map}
+use Rattle.daide_grammar.proofs.Common.{◌≡◌, ℕ, List, [], ◌∷◌, ◌++◌, map, Option, Some, None, refl, range_with_len}
+use Rattle.daide_grammar.proofs.Common.{Level, L0, L10, L20, L30, L40, L50, L60, level_number}
 use Rattle.daide_token.specs.Token.{number_of}
-use Rattle.daide_grammar.specs.declared.level.Level.{Level}
-use Rattle.daide_grammar.specs.declared.level.Level.TheVariants.{L0, L10, L20, L30, L40, L50, L60}
-use Rattle.daide_grammar.specs.Level.{greatest_level, level_number, level_of_number}
+use Rattle.daide_grammar.specs.Level.{greatest_level, level_of_number}
 
 abbrev levels : List Level
 levels = L0 ∷ L10 ∷ L20 ∷ L30 ∷ L40 ∷ L50 ∷ L60 ∷ []

@@ -1,19 +1,15 @@
 -- A message of a level is a message of every higher level. Each rule of the higher level has the alternatives of the
 -- lower one, with forms of the higher level in place of those of the lower one.
-use Rattle.std.proofs.Common.{◌≡◌, ◌≤◌, ℕ, Bool, true, false, nat_le, List, inl, inr, refl, arith}
-use Rattle.std.proofs.lemmas.Bool.Decides.{nat_tests}
-use Rattle.daide_grammar.specs.declared.level.Level.{Level}
-use Rattle.daide_grammar.specs.declared.level.Level.TheVariants.{L10, L20, L30, L40, L60}
-use Rattle.daide_grammar.specs.declared.side.Side2.{Side2}
+use Rattle.daide_grammar.proofs.Common.{◌≡◌, ◌≤◌, ℕ, Bool, true, false, nat_le, List, inl, inr, refl, arith, nat_tests}
+use Rattle.daide_grammar.proofs.Common.{Level, L10, L20, L30, L40, L60, Side2, level_number, rule, Matches, both, first}
+use Rattle.daide_grammar.proofs.Common.{second, no_more, one_more, bracketed, by_name}
 use Rattle.daide_grammar.specs.declared.side.Side2.TheVariants.{Client, ServerEnd}
-use Rattle.daide_grammar.specs.Level.{level_number}
 use Rattle.daide_grammar.specs.Forms.{Form, never, ◌·◌, ◌∣◌, many, group, named, from_level, Dialect}
 use Rattle.daide_grammar.specs.Forms.{Slot, Flat_slot, Arrangement_slot, Added}
 use Rattle.daide_grammar.specs.Forms.{Nonterminal, Arrangement_name, Flat_name, Fact_name, Press_name, Send_name, Request_name}
 use Rattle.daide_grammar.specs.Message.Arrangements.{joinable, simple, joined}
 use Rattle.daide_grammar.specs.Message.Press.{asking_press}
 use Rattle.daide_grammar.specs.Message.Server.{press_message}
-use Rattle.daide_grammar.specs.Matches.{rule, Matches, both, first, second, no_more, one_more, bracketed, by_name}
 use Rattle.daide_grammar.specs.SideMessages.{standard, message_form, IsMessageIn, IsMessage}
 
 -- ---- forms that grow with the level

@@ -1,3 +1,4 @@
+mod Common
 pub mod Counting
 pub mod DepthLemmas
 pub mod ErrPutIn

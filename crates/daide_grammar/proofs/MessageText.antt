@@ -1,8 +1,7 @@
 -- Reads a message from its text form, so that facts about single messages can use the protocol's notation. A text that
 -- is misread makes no fact, since the message's own text is compared with it.
-use Rattle.std.specs.Prelude.{ℕ, ◌+◌, ◌-◌, ◌*◌, ◌==◌, nat_le, Bool, true, false, ◌&&◌}
-use Rattle.std.specs.Prelude.{List, [], ◌∷◌, ◌++◌, Option, None, Some}
-use Rattle.daide_token.specs.Token.{bra, ket}
+use Rattle.daide_grammar.proofs.Common.{ℕ, ◌+◌, ◌-◌, ◌*◌, ◌==◌, nat_le, Bool, true, false, ◌&&◌, List, [], ◌∷◌, ◌++◌}
+use Rattle.daide_grammar.proofs.Common.{Option, None, Some, bra, ket}
 use Rattle.daide_token.specs.Names.{token_named}
 
 -- the words of a text, separated by spaces

@@ -1,7 +1,6 @@
 -- In each cell of the constant table the symbol is the first one that the rule leaves.
-use Rattle.std.proofs.Common.{◌≡◌, ℕ, zero, suc, Bool, true, false, ◌&&◌, nat_eq, List, [], ◌∷◌, get_or, refl, sym, ap, ◌∙◌}
-use Rattle.std.proofs.lemmas.Bool.{and_parts, eqb-true}
-use Rattle.daide_grammar.specs.Table.Cells.{first_at, next_at, rule_at}
+use Rattle.daide_grammar.proofs.Common.{◌≡◌, ℕ, zero, suc, Bool, true, false, ◌&&◌, nat_eq, List, [], ◌∷◌, get_or, refl}
+use Rattle.daide_grammar.proofs.Common.{sym, ap, ◌∙◌, and_parts, eqb-true, first_at, next_at, rule_at}
 use Rattle.daide_grammar.proofs.RowParts.{next_seen, nexts, rule_seen, rules}
 
 -- whether these symbols are the first ones that these rules leave

@@ -1,22 +1,16 @@
 -- The numbers that the code exports by name. Only other crates read some of them, so that no other proof here would
 -- notice a wrong one: the rules that leave a word's operand, and the class of tokens without a meaning.
-use Rattle.std.proofs.Common.{◌≡◌, ℕ, ◌+◌, List, [], ◌∷◌, map, length, refl}
-use Rattle.daide_token.specs.declared.class.Class.TheVariants.{Ket, Other}
-use Rattle.daide_grammar.specs.declared.level.Level.{Level}
-use Rattle.daide_grammar.specs.declared.level.Level.TheVariants.{L0, L10, L20, L30, L40, L50, L60}
+use Rattle.daide_grammar.proofs.Common.{◌≡◌, ℕ, ◌+◌, List, [], ◌∷◌, map, length, refl, Ket, Other, Level, L0, L10, L20}
+use Rattle.daide_grammar.proofs.Common.{L30, L40, L50, L60, Sym, class_number, TableEntry, Take, Skip, Stop, class_at}
+use Rattle.daide_grammar.proofs.Common.{classes, symbols, action, rest_of_action}
 use Rattle.daide_grammar.specs.declared.numbers.TheConstants.{LEAVES_ARRANGEMENT_GROUP, LEAVES_OPERAND_GROUP}
 use Rattle.daide_grammar.specs.declared.numbers.TheConstants.{LEAVES_ORDER_GROUP, LEAVES_POWER_GROUP}
 use Rattle.daide_grammar.specs.declared.numbers.TheConstants.{LEAVES_POWERS_GROUP, LEAVES_PRESS_GROUP}
 use Rattle.daide_grammar.specs.declared.numbers.TheConstants.{LEAVES_PROVINCES_GROUP, CLASS_COUNT, KET, OTHER}
 use Rattle.daide_grammar.specs.declared.numbers.TheConstants.{OWN_CLASSES, RULE_COUNT, SKIP, STOP, SYMBOL_COUNT}
 use Rattle.daide_grammar.specs.declared.numbers.TheConstants.{TOKEN_COUNT, WORD_COUNT}
-use Rattle.daide_grammar.specs.declared.symbol.Sym.{Sym}
 use Rattle.daide_grammar.specs.declared.symbol.Sym.TheVariants.{PowerGroup, PowersGroup, ProvincesGroup, OrderGroup}
 use Rattle.daide_grammar.specs.declared.symbol.Sym.TheVariants.{ArrangementGroup, OperandGroup, PressGroup}
-use Rattle.daide_grammar.specs.Classes.{class_number}
-use Rattle.daide_grammar.specs.Table.Answers.{TableEntry, Take, Skip, Stop}
-use Rattle.daide_grammar.specs.Table.Numbers.{class_at, classes, symbols}
-use Rattle.daide_grammar.specs.Table.ParseActions.{action, rest_of_action}
 
 -- ---- rules
 

@@ -1,12 +1,9 @@
 -- The code's lists of symbols and classes are those of the definitions, and a symbol's number determines it.
-use Rattle.std.proofs.Common.{◌≡◌, ◌<◌, refl, arith}
-use Rattle.daide_grammar.specs.declared.level.Level.TheVariants.{L60}
-use Rattle.daide_grammar.specs.declared.symbol.Sym.{Sym}
+use Rattle.daide_grammar.proofs.Common.{◌≡◌, ◌<◌, refl, arith, L60, Sym, all_symbols, symbol_number, symbol_at}
 use Rattle.daide_grammar.specs.declared.symbol.Sym.TheVariants.{ArrangementGroup, Arrangement, FactGroup, Fact}
 use Rattle.daide_grammar.specs.declared.symbol.Sym.TheVariants.{OperandGroup, Operands, Operand, PressGroup, Press}
 use Rattle.daide_grammar.specs.declared.symbol.Sym.TheVariants.{SendGroup, MaybeSendGroup, Send, SendTail, SendFirst}
 use Rattle.daide_grammar.specs.declared.symbol.Sym.TheVariants.{Client, RequestGroup, Request, Server}
-use Rattle.daide_grammar.specs.Table.Numbers.{all_symbols, symbol_number, symbol_at}
 
 pub symbol_back : (s : Sym) → symbol_at (symbol_number s) ≡ s
 symbol_back (ArrangementGroup L60) = refl

@@ -1,11 +1,7 @@
 -- A symbol with one entry: the class of the entry takes its token, and no other class does.
-use Rattle.std.proofs.Common.{◌≡◌, Bool, true, false, None, List, [], ◌∷◌, refl, sym, ap, ◌∙◌}
-use Rattle.std.specs.Prelude.{if◌then◌else◌}
-use Rattle.daide_token.specs.declared.class.Class.{Class}
-use Rattle.daide_grammar.specs.declared.symbol.Sym.{Sym}
-use Rattle.daide_grammar.specs.Table.Answers.{TableEntry, Take, Skip, Stop}
-use Rattle.daide_grammar.specs.Classes.{same_class}
-use Rattle.daide_grammar.specs.Table.Symbols.{Alternative, on, answer_by, entries, entry_at, may_end_of, table_answer, this_or}
+use Rattle.daide_grammar.proofs.Common.{◌≡◌, Bool, true, false, None, List, [], ◌∷◌, refl, sym, ap, ◌∙◌, if◌then◌else◌}
+use Rattle.daide_grammar.proofs.Common.{Class, Sym, TableEntry, Take, Skip, Stop, same_class, Alternative, on}
+use Rattle.daide_grammar.proofs.Common.{answer_by, entries, entry_at, may_end_of, table_answer, this_or}
 
 told : (b ends : Bool) (e : Alternative) →
     (if b then Take e.rest else answer_by None ends) ≡ answer_by (this_or b e None) ends

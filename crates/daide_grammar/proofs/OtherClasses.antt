@@ -1,30 +1,23 @@
 -- The classes that no arm of the plain table lists have the arm's default. Each symbol is shown once here, instead of
 -- once for each class and level.
-use Rattle.std.proofs.Common.{◌≡◌, ◌≢◌, ◌<◌, Bool, true, false, nat_le, List, [], ◌∷◌, ◌++◌, Option, None, refl, sym}
-use Rattle.std.proofs.Common.{ap, subst, ◌∙◌, arith}
-use Rattle.daide_token.specs.declared.class.Class.{Class}
-use Rattle.daide_token.specs.declared.class.Class.TheVariants.{Adm, Aly, And, Bwx, Ccd, Dmz, Drw, Fct, Frm, Gof, Hlo}
-use Rattle.daide_token.specs.declared.class.Class.TheVariants.{Hst, Huh, Iam, Idk, Ins, Lod, Map, Mdf, Mis, Nme, Not}
-use Rattle.daide_token.specs.declared.class.Class.TheVariants.{Now, Obs, Occ, Off, Ord, Orr, Out, Pce, Prp, Qry, Rej}
-use Rattle.daide_token.specs.declared.class.Class.TheVariants.{Scd, Sco, Slo, Smr, Snd, Sry, Sub, Sug, Sve, Thk, Thx}
-use Rattle.daide_token.specs.declared.class.Class.TheVariants.{Tme, Try, Xdo, Yes}
+use Rattle.daide_grammar.proofs.Common.{◌≡◌, ◌≢◌, ◌<◌, Bool, true, false, nat_le, List, [], ◌∷◌, ◌++◌, Option, None}
+use Rattle.daide_grammar.proofs.Common.{refl, sym, ap, subst, ◌∙◌, arith, Class, Adm, Aly, And, Bwx, Ccd, Dmz, Drw, Fct}
+use Rattle.daide_grammar.proofs.Common.{Frm, Gof, Hlo, Hst, Huh, Iam, Idk, Ins, Lod, Map, Mdf, Mis, Nme, Not, Now, Obs}
+use Rattle.daide_grammar.proofs.Common.{Occ, Off, Ord, Orr, Out, Pce, Qry, Rej, Scd, Sco, Slo, Smr, Snd, Sry, Sub, Sug}
+use Rattle.daide_grammar.proofs.Common.{Sve, Thk, Thx, Tme, Try, Xdo, Yes, Level, L0, L10, L20, L30, L40, L50, L60, Sym}
+use Rattle.daide_grammar.proofs.Common.{level_number, same_class, TableEntry, Stop, Alternative, on, answer_by, entries}
+use Rattle.daide_grammar.proofs.Common.{entry_at, is_of_kind, may_end_of, table_answer, this_or}
+use Rattle.daide_token.specs.declared.class.Class.TheVariants.{Prp}
 use Rattle.daide_token.proofs.ClassNumbers.{told-apart}
-use Rattle.daide_grammar.specs.declared.level.Level.{Level}
-use Rattle.daide_grammar.specs.declared.level.Level.TheVariants.{L0, L10, L20, L30, L40, L50, L60}
-use Rattle.daide_grammar.specs.declared.symbol.Sym.{Sym}
 use Rattle.daide_grammar.specs.declared.symbol.Sym.TheVariants.{Against, AnyGroup, Arrangement, ArrangementGroup}
 use Rattle.daide_grammar.specs.declared.symbol.Sym.TheVariants.{Client, Fact, FactGroup, MaybePowersGroup, Operand}
 use Rattle.daide_grammar.specs.declared.symbol.Sym.TheVariants.{OperandGroup, OrderGroup, PowerGroup, PowersGroup}
 use Rattle.daide_grammar.specs.declared.symbol.Sym.TheVariants.{Press, PressGroup, ProvincesGroup, ReplyGroup, Request}
 use Rattle.daide_grammar.specs.declared.symbol.Sym.TheVariants.{SendTail, Server, ShareGroup, Shares, UnitGroup}
 use Rattle.daide_grammar.specs.declared.symbol.Sym.TheVariants.{UnitGroups}
-use Rattle.daide_grammar.specs.Level.{level_number}
-use Rattle.daide_grammar.specs.Classes.{same_class}
 use Rattle.daide_grammar.specs.Forms.{is}
-use Rattle.daide_grammar.specs.Table.Answers.{TableEntry, Stop}
-use Rattle.daide_grammar.specs.Table.Symbols.{Alternative, on, answer_by, asking_entries, entries, entry_at, joining_entries}
-use Rattle.daide_grammar.specs.Table.Symbols.{is_of_kind}
-use Rattle.daide_grammar.specs.Table.Symbols.{may_end_of, only_from, request_entries, simple_entries, table_answer, this_or}
+use Rattle.daide_grammar.specs.Table.Symbols.{asking_entries, joining_entries, only_from, request_entries}
+use Rattle.daide_grammar.specs.Table.Symbols.{simple_entries}
 
 -- no entry of the list takes the class
 abbrev NoneTakes : Class → List Alternative → Type 0

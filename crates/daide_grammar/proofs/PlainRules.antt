@@ -1,14 +1,9 @@
 -- The rule for an entry is found by comparing the numbers of its symbols.
-use Rattle.std.proofs.Common.{◌≡◌, ℕ, zero, suc, ◌+◌, ◌-◌, ◌<◌, ◌≤◌, nat_eq, Bool, true, false, List, length, get_or}
-use Rattle.std.proofs.Common.{take, reverse, refl, sym, ap, subst, ◌∙◌, arith}
 use Rattle.std.proofs.Math.Seq.{take-suc}
 use Rattle.std.proofs.lemmas.List.{get_or-take, get_or-reverse, take_all}
-use Rattle.std.proofs.lemmas.Bool.{eqb-true}
-use Rattle.std.proofs.lemmas.Bool.Decides.{nat_tests}
-use Rattle.daide_grammar.specs.declared.symbol.Sym.{Sym}
-use Rattle.daide_grammar.specs.Table.Answers.{Take}
-use Rattle.daide_grammar.specs.Table.Numbers.{symbol_at, symbol_number}
-use Rattle.daide_grammar.specs.Table.ParseActions.{action, rest_of}
+use Rattle.daide_grammar.proofs.Common.{◌≡◌, ℕ, zero, suc, ◌+◌, ◌-◌, ◌<◌, ◌≤◌, nat_eq, Bool, true, false, List, length}
+use Rattle.daide_grammar.proofs.Common.{get_or, take, reverse, refl, sym, ap, subst, ◌∙◌, arith, eqb-true, nat_tests}
+use Rattle.daide_grammar.proofs.Common.{Sym, Take, symbol_at, symbol_number, action, rest_of}
 use Rattle.daide_grammar.proofs.NumberLemmas.{symbol_back}
 
 -- symbols with the same number are equal

@@ -1,26 +1,17 @@
 -- The laws of prediction that the trait does not state, for the protocol's own grammar.
-use Rattle.std.proofs.Common.{◌≡◌, ℕ, ◌+◌, ◌≤◌, Bool, true, false, nat_le, cond, List, [], ◌∷◌, ◌++◌, length, Option}
-use Rattle.std.proofs.Common.{None, Some, refl, sym, ◌∙◌, ap, subst, arith}
-use Rattle.std.specs.List.{list_all, count_by}
+use Rattle.std.specs.List.{count_by}
 use Rattle.std.proofs.lemmas.List.Sums.{sum_by-cons}
 use Rattle.std.proofs.lemmas.Bool.{leb-true}
-use Rattle.daide_token.specs.declared.class.Class.{Class}
-use Rattle.daide_token.specs.Class.{class_of}
-use Rattle.daide_grammar.specs.declared.level.Level.TheVariants.{L60}
-use Rattle.daide_grammar.specs.declared.symbol.Sym.{Sym}
+use Rattle.daide_grammar.proofs.Common.{◌≡◌, ℕ, ◌+◌, ◌≤◌, Bool, true, false, nat_le, cond, List, [], ◌∷◌, ◌++◌, length}
+use Rattle.daide_grammar.proofs.Common.{Option, None, Some, refl, sym, ◌∙◌, ap, subst, arith, list_all, Class, class_of}
+use Rattle.daide_grammar.proofs.Common.{L60, Sym, TableEntry, Take, Skip, Stop, Alternative, entries, entry_at}
+use Rattle.daide_grammar.proofs.Common.{may_end_of, table_answer, is_of_kind, StackMatches, stack_after, IsLawful}
+use Rattle.daide_grammar.proofs.Common.{SymbolMatches, both-pass, plain_laws}
 use Rattle.daide_grammar.specs.declared.symbol.Sym.TheVariants.{Request, Client, MaybeSendGroup, Server, Press}
 use Rattle.daide_grammar.specs.declared.symbol.Sym.TheVariants.{Arrangement, Operand, Fact}
-use Rattle.daide_grammar.specs.Table.Answers.{TableEntry, Take, Skip, Stop}
-use Rattle.daide_grammar.specs.Table.Symbols.{Alternative, entries, entry_at, may_end_of, table_answer}
-use Rattle.daide_grammar.specs.Table.Symbols.{is_of_kind}
-use Rattle.daide_grammar.specs.Table.Stacks.{StackMatches, stack_after}
-use Rattle.daide_grammar.specs.Table.LawfulStack.{IsLawful}
 use Rattle.daide_grammar.specs.SideMessages.{standard}
-use Rattle.daide_grammar.specs.Table.Languages.{SymbolMatches}
-use Rattle.daide_grammar.specs.Proofs.Alternatives.{both-pass}
 use Rattle.daide_grammar.specs.Proofs.RightEntries.{apart, all_apart}
 use Rattle.daide_grammar.specs.Proofs.MovesAgree.{apart-sound, find-passes, take-entry, right_parts}
-use Rattle.daide_grammar.specs.Proofs.PlainLaws.{plain_laws}
 
 -- ---- two alternatives never begin with the same class
 

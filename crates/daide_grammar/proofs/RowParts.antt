@@ -1,9 +1,6 @@
 -- The two bytes of each cell of the constant table, as lists.
-use Rattle.std.proofs.Common.{◌≡◌, ℕ, List, [], map, get_or, refl, sym, ap, ◌∙◌}
-use Rattle.std.proofs.Math.ListN.{get_or-map}
-use Rattle.std.specs.Prelude.{◌/◌, ◌%◌}
-use Rattle.daide_grammar.specs.declared.table.rows.TheConstants.{TABLE}
-use Rattle.daide_grammar.specs.Table.Cells.{next_at, row_cell, rule_at}
+use Rattle.daide_grammar.proofs.Common.{◌≡◌, ℕ, List, [], map, get_or, refl, sym, ap, ◌∙◌, ◌/◌, ◌%◌, get_or-map, TABLE}
+use Rattle.daide_grammar.proofs.Common.{next_at, row_cell, rule_at}
 
 -- the rules of each class
 abbrev pub rules : List (List ℕ)

@@ -1,22 +1,14 @@
 -- The constant table agrees with the entries of each symbol.
-use Rattle.std.proofs.Common.{◌≡◌, ℕ, zero, suc, ◌+◌, ◌<◌, Bool, true, false, ◌&&◌, nat_eq, nat_lt, ltb-true, List, []}
-use Rattle.std.proofs.Common.{◌∷◌}
-use Rattle.std.proofs.Common.{Option, Some, None, length, map, get_or, refl, sym, ap, subst, ◌∙◌, arith}
-use Rattle.std.proofs.lemmas.Bool.{and_parts, eqb-true}
-use Rattle.std.specs.List.{list_all, range_with_len}
-use Rattle.std.specs.Prelude.{◌%◌, slice_index_or}
-use Rattle.daide_token.specs.declared.class.Class.{Class}
-use Rattle.daide_token.specs.declared.class.Class.TheVariants.{Ket, Num, Other, Word}
-use Rattle.daide_grammar.specs.declared.symbol.Sym.{Sym}
+use Rattle.std.proofs.Common.{slice_index_or}
+use Rattle.daide_grammar.proofs.Common.{◌≡◌, ℕ, zero, suc, ◌+◌, ◌<◌, Bool, true, false, ◌&&◌, nat_eq, nat_lt, ltb-true}
+use Rattle.daide_grammar.proofs.Common.{List, [], ◌∷◌, Option, Some, None, length, map, get_or, refl, sym, ap, subst}
+use Rattle.daide_grammar.proofs.Common.{◌∙◌, arith, ◌%◌, and_parts, eqb-true, list_all, range_with_len, Class, Ket, Num}
+use Rattle.daide_grammar.proofs.Common.{Other, Word, Sym, TABLE, TableEntry, Take, Skip, Stop, row_cell, rule_at}
+use Rattle.daide_grammar.proofs.Common.{class_number, own_classes, all_classes, classes, class_at, symbol_at}
+use Rattle.daide_grammar.proofs.Common.{symbol_number, symbols, all_rules, action, rest_of_action, HasRule, Alternative}
+use Rattle.daide_grammar.proofs.Common.{answer_by, entries, entry_at, may_end_of, table_answer}
 use Rattle.daide_grammar.specs.declared.symbol.Sym.TheVariants.{Closing}
-use Rattle.daide_grammar.specs.declared.table.rows.TheConstants.{TABLE}
-use Rattle.daide_grammar.specs.Table.Answers.{TableEntry, Take, Skip, Stop}
-use Rattle.daide_grammar.specs.Table.Cells.{row_cell, rule_at}
-use Rattle.daide_grammar.specs.Classes.{class_number, own_classes}
-use Rattle.daide_grammar.specs.Table.Numbers.{all_classes, classes, class_at, symbol_at, symbol_number, symbols}
 use Rattle.daide_grammar.specs.Words.{most_words}
-use Rattle.daide_grammar.specs.Table.ParseActions.{all_rules, action, rest_of_action, HasRule}
-use Rattle.daide_grammar.specs.Table.Symbols.{Alternative, answer_by, entries, entry_at, may_end_of, table_answer}
 use Rattle.daide_grammar.proofs.Alike.{alike, passes_at}
 use Rattle.daide_grammar.proofs.NumberLemmas.{symbol_back, symbol_small}
 use Rattle.daide_grammar.proofs.RowParts.{rule_seen, rules}

@@ -1,15 +1,11 @@
 -- The row of each rule has its rest, the last symbol first.
-use Rattle.std.proofs.Common.{◌≡◌, ℕ, zero, suc, ◌<◌, ◌≤◌, ◌+◌, ◌-◌, ◌%◌, ◌^◌, Bool, true, false, nat_eq, nat_le}
-use Rattle.std.proofs.Common.{nat_lt, leb-true}
-use Rattle.std.proofs.Common.{ltb-true, List, [], ◌∷◌, length, map, take, drop, reverse, refl, sym, ◌∙◌, arith}
-use Rattle.std.proofs.lemmas.Bool.Decides.{nat_tests}
-use Rattle.std.specs.Prelude.{slice_index_or, if◌then◌else◌}
-use Rattle.std.specs.List.{list_all, range_with_len}
-use Rattle.daide_grammar.specs.declared.symbol.Sym.{Sym}
-use Rattle.daide_grammar.specs.declared.table.rows.TheConstants.{TABLE}
-use Rattle.daide_grammar.specs.Table.Cells.{cell_at, first_at, growth_at, length_at}
-use Rattle.daide_grammar.specs.Table.Numbers.{all_symbols, symbol_at}
-use Rattle.daide_grammar.specs.Table.ParseActions.{all_rules, action, rest_of_action, rest_of, is_take, is_stop}
+use Rattle.std.proofs.Common.{◌^◌, leb-true, slice_index_or}
+use Rattle.daide_grammar.proofs.Common.{◌≡◌, ℕ, zero, suc, ◌<◌, ◌≤◌, ◌+◌, ◌-◌, ◌%◌, Bool, true, false, nat_eq, nat_le}
+use Rattle.daide_grammar.proofs.Common.{nat_lt, ltb-true, List, [], ◌∷◌, length, map, take, drop, reverse, refl, sym}
+use Rattle.daide_grammar.proofs.Common.{◌∙◌, arith, if◌then◌else◌, nat_tests, list_all, range_with_len, Sym, TABLE}
+use Rattle.daide_grammar.proofs.Common.{first_at, all_symbols, symbol_at, all_rules, action, rest_of_action, rest_of}
+use Rattle.daide_grammar.proofs.Common.{is_take, is_stop}
+use Rattle.daide_grammar.specs.Table.Cells.{cell_at, growth_at, length_at}
 use Rattle.daide_grammar.proofs.Alike.{alike, passes_at}
 
 -- the rule's length is that of its rest

@@ -2,45 +2,35 @@
 -- that must follow, over all classes and levels. Written from the rules of docs/PROTOCOL.md; src/symbol.rt describes
 -- the symbols. A form, an entry or a cell with a missing or extra class, or with another rest, does not check, even if
 -- all of them have the same mistake.
-use Rattle.std.proofs.Common.{◌≡◌, true, false, List, [], ◌∷◌, ◌++◌, map, take, refl}
-use Rattle.daide_token.specs.declared.class.Class.{Class}
-use Rattle.daide_token.specs.declared.class.Class.TheVariants.{Bra, Ket, Num, Power, Note, Outcome, Coast, Season}
-use Rattle.daide_token.specs.declared.class.Class.TheVariants.{Text, Province, Amy, Flt, Cto, Cvy, Hld, Mto, Sup, Via}
-use Rattle.daide_token.specs.declared.class.Class.TheVariants.{Dsb, Rto, Bld, Rem, Wve, Ccd, Drw, Frm, Gof, Hlo, Hst}
-use Rattle.daide_token.specs.declared.class.Class.TheVariants.{Huh, Iam, Lod, Map, Mdf, Mis, Nme, Not, Now, Obs, Off}
-use Rattle.daide_token.specs.declared.class.Class.TheVariants.{Ord, Out, Rej, Sco, Slo, Snd, Sub, Sve, Thx, Tme, Yes}
-use Rattle.daide_token.specs.declared.class.Class.TheVariants.{Adm, Smr, Aly, And, Bwx, Dmz, Fct, Idk, Ins, Occ, Orr}
-use Rattle.daide_token.specs.declared.class.Class.TheVariants.{Pce, Prp, Qry, Scd, Sry, Sug, Thk, Try, Vss, Xdo, Lvl}
-use Rattle.daide_token.specs.declared.class.Class.TheVariants.{Mrt, Uno, Param}
-use Rattle.daide_grammar.specs.declared.level.Level.{Level}
-use Rattle.daide_grammar.specs.declared.level.Level.TheVariants.{L0, L10, L20, L30, L40, L50, L60}
-use Rattle.daide_grammar.specs.declared.symbol.Sym.{Sym}
+use Rattle.daide_grammar.proofs.Common.{◌≡◌, true, false, List, [], ◌∷◌, ◌++◌, map, take, refl, Class, Bra, Ket, Num}
+use Rattle.daide_grammar.proofs.Common.{Power, Season, Text, Via, Wve, Ccd, Drw, Frm, Gof, Hlo, Hst, Huh, Iam, Lod, Map}
+use Rattle.daide_grammar.proofs.Common.{Mdf, Mis, Nme, Not, Now, Obs, Off, Ord, Out, Rej, Sco, Slo, Snd, Sub, Sve, Thx}
+use Rattle.daide_grammar.proofs.Common.{Tme, Yes, Adm, Smr, Aly, And, Bwx, Dmz, Fct, Idk, Ins, Occ, Orr, Pce, Qry, Scd}
+use Rattle.daide_grammar.proofs.Common.{Sry, Sug, Thk, Try, Vss, Xdo, Level, L0, L10, L20, L30, L40, L50, L60, Sym}
+use Rattle.daide_grammar.proofs.Common.{same_class, TableEntry, Take, Skip, Stop, classes, symbols, entries, may_end_of}
+use Rattle.daide_grammar.proofs.Common.{table_answer}
+use Rattle.daide_token.specs.declared.class.Class.TheVariants.{Note, Outcome, Coast, Province, Amy, Flt, Cto, Cvy, Hld}
+use Rattle.daide_token.specs.declared.class.Class.TheVariants.{Mto, Sup, Dsb, Rto, Bld, Rem, Prp, Lvl, Mrt, Uno, Param}
 use Rattle.daide_grammar.specs.declared.symbol.Sym.TheVariants.{Closing, OnePower, OneProvince, OneCoast, OneNumber}
 use Rattle.daide_grammar.specs.declared.symbol.Sym.TheVariants.{OneNote, OneFleet, Waived, ConvoyTo, Through, Against}
 use Rattle.daide_grammar.specs.declared.symbol.Sym.TheVariants.{TextGroup, Texts, PowerGroup, PowersGroup}
-use Rattle.daide_grammar.specs.declared.symbol.Sym.TheVariants.{MaybePowersGroup, Powers, NumberGroup}
-use Rattle.daide_grammar.specs.declared.symbol.Sym.TheVariants.{MaybeNumberGroup, MaybeNumber, ProvincesGroup}
-use Rattle.daide_grammar.specs.declared.symbol.Sym.TheVariants.{MaybeProvincesGroup, Provinces, TurnGroup, OneTurn}
-use Rattle.daide_grammar.specs.declared.symbol.Sym.TheVariants.{WordsGroup, WordList, AnyGroup, Any, OnePlace}
-use Rattle.daide_grammar.specs.declared.symbol.Sym.TheVariants.{PlacesGroup, Places, UnitGroup, UnitGroups, OneUnit}
-use Rattle.daide_grammar.specs.declared.symbol.Sym.TheVariants.{UnitType, OrderGroup, Orders, OneOrder, OrderTail}
-use Rattle.daide_grammar.specs.declared.symbol.Sym.TheVariants.{SupportTail, ShareGroup, Shares, SubmitTail}
-use Rattle.daide_grammar.specs.declared.symbol.Sym.TheVariants.{SubmitFirst, CancelGroup, Cancel, ReplyGroup, Reply}
-use Rattle.daide_grammar.specs.declared.symbol.Sym.TheVariants.{WhoGroup, Who, ParamsGroup, Params, OneParam}
-use Rattle.daide_grammar.specs.declared.symbol.Sym.TheVariants.{CentresGroup, OwnersGroup, Owners, Owned}
+use Rattle.daide_grammar.specs.declared.symbol.Sym.TheVariants.{MaybePowersGroup, Powers, NumberGroup, MaybeNumberGroup}
+use Rattle.daide_grammar.specs.declared.symbol.Sym.TheVariants.{MaybeNumber, ProvincesGroup, MaybeProvincesGroup}
+use Rattle.daide_grammar.specs.declared.symbol.Sym.TheVariants.{Provinces, TurnGroup, OneTurn, WordsGroup, WordList}
+use Rattle.daide_grammar.specs.declared.symbol.Sym.TheVariants.{AnyGroup, Any, OnePlace, PlacesGroup, Places, UnitGroup}
+use Rattle.daide_grammar.specs.declared.symbol.Sym.TheVariants.{UnitGroups, OneUnit, UnitType, OrderGroup, Orders}
+use Rattle.daide_grammar.specs.declared.symbol.Sym.TheVariants.{OneOrder, OrderTail, SupportTail, ShareGroup, Shares}
+use Rattle.daide_grammar.specs.declared.symbol.Sym.TheVariants.{SubmitTail, SubmitFirst, CancelGroup, Cancel}
+use Rattle.daide_grammar.specs.declared.symbol.Sym.TheVariants.{ReplyGroup, Reply, WhoGroup, Who, ParamsGroup, Params}
+use Rattle.daide_grammar.specs.declared.symbol.Sym.TheVariants.{OneParam, CentresGroup, OwnersGroup, Owners, Owned}
 use Rattle.daide_grammar.specs.declared.symbol.Sym.TheVariants.{BordersGroup, BordersList, Borders, KindList}
 use Rattle.daide_grammar.specs.declared.symbol.Sym.TheVariants.{KindPlaces, Stands, OneStand, StandTail, MissingTail}
 use Rattle.daide_grammar.specs.declared.symbol.Sym.TheVariants.{MissingFirst, NoteGroup, OutcomesGroup, Outcomes}
-use Rattle.daide_grammar.specs.declared.symbol.Sym.TheVariants.{OneOutcome, CivilDisorderGroup, CivilDisorder}
-use Rattle.daide_grammar.specs.declared.symbol.Sym.TheVariants.{Players, OnePlayer, ArrangementGroup, Arrangement}
-use Rattle.daide_grammar.specs.declared.symbol.Sym.TheVariants.{FactGroup, Fact, OperandGroup, Operands, Operand}
-use Rattle.daide_grammar.specs.declared.symbol.Sym.TheVariants.{PressGroup, Press, SendGroup, MaybeSendGroup, Send}
-use Rattle.daide_grammar.specs.declared.symbol.Sym.TheVariants.{SendTail, SendFirst, Client, RequestGroup, Request}
-use Rattle.daide_grammar.specs.declared.symbol.Sym.TheVariants.{Server}
-use Rattle.daide_grammar.specs.Classes.{same_class}
-use Rattle.daide_grammar.specs.Table.Answers.{TableEntry, Take, Skip, Stop}
-use Rattle.daide_grammar.specs.Table.Numbers.{classes, symbols}
-use Rattle.daide_grammar.specs.Table.Symbols.{entries, may_end_of, table_answer}
+use Rattle.daide_grammar.specs.declared.symbol.Sym.TheVariants.{OneOutcome, CivilDisorderGroup, CivilDisorder, Players}
+use Rattle.daide_grammar.specs.declared.symbol.Sym.TheVariants.{OnePlayer, ArrangementGroup, Arrangement, FactGroup}
+use Rattle.daide_grammar.specs.declared.symbol.Sym.TheVariants.{Fact, OperandGroup, Operands, Operand, PressGroup}
+use Rattle.daide_grammar.specs.declared.symbol.Sym.TheVariants.{Press, SendGroup, MaybeSendGroup, Send, SendTail}
+use Rattle.daide_grammar.specs.declared.symbol.Sym.TheVariants.{SendFirst, Client, RequestGroup, Request, Server}
 
 -- an entry at a class: usually, the token is taken and these symbols must follow
 abbrev Line : Type 0

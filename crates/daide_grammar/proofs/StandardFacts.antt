@@ -1,14 +1,11 @@
 -- The definitions at single messages: for each rule of both sides at least one message, with the level at which it
 -- enters, and a similar list that is no message. The expected results were worked out from the protocol's tables, so a
 -- wrong definition does not check.
-use Rattle.std.proofs.Common.{List, [], ◌∷◌, refl}
 use Rattle.std.specs.Fmt.{digits}
-use Rattle.daide_token.specs.Class.{class_of}
+use Rattle.daide_grammar.proofs.Common.{List, [], ◌∷◌, refl, class_of, text_of, L0, L10, L20, L30, L40, L50, L60}
+use Rattle.daide_grammar.proofs.Common.{entries, may_end_of, table_answer}
 use Rattle.daide_token.specs.Names.{names, name_of, token_named}
-use Rattle.daide_token.specs.Text.{text_of}
-use Rattle.daide_grammar.specs.declared.level.Level.TheVariants.{L0, L10, L20, L30, L40, L50, L60}
 use Rattle.daide_grammar.specs.declared.side.Side2.TheVariants.{Client, ServerEnd}
-use Rattle.daide_grammar.specs.Table.Symbols.{entries, may_end_of, table_answer}
 use Rattle.daide_grammar.proofs.FactRows.{Row, said_from, never_said, AllHold, rows-hold}
 
 -- The requests of a client. From the protocol's list of client requests.

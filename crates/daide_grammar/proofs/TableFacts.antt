@@ -1,21 +1,14 @@
 -- Cells of the constant table, worked out from the protocol's tables. A wrong table does not check even if the entries
 -- have the same mistake. The cells: the row of a level and the previous one, a row that levels share, and whole rests.
-use Rattle.std.proofs.Common.{◌≡◌, [], ◌∷◌, refl}
-use Rattle.daide_token.specs.declared.class.Class.{Class}
-use Rattle.daide_token.specs.declared.class.Class.TheVariants.{Bra, Ket, Power, Text, And, Thx, Tme, Frm, Snd, Qry, Not}
-use Rattle.daide_token.specs.declared.class.Class.TheVariants.{Prn, Other, Word}
-use Rattle.daide_grammar.specs.declared.level.Level.TheVariants.{L0, L10, L20, L30, L50, L60}
-use Rattle.daide_grammar.specs.declared.symbol.Sym.{Sym}
+use Rattle.daide_grammar.proofs.Common.{◌≡◌, [], ◌∷◌, refl, Class, Bra, Ket, Power, Text, And, Thx, Tme, Frm, Snd, Qry}
+use Rattle.daide_grammar.proofs.Common.{Not, Prn, Other, Word, L0, L10, L20, L30, L50, L60, Sym, TableEntry, Take, Skip}
+use Rattle.daide_grammar.proofs.Common.{Stop, class_cell, row_cell, rule_at, column_at, class_number, class_at}
+use Rattle.daide_grammar.proofs.Common.{symbol_number, action, rest_of_action}
 use Rattle.daide_grammar.specs.declared.symbol.Sym.TheVariants.{Closing, Texts, PowerGroup, PowersGroup}
 use Rattle.daide_grammar.specs.declared.symbol.Sym.TheVariants.{MaybeNumberGroup, OneUnit, OrderTail, Orders}
 use Rattle.daide_grammar.specs.declared.symbol.Sym.TheVariants.{SubmitFirst, OrderGroup, NoteGroup, Arrangement}
 use Rattle.daide_grammar.specs.declared.symbol.Sym.TheVariants.{ArrangementGroup, OperandGroup, Operands, Operand, Fact}
 use Rattle.daide_grammar.specs.declared.symbol.Sym.TheVariants.{FactGroup, PressGroup, SendTail, Client, Server, Any}
-use Rattle.daide_grammar.specs.Table.Answers.{TableEntry, Take, Skip, Stop}
-use Rattle.daide_grammar.specs.Table.Cells.{class_cell, row_cell, rule_at, column_at}
-use Rattle.daide_grammar.specs.Classes.{class_number}
-use Rattle.daide_grammar.specs.Table.Numbers.{class_at, symbol_number}
-use Rattle.daide_grammar.specs.Table.ParseActions.{action, rest_of_action}
 
 -- the table's entry for a symbol and a class
 abbrev says : Sym → Class → TableEntry

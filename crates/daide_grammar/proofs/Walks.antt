@@ -1,21 +1,10 @@
 -- Decides whether a list of tokens is a message from a given side, by following the table.
-use Rattle.std.proofs.Common.{◌≡◌, ◌≢◌, ℕ, ◌+◌, Bool, true, false, ◌&&◌, List, [], ◌∷◌, ◌++◌, Option, None, Some, ◌↔◌}
-use Rattle.std.proofs.Common.{refl, sym, ◌∙◌, ap, subst, append_assoc}
-use Rattle.std.proofs.lemmas.Bool.{eqb-true}
-use Rattle.daide_token.specs.declared.class.Class.{Class}
-use Rattle.daide_token.specs.declared.class.Class.TheVariants.{Bra, Ket}
-use Rattle.daide_token.specs.Class.{class_of}
-use Rattle.daide_grammar.specs.declared.symbol.Sym.{Sym}
-use Rattle.daide_grammar.specs.Classes.{class_number, same_class}
-use Rattle.daide_grammar.specs.Table.Answers.{TableEntry, Take, Skip, Stop}
-use Rattle.daide_grammar.specs.Table.Symbols.{may_end_of, table_answer}
-use Rattle.daide_grammar.specs.Table.Stacks.{StackMatches, stack_after}
-use Rattle.daide_grammar.specs.Table.LawfulStack.{IsLawful}
-use Rattle.daide_grammar.specs.Table.Languages.{SymbolMatches}
-use Rattle.daide_grammar.specs.Proofs.Alternatives.{both-pass}
+use Rattle.daide_grammar.proofs.Common.{◌≡◌, ◌≢◌, ℕ, ◌+◌, Bool, true, false, ◌&&◌, List, [], ◌∷◌, ◌++◌, Option, None}
+use Rattle.daide_grammar.proofs.Common.{Some, ◌↔◌, refl, sym, ◌∙◌, ap, subst, append_assoc, eqb-true, Class, Bra, Ket}
+use Rattle.daide_grammar.proofs.Common.{class_of, Sym, class_number, same_class, TableEntry, Take, Skip, Stop}
+use Rattle.daide_grammar.proofs.Common.{may_end_of, table_answer, StackMatches, stack_after, IsLawful, SymbolMatches}
+use Rattle.daide_grammar.proofs.Common.{both-pass, no-yes, plain_laws}
 use Rattle.daide_grammar.specs.Proofs.StacksInOrder.{number-Bra, number-Ket}
-use Rattle.daide_grammar.specs.Proofs.MovesAgree.{no-yes}
-use Rattle.daide_grammar.specs.Proofs.PlainLaws.{plain_laws}
 use Rattle.daide_grammar.proofs.PredictionLemmas.{none-begins}
 
 -- whether the table follows the whole list from the stack, and the rest of the stack is nullable

@@ -1,12 +1,7 @@
 -- A class of the table is determined by its number: first the protocol's own classes, then the operator's words.
-use Rattle.std.proofs.Common.{◌≡◌, true, ℕ, ◌+◌, ◌-◌, ◌<◌, ◌≤◌, nat_le, Some, None, map, refl, ap, ◌∙◌, arith}
-use Rattle.std.specs.List.{range_with_len}
-use Rattle.daide_token.specs.Class.{class_of, is_standard}
-use Rattle.daide_token.proofs.ClassLaws.{standard_class}
-use Rattle.daide_token.specs.declared.class.Class.{Class}
-use Rattle.daide_token.specs.declared.class.Class.TheVariants.{Word}
-use Rattle.daide_grammar.specs.Classes.{class_number, own_classes}
-use Rattle.daide_grammar.specs.Table.Numbers.{all_classes, class_at, is_bracket, word_number}
+use Rattle.daide_grammar.proofs.Common.{◌≡◌, true, ℕ, ◌+◌, ◌-◌, ◌<◌, ◌≤◌, nat_le, Some, None, map, refl, ap, ◌∙◌, arith}
+use Rattle.daide_grammar.proofs.Common.{range_with_len, class_of, is_standard, standard_class, Class, Word}
+use Rattle.daide_grammar.proofs.Common.{class_number, own_classes, all_classes, class_at, is_bracket, word_number}
 use Rattle.daide_grammar.specs.Words.{most_words}
 use Rattle.daide_grammar.proofs.Alike.{alike}
 

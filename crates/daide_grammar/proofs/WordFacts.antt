@@ -1,19 +1,14 @@
 -- The definitions at single messages with an operator's words: XYZ, a press about a power from level 20 on, and QQQ, an
 -- arrangement about an arrangement from level 30 on. Worked out from the meaning of a word.
-use Rattle.std.proofs.Common.{◌≡◌, ℕ, List, [], ◌∷◌, ◌++◌, inr, refl}
-use Rattle.daide_token.specs.Class.{class_of}
-use Rattle.std.specs.Prelude.{nat_le, true}
-use Rattle.daide_grammar.specs.declared.level.Level.{Level}
-use Rattle.daide_grammar.specs.Level.{level_number}
-use Rattle.daide_grammar.specs.declared.level.Level.TheVariants.{L10, L20, L30, L50}
+use Rattle.daide_grammar.proofs.Common.{◌≡◌, ℕ, List, [], ◌∷◌, ◌++◌, inr, refl, nat_le, true, class_of, Level}
+use Rattle.daide_grammar.proofs.Common.{level_number, L10, L20, L30, L50, Matches, token, nothing, both, first, second}
+use Rattle.daide_grammar.proofs.Common.{no_more, one_more, bracketed, by_name}
 use Rattle.daide_grammar.specs.declared.side.Side2.TheVariants.{Client}
 use Rattle.daide_grammar.specs.Forms.{Dialect, Form, Press_slot, Arrangement_slot, Flat_slot, Added, Press_name}
 use Rattle.daide_grammar.specs.Forms.{Arrangement_name, Flat_name, Send_name, Request_name, group, some, from_level}
 use Rattle.daide_grammar.specs.Message.Lists.{power, words}
 use Rattle.daide_grammar.specs.Message.Arrangements.{arrangement, flat_arrangement}
 use Rattle.daide_grammar.specs.Message.Press.{press, send}
-use Rattle.daide_grammar.specs.Matches.{Matches, token, nothing, both, first, second, no_more, one_more, bracketed}
-use Rattle.daide_grammar.specs.Matches.{by_name}
 use Rattle.daide_grammar.specs.Words.{Words, press_word, arrangement_word, one_power, an_arrangement}
 use Rattle.daide_grammar.specs.SideMessages.{standard, dialect_of, IsMessage, IsMessageOver}
 

@@ -1,27 +1,16 @@
 -- What an operator's words change: a list without their codes is a message exactly if it is one without the words.
-use Rattle.std.proofs.Common.{◌≡◌, ℕ, suc, Bool, true, false, not, ◌==◌, ◌||◌, List, [], ◌∷◌, ◌++◌}
-use Rattle.std.proofs.Common.{refl, sym, ◌∙◌, ap, subst, inl, inr, ◌↔◌}
-use Rattle.std.specs.Prelude.{nat_le}
-use Rattle.std.specs.List.{list_all}
 use Rattle.std.proofs.lemmas.List.Folds.{list_all-append}
-use Rattle.daide_token.specs.declared.class.Class.TheVariants.{Bra, Ket, Word}
-use Rattle.daide_token.specs.Class.{class_of, is_standard}
-use Rattle.daide_token.proofs.ClassLaws.{standard_class}
-use Rattle.daide_grammar.specs.declared.level.Level.{Level}
-use Rattle.daide_grammar.specs.declared.side.Side2.{Side2}
-use Rattle.daide_grammar.specs.Level.{level_number}
-use Rattle.daide_grammar.specs.Forms.{Slot, Press_slot, Arrangement_slot, Flat_slot, TokenTest, Accepts, Form, never, tok}
-use Rattle.daide_grammar.specs.Forms.{from_level}
-use Rattle.daide_grammar.specs.Forms.{◌·◌, group}
-use Rattle.daide_grammar.specs.Forms.{Any_name, Place_name, Unit_name, Order_name, Arrangement_name, Flat_name}
-use Rattle.daide_grammar.specs.Forms.{Fact_name, Press_name, Send_name, Request_name, Added, Dialect, is}
-use Rattle.daide_grammar.specs.Matches.{Matches, token, nothing, both, first, second, no_more, one_more, bracketed}
-use Rattle.daide_grammar.specs.Matches.{by_name}
+use Rattle.daide_grammar.proofs.Common.{◌≡◌, ℕ, suc, Bool, true, false, not, ◌==◌, ◌||◌, List, [], ◌∷◌, ◌++◌, refl, sym}
+use Rattle.daide_grammar.proofs.Common.{◌∙◌, ap, subst, inl, inr, ◌↔◌, nat_le, list_all, Bra, Ket, Word, class_of}
+use Rattle.daide_grammar.proofs.Common.{is_standard, standard_class, Level, Side2, level_number, Matches, token}
+use Rattle.daide_grammar.proofs.Common.{nothing, both, first, second, no_more, one_more, bracketed, by_name, both-pass}
+use Rattle.daide_grammar.specs.Forms.{Slot, Press_slot, Arrangement_slot, Flat_slot, TokenTest, Accepts, Form, never}
+use Rattle.daide_grammar.specs.Forms.{tok, from_level, ◌·◌, group, Any_name, Place_name, Unit_name, Order_name}
+use Rattle.daide_grammar.specs.Forms.{Arrangement_name, Flat_name, Fact_name, Press_name, Send_name, Request_name}
+use Rattle.daide_grammar.specs.Forms.{Added, Dialect, is}
 use Rattle.daide_grammar.specs.Words.{AddedWord, Words, WordSlot, press_word, arrangement_word, is_code, has_no_word}
-use Rattle.daide_grammar.specs.Words.{operand_in}
-use Rattle.daide_grammar.specs.Words.{stands_in, word_form}
+use Rattle.daide_grammar.specs.Words.{operand_in, stands_in, word_form}
 use Rattle.daide_grammar.specs.SideMessages.{standard, dialect_from, dialect_of, message_form, IsMessage, IsMessageOver}
-use Rattle.daide_grammar.specs.Proofs.Alternatives.{both-pass}
 
 -- no token of the list is a word
 abbrev HasNone : Words → List ℕ → Type 0

@@ -1,6 +1,4 @@
-use Rattle.std.proofs.Common.{ℕ, List, ap, ◌∙◌}
-use Rattle.std.specs.Prelude.{slice_index}
-use Rattle.daide_grammar.specs.Table.Cells.{class_cell}
+use Rattle.daide_grammar.proofs.Common.{ℕ, List, ap, ◌∙◌, slice_index, class_cell}
 use Rattle.daide_grammar.proofs.dense.class_cell.Goals as goal
 
 pub returns : goal.returns

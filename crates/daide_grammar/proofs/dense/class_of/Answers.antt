@@ -1,6 +1,4 @@
-use Rattle.std.proofs.Common.{◌<◌, ap, sym, subst, ◌∙◌}
-use Rattle.daide_token.specs.Class.{class_of}
-use Rattle.daide_grammar.specs.Table.Numbers.{all_classes, class_at}
+use Rattle.daide_grammar.proofs.Common.{◌<◌, ap, sym, subst, ◌∙◌, class_of, all_classes, class_at}
 use Rattle.daide_grammar.proofs.ColumnsAgree.{class_found, number_small}
 use Rattle.daide_grammar.proofs.dense.class_of.Goals as goal
 

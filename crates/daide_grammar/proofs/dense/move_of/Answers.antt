@@ -1,8 +1,4 @@
-use Rattle.std.proofs.Common.{ℕ, ap, sym, ◌∙◌}
-use Rattle.std.specs.Prelude.{◌/◌, ◌%◌}
-use Rattle.daide_grammar.specs.Table.Cells.{first_at, rule_at}
-use Rattle.daide_grammar.specs.Table.ParseActions.{action}
-use Rattle.daide_grammar.specs.Table.Symbols.{table_answer}
+use Rattle.daide_grammar.proofs.Common.{ℕ, ap, sym, ◌∙◌, ◌/◌, ◌%◌, first_at, rule_at, action, table_answer}
 use Rattle.daide_grammar.proofs.NextsAgree.{next_told}
 use Rattle.daide_grammar.proofs.RowsAgree.{looked_up}
 use Rattle.daide_grammar.proofs.dense.move_of.Goals as goal

@@ -1,4 +1,4 @@
-use Rattle.std.proofs.Common.{[]}
+use Rattle.daide_grammar.proofs.Common.{[]}
 use Rattle.daide_grammar.proofs.Alike.{row_seen}
 use Rattle.daide_grammar.proofs.dense.row_of.Goals as goal
 

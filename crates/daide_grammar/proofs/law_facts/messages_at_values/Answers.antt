@@ -1,9 +1,6 @@
-use Rattle.std.proofs.Common.{Bool, true, false, not, ◌&&◌, ◌||◌, ℕ, List, [], ◌∷◌, inl, inr, refl, ap, arith}
-use Rattle.std.proofs.Common.{slice_index}
-use Rattle.daide_token.specs.Token.{bra, ket, prn}
+use Rattle.daide_grammar.proofs.Common.{Bool, true, false, not, ◌&&◌, ◌||◌, ℕ, List, [], ◌∷◌, inl, inr, refl, ap, arith}
+use Rattle.daide_grammar.proofs.Common.{slice_index, bra, ket, prn, IsPaired, L0, L10, L60}
 use Rattle.daide_grammar.specs.Balanced.{IsBalanced, bracketed, plain}
-use Rattle.daide_grammar.specs.Paired.{IsPaired}
-use Rattle.daide_grammar.specs.declared.level.Level.TheVariants.{L0, L10, L60}
 use Rattle.daide_grammar.specs.declared.side.Side2.TheVariants.{Client as BotSide, ServerEnd}
 use Rattle.daide_grammar.proofs.Apart.{numbers_apart, true_no_false}
 use Rattle.daide_grammar.proofs.law_facts.messages_at_values.Goals as goal

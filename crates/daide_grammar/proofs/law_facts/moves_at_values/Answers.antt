@@ -1,10 +1,5 @@
-use Rattle.std.proofs.Common.{[], ◌∷◌, refl}
-use Rattle.daide_token.specs.Class.{class_of}
-use Rattle.daide_token.specs.declared.class.Class.TheVariants.{Bra}
-use Rattle.daide_token.specs.Token.{bra, ket}
-use Rattle.daide_grammar.specs.declared.level.Level.TheVariants.{L60}
+use Rattle.daide_grammar.proofs.Common.{[], ◌∷◌, refl, class_of, Bra, bra, ket, L60, entries, may_end_of, table_answer}
 use Rattle.daide_grammar.specs.declared.symbol.Sym.TheVariants.{Any, Closing, MaybeNumber, Operands, Press, Texts}
-use Rattle.daide_grammar.specs.Table.Symbols.{entries, may_end_of, table_answer}
 use Rattle.daide_grammar.proofs.law_facts.moves_at_values.Goals as goal
 
 pub returns-clause-takes : goal.returns-clause-takes

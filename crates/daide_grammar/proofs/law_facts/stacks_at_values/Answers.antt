@@ -1,10 +1,7 @@
-use Rattle.std.proofs.Common.{◌≡◌, ℕ, [], ◌∷◌, refl, subst, arith}
-use Rattle.daide_token.specs.declared.class.Class.TheVariants.{Bra, Gof, Tme}
-use Rattle.daide_grammar.specs.declared.level.Level.TheVariants.{L60}
+use Rattle.daide_grammar.proofs.Common.{◌≡◌, ℕ, [], ◌∷◌, refl, subst, arith, Bra, Gof, Tme, L60, IsLawful, entries}
+use Rattle.daide_grammar.proofs.Common.{may_end_of, table_answer}
 use Rattle.daide_grammar.specs.declared.side.Side2.TheVariants.{Client as BotSide}
 use Rattle.daide_grammar.specs.declared.symbol.Sym.TheVariants.{Client, Closing, MaybeNumberGroup, OneNumber, Press}
-use Rattle.daide_grammar.specs.Table.LawfulStack.{IsLawful}
-use Rattle.daide_grammar.specs.Table.Symbols.{entries, may_end_of, table_answer}
 use Rattle.daide_grammar.proofs.law_facts.stacks_at_values.Goals as goal
 
 pub returns-clause-begins : goal.returns-clause-begins

@@ -1,5 +1,4 @@
-use Rattle.std.proofs.Common.{◌∷◌, ◌++◌, take, drop}
-use Rattle.daide_token.specs.Token.{err}
+use Rattle.daide_grammar.proofs.Common.{◌∷◌, ◌++◌, take, drop, err}
 use Rattle.daide_grammar.proofs.Languages.{huh-answer}
 use Rattle.daide_grammar.proofs.ErrPutIn.{err-put-in, huh-err-depth}
 use Rattle.daide_grammar.proofs.laws.huh_answer_with_err_is_a_message.Goals as goal

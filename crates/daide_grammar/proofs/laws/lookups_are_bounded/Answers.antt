@@ -1,4 +1,4 @@
-use Rattle.daide_grammar.specs.Proofs.PlainLaws.{plain_laws}
+use Rattle.daide_grammar.proofs.Common.{plain_laws}
 use Rattle.daide_grammar.proofs.laws.lookups_are_bounded.Goals as goal
 
 pub returns-clause-skips : goal.returns-clause-skips

@@ -1,4 +1,4 @@
-use Rattle.daide_grammar.specs.Proofs.PlainLaws.{plain_laws}
+use Rattle.daide_grammar.proofs.Common.{plain_laws}
 use Rattle.daide_grammar.proofs.laws.no_language_is_empty.Goals as goal
 
 pub returns : goal.returns

@@ -1,4 +1,4 @@
-use Rattle.daide_grammar.specs.Proofs.PlainLaws.{plain_laws}
+use Rattle.daide_grammar.proofs.Common.{plain_laws}
 use Rattle.daide_grammar.proofs.PredictionLemmas.{short-rest}
 use Rattle.daide_grammar.proofs.laws.stack_is_bounded.Goals as goal
 

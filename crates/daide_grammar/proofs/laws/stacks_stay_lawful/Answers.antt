@@ -1,4 +1,4 @@
-use Rattle.daide_grammar.specs.Proofs.PlainLaws.{plain_laws, plain_begins}
+use Rattle.daide_grammar.proofs.Common.{plain_laws, plain_begins}
 use Rattle.daide_grammar.proofs.laws.stacks_stay_lawful.Goals as goal
 
 pub returns-clause-begins : goal.returns-clause-begins

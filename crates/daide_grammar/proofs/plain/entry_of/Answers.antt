@@ -1,29 +1,26 @@
 -- A symbol with one entry has the entry of `must` or `may`. The other symbols have functions with their own contracts.
-use Rattle.std.proofs.Common.{[], ◌∷◌, refl, ◌∙◌}
-use Rattle.daide_token.specs.declared.class.Class.TheVariants.{Bra, Ccd, Coast, Cto, Flt, Ket, Mrt, Mto, Note, Num}
-use Rattle.daide_token.specs.declared.class.Class.TheVariants.{Power, Province, Season, Snd, Text, Via, Vss, Wve}
+use Rattle.daide_grammar.proofs.Common.{[], ◌∷◌, refl, ◌∙◌, Bra, Ccd, Ket, Num, Power, Season, Snd, Text, Via, Vss, Wve}
+use Rattle.daide_grammar.proofs.Common.{entries, may_end_of}
+use Rattle.daide_token.specs.declared.class.Class.TheVariants.{Coast, Cto, Flt, Mrt, Mto, Note, Province}
 use Rattle.daide_grammar.specs.declared.symbol.Sym.TheVariants.{Against, Any, AnyGroup, Arrangement, ArrangementGroup}
-use Rattle.daide_grammar.specs.declared.symbol.Sym.TheVariants.{Borders, BordersGroup, BordersList, Cancel}
-use Rattle.daide_grammar.specs.declared.symbol.Sym.TheVariants.{CancelGroup, CentresGroup, CivilDisorder}
-use Rattle.daide_grammar.specs.declared.symbol.Sym.TheVariants.{CivilDisorderGroup, Closing, ConvoyTo, Fact}
-use Rattle.daide_grammar.specs.declared.symbol.Sym.TheVariants.{FactGroup, KindList, KindPlaces, MaybeNumber}
-use Rattle.daide_grammar.specs.declared.symbol.Sym.TheVariants.{MaybeNumberGroup, MaybePowersGroup}
-use Rattle.daide_grammar.specs.declared.symbol.Sym.TheVariants.{MaybeProvincesGroup, MissingFirst, MissingTail}
-use Rattle.daide_grammar.specs.declared.symbol.Sym.TheVariants.{NoteGroup, NumberGroup, OneCoast, OneFleet, OneNote}
-use Rattle.daide_grammar.specs.declared.symbol.Sym.TheVariants.{OneNumber, OneOrder, OneOutcome, OneParam, OnePlace}
-use Rattle.daide_grammar.specs.declared.symbol.Sym.TheVariants.{OnePlayer, OnePower, OneProvince, OneStand, OneTurn}
-use Rattle.daide_grammar.specs.declared.symbol.Sym.TheVariants.{OneUnit, Operand, OperandGroup, Operands, OrderGroup}
-use Rattle.daide_grammar.specs.declared.symbol.Sym.TheVariants.{Orders, Outcomes, OutcomesGroup, Owned, Owners}
-use Rattle.daide_grammar.specs.declared.symbol.Sym.TheVariants.{OwnersGroup, Params, ParamsGroup, Places, PlacesGroup}
-use Rattle.daide_grammar.specs.declared.symbol.Sym.TheVariants.{Players, PowerGroup, Powers, PowersGroup, Press}
-use Rattle.daide_grammar.specs.declared.symbol.Sym.TheVariants.{PressGroup, Provinces, ProvincesGroup, Reply}
+use Rattle.daide_grammar.specs.declared.symbol.Sym.TheVariants.{Borders, BordersGroup, BordersList, Cancel, CancelGroup}
+use Rattle.daide_grammar.specs.declared.symbol.Sym.TheVariants.{CentresGroup, CivilDisorder, CivilDisorderGroup}
+use Rattle.daide_grammar.specs.declared.symbol.Sym.TheVariants.{Closing, ConvoyTo, Fact, FactGroup, KindList}
+use Rattle.daide_grammar.specs.declared.symbol.Sym.TheVariants.{KindPlaces, MaybeNumber, MaybeNumberGroup}
+use Rattle.daide_grammar.specs.declared.symbol.Sym.TheVariants.{MaybePowersGroup, MaybeProvincesGroup, MissingFirst}
+use Rattle.daide_grammar.specs.declared.symbol.Sym.TheVariants.{MissingTail, NoteGroup, NumberGroup, OneCoast, OneFleet}
+use Rattle.daide_grammar.specs.declared.symbol.Sym.TheVariants.{OneNote, OneNumber, OneOrder, OneOutcome, OneParam}
+use Rattle.daide_grammar.specs.declared.symbol.Sym.TheVariants.{OnePlace, OnePlayer, OnePower, OneProvince, OneStand}
+use Rattle.daide_grammar.specs.declared.symbol.Sym.TheVariants.{OneTurn, OneUnit, Operand, OperandGroup, Operands}
+use Rattle.daide_grammar.specs.declared.symbol.Sym.TheVariants.{OrderGroup, Orders, Outcomes, OutcomesGroup, Owned}
+use Rattle.daide_grammar.specs.declared.symbol.Sym.TheVariants.{Owners, OwnersGroup, Params, ParamsGroup, Places}
+use Rattle.daide_grammar.specs.declared.symbol.Sym.TheVariants.{PlacesGroup, Players, PowerGroup, Powers, PowersGroup}
+use Rattle.daide_grammar.specs.declared.symbol.Sym.TheVariants.{Press, PressGroup, Provinces, ProvincesGroup, Reply}
 use Rattle.daide_grammar.specs.declared.symbol.Sym.TheVariants.{ReplyGroup, Request, RequestGroup, Send, SendFirst}
 use Rattle.daide_grammar.specs.declared.symbol.Sym.TheVariants.{SendGroup, SendTail, ShareGroup, Shares, StandTail}
-use Rattle.daide_grammar.specs.declared.symbol.Sym.TheVariants.{Stands, SubmitFirst, SubmitTail, SupportTail}
-use Rattle.daide_grammar.specs.declared.symbol.Sym.TheVariants.{TextGroup, Texts, Through, TurnGroup, UnitGroup}
-use Rattle.daide_grammar.specs.declared.symbol.Sym.TheVariants.{UnitGroups, UnitType, Waived, Who, WhoGroup, WordList}
-use Rattle.daide_grammar.specs.declared.symbol.Sym.TheVariants.{WordsGroup}
-use Rattle.daide_grammar.specs.Table.Symbols.{entries, may_end_of}
+use Rattle.daide_grammar.specs.declared.symbol.Sym.TheVariants.{Stands, SubmitFirst, SubmitTail, SupportTail, TextGroup}
+use Rattle.daide_grammar.specs.declared.symbol.Sym.TheVariants.{Texts, Through, TurnGroup, UnitGroup, UnitGroups}
+use Rattle.daide_grammar.specs.declared.symbol.Sym.TheVariants.{UnitType, Waived, Who, WhoGroup, WordList, WordsGroup}
 use Rattle.daide_grammar.proofs.OneEntry.{must_told, may_told, by_name}
 use Rattle.daide_grammar.proofs.plain.entry_of.Goals as goal
 

@@ -1,5 +1,4 @@
-use Rattle.std.proofs.Common.{sym, subst}
-use Rattle.daide_grammar.specs.Table.ParseActions.{HasRule}
+use Rattle.daide_grammar.proofs.Common.{sym, subst, HasRule}
 use Rattle.daide_grammar.proofs.RowsAgree.{has_rule}
 use Rattle.daide_grammar.proofs.plain.move_of.Goals as goal
 

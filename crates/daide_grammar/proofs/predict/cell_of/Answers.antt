@@ -1,4 +1,4 @@
-use Rattle.std.proofs.Common.{arith}
+use Rattle.daide_grammar.proofs.Common.{arith}
 use Rattle.daide_grammar.proofs.RulesFit.{cell_small}
 use Rattle.daide_grammar.proofs.predict.cell_of.Goals as goal
 

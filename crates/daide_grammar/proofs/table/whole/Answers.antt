@@ -1,4 +1,4 @@
-use Rattle.std.proofs.Common.{refl}
+use Rattle.daide_grammar.proofs.Common.{refl}
 use Rattle.daide_grammar.proofs.table.whole.Goals as goal
 
 pub returns-clause-rows : goal.returns-clause-rows

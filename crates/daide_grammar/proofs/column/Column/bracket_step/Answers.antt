@@ -1,5 +1,4 @@
-use Rattle.std.proofs.Common.{ap, ◌∙◌}
-use Rattle.daide_grammar.specs.Table.Numbers.{bracket_step}
+use Rattle.daide_grammar.proofs.Common.{ap, ◌∙◌, bracket_step}
 use Rattle.daide_grammar.proofs.BracketSteps.{step_told}
 use Rattle.daide_grammar.proofs.column.Column.bracket_step.Goals as goal
 

@@ -1,7 +1,4 @@
-use Rattle.std.proofs.Common.{◌<◌, sym, ap, subst, ◌∙◌}
-use Rattle.daide_grammar.specs.Classes.{class_number}
-use Rattle.daide_grammar.specs.Table.Numbers.{all_classes}
-use Rattle.daide_grammar.specs.Proofs.Numbers.{class_number_back}
+use Rattle.daide_grammar.proofs.Common.{◌<◌, sym, ap, subst, ◌∙◌, class_number, all_classes, class_number_back}
 use Rattle.daide_grammar.proofs.column.Column.class.Goals as goal
 
 pub returns-clause-class : goal.returns-clause-class

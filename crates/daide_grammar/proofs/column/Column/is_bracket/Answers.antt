@@ -1,5 +1,4 @@
-use Rattle.std.proofs.Common.{ap, ◌∙◌}
-use Rattle.daide_grammar.specs.Table.Numbers.{is_bracket}
+use Rattle.daide_grammar.proofs.Common.{ap, ◌∙◌, is_bracket}
 use Rattle.daide_grammar.proofs.WordColumns.{bracket_told}
 use Rattle.daide_grammar.proofs.column.Column.is_bracket.Goals as goal
 

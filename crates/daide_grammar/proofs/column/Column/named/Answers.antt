@@ -1,5 +1,4 @@
-use Rattle.std.proofs.Common.{ap, ◌∙◌}
-use Rattle.daide_grammar.specs.Table.Numbers.{class_at}
+use Rattle.daide_grammar.proofs.Common.{ap, ◌∙◌, class_at}
 use Rattle.daide_grammar.proofs.WordColumns.{class_told}
 use Rattle.daide_grammar.proofs.column.Column.named.Goals as goal
 

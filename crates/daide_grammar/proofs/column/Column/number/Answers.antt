@@ -1,6 +1,4 @@
-use Rattle.std.proofs.Common.{sym, ap, ◌∙◌}
-use Rattle.daide_grammar.specs.Classes.{class_number}
-use Rattle.daide_grammar.specs.Proofs.Numbers.{class_number_back}
+use Rattle.daide_grammar.proofs.Common.{sym, ap, ◌∙◌, class_number, class_number_back}
 use Rattle.daide_grammar.proofs.column.Column.number.Goals as goal
 
 pub returns-clause-number : goal.returns-clause-number

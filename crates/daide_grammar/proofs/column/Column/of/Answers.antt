@@ -1,4 +1,4 @@
-use Rattle.std.proofs.Common.{refl}
+use Rattle.daide_grammar.proofs.Common.{refl}
 use Rattle.daide_grammar.proofs.column.Column.of.Goals as goal
 
 pub returns : goal.returns

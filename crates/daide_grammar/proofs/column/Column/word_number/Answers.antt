@@ -1,5 +1,4 @@
-use Rattle.std.proofs.Common.{sym, ap, ◌∙◌, arith}
-use Rattle.daide_grammar.specs.Table.Numbers.{word_number}
+use Rattle.daide_grammar.proofs.Common.{sym, ap, ◌∙◌, arith, word_number}
 use Rattle.daide_grammar.proofs.WordColumns.{no_word, some_word}
 use Rattle.daide_grammar.proofs.column.Column.word_number.Goals as goal
 

@@ -1,4 +1,4 @@
-use Rattle.std.proofs.Common.{◌≡◌, take, length}
+use Rattle.daide_grammar.proofs.Common.{◌≡◌, take, length}
 use Rattle.daide_grammar.proofs.meaning.Rest.of.Given as goal
 
 -- the symbols so far are copied

@@ -1,7 +1,4 @@
-use Rattle.std.proofs.Common.{◌<◌, sym, subst}
-use Rattle.daide_token.specs.declared.class.Class.{Class}
-use Rattle.daide_grammar.specs.Classes.{class_number}
-use Rattle.daide_grammar.specs.Table.Numbers.{all_classes}
+use Rattle.daide_grammar.proofs.Common.{◌<◌, sym, subst, Class, class_number, all_classes}
 use Rattle.daide_grammar.proofs.WordColumns.{own_class}
 use Rattle.daide_grammar.proofs.plain.PlainPredict.class_of.Goals as goal
 

@@ -1,5 +1,4 @@
-use Rattle.std.proofs.Common.{ap, ◌∙◌}
-use Rattle.daide_grammar.specs.Table.Symbols.{table_answer}
+use Rattle.daide_grammar.proofs.Common.{ap, ◌∙◌, table_answer}
 use Rattle.daide_grammar.proofs.plain.PlainPredict.predict_word.Goals as goal
 
 pub returns-clause-answer : goal.returns-clause-answer

@@ -1,8 +1,6 @@
-use Rattle.std.proofs.Common.{◌≡◌, ◌≤◌, ◌<◌, ◌-◌, List, length, take, get_or, reverse, refl, sym, ap, ◌∙◌, arith}
-use Rattle.daide_grammar.specs.declared.symbol.Sym.{Sym}
+use Rattle.daide_grammar.proofs.Common.{◌≡◌, ◌≤◌, ◌<◌, ◌-◌, List, length, take, get_or, reverse, refl, sym, ap, ◌∙◌}
+use Rattle.daide_grammar.proofs.Common.{arith, Sym, symbol_number, action, rest_of}
 use Rattle.daide_grammar.specs.declared.symbol.Sym.TheVariants.{Closing}
-use Rattle.daide_grammar.specs.Table.Numbers.{symbol_number}
-use Rattle.daide_grammar.specs.Table.ParseActions.{action, rest_of}
 use Rattle.daide_grammar.proofs.Alike.{any_default}
 use Rattle.daide_grammar.proofs.PlainRules.{same_symbol, turned, one_more, all_same}
 use Rattle.daide_grammar.proofs.plain.rules.leaves.Goals as goal

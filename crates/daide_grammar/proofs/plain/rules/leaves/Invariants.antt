@@ -1,5 +1,4 @@
-use Rattle.std.proofs.Common.{◌≡◌, take}
-use Rattle.daide_grammar.specs.Table.ParseActions.{action, rest_of}
+use Rattle.daide_grammar.proofs.Common.{◌≡◌, take, action, rest_of}
 use Rattle.daide_grammar.proofs.plain.rules.leaves.Given as goal
 
 -- the symbols so far are those of the rule

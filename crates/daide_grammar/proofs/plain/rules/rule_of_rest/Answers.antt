@@ -1,6 +1,5 @@
-use Rattle.std.proofs.Common.{◌≡◌, Bool, false, true, sym, ap, ◌∙◌, arith}
-use Rattle.daide_grammar.specs.Table.Answers.{Take, symbols_of}
-use Rattle.daide_grammar.specs.Table.ParseActions.{action, rest_of}
+use Rattle.daide_grammar.proofs.Common.{◌≡◌, Bool, false, true, sym, ap, ◌∙◌, arith, Take, action, rest_of}
+use Rattle.daide_grammar.specs.Table.Answers.{symbols_of}
 use Rattle.daide_grammar.proofs.PlainRules.{takes_rest, from_two, none_yet}
 use Rattle.daide_grammar.proofs.plain.rules.rule_of_rest.Goals as goal
 

@@ -1,5 +1,4 @@
-use Rattle.std.proofs.Common.{◌≡◌, ◌<◌, ◌≤◌, ℕ}
-use Rattle.daide_grammar.specs.Table.ParseActions.{action, rest_of}
+use Rattle.daide_grammar.proofs.Common.{◌≡◌, ◌<◌, ◌≤◌, ℕ, action, rest_of}
 use Rattle.daide_grammar.proofs.plain.rules.rule_of_rest.Given as goal
 
 -- no rule so far leaves the symbols

@@ -1,6 +1,5 @@
-use Rattle.std.proofs.Common.{◌≡◌, [], ◌∷◌, take, reverse, length, refl, sym, ap, ◌∙◌, arith}
-use Rattle.daide_grammar.specs.Table.Answers.{TableEntry}
-use Rattle.daide_grammar.specs.Table.ParseActions.{rest_of}
+use Rattle.daide_grammar.proofs.Common.{◌≡◌, [], ◌∷◌, take, reverse, length, refl, sym, ap, ◌∙◌, arith, TableEntry}
+use Rattle.daide_grammar.proofs.Common.{rest_of}
 use Rattle.daide_grammar.proofs.RulesFit.{eight, cells_hold}
 use Rattle.daide_grammar.proofs.predict.Move.cells.Goals as goal
 

@@ -1,9 +1,5 @@
-use Rattle.std.proofs.Common.{◌≡◌, ◌<◌, [], ◌∷◌, true, false, nat_le, drop, subst, arith}
-use Rattle.std.proofs.lemmas.Bool.Decides.{nat_tests}
-use Rattle.daide_grammar.specs.Table.Answers.{TableEntry}
-use Rattle.daide_grammar.specs.Table.Cells.{first_at}
-use Rattle.daide_grammar.specs.Table.Numbers.{symbol_at}
-use Rattle.daide_grammar.specs.Table.ParseActions.{rest_of}
+use Rattle.daide_grammar.proofs.Common.{◌≡◌, ◌<◌, [], ◌∷◌, true, false, nat_le, drop, subst, arith, nat_tests}
+use Rattle.daide_grammar.proofs.Common.{TableEntry, first_at, symbol_at, rest_of}
 use Rattle.daide_grammar.proofs.RulesFit.{first_fits, first_small, no_rest}
 use Rattle.daide_grammar.proofs.predict.Move.first.Goals as goal
 

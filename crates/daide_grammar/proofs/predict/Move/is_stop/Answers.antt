@@ -1,5 +1,4 @@
-use Rattle.std.proofs.Common.{ap, ◌∙◌}
-use Rattle.daide_grammar.specs.Table.ParseActions.{is_stop}
+use Rattle.daide_grammar.proofs.Common.{ap, ◌∙◌, is_stop}
 use Rattle.daide_grammar.proofs.RulesFit.{stop_told}
 use Rattle.daide_grammar.proofs.predict.Move.is_stop.Goals as goal
 

@@ -1,5 +1,4 @@
-use Rattle.std.proofs.Common.{ap, ◌∙◌}
-use Rattle.daide_grammar.specs.Table.ParseActions.{is_take}
+use Rattle.daide_grammar.proofs.Common.{ap, ◌∙◌, is_take}
 use Rattle.daide_grammar.proofs.RulesFit.{take_told}
 use Rattle.daide_grammar.proofs.predict.Move.is_take.Goals as goal
 

@@ -1,6 +1,4 @@
-use Rattle.std.proofs.Common.{length, ap, ◌∙◌, arith}
-use Rattle.daide_grammar.specs.Table.ParseActions.{rest_of}
-use Rattle.daide_grammar.specs.Table.Answers.{TableEntry}
+use Rattle.daide_grammar.proofs.Common.{length, ap, ◌∙◌, arith, rest_of, TableEntry}
 use Rattle.daide_grammar.proofs.RulesFit.{length_fits, length_small}
 use Rattle.daide_grammar.proofs.predict.Move.len.Goals as goal
 

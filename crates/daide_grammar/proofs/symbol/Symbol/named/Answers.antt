@@ -1,5 +1,4 @@
-use Rattle.std.proofs.Common.{ap, ◌∙◌}
-use Rattle.daide_grammar.specs.Table.Numbers.{symbol_at}
+use Rattle.daide_grammar.proofs.Common.{ap, ◌∙◌, symbol_at}
 use Rattle.daide_grammar.proofs.NumberLemmas.{symbol_back}
 use Rattle.daide_grammar.proofs.symbol.Symbol.named.Goals as goal
 

@@ -1,4 +1,4 @@
-use Rattle.std.proofs.Common.{◌∙◌}
+use Rattle.daide_grammar.proofs.Common.{◌∙◌}
 use Rattle.daide_grammar.proofs.symbol.Symbol.sym.Goals as goal
 
 pub returns : goal.returns

@@ -1,6 +1,4 @@
-use Rattle.std.proofs.Common.{sym, ap, ◌∙◌}
-use Rattle.daide_grammar.specs.Table.Numbers.{symbol_number}
-use Rattle.daide_grammar.specs.Proofs.Numbers.{number_back}
+use Rattle.daide_grammar.proofs.Common.{sym, ap, ◌∙◌, symbol_number, number_back}
 use Rattle.daide_grammar.proofs.top_symbol.TopSymbol.number.Goals as goal
 
 pub returns-clause-number : goal.returns-clause-number
