@@ -1,17 +1,11 @@
 -- One symbol of a stack in cells, and a rest pushed on it.
-use Rattle.std.proofs.Common.{◌≡◌, ◌≢◌, ℕ, zero, suc, ◌+◌, ◌-◌, ◌%◌, ◌^◌, ◌<◌, ◌≤◌, Bool, true, false, Option, Some, None}
-use Rattle.std.proofs.Common.{IfSome}
-use Rattle.std.proofs.Common.{List, [], ◌∷◌, ◌++◌, length, get_or, take, reverse, refl, sym, ap, ◌∙◌, subst, arith}
-use Rattle.std.proofs.lemmas.List.{take-take, reverse-append, reverse-reverse, length-append, length-reverse}
-use Rattle.std.proofs.lemmas.List.{length-take-le}
-use Rattle.std.specs.List.{list_all}
+use Rattle.std.proofs.lemmas.List.{take-take, length-reverse}
 use Rattle.std.proofs.Math.Seq.{take-suc}
-use Rattle.daide_token.specs.declared.class.Class.{Class}
-use Rattle.daide_grammar.specs.declared.symbol.Sym.{Sym}
-use Rattle.daide_grammar.specs.Table.Answers.{TableEntry, Take, Skip, Stop}
-use Rattle.daide_grammar.specs.Table.ParseActions.{is_take, is_stop, rest_of}
-use Rattle.daide_grammar.specs.Table.Stacks.{stack_after, ends_asked}
-use Rattle.daide_reader.specs.Stack.{steps_at}
+use Rattle.daide_reader.proofs.Common.{◌≡◌, ◌≢◌, ℕ, zero, suc, ◌+◌, ◌-◌, ◌%◌, ◌^◌, ◌<◌, ◌≤◌, Bool, true, false, Option}
+use Rattle.daide_reader.proofs.Common.{Some, None, IfSome, List, [], ◌∷◌, ◌++◌, length, get_or, take, reverse, refl}
+use Rattle.daide_reader.proofs.Common.{sym, ap, ◌∙◌, subst, arith, reverse-append, reverse-reverse, length-append}
+use Rattle.daide_reader.proofs.Common.{length-take-le, list_all, Class, Sym, TableEntry, Take, Skip, Stop, is_take}
+use Rattle.daide_reader.proofs.Common.{is_stop, rest_of, stack_after, ends_asked, steps_at}
 
 -- a prefix that extends into the second of two lists
 take-past : {X : Type 0} (n top : ℕ) (old rest : List X) → top ≤ length old →

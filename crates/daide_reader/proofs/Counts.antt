@@ -1,9 +1,10 @@
 -- The arithmetic of reading, without the tokens. Each fact is shown here once, with few hypotheses in scope.
-use Rattle.std.proofs.Common.{◌≡◌, ◌≢◌, ℕ, ◌+◌, ◌-◌, ◌*◌, ◌/◌, ◌%◌, ◌^◌, ◌≤◌, ◌<◌, min, List, ◌∷◌, length, take, reverse}
-use Rattle.std.proofs.Common.{◌∙◌, ap, arith, Fits, w64, Option, Some, None, IsSome}
-use Rattle.std.proofs.lemmas.List.{length-reverse, length-take, length-take-le}
-use Rattle.daide_grammar.specs.declared.symbol.Sym.{Sym}
-use Rattle.daide_reader.specs.Bounds.{below_zero, longest_message, most_symbols, most_tokens}
+use Rattle.std.proofs.Common.{min, Fits, w64}
+use Rattle.std.proofs.lemmas.List.{length-reverse, length-take}
+use Rattle.daide_reader.proofs.Common.{◌≡◌, ◌≢◌, ℕ, ◌+◌, ◌-◌, ◌*◌, ◌/◌, ◌%◌, ◌^◌, ◌≤◌, ◌<◌, List, ◌∷◌, length, take}
+use Rattle.daide_reader.proofs.Common.{reverse, ◌∙◌, ap, arith, Option, Some, None, IsSome, length-take-le, Sym}
+use Rattle.daide_reader.proofs.Common.{below_zero, most_tokens}
+use Rattle.daide_reader.specs.Bounds.{longest_message, most_symbols}
 
 -- a token of a body
 module _ (size next : ℕ) (less : next < size / 2) where

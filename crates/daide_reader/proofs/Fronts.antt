@@ -1,11 +1,9 @@
 -- The prefixes of tokens without an error place.
-use Rattle.std.proofs.Common.{◌≡◌, ℕ, zero, suc, ◌+◌, ◌<◌, List, [], ◌∷◌, length, take, Option, None, Some}
-use Rattle.std.proofs.Common.{MatchOption, refl, subst, arith, inl}
-use Rattle.daide_token.specs.Token.{prn, bra, ket}
-use Rattle.daide_grammar.specs.declared.symbol.Sym.{Sym}
-use Rattle.daide_reader.specs.ViablePrefix.{IsMessageOf}
+use Rattle.std.proofs.Common.{MatchOption}
+use Rattle.daide_reader.proofs.Common.{◌≡◌, ℕ, zero, suc, ◌+◌, ◌<◌, List, [], ◌∷◌, length, take, Option, None, Some}
+use Rattle.daide_reader.proofs.Common.{refl, subst, arith, inl, prn, bra, ket, Sym, IsMessageOf, HasErrorIndex}
+use Rattle.daide_reader.proofs.Common.{StackOrPlace}
 use Rattle.daide_reader.specs.ErrorPlace.{IsAllowedPrefix, AreAllowed}
-use Rattle.daide_reader.specs.Reading.{HasErrorIndex, StackOrPlace}
 
 -- a report of unpaired brackets is a message of every language
 pub nothing_allowed : (language : List ℕ → Type 0) (max_depth : ℕ) → IsAllowedPrefix (IsMessageOf language) max_depth []

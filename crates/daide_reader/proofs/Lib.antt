@@ -1,3 +1,4 @@
+mod Common
 pub mod BodyLemmas
 pub mod OutlineLemmas
 pub mod StackLemmas

@@ -1,25 +1,14 @@
 -- A reader after one more token.
-use Rattle.std.proofs.Common.{◌≡◌, ◌≢◌, ℕ, zero, suc, ◌+◌, ◌-◌, ◌*◌, ◌%◌, ◌^◌, ◌≤◌, ◌<◌, Bool, true, false, ◌||◌}
-use Rattle.std.proofs.Common.{List, [], ◌∷◌, ◌++◌, length, reverse, Option, None, Some, IfSome, is_some}
-use Rattle.std.proofs.Common.{refl, sym, ◌∙◌, ap, subst, arith, if◌then◌else◌, ◌⊎◌, inl, inr}
-use Rattle.std.proofs.lemmas.List.{length-append}
-use Rattle.daide_token.specs.declared.class.Class.{Class}
-use Rattle.daide_grammar.specs.declared.symbol.Sym.{Sym}
-use Rattle.daide_grammar.specs.declared.predict.Predict.{Ghosts}
-use Rattle.daide_grammar.specs.Words.{Words}
-use Rattle.daide_grammar.specs.Table.Stacks.{stack_after, ends_asked}
-use Rattle.daide_grammar.specs.Table.Laws.{IsCorrectPrediction}
-use Rattle.daide_grammar.specs.Paired.{begins_with_prn}
+use Rattle.daide_reader.proofs.Common.{◌≡◌, ◌≢◌, ℕ, zero, suc, ◌+◌, ◌-◌, ◌*◌, ◌%◌, ◌^◌, ◌≤◌, ◌<◌, Bool, true, false}
+use Rattle.daide_reader.proofs.Common.{◌||◌, List, [], ◌∷◌, ◌++◌, length, reverse, Option, None, Some, IfSome, is_some}
+use Rattle.daide_reader.proofs.Common.{refl, sym, ◌∙◌, ap, subst, arith, if◌then◌else◌, ◌⊎◌, inl, inr, length-append}
+use Rattle.daide_reader.proofs.Common.{Class, Sym, Ghosts, Words, stack_after, ends_asked, IsCorrectPrediction}
+use Rattle.daide_reader.proofs.Common.{begins_with_prn, unwrap_or, is_bra, is_ket, excess_or_none, count_one, Outline}
+use Rattle.daide_reader.proofs.Common.{steps_at, IsOutlineOf, with_token, Reading, HasReadPrefix, StackOrPlace}
+use Rattle.daide_reader.proofs.Common.{HasErrorIndex, IsSteady, steps_since, brackets_open, excess_or_none-snoc}
 use Rattle.daide_grammar.specs.Depth.{excess, has_unmatched_ket, open_brackets}
-use Rattle.std.specs.Option.{unwrap_or}
-use Rattle.daide_grammar.specs.Table.Brackets.{is_bra, is_ket, excess_or_none, count_one}
-use Rattle.daide_reader.specs.declared.outline.Outline.{Outline}
-use Rattle.daide_reader.specs.Stack.{steps_at}
-use Rattle.daide_reader.specs.Outline.{IsOutlineOf, with_token}
-use Rattle.daide_reader.specs.Reading.{Reading, IsRaised, HasReadPrefix, StackOrPlace, HasErrorIndex, IsSteady, IsSettled}
-use Rattle.daide_reader.specs.Reading.{steps_since, brackets_open}
+use Rattle.daide_reader.specs.Reading.{IsRaised, IsSettled}
 use Rattle.daide_reader.proofs.StackLemmas.{lawful_more, three_steps}
-use Rattle.daide_grammar.proofs.Counting.{excess_or_none-snoc}
 use Rattle.daide_reader.proofs.OutlineLemmas.{outline-snoc}
 use Rattle.daide_reader.proofs.ErrorPlaceLemmas.{expects_start, expects_taken, wrong_here}
 

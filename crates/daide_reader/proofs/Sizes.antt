@@ -1,5 +1,5 @@
 -- The size of a stack of symbols.
-use Rattle.std.proofs.Common.{ℕ, ◌+◌, ◌*◌, ◌^◌, ◌<◌, ◌≤◌, arith}
+use Rattle.daide_reader.proofs.Common.{ℕ, ◌+◌, ◌*◌, ◌^◌, ◌<◌, ◌≤◌, arith}
 use prog.Memory.{up}
 
 -- n cells of one byte, and their count

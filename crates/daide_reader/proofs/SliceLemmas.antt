@@ -1,32 +1,18 @@
 -- A reader in locals, after one more token of a body.
-use Rattle.std.proofs.Common.{◌≡◌, ◌≢◌, ℕ, zero, suc, ◌+◌, ◌-◌, ◌*◌, ◌%◌, ◌^◌, ◌≤◌, ◌<◌, Bool, true, false, List, []}
-use Rattle.std.proofs.Common.{◌∷◌, ◌++◌, length, take, Option, None, Some, IfSome, IfNone, IsSome, drop}
-use Rattle.std.proofs.Common.{reverse, refl, sym, ◌∙◌}
-use Rattle.std.proofs.Common.{ap, subst, arith, ◌⊎◌, inl, inr, not, append_assoc, append-nil, add-zero}
-use Rattle.std.proofs.lemmas.List.{length-append, length-drop, take_all}
-use Rattle.std.proofs.Math.Seq.{drop-length, take-length}
-use Rattle.daide_token.specs.Token.{token_bytes, tokens_of}
+use Rattle.std.proofs.Common.{not, add-zero}
+use Rattle.daide_reader.proofs.Common.{◌≡◌, ◌≢◌, ℕ, zero, suc, ◌+◌, ◌-◌, ◌*◌, ◌%◌, ◌^◌, ◌≤◌, ◌<◌, Bool, true, false}
+use Rattle.daide_reader.proofs.Common.{List, [], ◌∷◌, ◌++◌, length, take, Option, None, Some, IfSome, IfNone, IsSome}
+use Rattle.daide_reader.proofs.Common.{drop, reverse, refl, sym, ◌∙◌, ap, subst, arith, ◌⊎◌, inl, inr, append_assoc}
+use Rattle.daide_reader.proofs.Common.{append-nil, nat_eq, if◌then◌else◌, length-append, length-drop, take_all}
+use Rattle.daide_reader.proofs.Common.{drop-length, take-length, tokens_of, Class, TableEntry, Sym, Ghosts, Words}
+use Rattle.daide_reader.proofs.Common.{stack_after, IsCorrectPrediction, begins_with_prn, is_bra, is_ket}
+use Rattle.daide_reader.proofs.Common.{excess_or_none, count_one, Outline, below_zero, IsOutlineOf, with_token}
+use Rattle.daide_reader.proofs.Common.{outline_of, count_all, Reading, HasReadPrefix, StackOrPlace, IsSteady, reading}
+use Rattle.daide_reader.proofs.Common.{tokens_read, unwrap_or, open_count, place_behind, excess_or_none-snoc}
+use Rattle.daide_token.specs.Token.{token_bytes}
 use Rattle.daide_token.proofs.TokenPlaces.{tokens_of-front}
-use Rattle.daide_token.specs.declared.class.Class.{Class}
-use Rattle.daide_grammar.specs.Table.Answers.{TableEntry}
-use Rattle.daide_grammar.specs.declared.symbol.Sym.{Sym}
-use Rattle.daide_grammar.specs.declared.predict.Predict.{Ghosts}
-use Rattle.daide_grammar.specs.Words.{Words}
-use Rattle.daide_grammar.specs.Table.Stacks.{stack_after}
-use Rattle.daide_grammar.specs.Table.Laws.{IsCorrectPrediction}
-use Rattle.daide_grammar.specs.Paired.{begins_with_prn}
-use Rattle.daide_grammar.specs.Table.Brackets.{is_bra, is_ket, excess_or_none, count_one}
-use Rattle.daide_reader.specs.declared.outline.Outline.{Outline}
-use Rattle.daide_reader.specs.Bounds.{below_zero}
-use Rattle.daide_reader.specs.Outline.{IsOutlineOf, with_token, outline_of, count_all}
-use Rattle.daide_reader.specs.Reading.{Reading, HasReadPrefix, StackOrPlace, IsSteady, reading, tokens_read}
-use Rattle.std.specs.Prelude.{nat_eq, if◌then◌else◌}
-use Rattle.std.specs.Option.{unwrap_or}
-use Rattle.daide_reader.specs.Stack.{open_count}
-use Rattle.daide_reader.specs.Slice.{place_behind}
 use Rattle.daide_reader.proofs.OutlineLemmas.{outline-snoc, same_outline, outline_of-is}
 use Rattle.daide_reader.proofs.ErrorPlaceLemmas.{place_kept}
-use Rattle.daide_grammar.proofs.Counting.{excess_or_none-snoc}
 use Rattle.daide_reader.proofs.ReadingLemmas.{counted_now, counts_more, stands_report, stands_taken, stands_refused}
 
 -- a prefix of a list that does not begin with PRN does not begin with it either

@@ -1,33 +1,17 @@
 -- Each list of tokens has a verdict, found with any table that satisfies the laws of prediction. The verdict is
 -- computed, so that examples can use it.
-use Rattle.std.proofs.Common.{◌≡◌, ◌≢◌, ℕ, zero, suc, ◌+◌, ◌-◌, ◌≤◌, ◌==◌, ◌&&◌, Bool, true, false, List, [], ◌∷◌, ◌++◌}
-use Rattle.std.proofs.Common.{length, reverse, drop, Option, None, Some, refl, sym, ap, subst, ◌∙◌, arith}
-use Rattle.std.proofs.Common.{append_assoc, append-nil}
-use Rattle.std.proofs.Common.{if◌then◌else◌, ◌⊎◌, inl, inr}
-use Rattle.std.proofs.lemmas.Bool.{eqb-true, eq-eqb}
-use Rattle.std.proofs.lemmas.List.{length-append}
-use Rattle.std.specs.List.{list_all}
-use Rattle.daide_token.specs.declared.class.Class.{Class}
+use Rattle.std.proofs.lemmas.Bool.{eq-eqb}
+use Rattle.daide_reader.proofs.Common.{◌≡◌, ◌≢◌, ℕ, zero, suc, ◌+◌, ◌-◌, ◌≤◌, ◌==◌, ◌&&◌, Bool, true, false, List, []}
+use Rattle.daide_reader.proofs.Common.{◌∷◌, ◌++◌, length, reverse, drop, Option, None, Some, refl, sym, ap, subst, ◌∙◌}
+use Rattle.daide_reader.proofs.Common.{arith, append_assoc, append-nil, if◌then◌else◌, ◌⊎◌, inl, inr, eqb-true}
+use Rattle.daide_reader.proofs.Common.{length-append, list_all, Class, Level, Side2, Sym, TableEntry, is_bra, is_ket}
+use Rattle.daide_reader.proofs.Common.{excess_or_none, count_one, IsCorrectPrediction, begins_with_prn, stack_after}
+use Rattle.daide_reader.proofs.Common.{excess_or_none-snoc, Outline, Verdict, Relay, Prn, Huh, IsOutlineOf, first_is}
+use Rattle.daide_reader.proofs.Common.{has_outer_brackets, Expects, HasErrorIndex, HasVerdict, IsMessageOf}
 use Rattle.daide_token.specs.Class.{class_of as token_class}
-use Rattle.daide_grammar.specs.declared.level.Level.{Level}
-use Rattle.daide_grammar.specs.declared.side.Side2.{Side2}
-use Rattle.daide_grammar.specs.declared.symbol.Sym.{Sym}
-use Rattle.daide_grammar.specs.Table.Answers.{TableEntry}
-use Rattle.daide_grammar.specs.Table.Brackets.{is_bra, is_ket, excess_or_none, count_one}
-use Rattle.daide_grammar.specs.Table.Laws.{IsCorrectPrediction}
 use Rattle.daide_grammar.specs.SideMessages.{IsMessage}
-use Rattle.daide_grammar.specs.Paired.{begins_with_prn}
 use Rattle.daide_grammar.specs.Proofs.PlainLaws.{plain_laws, plain_begins}
-use Rattle.daide_grammar.specs.Table.Stacks.{stack_after}
 use Rattle.daide_grammar.specs.Table.Symbols.{start_symbol_of, table_answer, may_end_of}
-use Rattle.daide_grammar.proofs.Counting.{excess_or_none-snoc}
-use Rattle.daide_reader.specs.declared.outline.Outline.{Outline}
-use Rattle.daide_reader.specs.declared.verdict.Verdict.{Verdict}
-use Rattle.daide_reader.specs.declared.verdict.Verdict.TheVariants.{Relay, Prn, Huh}
-use Rattle.daide_reader.specs.Outline.{IsOutlineOf, first_is, has_outer_brackets}
-use Rattle.daide_reader.specs.Reading.{Expects, HasErrorIndex}
-use Rattle.daide_reader.specs.Verdict.{HasVerdict}
-use Rattle.daide_reader.specs.ViablePrefix.{IsMessageOf}
 use Rattle.daide_reader.proofs.ErrorPlaceLemmas.{expects_start, expects_taken, wrong_here, place_kept}
 use Rattle.daide_reader.proofs.PlainVerdicts.{plain_verdicts}
 use Rattle.daide_reader.proofs.StackLemmas.{lawful_more}

@@ -1,27 +1,14 @@
 -- A reader in locals, inside a token of a body.
-use Rattle.std.proofs.Common.{◌≡◌, ◌≢◌, ℕ, zero, suc, ◌+◌, ◌-◌, ◌*◌, ◌%◌, ◌^◌, ◌≤◌, ◌<◌, Bool, true, false, ◌⊎◌, inr}
-use Rattle.std.proofs.Common.{List, [], ◌∷◌, ◌++◌, length, take, drop, reverse, Option, Some, None, IfSome, nat_eq}
-use Rattle.std.proofs.Common.{if◌then◌else◌, refl, sym, ap, ◌∙◌, subst, arith, append_assoc}
-use Rattle.std.proofs.lemmas.Bool.Decides.{nat_tests}
-use Rattle.std.specs.Option.{unwrap_or}
+use Rattle.daide_reader.proofs.Common.{◌≡◌, ◌≢◌, ℕ, zero, suc, ◌+◌, ◌-◌, ◌*◌, ◌%◌, ◌^◌, ◌≤◌, ◌<◌, Bool, true, false}
+use Rattle.daide_reader.proofs.Common.{◌⊎◌, inr, List, [], ◌∷◌, ◌++◌, length, take, drop, reverse, Option, Some, None}
+use Rattle.daide_reader.proofs.Common.{IfSome, nat_eq, if◌then◌else◌, refl, sym, ap, ◌∙◌, subst, arith, append_assoc}
+use Rattle.daide_reader.proofs.Common.{nat_tests, unwrap_or, tokens_of, Class, TableEntry, Take, Skip, Stop, is_bra}
+use Rattle.daide_reader.proofs.Common.{is_ket, count_one, IsCorrectPrediction, begins_with_prn, is_take, is_stop}
+use Rattle.daide_reader.proofs.Common.{rest_of, stack_after, Words, Ghosts, Sym, outline_of, HasReadPrefix, reading}
+use Rattle.daide_reader.proofs.Common.{ReadsTo, SliceState, place_behind, below_zero, open_count, steps_at}
 use Rattle.daide_token.specs.Class.{class_of}
-use Rattle.daide_token.specs.Token.{tokens_of}
-use Rattle.daide_token.specs.declared.class.Class.{Class}
-use Rattle.daide_grammar.specs.Table.Answers.{TableEntry, Take, Skip, Stop}
-use Rattle.daide_grammar.specs.Table.Brackets.{is_bra, is_ket, count_one}
-use Rattle.daide_grammar.specs.Table.Laws.{IsCorrectPrediction}
 use Rattle.daide_grammar.specs.Table.Numbers.{bracket_step}
-use Rattle.daide_grammar.specs.Paired.{begins_with_prn}
-use Rattle.daide_grammar.specs.Table.ParseActions.{is_take, is_stop, rest_of}
-use Rattle.daide_grammar.specs.Table.Stacks.{stack_after}
-use Rattle.daide_grammar.specs.Words.{Words}
-use Rattle.daide_grammar.specs.declared.predict.Predict.{Ghosts}
-use Rattle.daide_grammar.specs.declared.symbol.Sym.{Sym}
-use Rattle.daide_reader.specs.Outline.{outline_of}
-use Rattle.daide_reader.specs.Reading.{IsRaised, HasReadPrefix, reading}
-use Rattle.daide_reader.specs.Slice.{ReadsTo, SliceState, place_behind}
-use Rattle.daide_reader.specs.Bounds.{below_zero}
-use Rattle.daide_reader.specs.Stack.{open_count, steps_at}
+use Rattle.daide_reader.specs.Reading.{IsRaised}
 use Rattle.daide_grammar.proofs.BracketSteps.{step_by_class}
 use Rattle.daide_reader.proofs.Counts.{none_more}
 use Rattle.daide_reader.proofs.CellLemmas.{after_skipped, after_taken, steps_skipped, steps_taken}

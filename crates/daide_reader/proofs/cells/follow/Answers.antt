@@ -1,10 +1,5 @@
-use Rattle.std.proofs.Common.{◌≡◌, ◌≤◌, ℕ, ◌+◌, ◌-◌, ◌∷◌, List, Some, get_or, take, reverse}
-use Rattle.std.proofs.Common.{sym, ap, ◌∙◌, subst, rules, arith}
-use Rattle.daide_grammar.specs.declared.symbol.Sym.{Sym}
-use Rattle.daide_grammar.specs.Words.{Words}
-use Rattle.daide_grammar.specs.Table.ParseActions.{rest_of}
-use Rattle.daide_grammar.specs.Table.Stacks.{stack_after}
-use Rattle.daide_reader.specs.Stack.{steps_at}
+use Rattle.daide_reader.proofs.Common.{◌≡◌, ◌≤◌, ℕ, ◌+◌, ◌-◌, ◌∷◌, List, Some, get_or, take, reverse, sym, ap, ◌∙◌}
+use Rattle.daide_reader.proofs.Common.{subst, rules, arith, Sym, Words, rest_of, stack_after, steps_at}
 use Rattle.daide_reader.proofs.Counts.{below_within}
 use Rattle.daide_reader.proofs.CellLemmas.{on_top, put_on_top, room_after, asked_all, asked_one, asked_more}
 use Rattle.daide_reader.proofs.CellLemmas.{after_taken, after_stopped, after_skipped}

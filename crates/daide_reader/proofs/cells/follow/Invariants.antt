@@ -1,6 +1,4 @@
-use Rattle.std.proofs.Common.{◌≡◌, ◌≤◌, ◌+◌, ◌%◌, ◌^◌, take, reverse, length}
-use Rattle.daide_grammar.specs.Table.Stacks.{stack_after}
-use Rattle.daide_reader.specs.Stack.{steps_at}
+use Rattle.daide_reader.proofs.Common.{◌≡◌, ◌≤◌, ◌+◌, ◌%◌, ◌^◌, take, reverse, length, stack_after, steps_at}
 use Rattle.daide_reader.proofs.cells.follow.Given as goal
 
 abbrev pub invariant-loop-left : goal.invariant-loop-left

@@ -1,15 +1,8 @@
-use Rattle.std.proofs.Common.{◌≡◌, ◌≤◌, ◌<◌, ◌+◌, ◌∷◌, ℕ, IfSome, IfNone, List, Some, None, Option}
-use Rattle.std.proofs.Common.{length, get_or, take, reverse}
-use Rattle.std.proofs.Common.{sym, ap, ◌∙◌, subst, rules, arith}
-use Rattle.daide_token.specs.declared.class.Class.{Class}
-use Rattle.daide_grammar.specs.declared.symbol.Sym.{Sym}
-use Rattle.daide_grammar.specs.Words.{Words}
-use Rattle.daide_grammar.specs.Table.ParseActions.{rest_of}
-use Rattle.daide_grammar.specs.Table.Stacks.{stack_after}
-use Rattle.daide_reader.specs.Stack.{steps_at}
+use Rattle.daide_reader.proofs.Common.{◌≡◌, ◌≤◌, ◌<◌, ◌+◌, ◌∷◌, ℕ, IfSome, IfNone, List, Some, None, Option, length}
+use Rattle.daide_reader.proofs.Common.{get_or, take, reverse, sym, ap, ◌∙◌, subst, rules, arith, Class, Sym, Words}
+use Rattle.daide_reader.proofs.Common.{rest_of, stack_after, steps_at}
 use Rattle.daide_reader.proofs.Counts.{less_within, word_asked, word_stopped}
-use Rattle.daide_reader.proofs.CellLemmas.{on_place, put_on_top, room_after}
-use Rattle.daide_reader.proofs.CellLemmas.{after_taken, after_stopped, after_skipped}
+use Rattle.daide_reader.proofs.CellLemmas.{on_place, put_on_top, room_after, after_taken, after_stopped, after_skipped}
 use Rattle.daide_reader.proofs.CellLemmas.{steps_taken, steps_stopped, steps_skipped}
 use Rattle.daide_reader.proofs.cells.follow_word.Goals as goal
 

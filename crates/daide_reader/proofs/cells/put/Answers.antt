@@ -1,5 +1,4 @@
-use Rattle.std.proofs.Common.{rules, arith}
-use Rattle.daide_grammar.specs.Table.ParseActions.{rest_of}
+use Rattle.daide_reader.proofs.Common.{rules, arith, rest_of}
 use Rattle.daide_reader.proofs.CellLemmas.{few_in_cells, rest_on_top, written_cells}
 use Rattle.daide_reader.proofs.cells.put.Goals as goal
 

@@ -1,4 +1,4 @@
-use Rattle.std.proofs.Common.{◌≡◌, ◌≤◌, ◌+◌, ◌-◌, ◌++◌, take, length}
+use Rattle.daide_reader.proofs.Common.{◌≡◌, ◌≤◌, ◌+◌, ◌-◌, ◌++◌, take, length}
 use Rattle.daide_reader.proofs.cells.put_rest.Given as goal
 
 abbrev pub invariant-loop-done : goal.invariant-loop-done

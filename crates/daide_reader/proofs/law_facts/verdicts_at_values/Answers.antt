@@ -1,8 +1,7 @@
-use Rattle.std.proofs.Common.{◌≡◌, [], ◌∷◌}
+use Rattle.daide_reader.proofs.Common.{◌≡◌, [], ◌∷◌, Huh, Prn, Relay}
 use Rattle.daide_grammar.specs.declared.level.Level.TheVariants.{L0, L60}
 use Rattle.daide_grammar.specs.declared.side.Side2.TheVariants.{Client, ServerEnd}
 use Rattle.daide_grammar.specs.Table.Symbols.{start_symbol_of}
-use Rattle.daide_reader.specs.declared.verdict.Verdict.TheVariants.{Huh, Prn, Relay}
 use Rattle.daide_reader.proofs.law_facts.verdicts_at_values.Goals as goal
 
 other_places : Huh 1 ≡ Huh 0 → ⊥

@@ -1,6 +1,4 @@
-use Rattle.std.proofs.Common.{◌≡◌, ℕ, ◌+◌, ◌-◌, ◌/◌, length, take, sym, ap, ◌∙◌, arith}
-use Rattle.std.proofs.Math.Seq.{take-length}
-use Rattle.daide_token.specs.Token.{tokens_of}
+use Rattle.daide_reader.proofs.Common.{◌≡◌, ℕ, ◌+◌, ◌-◌, ◌/◌, length, take, sym, ap, ◌∙◌, arith, take-length, tokens_of}
 use Rattle.daide_reader.proofs.BodyLemmas.{tokens_of-length}
 use Rattle.daide_reader.proofs.OutlineLemmas.{last_at}
 use Rattle.daide_reader.proofs.outline.last_is_ket.Goals as goal

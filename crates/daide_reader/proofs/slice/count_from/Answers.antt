@@ -1,7 +1,5 @@
-use Rattle.std.proofs.Common.{◌≡◌, ℕ, ◌+◌, List, Option, None, Some, length, drop, sym, ap, ◌∙◌, arith}
-use Rattle.daide_token.specs.Token.{tokens_of}
-use Rattle.daide_grammar.specs.Table.Brackets.{is_bra, is_ket, count_one}
-use Rattle.daide_reader.specs.Outline.{count_all}
+use Rattle.daide_reader.proofs.Common.{◌≡◌, ℕ, ◌+◌, List, Option, None, Some, length, drop, sym, ap, ◌∙◌, arith}
+use Rattle.daide_reader.proofs.Common.{tokens_of, is_bra, is_ket, count_one, count_all}
 use Rattle.daide_reader.proofs.BodyLemmas.{tokens_of-length}
 use Rattle.daide_reader.proofs.SliceLemmas.{count_all-none, count_all-end, closed_early}
 use Rattle.daide_reader.proofs.slice.count_from.Goals as goal

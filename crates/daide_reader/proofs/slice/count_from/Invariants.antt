@@ -1,6 +1,4 @@
-use Rattle.std.proofs.Common.{◌≡◌, ◌≤◌, ◌+◌, Some, drop}
-use Rattle.daide_token.specs.Token.{tokens_of}
-use Rattle.daide_reader.specs.Outline.{count_all}
+use Rattle.daide_reader.proofs.Common.{◌≡◌, ◌≤◌, ◌+◌, Some, drop, tokens_of, count_all}
 use Rattle.daide_reader.proofs.slice.count_from.Given as goal
 
 -- the count so far, continued over the rest, is the whole count

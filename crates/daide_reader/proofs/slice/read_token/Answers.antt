@@ -1,10 +1,6 @@
-use Rattle.std.proofs.Common.{◌≡◌, ◌||◌, ◌≤◌, ℕ, IfSome, length, take, reverse}
-use Rattle.std.proofs.Common.{◌%◌, ◌^◌, ◌+◌, inl, refl, sym, subst, rules, arith}
-use Rattle.daide_grammar.specs.Table.Brackets.{is_bra, is_ket}
+use Rattle.daide_reader.proofs.Common.{◌≡◌, ◌||◌, ◌≤◌, ℕ, IfSome, length, take, reverse, ◌%◌, ◌^◌, ◌+◌, inl, refl, sym}
+use Rattle.daide_reader.proofs.Common.{subst, rules, arith, is_bra, is_ket, Class, stack_after, steps_at}
 use Rattle.daide_grammar.specs.Table.Numbers.{is_bracket}
-use Rattle.daide_token.specs.declared.class.Class.{Class}
-use Rattle.daide_grammar.specs.Table.Stacks.{stack_after}
-use Rattle.daide_reader.specs.Stack.{steps_at}
 use Rattle.daide_reader.proofs.Counts.{none_due}
 use Rattle.daide_reader.proofs.StackLemmas.{bracket_told}
 use Rattle.daide_reader.proofs.SliceLemmas.{bra_of, no_bra_of, taken_at, refused_by}

@@ -1,9 +1,7 @@
-use Rattle.std.proofs.Common.{◌≡◌, ◌≤◌, ◌/◌, ℕ, true, false, None, Some, is_some}
-use Rattle.std.proofs.Common.{take, length, reverse, refl, sym, ap, ◌∙◌, subst, rules, arith}
-use Rattle.daide_reader.specs.Slice.{ReadsTo, SliceState}
+use Rattle.daide_reader.proofs.Common.{◌≡◌, ◌≤◌, ◌/◌, ℕ, true, false, None, Some, is_some, take, length, reverse, refl}
+use Rattle.daide_reader.proofs.Common.{sym, ap, ◌∙◌, subst, rules, arith, ReadsTo, SliceState}
 use Rattle.daide_reader.proofs.Counts.{all_of, count_low, fewer_left, next_within, one_less, or_one_more, place_fits}
-use Rattle.daide_reader.proofs.Counts.{read_inside}
-use Rattle.daide_reader.proofs.Counts.{token_inside, whole_token}
+use Rattle.daide_reader.proofs.Counts.{read_inside, token_inside, whole_token}
 use Rattle.daide_reader.proofs.BodyLemmas.{tokens_of-length}
 use Rattle.daide_reader.proofs.ReadingLemmas.{none_from_test, room_more}
 use Rattle.daide_reader.proofs.SliceLemmas.{never_opens, opens_too_many}

@@ -1,4 +1,4 @@
-use Rattle.std.proofs.Common.{◌≤◌, ◌-◌, ◌/◌, length, take, reverse}
+use Rattle.daide_reader.proofs.Common.{◌≤◌, ◌-◌, ◌/◌, length, take, reverse}
 use Rattle.daide_reader.proofs.StretchLemmas.{AtToken}
 use Rattle.daide_reader.proofs.slice.read_tokens.Given as goal
 

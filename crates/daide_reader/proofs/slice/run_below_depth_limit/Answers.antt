@@ -1,11 +1,7 @@
-use Rattle.std.proofs.Common.{◌≡◌, ◌≢◌, ◌≤◌, ◌<◌, ◌+◌, ◌-◌, ◌*◌, ◌/◌, ◌%◌, [], ◌∷◌, ◌++◌, List, ℕ, Option, Some}
-use Rattle.std.proofs.Common.{IfSome, take, drop, length, refl, reverse, sym, ap, ◌∙◌, subst, rules, arith}
+use Rattle.daide_reader.proofs.Common.{◌≡◌, ◌≢◌, ◌≤◌, ◌<◌, ◌+◌, ◌-◌, ◌*◌, ◌/◌, ◌%◌, [], ◌∷◌, ◌++◌, List, ℕ, Option}
+use Rattle.daide_reader.proofs.Common.{Some, IfSome, take, drop, length, refl, reverse, sym, ap, ◌∙◌, subst, rules}
+use Rattle.daide_reader.proofs.Common.{arith, tokens_of, Sym, is_bra, is_ket, count_one, SliceState, open_count}
 use Rattle.daide_token.specs.Class.{class_of as known_class}
-use Rattle.daide_token.specs.Token.{tokens_of}
-use Rattle.daide_grammar.specs.declared.symbol.Sym.{Sym}
-use Rattle.daide_grammar.specs.Table.Brackets.{is_bra, is_ket, count_one}
-use Rattle.daide_reader.specs.Slice.{SliceState}
-use Rattle.daide_reader.specs.Stack.{open_count}
 use Rattle.daide_reader.proofs.Counts.{before_end, count_low, end_inside, end_moves, filled, from_next, less_deep}
 use Rattle.daide_reader.proofs.Counts.{is_last, less_within, never_placed, not_last, once_more, one_behind, place_fits, read_here}
 use Rattle.daide_reader.proofs.Counts.{read_inside, rest_inside, room_on_top, shallow_next, some_left, stack_less, start_shallow}

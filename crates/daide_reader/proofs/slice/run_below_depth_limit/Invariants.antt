@@ -1,6 +1,5 @@
-use Rattle.std.proofs.Common.{◌≡◌, ◌≢◌, ◌≤◌, ◌<◌, ◌+◌, ◌-◌, ◌*◌, ◌++◌, [], ◌∷◌, take, drop, reverse}
+use Rattle.daide_reader.proofs.Common.{◌≡◌, ◌≢◌, ◌≤◌, ◌<◌, ◌+◌, ◌-◌, ◌*◌, ◌++◌, [], ◌∷◌, take, drop, reverse, tokens_of}
 use Rattle.daide_token.specs.Class.{class_of as known_class}
-use Rattle.daide_token.specs.Token.{tokens_of}
 use Rattle.daide_reader.proofs.StretchLemmas.{MidToken}
 use Rattle.daide_reader.proofs.slice.run_below_depth_limit.Given as goal
 

@@ -1,9 +1,5 @@
-use Rattle.std.proofs.Common.{◌≡◌, ℕ, ◌+◌, ◌-◌, ◌%◌, ◌^◌, ◌∷◌, List, take, reverse, refl, sym, ap, ◌∙◌, arith}
-use Rattle.std.specs.List.{list_all}
-use Rattle.std.proofs.Math.Seq.{take-length}
-use Rattle.daide_grammar.specs.declared.symbol.Sym.{Sym}
-use Rattle.daide_grammar.specs.Words.{Words}
-use Rattle.daide_grammar.specs.Table.Stacks.{ends_asked}
+use Rattle.daide_reader.proofs.Common.{◌≡◌, ℕ, ◌+◌, ◌-◌, ◌%◌, ◌^◌, ◌∷◌, List, take, reverse, refl, sym, ap, ◌∙◌, arith}
+use Rattle.daide_reader.proofs.Common.{list_all, take-length, Sym, Words, ends_asked}
 use Rattle.daide_reader.proofs.CellLemmas.{on_top, asked_all, asked_one, asked_more}
 use Rattle.daide_reader.proofs.CellLemmas.{all_more, all_stopped, ends_more, ends_stopped}
 use Rattle.daide_reader.proofs.Sizes.{cells_fit}

@@ -1,6 +1,4 @@
-use Rattle.std.proofs.Common.{List, take, reverse, subst}
-use Rattle.daide_grammar.specs.declared.symbol.Sym.{Sym}
-use Rattle.daide_reader.specs.Slice.{ReadsTo, SliceState}
+use Rattle.daide_reader.proofs.Common.{List, take, reverse, subst, Sym, ReadsTo, SliceState}
 use Rattle.daide_reader.proofs.parse_stack.ParseStack+Symbol+N.read_tokens.Goals as goal
 
 pub invariant_of-self : goal.invariant_of-self

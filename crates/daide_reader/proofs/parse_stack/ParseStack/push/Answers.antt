@@ -1,7 +1,7 @@
-use Rattle.std.proofs.Common.{◌≡◌, ◌≤◌, ◌<◌, ◌+◌, ◌++◌, ◌∷◌, [], List, ℕ, length, take, set}
-use Rattle.std.proofs.Common.{sym, ap, ◌∙◌, subst, add-one, arith}
-use Rattle.std.proofs.lemmas.List.{length-append, length-take-le}
+use Rattle.std.proofs.Common.{set}
 use Rattle.std.proofs.Math.Seq.{take-suc-set}
+use Rattle.daide_reader.proofs.Common.{◌≡◌, ◌≤◌, ◌<◌, ◌+◌, ◌++◌, ◌∷◌, [], List, ℕ, length, take, sym, ap, ◌∙◌, subst}
+use Rattle.daide_reader.proofs.Common.{add-one, arith, length-append, length-take-le}
 use Rattle.daide_reader.proofs.Counts.{next_within}
 use Rattle.daide_reader.proofs.parse_stack.ParseStack.push.Goals as goal
 

@@ -1,14 +1,8 @@
-use Rattle.std.proofs.Common.{Option, IfSome, IsSome, is_some, length}
-use Rattle.std.proofs.Common.{◌≡◌, ℕ, ◌≤◌, ◌<◌, ◌+◌, ◌-◌, ◌*◌, ◌/◌, ◌++◌, true, false, None, Some, List}
-use Rattle.std.proofs.Common.{take, drop, reverse, rules, refl, sym, ap, ◌∙◌, subst, arith, append_assoc, append-nil}
-use Rattle.std.proofs.lemmas.List.{take-append-drop}
-use Rattle.std.proofs.Math.Seq.{drop-length}
-use Rattle.daide_token.specs.Token.{tokens_of}
-use Rattle.daide_grammar.specs.Paired.{begins_with_prn}
-use Rattle.daide_reader.specs.Bounds.{most_tokens}
-use Rattle.daide_reader.specs.Outline.{outline_of}
-use Rattle.daide_reader.specs.Reading.{Reading, HasReadPrefix, reading, tokens_read}
-use Rattle.daide_reader.specs.Slice.{place_behind}
+use Rattle.daide_reader.proofs.Common.{Option, IfSome, IsSome, is_some, length, ◌≡◌, ℕ, ◌≤◌, ◌<◌, ◌+◌, ◌-◌, ◌*◌, ◌/◌}
+use Rattle.daide_reader.proofs.Common.{◌++◌, true, false, None, Some, List, take, drop, reverse, rules, refl, sym, ap}
+use Rattle.daide_reader.proofs.Common.{◌∙◌, subst, arith, append_assoc, append-nil, take-append-drop, drop-length}
+use Rattle.daide_reader.proofs.Common.{tokens_of, begins_with_prn, most_tokens, outline_of, Reading, HasReadPrefix}
+use Rattle.daide_reader.proofs.Common.{reading, tokens_read, place_behind}
 use Rattle.daide_reader.proofs.BodyLemmas.{tokens_of-length}
 use Rattle.daide_reader.proofs.ReadingLemmas.{raised_none, raised_within, none_from_test, stands_along, unsettled}
 use Rattle.daide_reader.proofs.SliceLemmas.{as_reading, behind_fits, behind_none, behind_some, count_all-end, count_is}

@@ -1,5 +1,4 @@
-use Rattle.std.proofs.Common.{ap}
-use Rattle.daide_reader.specs.Reading.{Reading}
+use Rattle.daide_reader.proofs.Common.{ap, Reading}
 use Rattle.daide_reader.proofs.Fronts.{place_said}
 use Rattle.daide_reader.proofs.ReadingLemmas.{stands_along}
 use Rattle.daide_reader.proofs.reader.Reader.place.Goals as goal

@@ -1,11 +1,6 @@
-use Rattle.std.proofs.Common.{◌≡◌, ◌≤◌, ℕ, ◌-◌, ◌*◌, ◌/◌, ◌++◌, List, length, take, drop, refl, sym, ap, ◌∙◌}
-use Rattle.std.proofs.Common.{subst, rules, arith}
-use Rattle.std.proofs.lemmas.List.{take-append-drop, length-drop}
-use Rattle.daide_token.specs.Token.{tokens_of}
-use Rattle.daide_grammar.specs.Paired.{begins_with_prn}
-use Rattle.daide_reader.specs.declared.outline.Outline.{Outline}
-use Rattle.daide_reader.specs.Outline.{IsOutlineOf}
-use Rattle.daide_reader.specs.Reading.{Reading, HasReadPrefix, tokens_read}
+use Rattle.daide_reader.proofs.Common.{◌≡◌, ◌≤◌, ℕ, ◌-◌, ◌*◌, ◌/◌, ◌++◌, List, length, take, drop, refl, sym, ap, ◌∙◌}
+use Rattle.daide_reader.proofs.Common.{subst, rules, arith, take-append-drop, length-drop, tokens_of, begins_with_prn}
+use Rattle.daide_reader.proofs.Common.{Outline, IsOutlineOf, Reading, HasReadPrefix, tokens_read}
 use Rattle.daide_reader.proofs.BodyLemmas.{tokens_of-length}
 use Rattle.daide_reader.proofs.OutlineLemmas.{outline_on-is, plain_before}
 use Rattle.daide_reader.proofs.ReadingLemmas.{raised_none, raised_within}

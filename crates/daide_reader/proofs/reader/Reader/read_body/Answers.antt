@@ -1,6 +1,4 @@
-use Rattle.std.proofs.Common.{ℕ, ◌*◌, List, take, sym, ap, ◌∙◌, subst}
-use Rattle.daide_token.specs.Token.{tokens_of}
-use Rattle.daide_reader.specs.Reading.{HasReadPrefix}
+use Rattle.daide_reader.proofs.Common.{ℕ, ◌*◌, List, take, sym, ap, ◌∙◌, subst, tokens_of, HasReadPrefix}
 use Rattle.daide_reader.proofs.reader.Reader.read_body.Goals as goal
 
 pub returns : goal.returns

@@ -1,5 +1,4 @@
-use Rattle.std.proofs.Common.{ap}
-use Rattle.daide_reader.specs.Reading.{Reading, tokens_read}
+use Rattle.daide_reader.proofs.Common.{ap, Reading, tokens_read}
 use Rattle.daide_reader.proofs.reader.Reader.tokens.Goals as goal
 
 pub returns : goal.returns
