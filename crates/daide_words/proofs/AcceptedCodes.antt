@@ -1,29 +1,15 @@
 -- The codes of accepted words are free, and they determine the class of a token.
-use Rattle.std.proofs.Common.{◌≡◌, ℕ, zero, suc, ◌+◌, ◌<◌, ◌≤◌, Bool, true, false, not, ◌&&◌, ◌||◌, ◌==◌, nat_eq}
-use Rattle.std.proofs.Common.{nat_le, List}
-use Rattle.std.proofs.Common.{[], ◌∷◌, ◌++◌, length, Option, Some, None, if◌then◌else◌, refl, sym, ap, ◌∙◌, subst}
-use Rattle.std.proofs.Common.{arith, leb-true}
-use Rattle.std.specs.Prelude.{is_ok, is_none, Result, Ok, Err}
-use Rattle.std.specs.List.{list_any}
-use Rattle.std.proofs.lemmas.Bool.{eqb-true}
-use Rattle.std.proofs.lemmas.Bool.Decides.{nat_tests}
-use Rattle.daide_token.specs.declared.class.Class.{Class}
-use Rattle.daide_token.specs.declared.class.Class.TheVariants.{Other, Word}
-use Rattle.daide_token.specs.Class.{class_of, token_of}
-use Rattle.daide_token.specs.Names.{Named, names, name_of}
-use Rattle.daide_grammar.specs.Classes.{class_number, same_class}
-use Rattle.daide_grammar.specs.SideMessages.{dialect_from, dialect_of}
-use Rattle.daide_grammar.specs.Proofs.Alternatives.{both-pass}
-use Rattle.daide_grammar.specs.Words.{most_words}
+use Rattle.daide_words.proofs.Common.{◌≡◌, ℕ, zero, suc, ◌+◌, ◌<◌, ◌≤◌, Bool, true, false, not, ◌&&◌, ◌||◌, ◌==◌}
+use Rattle.daide_words.proofs.Common.{nat_eq, nat_le, List, [], ◌∷◌, ◌++◌, length, Option, Some, None, if◌then◌else◌}
+use Rattle.daide_words.proofs.Common.{refl, sym, ap, ◌∙◌, subst, arith, leb-true, is_ok, is_none, Result, Ok, Err}
+use Rattle.daide_words.proofs.Common.{list_any, eqb-true, nat_tests, Class, Other, Word, class_of, token_of, Named}
+use Rattle.daide_words.proofs.Common.{names, name_of, class_number, same_class, dialect_from, dialect_of, both-pass}
+use Rattle.daide_words.proofs.Common.{most_words, WordError, grammar_words, names_of, is_free_name, is_free_code}
+use Rattle.daide_words.proofs.Common.{is_barred, has_press, may_hold, word_fault, are_accepted_after, place_from}
+use Rattle.daide_words.proofs.Common.{are_free, keeps}
 use Rattle.daide_words.specs.declared.word.Word as code
-use Rattle.daide_words.specs.declared.word.WordError.{WordError}
 use Rattle.daide_words.specs.declared.word.WordError.TheVariants as faults
-use Rattle.daide_words.specs.Word.{grammar_words, names_of}
-use Rattle.daide_words.specs.Accepted.{is_free_name, is_free_code, is_barred, has_press, may_hold, word_fault}
-use Rattle.daide_words.specs.Accepted.{are_accepted_after}
-use Rattle.daide_words.specs.Table.Places.{place_from}
-use Rattle.daide_words.specs.Table.OverWords.{are_free}
-use Rattle.daide_words.specs.Proofs.WordDialect.{keeps, other-class}
+use Rattle.daide_words.specs.Proofs.WordDialect.{other-class}
 
 -- whether a code has no meaning in the protocol, and isn't the token that represents such codes
 means_nothing : ℕ → Bool

@@ -1,7 +1,5 @@
 -- Numbers and texts that a test distinguishes.
-use Rattle.std.proofs.Common.{◌≡◌, ℕ, Bool, true, false, ◌==◌, List, bytes_eq}
-use Rattle.std.proofs.lemmas.Bool.{eq-eqb}
-use Rattle.std.proofs.lemmas.Slice.Eq.{bytes_eq-Decides}
+use Rattle.daide_words.proofs.Common.{◌≡◌, ℕ, Bool, true, false, ◌==◌, List, bytes_eq, eq-eqb, bytes_eq-Decides}
 
 pub not_both : (b : Bool) → b ≡ true → b ≡ false → ⊥
 not_both true t f = cc

@@ -1,28 +1,16 @@
 -- Accepted words have different names and different codes, so each has a class of its own.
-use Rattle.std.proofs.Common.{◌≡◌, ℕ, zero, suc, ◌+◌, ◌<◌, Bool, true, false, not, ◌&&◌, ◌||◌, ◌==◌, nat_le, List, []}
-use Rattle.std.proofs.Common.{◌∷◌, ◌++◌, length, Some, if◌then◌else◌, refl, sym, ap, ◌∙◌, subst, arith}
-use Rattle.std.proofs.Common.{leb-false}
-use Rattle.std.specs.Prelude.{bytes_eq, is_ok, is_none}
-use Rattle.std.specs.List.{list_all, list_any}
-use Rattle.std.proofs.lemmas.Bool.{eqb-true, eq-eqb}
 use Rattle.std.proofs.lemmas.List.{length-append}
 use Rattle.std.proofs.lemmas.List.Folds.{list_any-append}
-use Rattle.std.proofs.lemmas.Slice.Eq.{bytes_eq-Decides}
-use Rattle.daide_token.specs.declared.class.Class.TheVariants.{Other, Word}
-use Rattle.daide_token.specs.Class.{class_of, token_of}
-use Rattle.daide_token.specs.Names.{Named, name_of, token_named}
-use Rattle.daide_grammar.specs.Classes.{class_number, same_class}
-use Rattle.daide_grammar.specs.SideMessages.{dialect_of}
-use Rattle.daide_grammar.specs.Proofs.Alternatives.{both-pass}
-use Rattle.daide_grammar.specs.Words.{most_words}
+use Rattle.daide_words.proofs.Common.{◌≡◌, ℕ, zero, suc, ◌+◌, ◌<◌, Bool, true, false, not, ◌&&◌, ◌||◌, ◌==◌, nat_le}
+use Rattle.daide_words.proofs.Common.{List, [], ◌∷◌, ◌++◌, length, Some, if◌then◌else◌, refl, sym, ap, ◌∙◌, subst}
+use Rattle.daide_words.proofs.Common.{arith, leb-false, bytes_eq, is_ok, is_none, list_all, list_any, eqb-true, eq-eqb}
+use Rattle.daide_words.proofs.Common.{bytes_eq-Decides, Other, Word, class_of, token_of, Named, name_of, token_named}
+use Rattle.daide_words.proofs.Common.{class_number, same_class, dialect_of, both-pass, most_words, is_capital}
+use Rattle.daide_words.proofs.Common.{is_free_name, is_free_code, is_barred, has_press, may_hold, word_fault}
+use Rattle.daide_words.proofs.Common.{are_accepted, are_accepted_after, grammar_word, grammar_words, names_of, word_at}
+use Rattle.daide_words.proofs.Common.{are_free, place_from, class-Other}
 use Rattle.daide_words.specs.declared.word.Word as code
-use Rattle.daide_words.specs.Accepted.{is_capital, is_free_name, is_free_code, is_barred, has_press, may_hold, word_fault}
-use Rattle.daide_words.specs.Accepted.{are_accepted, are_accepted_after}
-use Rattle.daide_words.specs.Word.{grammar_word, grammar_words, names_of}
-use Rattle.daide_words.specs.Words.{word_at}
-use Rattle.daide_words.specs.Table.OverWords.{is_free, are_free}
-use Rattle.daide_words.specs.Table.Places.{place_from}
-use Rattle.daide_words.specs.Proofs.WordDialect.{class-Other}
+use Rattle.daide_words.specs.Table.OverWords.{is_free}
 use Rattle.daide_words.proofs.Apart.{not_both}
 use Rattle.daide_words.proofs.AcceptedCodes.{accepted_free, choice, class_told, code_free}
 

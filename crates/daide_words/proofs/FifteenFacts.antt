@@ -1,19 +1,13 @@
 -- The words that are refused after fifteen others, and why. Written from the protocol's table of names and codes. Code
 -- that compares a name or a code with only one of the others does not check.
-use Rattle.std.proofs.Common.{◌≡◌, ℕ, ◌+◌, List, [], ◌∷◌, ◌++◌, map, codes, true, refl}
-use Rattle.std.specs.Prelude.{Result, Ok, Err}
-use Rattle.daide_token.specs.Names.{Named, names, name_of, token_named}
-use Rattle.daide_grammar.specs.declared.level.Level.{Level}
-use Rattle.daide_grammar.specs.declared.level.Level.TheVariants.{L0, L10}
-use Rattle.daide_words.specs.declared.slot.Slot.{Slot}
+use Rattle.daide_words.proofs.Common.{◌≡◌, ℕ, ◌+◌, List, [], ◌∷◌, ◌++◌, map, codes, true, refl, Result, Ok, Err, Named}
+use Rattle.daide_words.proofs.Common.{names, name_of, token_named, Level, L0, L10, Slot, WordError, are_accepted}
+use Rattle.daide_words.proofs.Common.{word_fault, names_of}
 use Rattle.daide_words.specs.declared.slot.Slot.TheVariants as slots
 use Rattle.daide_words.specs.declared.operand.Operand as kinds
 use Rattle.daide_words.specs.declared.operand.Operand.TheVariants as operands
 use Rattle.daide_words.specs.declared.word.Word as code
-use Rattle.daide_words.specs.declared.word.WordError.{WordError}
 use Rattle.daide_words.specs.declared.word.WordError.TheVariants as faults
-use Rattle.daide_words.specs.Accepted.{are_accepted, word_fault}
-use Rattle.daide_words.specs.Word.{names_of}
 
 abbrev made : List ℕ → ℕ → Slot → Level → kinds.Operand → code.Word
 made name token slot level operand = record { name = name; code = token; slot = slot; level = level; operand = operand }

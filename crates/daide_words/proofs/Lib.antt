@@ -1,3 +1,4 @@
+mod Common
 pub mod WordLists
 pub mod OperandRules
 pub mod WhereStopped

@@ -1,19 +1,11 @@
 -- An added word's class has the entries of a token without a meaning, except in the slots that allow the word.
-use Rattle.std.proofs.Common.{◌≡◌, ℕ, true, false, List, [], ◌∷◌, Option, Some, None, refl, ap, ◌∙◌}
-use Rattle.std.proofs.Common.{option_map}
-use Rattle.daide_token.specs.declared.class.Class.TheVariants.{Other, Word}
-use Rattle.daide_grammar.specs.declared.level.Level.{Level}
-use Rattle.daide_grammar.specs.declared.symbol.Sym.{Sym}
+use Rattle.daide_words.proofs.Common.{◌≡◌, ℕ, true, false, List, [], ◌∷◌, Option, Some, None, refl, ap, ◌∙◌, option_map}
+use Rattle.daide_words.proofs.Common.{Other, Word, Level, Sym, AddedWord, TableEntry, Take, slot_of, table_answer}
+use Rattle.daide_words.proofs.Common.{word_unknown, are_accepted, grammar_operand, grammar_word, grammar_words, word_at}
+use Rattle.daide_words.proofs.Common.{answer_over, operand_symbol, word_answer}
 use Rattle.daide_grammar.specs.Forms.{Slot}
-use Rattle.daide_grammar.specs.Words.{AddedWord}
-use Rattle.daide_grammar.specs.Table.Answers.{TableEntry, Take}
-use Rattle.daide_grammar.specs.Table.Symbols.{slot_of, table_answer}
-use Rattle.daide_grammar.proofs.RowsAgree.{word_unknown}
 use Rattle.daide_words.specs.declared.word.Word as code
-use Rattle.daide_words.specs.Accepted.{are_accepted}
-use Rattle.daide_words.specs.Word.{grammar_operand, grammar_word, grammar_words}
-use Rattle.daide_words.specs.Words.{word_at}
-use Rattle.daide_words.specs.Table.OverWords.{answer_over, if_stands, operand_symbol, stands, stands_for, word_answer}
+use Rattle.daide_words.specs.Table.OverWords.{if_stands, stands, stands_for}
 use Rattle.daide_words.proofs.DifferentWords.{place_small}
 use Rattle.daide_words.proofs.WhereStopped.{word_found}
 

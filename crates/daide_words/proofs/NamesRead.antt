@@ -1,10 +1,8 @@
 -- The names of slots and operands: each is read, and no other.
-use Rattle.std.proofs.Common.{◌≡◌, ℕ, Bool, true, false, List, codes, Option, Some, None, if◌then◌else◌, ◌⊎◌, inl, inr}
-use Rattle.std.proofs.Common.{◌↔◌, refl, ap, ◌∙◌, bytes_eq}
-use Rattle.std.proofs.lemmas.Slice.Eq.{bytes_eq-Decides}
-use Rattle.daide_words.specs.declared.slot.Slot.{Slot}
+use Rattle.std.proofs.Common.{◌⊎◌}
+use Rattle.daide_words.proofs.Common.{◌≡◌, ℕ, Bool, true, false, List, codes, Option, Some, None, if◌then◌else◌, inl}
+use Rattle.daide_words.proofs.Common.{inr, ◌↔◌, refl, ap, ◌∙◌, bytes_eq, bytes_eq-Decides, Slot, Operand}
 use Rattle.daide_words.specs.declared.slot.Slot.TheVariants as slots
-use Rattle.daide_words.specs.declared.operand.Operand.{Operand}
 use Rattle.daide_words.specs.declared.operand.Operand.TheVariants as operands
 use Rattle.daide_words.specs.WordNames.{operand_name, operand_named, slot_name, slot_named}
 

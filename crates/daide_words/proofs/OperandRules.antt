@@ -1,21 +1,15 @@
 -- The rules of the table that leave a word's operand.
-use Rattle.std.proofs.Common.{◌≡◌, ◌+◌, [], ◌∷◌, Option, Some, None, refl}
-use Rattle.daide_grammar.specs.declared.level.Level.{Level}
-use Rattle.daide_grammar.specs.declared.level.Level.TheVariants.{L0, L10, L20, L30, L40, L50, L60}
-use Rattle.daide_grammar.specs.declared.symbol.Sym.{Sym}
-use Rattle.daide_grammar.specs.declared.symbol.Sym.TheVariants.{PowerGroup, PowersGroup, ProvincesGroup, OrderGroup}
-use Rattle.daide_grammar.specs.declared.symbol.Sym.TheVariants.{ArrangementGroup, OperandGroup, PressGroup}
-use Rattle.daide_grammar.specs.declared.symbol.Sym.TheVariants.{Press, Arrangement, Fact, Operand}
-use Rattle.daide_grammar.specs.declared.numbers.TheConstants.{LEAVES_ARRANGEMENT_GROUP, LEAVES_OPERAND_GROUP}
+use Rattle.daide_words.proofs.Common.{◌≡◌, ◌+◌, [], ◌∷◌, Option, Some, None, refl, Level, L0, L10, L20, L30, L40, L50}
+use Rattle.daide_words.proofs.Common.{L60, Sym, ProvincesGroup, Press, LEAVES_ARRANGEMENT_GROUP, LEAVES_OPERAND_GROUP}
+use Rattle.daide_words.proofs.Common.{LEAVES_PRESS_GROUP, Take, action, slot_of, grammar_place}
+use Rattle.daide_grammar.specs.declared.symbol.Sym.TheVariants.{PowerGroup, PowersGroup, OrderGroup, ArrangementGroup}
+use Rattle.daide_grammar.specs.declared.symbol.Sym.TheVariants.{OperandGroup, PressGroup, Arrangement, Fact, Operand}
 use Rattle.daide_grammar.specs.declared.numbers.TheConstants.{LEAVES_ORDER_GROUP, LEAVES_POWER_GROUP}
-use Rattle.daide_grammar.specs.declared.numbers.TheConstants.{LEAVES_POWERS_GROUP, LEAVES_PRESS_GROUP}
-use Rattle.daide_grammar.specs.declared.numbers.TheConstants.{LEAVES_PROVINCES_GROUP}
-use Rattle.daide_grammar.specs.Table.Answers.{Take}
+use Rattle.daide_grammar.specs.declared.numbers.TheConstants.{LEAVES_POWERS_GROUP, LEAVES_PROVINCES_GROUP}
 use Rattle.daide_grammar.specs.Table.Numbers.{level_place}
-use Rattle.daide_grammar.specs.Table.ParseActions.{action, rest_of_action}
+use Rattle.daide_grammar.specs.Table.ParseActions.{rest_of_action}
 use Rattle.daide_grammar.specs.Forms.{Slot}
-use Rattle.daide_grammar.specs.Table.Symbols.{slot_of}
-use Rattle.daide_words.specs.Table.Place.{grammar_place, operand_place}
+use Rattle.daide_words.specs.Table.Place.{operand_place}
 
 pub power_rule : action LEAVES_POWER_GROUP ≡ Take (PowerGroup ∷ [])
 unfolding action rest_of_action

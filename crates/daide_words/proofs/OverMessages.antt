@@ -1,25 +1,15 @@
 -- A start symbol derives the messages of its side, with an operator's words as without.
-use Rattle.std.proofs.Common.{◌≡◌, ℕ, true, false, ◌==◌, List, [], ◌∷◌, inl, inr, ◌↔◌, refl, sym, ◌∙◌, ap, subst}
-use Rattle.std.proofs.Common.{arith}
-use Rattle.std.proofs.lemmas.Bool.{eqb-true}
+use Rattle.daide_words.proofs.Common.{◌≡◌, ℕ, true, false, ◌==◌, List, [], ◌∷◌, inl, inr, ◌↔◌, refl, sym, ◌∙◌, ap}
+use Rattle.daide_words.proofs.Common.{subst, arith, eqb-true, prn, Level, L60, Side2, Stop, entries, may_end_of}
+use Rattle.daide_words.proofs.Common.{table_answer, dialect_of, IsMessageOver, SymbolMatchesIn, Words, answer_over}
+use Rattle.daide_words.proofs.Common.{are_free, free-codes, keeps, laws_over}
 use Rattle.daide_token.specs.declared.class.Class.TheVariants.{Prn}
-use Rattle.daide_token.specs.Token.{prn}
 use Rattle.daide_token.proofs.ClassLaws.{class_of-prn}
-use Rattle.daide_grammar.specs.declared.level.Level.{Level}
-use Rattle.daide_grammar.specs.declared.level.Level.TheVariants.{L60}
-use Rattle.daide_grammar.specs.declared.side.Side2.{Side2}
 use Rattle.daide_grammar.specs.declared.side.Side2.TheVariants.{Client, ServerEnd}
 use Rattle.daide_grammar.specs.Forms.{Form}
 use Rattle.daide_grammar.specs.Matches.{Matches}
 use Rattle.daide_grammar.specs.Paired.{begins_with_prn}
-use Rattle.daide_grammar.specs.Table.Answers.{Stop}
-use Rattle.daide_grammar.specs.Table.Symbols.{entries, may_end_of, table_answer, start_symbol_of}
-use Rattle.daide_grammar.specs.SideMessages.{dialect_of, IsMessageOver}
-use Rattle.daide_grammar.specs.Table.Languages.{SymbolMatchesIn}
-use Rattle.daide_grammar.specs.Words.{Words}
-use Rattle.daide_words.specs.Table.OverWords.{answer_over, are_free}
-use Rattle.daide_words.specs.Proofs.WordDialect.{free-codes, keeps}
-use Rattle.daide_words.specs.Proofs.WordLaws.{laws_over}
+use Rattle.daide_grammar.specs.Table.Symbols.{start_symbol_of}
 use Rattle.daide_grammar.proofs.Languages.{start_symbol-form, begins-false, report-begins}
 
 -- no form begins with PRN: the reader handles PRN itself

@@ -1,34 +1,24 @@
 -- With an operator's words messages are paired, and the gateway's replies are messages.
-use Rattle.std.proofs.Common.{◌≡◌, ℕ, suc, Bool, true, false, ◌&&◌, nat_le, List, [], ◌∷◌, ◌++◌, inl, inr}
-use Rattle.std.proofs.Common.{refl, sym, ◌∙◌, ap, subst, arith, append-nil, take, drop}
-use Rattle.std.proofs.lemmas.Bool.Decides.{nat_tests}
-use Rattle.daide_token.specs.declared.class.Class.TheVariants.{Huh, Word}
-use Rattle.daide_token.specs.Token.{bra, ket, huh, err}
-use Rattle.daide_grammar.specs.declared.level.Level.{Level}
-use Rattle.daide_grammar.specs.declared.level.Level.TheVariants.{L60}
-use Rattle.daide_grammar.specs.declared.side.Side2.{Side2}
+use Rattle.daide_words.proofs.Common.{◌≡◌, ℕ, suc, Bool, true, false, ◌&&◌, nat_le, List, [], ◌∷◌, ◌++◌, inl, inr, refl}
+use Rattle.daide_words.proofs.Common.{sym, ◌∙◌, ap, subst, arith, append-nil, take, drop, nat_tests, Word, bra, ket}
+use Rattle.daide_words.proofs.Common.{Level, L60, Side2, level_number, Take, form_of, entries, may_end_of, table_answer}
+use Rattle.daide_words.proofs.Common.{dialect_from, dialect_of, IsMessageOver, SymbolMatchesIn, AddedWord, Words}
+use Rattle.daide_words.proofs.Common.{WordSlot, press_word, arrangement_word, WordOperand, an_arrangement, operand_in}
+use Rattle.daide_words.proofs.Common.{stands_in, word_form, answer_over, are_free, free-codes, keeps, laws_over}
+use Rattle.daide_token.specs.declared.class.Class.TheVariants.{Huh}
+use Rattle.daide_token.specs.Token.{huh, err}
 use Rattle.daide_grammar.specs.declared.side.Side2.TheVariants.{Client, ServerEnd}
 use Rattle.daide_grammar.specs.declared.symbol.Sym.TheVariants.{AnyGroup}
-use Rattle.daide_grammar.specs.Level.{level_number}
 use Rattle.daide_grammar.specs.Forms.{any_but_brackets, Slot, Press_slot, Arrangement_slot, Flat_slot, Form, from_level, ◌·◌}
 use Rattle.daide_grammar.specs.Forms.{never, tok, group}
 use Rattle.daide_grammar.specs.Matches.{Matches, bracketed}
 use Rattle.daide_grammar.specs.Balanced.{IsBalanced}
 use Rattle.daide_grammar.specs.Paired.{IsPaired}
-use Rattle.daide_grammar.specs.Table.Answers.{Take}
-use Rattle.daide_grammar.specs.Table.Symbols.{form_of, entries, may_end_of, table_answer, start_symbol_of}
-use Rattle.daide_grammar.specs.Table.Symbols.{is_of_kind}
-use Rattle.daide_grammar.specs.SideMessages.{dialect_from, dialect_of, IsMessageOver}
-use Rattle.daide_grammar.specs.Table.Languages.{SymbolMatchesIn}
-use Rattle.daide_grammar.specs.Words.{AddedWord, Words, WordSlot, press_word, arrangement_word, WordOperand}
-use Rattle.daide_grammar.specs.Words.{an_arrangement, operand_in}
-use Rattle.daide_grammar.specs.Words.{stands_in, word_form}
+use Rattle.daide_grammar.specs.Table.Symbols.{start_symbol_of, is_of_kind}
 use Rattle.daide_grammar.proofs.BalancedLemmas.{KeepsBrackets, paired, message-balanced, any-balanced, bra-accepted}
 use Rattle.daide_grammar.proofs.BalancedLemmas.{ket-accepted}
 use Rattle.daide_grammar.proofs.ErrPutIn.{err-put-in}
-use Rattle.daide_words.specs.Table.OverWords.{answer_over, are_free}
-use Rattle.daide_words.specs.Proofs.WordDialect.{free-codes, keeps, only_bra_with, only_ket_with}
-use Rattle.daide_words.specs.Proofs.WordLaws.{laws_over}
+use Rattle.daide_words.specs.Proofs.WordDialect.{only_bra_with, only_ket_with}
 use Rattle.daide_words.proofs.OverMessages.{start_symbol-language, form-not-prn}
 use Rattle.daide_grammar.proofs.Languages.{class-huh, start_symbol-form}
 

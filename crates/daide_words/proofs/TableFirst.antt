@@ -1,24 +1,10 @@
 -- The protocol's table has the same entry for a token by its class without words as by its class as an operator's word.
-use Rattle.std.proofs.Common.{◌≡◌, ℕ, suc, ◌+◌, ◌<◌, ◌≤◌, Bool, true, false, ◌==◌, nat_eq, List, [], ◌∷◌, length}
-use Rattle.std.proofs.Common.{Option, Some, None, if◌then◌else◌, refl, sym, ap, ◌∙◌, arith}
-use Rattle.std.proofs.lemmas.Bool.{eqb-true}
-use Rattle.std.proofs.lemmas.Bool.Decides.{nat_tests}
-use Rattle.daide_token.specs.declared.class.Class.TheVariants.{Other}
-use Rattle.daide_token.specs.Class.{class_of}
-use Rattle.daide_token.specs.Names.{Named}
-use Rattle.daide_grammar.specs.declared.symbol.Sym.{Sym}
-use Rattle.daide_grammar.specs.Classes.{class_number}
-use Rattle.daide_grammar.specs.Table.ParseActions.{is_stop}
-use Rattle.daide_grammar.specs.SideMessages.{dialect_of}
-use Rattle.daide_grammar.specs.Table.Symbols.{table_answer}
-use Rattle.daide_grammar.proofs.RowsAgree.{word_unknown}
-use Rattle.daide_grammar.specs.Words.{most_words}
+use Rattle.daide_words.proofs.Common.{◌≡◌, ℕ, suc, ◌+◌, ◌<◌, ◌≤◌, Bool, true, false, ◌==◌, nat_eq, List, [], ◌∷◌}
+use Rattle.daide_words.proofs.Common.{length, Option, Some, None, if◌then◌else◌, refl, sym, ap, ◌∙◌, arith, eqb-true}
+use Rattle.daide_words.proofs.Common.{nat_tests, Other, class_of, Named, Sym, class_number, is_stop, dialect_of}
+use Rattle.daide_words.proofs.Common.{table_answer, word_unknown, most_words, are_accepted_after, grammar_words}
+use Rattle.daide_words.proofs.Common.{names_of, answer_over, place_from, class-Other}
 use Rattle.daide_words.specs.declared.word.Word as code
-use Rattle.daide_words.specs.Accepted.{are_accepted_after}
-use Rattle.daide_words.specs.Word.{grammar_words, names_of}
-use Rattle.daide_words.specs.Table.OverWords.{answer_over}
-use Rattle.daide_words.specs.Table.Places.{place_from}
-use Rattle.daide_words.specs.Proofs.WordDialect.{class-Other}
 use Rattle.daide_words.proofs.AcceptedCodes.{class_told, class_kept}
 use Rattle.daide_words.proofs.WhereStopped.{not_stopped}
 

@@ -1,31 +1,18 @@
 -- An operator's word changes only entries that are Stops.
-use Rattle.std.proofs.Common.{◌≡◌, ℕ, zero, suc, ◌+◌, Bool, true, false, not, ◌&&◌, nat_eq, List, [], ◌∷◌, Option, Some}
-use Rattle.std.proofs.Common.{None}
-use Rattle.std.proofs.Common.{option_map, refl, sym, ap, ◌∙◌, subst, arith}
-use Rattle.std.specs.List.{list_all, list_any}
-use Rattle.std.proofs.lemmas.Bool.Decides.{nat_tests}
-use Rattle.daide_token.specs.declared.class.Class.{Class}
-use Rattle.daide_token.specs.declared.class.Class.TheVariants.{Word}
-use Rattle.daide_grammar.specs.declared.level.Level.{Level}
-use Rattle.daide_grammar.specs.declared.symbol.Sym.{Sym}
-use Rattle.daide_grammar.specs.declared.symbol.Sym.TheVariants.{Closing}
-use Rattle.daide_grammar.specs.Table.Answers.{TableEntry, Take, Skip, Stop}
+use Rattle.daide_words.proofs.Common.{◌≡◌, ℕ, zero, suc, ◌+◌, Bool, true, false, not, ◌&&◌, nat_eq, List, [], ◌∷◌}
+use Rattle.daide_words.proofs.Common.{Option, Some, None, option_map, refl, sym, ap, ◌∙◌, subst, arith, list_all}
+use Rattle.daide_words.proofs.Common.{list_any, nat_tests, Class, Word, Level, Sym, Closing, TableEntry, Take, Skip}
+use Rattle.daide_words.proofs.Common.{Stop, is_stop, entries, form_of, slot_of, may_end_of, table_answer, AddedWord}
+use Rattle.daide_words.proofs.Common.{Words, both-pass, grammar_word, grammar_words, word_at, word_answer, answer_over}
 use Rattle.daide_grammar.specs.Table.Numbers.{word_number}
-use Rattle.daide_grammar.specs.Table.ParseActions.{is_stop}
 use Rattle.daide_grammar.specs.Forms.{Slot}
-use Rattle.daide_grammar.specs.Table.Symbols.{Alternative, entries, entry_at, this_or, form_of, slot_of, may_end_of, answer_by}
-use Rattle.daide_grammar.specs.Table.Symbols.{is_of_kind}
-use Rattle.daide_grammar.specs.Table.Symbols.{table_answer}
-use Rattle.daide_grammar.specs.Words.{AddedWord, Words}
-use Rattle.daide_grammar.specs.Proofs.Alternatives.{both-pass}
+use Rattle.daide_grammar.specs.Table.Symbols.{Alternative, entry_at, this_or, answer_by, is_of_kind}
 use Rattle.daide_grammar.specs.Proofs.RightEntries.{is_plain, is_unopened, added_right}
 use Rattle.daide_grammar.specs.Proofs.Reading.{heads}
 use Rattle.daide_grammar.specs.Proofs.MovesAgree.{right_parts}
 use Rattle.daide_grammar.specs.SideMessages.{standard}
 use Rattle.daide_words.specs.declared.word.Word as code
-use Rattle.daide_words.specs.Word.{grammar_word, grammar_words}
-use Rattle.daide_words.specs.Words.{word_at}
-use Rattle.daide_words.specs.Table.OverWords.{this_word, word_from, if_stands, word_answer, answer_over}
+use Rattle.daide_words.specs.Table.OverWords.{this_word, word_from, if_stands}
 use Rattle.daide_words.specs.Proofs.WordForms.{plain-no-word}
 
 -- a class with a word's number is that word's

@@ -1,30 +1,20 @@
 -- The entries of an operator's words over the whole range of slots, operands and levels, and the words that are refused
 -- over the whole range of codes, letters and counts. Written from the protocol's press and its table of codes. A rule
 -- that is right for one value and wrong for the next does not check.
-use Rattle.std.proofs.Common.{◌≡◌, ℕ, ◌*◌, ◌+◌, List, [], ◌∷◌, ◌++◌, map, replicate, codes, refl}
-use Rattle.std.proofs.Common.{drop, not, if◌then◌else◌, ap, ◌∙◌}
-use Rattle.std.specs.Prelude.{Result, Ok, Err}
+use Rattle.std.proofs.Common.{◌*◌, replicate}
 use Rattle.std.specs.List.{range_with_len}
-use Rattle.daide_token.specs.declared.class.Class.TheVariants.{Word}
-use Rattle.daide_token.specs.Names.{names, name_of, token_named}
-use Rattle.daide_grammar.specs.declared.level.Level.{Level}
-use Rattle.daide_grammar.specs.declared.level.Level.TheVariants.{L0, L10, L20, L30, L40, L50, L60}
-use Rattle.daide_grammar.specs.declared.symbol.Sym.{Sym}
-use Rattle.daide_grammar.specs.declared.symbol.Sym.TheVariants.{Press, Arrangement, Fact, Operand}
-use Rattle.daide_grammar.specs.declared.symbol.Sym.TheVariants.{PowerGroup, PowersGroup, ProvincesGroup, OrderGroup}
-use Rattle.daide_grammar.specs.declared.symbol.Sym.TheVariants.{ArrangementGroup, OperandGroup, PressGroup}
-use Rattle.daide_grammar.specs.Table.Answers.{TableEntry, Take, Stop}
-use Rattle.daide_grammar.specs.Table.Symbols.{entries, may_end_of, slot_of, table_answer}
-use Rattle.daide_words.specs.declared.slot.Slot.{Slot}
+use Rattle.daide_words.proofs.Common.{◌≡◌, ℕ, ◌+◌, List, [], ◌∷◌, ◌++◌, map, codes, refl, drop, not, if◌then◌else◌, ap}
+use Rattle.daide_words.proofs.Common.{◌∙◌, Result, Ok, Err, Word, names, name_of, token_named, Level, L0, L10, L20, L30}
+use Rattle.daide_words.proofs.Common.{L40, L50, L60, Sym, Press, ProvincesGroup, TableEntry, Take, Stop, entries}
+use Rattle.daide_words.proofs.Common.{may_end_of, slot_of, table_answer, Slot, WordError, grammar_words, is_free_code}
+use Rattle.daide_words.proofs.Common.{word_fault, answer_over}
+use Rattle.daide_grammar.specs.declared.symbol.Sym.TheVariants.{Arrangement, Fact, Operand, PowerGroup, PowersGroup}
+use Rattle.daide_grammar.specs.declared.symbol.Sym.TheVariants.{OrderGroup, ArrangementGroup, OperandGroup, PressGroup}
 use Rattle.daide_words.specs.declared.slot.Slot.TheVariants as slots
 use Rattle.daide_words.specs.declared.operand.Operand as kinds
 use Rattle.daide_words.specs.declared.operand.Operand.TheVariants as operands
 use Rattle.daide_words.specs.declared.word.Word as code
-use Rattle.daide_words.specs.declared.word.WordError.{WordError}
 use Rattle.daide_words.specs.declared.word.WordError.TheVariants as faults
-use Rattle.daide_words.specs.Word.{grammar_words}
-use Rattle.daide_words.specs.Accepted.{is_free_code, word_fault}
-use Rattle.daide_words.specs.Table.OverWords.{answer_over}
 
 abbrev made : List ℕ → ℕ → Slot → Level → kinds.Operand → code.Word
 made name token slot level operand = record { name = name; code = token; slot = slot; level = level; operand = operand }

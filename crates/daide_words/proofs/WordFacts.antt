@@ -1,27 +1,17 @@
 -- The definitions at single words: XYZ, a press about a power from level 20 on, and QQQ, an arrangement about an
 -- arrangement from level 30 on. Worked out from the protocol.
-use Rattle.std.proofs.Common.{◌≡◌, ℕ, List, [], ◌∷◌, codes, true, refl}
-use Rattle.std.specs.Prelude.{Ok, Err}
-use Rattle.daide_token.specs.declared.class.Class.TheVariants.{Word}
-use Rattle.daide_token.specs.Class.{class_of}
-use Rattle.daide_token.specs.Names.{names, name_of, token_named}
-use Rattle.daide_grammar.specs.declared.level.Level.{Level}
-use Rattle.daide_grammar.specs.declared.level.Level.TheVariants.{L0, L10, L20, L30, L40, L50, L60}
-use Rattle.daide_grammar.specs.declared.symbol.Sym.TheVariants.{Press, Arrangement, Fact, Operand, WordList, Client}
-use Rattle.daide_grammar.specs.declared.symbol.Sym.TheVariants.{PowerGroup, ArrangementGroup, OperandGroup}
-use Rattle.daide_grammar.specs.Table.Answers.{Take, Stop}
-use Rattle.daide_grammar.specs.Table.Symbols.{entries, may_end_of, slot_of, table_answer}
-use Rattle.daide_grammar.specs.Words.{Words}
-use Rattle.daide_grammar.specs.SideMessages.{dialect_of}
-use Rattle.daide_words.specs.declared.slot.Slot.{Slot}
+use Rattle.daide_words.proofs.Common.{◌≡◌, ℕ, List, [], ◌∷◌, codes, true, refl, Ok, Err, Word, class_of, names, name_of}
+use Rattle.daide_words.proofs.Common.{token_named, Level, L0, L10, L20, L30, L40, L50, L60, Press, WordList, Client}
+use Rattle.daide_words.proofs.Common.{Take, Stop, entries, may_end_of, slot_of, table_answer, Words, dialect_of, Slot}
+use Rattle.daide_words.proofs.Common.{grammar_words, names_of, word_fault, are_accepted, answer_over}
+use Rattle.daide_grammar.specs.declared.symbol.Sym.TheVariants.{Arrangement, Fact, Operand, PowerGroup}
+use Rattle.daide_grammar.specs.declared.symbol.Sym.TheVariants.{ArrangementGroup, OperandGroup}
 use Rattle.daide_words.specs.declared.slot.Slot.TheVariants as slots
 use Rattle.daide_words.specs.declared.operand.Operand as kinds
 use Rattle.daide_words.specs.declared.operand.Operand.TheVariants as operands
 use Rattle.daide_words.specs.declared.word.Word as code
 use Rattle.daide_words.specs.declared.word.WordError.TheVariants as faults
-use Rattle.daide_words.specs.Word.{grammar_words, names_of}
-use Rattle.daide_words.specs.Accepted.{word_fault, are_accepted}
-use Rattle.daide_words.specs.Table.OverWords.{answer_over, spoken}
+use Rattle.daide_words.specs.Table.OverWords.{spoken}
 
 abbrev made : List ℕ → ℕ → Slot → Level → kinds.Operand → code.Word
 made name token slot level operand = record { name = name; code = token; slot = slot; level = level; operand = operand }

@@ -1,22 +1,16 @@
 -- Words with their names and meanings in separate lists.
-use Rattle.std.proofs.Common.{◌≡◌, ℕ, zero, suc, ◌+◌, ◌≤◌, ◌<◌, Bool, true, false, ◌&&◌, List, [], ◌∷◌, ◌++◌, length}
-use Rattle.std.proofs.Common.{take, refl, sym, ap, ◌∙◌, arith, subst, append_assoc, append-nil, nat_le, leb-true}
-use Rattle.std.proofs.Common.{leb-false, if◌then◌else◌, Result, Err, slice_set, get_or, Some, None}
-use Rattle.std.proofs.lemmas.List.{get_or-take}
-use Rattle.daide_words.specs.Words.{word_at}
-use Rattle.std.proofs.lemmas.List.{length-take-le, take_more_set}
-use Rattle.daide_words.specs.declared.word.WordError.{WordError}
+use Rattle.std.proofs.Common.{append_assoc, slice_set, get_or}
+use Rattle.std.proofs.lemmas.List.{get_or-take, length-take-le, take_more_set}
+use Rattle.daide_words.proofs.Common.{◌≡◌, ℕ, zero, suc, ◌+◌, ◌≤◌, ◌<◌, Bool, true, false, ◌&&◌, List, [], ◌∷◌, ◌++◌}
+use Rattle.daide_words.proofs.Common.{length, take, refl, sym, ap, ◌∙◌, arith, subst, append-nil, nat_le, leb-true}
+use Rattle.daide_words.proofs.Common.{leb-false, if◌then◌else◌, Result, Err, Some, None, is_ok, word_at, WordError}
+use Rattle.daide_words.proofs.Common.{list_all, is_capital, word_fault, are_accepted_after, are_accepted, Named}
+use Rattle.daide_words.proofs.Common.{names_of, most_words}
 use Rattle.daide_words.specs.declared.word.WordError.TheVariants.{Full}
-use Rattle.std.specs.List.{list_all}
 use Rattle.std.specs.Str.{IsAscii}
-use Rattle.daide_words.specs.Accepted.{is_capital}
-use Rattle.std.specs.Prelude.{is_ok}
-use Rattle.daide_token.specs.Names.{Named}
 use Rattle.daide_words.specs.declared.word.Word.{Word}
 use Rattle.daide_words.specs.declared.word.WordMeaning.{WordMeaning}
-use Rattle.daide_words.specs.Word.{names_of, new_word, words_with}
-use Rattle.daide_words.specs.Accepted.{word_fault, are_accepted_after, are_accepted}
-use Rattle.daide_grammar.specs.Words.{most_words}
+use Rattle.daide_words.specs.Word.{new_word, words_with}
 use Rattle.daide_words.proofs.AcceptedCodes.{joined}
 
 -- the names of words that are made from two lists are the names of the first list

@@ -1,12 +1,9 @@
 -- A word that is allowed at a level is allowed at every higher one, so a higher level only adds messages.
-use Rattle.std.proofs.Common.{ℕ, suc, List, [], ◌∷◌}
-use Rattle.daide_grammar.specs.declared.level.Level.{Level}
-use Rattle.daide_grammar.specs.declared.side.Side2.{Side2}
+use Rattle.daide_words.proofs.Common.{ℕ, suc, List, [], ◌∷◌, Level, Side2, AddedWord, Words, WordSlot, press_word}
+use Rattle.daide_words.proofs.Common.{arrangement_word, WordOperand, an_arrangement, operand_in, stands_in, word_form}
+use Rattle.daide_words.proofs.Common.{dialect_from, dialect_of, IsMessageOver}
 use Rattle.daide_grammar.specs.Forms.{Slot, Press_slot, Arrangement_slot, Flat_slot, Form}
-use Rattle.daide_grammar.specs.Words.{AddedWord, Words, WordSlot, press_word, arrangement_word, WordOperand, one_power}
-use Rattle.daide_grammar.specs.Words.{some_powers, some_provinces, an_order, an_arrangement, a_press}
-use Rattle.daide_grammar.specs.Words.{arrangement_in, operand_in, stands_in, word_form}
-use Rattle.daide_grammar.specs.SideMessages.{dialect_from, dialect_of, IsMessageOver}
+use Rattle.daide_grammar.specs.Words.{one_power, some_powers, some_provinces, an_order, a_press, arrangement_in}
 use Rattle.daide_grammar.proofs.LevelsGrow.{◌⊑◌, SlotWithin, same_slot, flat_slot, arrangements, flats, flat_arrangements}
 use Rattle.daide_grammar.proofs.LevelsGrow.{presses, Within, same, missing, ◌··◌, ◌∣∣◌, inside, name, WordsGrow}
 use Rattle.daide_grammar.proofs.LevelsGrow.{from_level-within, message-grows}

@@ -1,6 +1,4 @@
-use Rattle.std.proofs.Common.{Some, None, sym, ap, ◌∙◌}
-use Rattle.daide_words.specs.Words.{words_of}
-use Rattle.daide_words.specs.Table.Places.{place_from}
+use Rattle.daide_words.proofs.Common.{Some, None, sym, ap, ◌∙◌, words_of, place_from}
 use Rattle.daide_words.proofs.AcceptedCodes.{class_told}
 use Rattle.daide_words.proofs.extended.class_among.Goals as goal
 

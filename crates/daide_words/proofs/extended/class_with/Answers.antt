@@ -1,9 +1,6 @@
-use Rattle.std.proofs.Common.{◌≡◌, true, sym, ap, ◌∙◌}
-use Rattle.daide_token.specs.declared.class.Class.{Class}
-use Rattle.daide_token.specs.declared.class.Class.TheVariants.{Bra, Ket, Other}
-use Rattle.daide_grammar.specs.Classes.{class_number}
+use Rattle.daide_words.proofs.Common.{◌≡◌, true, sym, ap, ◌∙◌, Class, Other, class_number, words_of}
+use Rattle.daide_token.specs.declared.class.Class.TheVariants.{Bra, Ket}
 use Rattle.daide_grammar.specs.Table.Numbers.{is_bracket}
-use Rattle.daide_words.specs.Words.{words_of}
 use Rattle.daide_words.proofs.AcceptedCodes.{class_kept}
 use Rattle.daide_words.proofs.extended.class_with.Goals as goal
 

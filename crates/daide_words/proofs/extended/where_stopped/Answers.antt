@@ -1,11 +1,5 @@
-use Rattle.std.proofs.Common.{Some, None, sym, ap, ◌∙◌, option_map}
-use Rattle.daide_grammar.specs.Table.Answers.{Stop}
-use Rattle.daide_grammar.specs.Table.ParseActions.{action}
-use Rattle.daide_grammar.specs.Table.Symbols.{slot_of}
-use Rattle.daide_words.specs.Word.{grammar_word, grammar_words}
-use Rattle.daide_words.specs.Words.{words_of, word_at}
-use Rattle.daide_words.specs.Table.Place.{grammar_place}
-use Rattle.daide_words.specs.Table.OverWords.{word_answer}
+use Rattle.daide_words.proofs.Common.{Some, None, sym, ap, ◌∙◌, option_map, Stop, action, slot_of, grammar_word}
+use Rattle.daide_words.proofs.Common.{grammar_words, words_of, word_at, grammar_place, word_answer}
 use Rattle.daide_words.proofs.WhereStopped.{no_word, no_word_there, stopped_word}
 use Rattle.daide_words.proofs.extended.where_stopped.Goals as goal
 

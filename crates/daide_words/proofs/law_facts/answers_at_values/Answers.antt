@@ -1,7 +1,5 @@
-use Rattle.std.proofs.Common.{refl, [], ◌∷◌}
-use Rattle.daide_token.specs.Token.{bra, ket}
+use Rattle.daide_words.proofs.Common.{refl, [], ◌∷◌, bra, ket, L0}
 use Rattle.daide_grammar.specs.Balanced.{bracketed, empty, plain}
-use Rattle.daide_grammar.specs.declared.level.Level.TheVariants.{L0}
 use Rattle.daide_grammar.specs.declared.side.Side2.TheVariants.{Client as BotSide, ServerEnd}
 use Rattle.daide_words.proofs.Apart.{numbers_apart}
 use Rattle.daide_words.proofs.law_facts.answers_at_values.Goals as goal

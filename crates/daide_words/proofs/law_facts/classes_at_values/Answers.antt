@@ -1,15 +1,7 @@
-use Rattle.std.proofs.Common.{[], ◌∷◌, refl, ap, ◌∙◌, nat_le, ◌&&◌}
-use Rattle.daide_grammar.specs.declared.level.Level.{Level}
-use Rattle.daide_grammar.specs.declared.level.Level.TheVariants.{L10, L60}
-use Rattle.daide_grammar.specs.declared.symbol.Sym.TheVariants.{Client, Press, WordList}
+use Rattle.daide_words.proofs.Common.{[], ◌∷◌, refl, ap, ◌∙◌, nat_le, ◌&&◌, Level, L10, L60, Client, Press, WordList}
+use Rattle.daide_words.proofs.Common.{level_number, Take, entries, may_end_of, slot_of, table_answer, Operand, Slot}
+use Rattle.daide_words.proofs.Common.{grammar_operand, grammar_slot, makes, operand_symbol}
 use Rattle.daide_grammar.specs.Forms.{Press_slot}
-use Rattle.daide_grammar.specs.Level.{level_number}
-use Rattle.daide_grammar.specs.Table.Answers.{Take}
-use Rattle.daide_grammar.specs.Table.Symbols.{entries, may_end_of, slot_of, table_answer}
-use Rattle.daide_words.specs.declared.operand.Operand.{Operand}
-use Rattle.daide_words.specs.declared.slot.Slot.{Slot}
-use Rattle.daide_words.specs.Word.{grammar_operand, grammar_slot}
-use Rattle.daide_words.specs.Table.OverWords.{makes, operand_symbol}
 use Rattle.daide_words.proofs.law_facts.classes_at_values.Goals as goal
 
 pub returns-clause-class : goal.returns-clause-class

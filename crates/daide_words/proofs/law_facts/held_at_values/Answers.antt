@@ -1,10 +1,7 @@
-use Rattle.std.proofs.Common.{[], ◌∷◌, refl}
-use Rattle.daide_token.specs.Token.{bra, ket}
+use Rattle.daide_words.proofs.Common.{[], ◌∷◌, refl, bra, ket, L0, L60, Client, entries, may_end_of, slot_of}
+use Rattle.daide_words.proofs.Common.{table_answer}
 use Rattle.daide_grammar.specs.Balanced.{plain}
-use Rattle.daide_grammar.specs.declared.level.Level.TheVariants.{L0, L60}
 use Rattle.daide_grammar.specs.declared.side.Side2.TheVariants.{Client as BotSide}
-use Rattle.daide_grammar.specs.declared.symbol.Sym.TheVariants.{Client}
-use Rattle.daide_grammar.specs.Table.Symbols.{entries, may_end_of, slot_of, table_answer}
 use Rattle.daide_words.proofs.Apart.{numbers_apart}
 use Rattle.daide_words.proofs.law_facts.held_at_values.Goals as goal
 

@@ -1,6 +1,4 @@
-use Rattle.std.proofs.Common.{◌≡◌, true, false, [], ◌∷◌, arith}
-use Rattle.daide_token.specs.Token.{prn}
-use Rattle.daide_grammar.specs.declared.level.Level.TheVariants.{L20, L60}
+use Rattle.daide_words.proofs.Common.{◌≡◌, true, false, [], ◌∷◌, arith, prn, L20, L60}
 use Rattle.daide_grammar.specs.declared.side.Side2.TheVariants.{Client as BotSide, ServerEnd}
 use Rattle.daide_words.proofs.law_facts.messages_at_values.Goals as goal
 

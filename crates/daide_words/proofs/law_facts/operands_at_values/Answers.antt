@@ -1,7 +1,5 @@
-use Rattle.std.proofs.Common.{refl, ◌≡◌, codes, sym, ap}
-use Rattle.daide_words.specs.declared.operand.Operand.{Operand}
+use Rattle.daide_words.proofs.Common.{refl, ◌≡◌, codes, sym, ap, Operand, Slot}
 use Rattle.daide_words.specs.declared.operand.Operand.TheVariants as operands
-use Rattle.daide_words.specs.declared.slot.Slot.{Slot}
 use Rattle.daide_words.specs.declared.slot.Slot.TheVariants as slots
 use Rattle.daide_words.specs.WordNames.{operand_name, slot_name}
 use Rattle.daide_words.proofs.Apart.{texts_apart}

@@ -1,10 +1,7 @@
-use Rattle.std.proofs.Common.{[], ◌∷◌, refl, ap}
+use Rattle.daide_words.proofs.Common.{[], ◌∷◌, refl, ap, bra, Closing, entries, may_end_of, table_answer, grammar_words}
+use Rattle.daide_words.proofs.Common.{answer_over}
 use Rattle.daide_token.specs.declared.class.Class.TheVariants as classes
-use Rattle.daide_token.specs.Token.{bra}
-use Rattle.daide_grammar.specs.declared.symbol.Sym.TheVariants.{Closing, OnePower, PowerGroup}
-use Rattle.daide_grammar.specs.Table.Symbols.{entries, may_end_of, table_answer}
-use Rattle.daide_words.specs.Word.{grammar_words}
-use Rattle.daide_words.specs.Table.OverWords.{answer_over}
+use Rattle.daide_grammar.specs.declared.symbol.Sym.TheVariants.{OnePower, PowerGroup}
 use Rattle.daide_words.proofs.law_facts.prediction_at_values.Goals as goal
 
 pub returns-clause-takes : goal.returns-clause-takes

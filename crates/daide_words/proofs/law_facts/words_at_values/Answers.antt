@@ -1,4 +1,4 @@
-use Rattle.std.proofs.Common.{[], ◌∷◌, refl}
+use Rattle.daide_words.proofs.Common.{[], ◌∷◌, refl}
 use Rattle.daide_words.proofs.Apart.{numbers_apart}
 use Rattle.daide_words.proofs.law_facts.words_at_values.Goals as goal
 

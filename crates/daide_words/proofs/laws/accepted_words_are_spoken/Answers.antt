@@ -1,5 +1,4 @@
-use Rattle.daide_words.specs.Word.{grammar_words}
-use Rattle.daide_words.specs.Proofs.WordLaws.{all-spoken}
+use Rattle.daide_words.proofs.Common.{grammar_words, all-spoken}
 use Rattle.daide_words.proofs.AcceptedCodes.{accepted_free}
 use Rattle.daide_words.proofs.laws.accepted_words_are_spoken.Goals as goal
 

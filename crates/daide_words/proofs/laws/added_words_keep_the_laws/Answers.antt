@@ -1,5 +1,4 @@
-use Rattle.daide_words.specs.Word.{grammar_words}
-use Rattle.daide_words.specs.Proofs.WordLaws.{laws_over}
+use Rattle.daide_words.proofs.Common.{grammar_words, laws_over}
 use Rattle.daide_words.proofs.AcceptedCodes.{accepted_free}
 use Rattle.daide_words.proofs.laws.added_words_keep_the_laws.Goals as goal
 

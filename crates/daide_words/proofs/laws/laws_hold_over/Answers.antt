@@ -1,4 +1,4 @@
-use Rattle.daide_words.specs.Words.{words_of}
+use Rattle.daide_words.proofs.Common.{words_of}
 use Rattle.daide_words.proofs.laws.laws_hold_over.Goals as goal
 
 pub returns : goal.returns

@@ -1,4 +1,4 @@
-use Rattle.daide_words.specs.Word.{grammar_words}
+use Rattle.daide_words.proofs.Common.{grammar_words}
 use Rattle.daide_words.proofs.WordsGrow.{levels-only-add-over}
 use Rattle.daide_words.proofs.laws.levels_only_add.Goals as goal
 

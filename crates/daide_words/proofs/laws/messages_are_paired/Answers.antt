@@ -1,4 +1,4 @@
-use Rattle.daide_words.specs.Word.{grammar_words}
+use Rattle.daide_words.proofs.Common.{grammar_words}
 use Rattle.daide_words.proofs.AcceptedCodes.{accepted_free}
 use Rattle.daide_words.proofs.PairedOverWords.{over-paired}
 use Rattle.daide_words.proofs.laws.messages_are_paired.Goals as goal

@@ -1,4 +1,4 @@
-use Rattle.std.proofs.Common.{inl, refl}
+use Rattle.daide_words.proofs.Common.{inl, refl}
 use Rattle.daide_words.proofs.laws.prn_answer_is_a_message.Goals as goal
 
 pub returns : goal.returns

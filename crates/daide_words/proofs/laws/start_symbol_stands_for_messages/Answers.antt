@@ -1,4 +1,4 @@
-use Rattle.daide_words.specs.Word.{grammar_words}
+use Rattle.daide_words.proofs.Common.{grammar_words}
 use Rattle.daide_words.proofs.AcceptedCodes.{accepted_free}
 use Rattle.daide_words.proofs.OverMessages.{start_symbol-language}
 use Rattle.daide_words.proofs.laws.start_symbol_stands_for_messages.Goals as goal

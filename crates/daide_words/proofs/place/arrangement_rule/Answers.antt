@@ -1,10 +1,5 @@
-use Rattle.std.proofs.Common.{◌+◌, [], ◌∷◌, sym, ap, ◌∙◌}
-use Rattle.daide_grammar.specs.declared.numbers.TheConstants.{LEAVES_ARRANGEMENT_GROUP, LEAVES_OPERAND_GROUP}
-use Rattle.daide_grammar.specs.Table.Answers.{Take}
-use Rattle.daide_grammar.specs.Table.ParseActions.{action}
-use Rattle.daide_grammar.specs.Words.{an_arrangement}
-use Rattle.daide_words.specs.Table.Place.{grammar_place}
-use Rattle.daide_words.specs.Table.OverWords.{operand_symbol}
+use Rattle.daide_words.proofs.Common.{◌+◌, [], ◌∷◌, sym, ap, ◌∙◌, LEAVES_ARRANGEMENT_GROUP, LEAVES_OPERAND_GROUP, Take}
+use Rattle.daide_words.proofs.Common.{action, an_arrangement, grammar_place, operand_symbol}
 use Rattle.daide_words.specs.declared.place.WordPosition.{WordPosition}
 use Rattle.daide_words.proofs.OperandRules.{arrangement_rule, flat_rule}
 use Rattle.daide_words.proofs.place.arrangement_rule.Goals as goal

@@ -1,10 +1,5 @@
-use Rattle.std.proofs.Common.{◌≡◌, true, false, nat_le, sym, ◌∙◌, arith}
-use Rattle.std.proofs.lemmas.Bool.Decides.{nat_tests}
-use Rattle.daide_grammar.specs.Level.{level_number}
-use Rattle.daide_grammar.specs.Table.ParseActions.{action}
-use Rattle.daide_words.specs.Word.{grammar_slot}
-use Rattle.daide_words.specs.Table.Place.{grammar_place}
-use Rattle.daide_words.specs.Table.OverWords.{makes}
+use Rattle.daide_words.proofs.Common.{◌≡◌, true, false, nat_le, sym, ◌∙◌, arith, nat_tests, level_number, action}
+use Rattle.daide_words.proofs.Common.{grammar_slot, grammar_place, makes}
 use Rattle.daide_words.proofs.WhereStopped.{not_standing, standing, first_fails, second_fails, both_hold}
 use Rattle.daide_words.proofs.place.move_in.Goals as goal
 

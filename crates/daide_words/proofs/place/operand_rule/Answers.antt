@@ -1,11 +1,5 @@
-use Rattle.std.proofs.Common.{◌+◌, [], ◌∷◌, sym, ap, ◌∙◌}
-use Rattle.daide_grammar.specs.declared.numbers.TheConstants.{LEAVES_PRESS_GROUP}
-use Rattle.daide_grammar.specs.Table.Answers.{Take}
-use Rattle.daide_grammar.specs.Table.ParseActions.{action}
-use Rattle.daide_words.specs.Word.{grammar_operand}
-use Rattle.daide_words.specs.Table.Place.{grammar_place}
-use Rattle.daide_words.specs.Table.OverWords.{operand_symbol}
-use Rattle.daide_words.specs.declared.operand.Operand.{Operand}
+use Rattle.daide_words.proofs.Common.{◌+◌, [], ◌∷◌, sym, ap, ◌∙◌, LEAVES_PRESS_GROUP, Take, action, grammar_operand}
+use Rattle.daide_words.proofs.Common.{grammar_place, operand_symbol, Operand}
 use Rattle.daide_words.proofs.OperandRules.{power_rule, powers_rule, provinces_rule, order_rule, press_rule}
 use Rattle.daide_words.proofs.place.operand_rule.Goals as goal
 

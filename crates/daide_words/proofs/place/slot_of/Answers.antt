@@ -1,6 +1,4 @@
-use Rattle.std.proofs.Common.{Some, sym, ap, ◌∙◌}
-use Rattle.daide_grammar.specs.Table.Symbols.{slot_of}
-use Rattle.daide_words.specs.Table.Place.{grammar_place}
+use Rattle.daide_words.proofs.Common.{Some, sym, ap, ◌∙◌, slot_of, grammar_place}
 use Rattle.daide_words.proofs.OperandRules.{operand_slot, no_slot}
 use Rattle.daide_words.proofs.place.slot_of.Goals as goal
 

@@ -1,5 +1,4 @@
-use Rattle.std.proofs.Common.{◌≡◌, ◌+◌, length}
-use Rattle.daide_words.specs.Table.Places.{place_from}
+use Rattle.daide_words.proofs.Common.{◌≡◌, ◌+◌, length, place_from}
 use Rattle.daide_words.proofs.words.place_in.Given as goal
 
 -- the names before the index belong to other tokens

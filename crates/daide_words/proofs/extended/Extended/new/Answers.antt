@@ -1,8 +1,4 @@
-use Rattle.std.proofs.Common.{refl}
-use Rattle.daide_words.specs.Table.Extended.{spoken_words}
-use Rattle.daide_words.specs.Word.{grammar_words}
-use Rattle.daide_words.specs.Words.{words_of}
-use Rattle.daide_words.specs.Proofs.WordLaws.{all-spoken}
+use Rattle.daide_words.proofs.Common.{refl, spoken_words, grammar_words, words_of, all-spoken}
 use Rattle.daide_words.proofs.AcceptedCodes.{accepted_free}
 use Rattle.daide_words.proofs.extended.Extended.new.Goals as goal
 

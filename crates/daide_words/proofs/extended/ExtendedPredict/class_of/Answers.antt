@@ -1,8 +1,4 @@
-use Rattle.std.proofs.Common.{sym, ap, ◌∙◌}
-use Rattle.daide_grammar.specs.SideMessages.{dialect_of}
-use Rattle.daide_words.specs.Table.Extended.{spoken_words}
-use Rattle.daide_words.specs.Words.{words_of}
-use Rattle.daide_words.specs.Proofs.WordLaws.{all-spoken}
+use Rattle.daide_words.proofs.Common.{sym, ap, ◌∙◌, dialect_of, spoken_words, words_of, all-spoken}
 use Rattle.daide_words.proofs.AcceptedCodes.{accepted_free}
 use Rattle.daide_words.proofs.extended.ExtendedPredict.class_of.Goals as goal
 

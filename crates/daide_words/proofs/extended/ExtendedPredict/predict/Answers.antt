@@ -1,10 +1,6 @@
-use Rattle.std.proofs.Common.{◌≡◌, true, false, refl, sym, ap, ◌∙◌}
-use Rattle.daide_grammar.specs.Table.Answers.{TableEntry, Take, Skip, Stop}
-use Rattle.daide_grammar.specs.Table.ParseActions.{is_stop, is_take}
-use Rattle.daide_words.specs.Words.{words_of}
-use Rattle.daide_words.specs.Table.Extended.{spoken_words}
-use Rattle.daide_words.specs.Table.OverWords.{answer_over}
-use Rattle.daide_words.specs.Proofs.WordLaws.{all-spoken}
+use Rattle.daide_words.proofs.Common.{◌≡◌, true, false, refl, sym, ap, ◌∙◌, TableEntry, Take, Skip, Stop, is_stop}
+use Rattle.daide_words.proofs.Common.{words_of, spoken_words, answer_over, all-spoken}
+use Rattle.daide_grammar.specs.Table.ParseActions.{is_take}
 use Rattle.daide_words.proofs.AcceptedCodes.{accepted_free}
 use Rattle.daide_words.proofs.WhereStopped.{not_stopped, the_stop}
 use Rattle.daide_words.proofs.extended.ExtendedPredict.predict.Goals as goal

@@ -1,11 +1,5 @@
-use Rattle.std.proofs.Common.{refl, sym, ap, ◌∙◌}
-use Rattle.daide_grammar.specs.Table.ParseActions.{is_stop}
-use Rattle.daide_grammar.specs.SideMessages.{dialect_of}
-use Rattle.daide_grammar.specs.Table.Symbols.{table_answer}
-use Rattle.daide_words.specs.Table.Extended.{spoken_words}
-use Rattle.daide_words.specs.Table.OverWords.{answer_over}
-use Rattle.daide_words.specs.Words.{words_of}
-use Rattle.daide_words.specs.Proofs.WordLaws.{all-spoken}
+use Rattle.daide_words.proofs.Common.{refl, sym, ap, ◌∙◌, is_stop, dialect_of, table_answer, spoken_words, answer_over}
+use Rattle.daide_words.proofs.Common.{words_of, all-spoken}
 use Rattle.daide_words.proofs.AcceptedCodes.{accepted_free}
 use Rattle.daide_words.proofs.TableFirst.{answered_before, told_before}
 use Rattle.daide_words.proofs.WhereStopped.{the_stop}

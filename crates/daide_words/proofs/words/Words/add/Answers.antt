@@ -1,10 +1,6 @@
-use Rattle.std.proofs.Common.{rules, ◌≡◌, length, sym, ap, ◌∙◌, arith}
-use Rattle.std.specs.Prelude.{is_ok}
-use Rattle.daide_words.specs.Words.{words_of}
-use Rattle.daide_words.specs.Accepted.{word_fault}
+use Rattle.daide_words.proofs.Common.{rules, ◌≡◌, length, sym, ap, ◌∙◌, arith, is_ok, words_of, word_fault, most_words}
 use Rattle.daide_words.proofs.WordLists.{has_room, kept, kept-accepted}
 use Rattle.daide_words.proofs.words.Words.add.Goals as goal
-use Rattle.daide_grammar.specs.Words.{most_words}
 
 pub listed : goal.listed
 unfolding words_of

@@ -1,8 +1,6 @@
-use Rattle.std.proofs.Common.{rules, ◌≡◌, length, sym, ap, ◌∙◌, arith}
-use Rattle.daide_words.specs.Words.{words_of}
+use Rattle.daide_words.proofs.Common.{rules, ◌≡◌, length, sym, ap, ◌∙◌, arith, words_of, most_words}
 use Rattle.daide_words.proofs.WordLists.{behind, names-length, names-few, first_words-at}
 use Rattle.daide_words.proofs.words.Words.get.Goals as goal
-use Rattle.daide_grammar.specs.Words.{most_words}
 
 pub returns-then-place-names : goal.returns-then-place-names
 returns-then-place-names c =

@@ -1,5 +1,4 @@
-use Rattle.std.proofs.Common.{rules, take, sym}
-use Rattle.daide_words.specs.Words.{words_of}
+use Rattle.daide_words.proofs.Common.{rules, take, sym, words_of}
 use Rattle.daide_words.proofs.WordLists.{names_back}
 use Rattle.daide_words.proofs.words.Words.names.Goals as goal
 

@@ -1,5 +1,4 @@
-use Rattle.std.proofs.Common.{refl}
-use Rattle.daide_words.specs.Words.{words_of}
+use Rattle.daide_words.proofs.Common.{refl, words_of}
 use Rattle.daide_words.proofs.words.Words.new.Goals as goal
 
 pub returns : goal.returns
