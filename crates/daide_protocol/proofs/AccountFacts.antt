@@ -1,32 +1,15 @@
 -- The account of a session, worked out from the protocol: each kind of effect, for each side, and the level that it
 -- leaves.
-use Rattle.std.proofs.Common.{◌≡◌, ℕ, ◌+◌, ◌*◌, ◌%◌, ◌^◌, List, [], ◌∷◌, length, refl, Some}
-use Rattle.daide_token.specs.Class.{class_of}
-use Rattle.daide_token.specs.Token.{bra, bytes_of_tokens}
-use Rattle.daide_frame.specs.declared.side.Side.{Side}
-use Rattle.daide_frame.specs.declared.side.Side.TheVariants.{Bot, Server}
-use Rattle.daide_frame.specs.declared.head.Head.{Head}
-use Rattle.daide_frame.specs.declared.head.Kind.TheVariants.{Im, Rm, Dm, Fm}
-use Rattle.daide_frame.specs.declared.code.Code.{Code}
-use Rattle.daide_frame.specs.Head.{head_bytes, parse_head}
-use Rattle.daide_frame.specs.Frames.{is_alien, first_items, last_items}
-use Rattle.daide_frame.specs.InitialMessage.{im_of}
-use Rattle.daide_grammar.specs.declared.level.Level.{Level}
-use Rattle.daide_grammar.specs.declared.level.Level.TheVariants.{L0, L20, L30, L60}
-use Rattle.daide_grammar.specs.Table.Symbols.{entries, may_end_of, table_answer}
-use Rattle.daide_protocol.specs.declared.account.Account.{Account}
+use Rattle.daide_protocol.proofs.Common.{◌≡◌, ℕ, ◌+◌, ◌*◌, ◌%◌, ◌^◌, List, [], ◌∷◌, length, refl, Some, class_of, bra}
+use Rattle.daide_protocol.proofs.Common.{bytes_of_tokens, Side, Bot, Server, Head, Im, Rm, Dm, Fm, Code, head_bytes}
+use Rattle.daide_protocol.proofs.Common.{parse_head, is_alien, first_items, last_items, im_of, Level, L0, L20, L30, L60}
+use Rattle.daide_protocol.proofs.Common.{entries, may_end_of, table_answer, Account, Unknown, Deed, Note, Phase}
+use Rattle.daide_protocol.proofs.Common.{effect_accounted, accounted, summary_of, answer_bytes, Event, Ends, Loses}
+use Rattle.daide_protocol.proofs.Common.{ImTimerExpired, OperatorStops, bytes_come, SessionState, Sent, initial_state}
 use Rattle.daide_protocol.specs.declared.account.SideCounts.{SideCounts}
-use Rattle.daide_protocol.specs.declared.bot_name.BotName.TheVariants.{Unknown}
-use Rattle.daide_protocol.specs.declared.note.Deed.{Deed}
 use Rattle.daide_protocol.specs.declared.note.Deed.TheVariants as Deeds
-use Rattle.daide_protocol.specs.declared.note.Note.{Note}
 use Rattle.daide_protocol.specs.declared.note.Note.TheVariants as Notes
-use Rattle.daide_protocol.specs.declared.phase.Phase.{Phase}
 use Rattle.daide_protocol.specs.declared.phase.Phase.TheVariants.{WaitIm, WaitRm, Open}
-use Rattle.daide_protocol.specs.Account.{effect_accounted, accounted, summary_of}
-use Rattle.daide_protocol.specs.Answers.{answer_bytes}
-use Rattle.daide_protocol.specs.Events.{Event, Ends, Loses, ImTimerExpired, OperatorStops, bytes_come}
-use Rattle.daide_protocol.specs.Machine.{SessionState, Sent, initial_state}
 use Rattle.daide_protocol.proofs.SomeRun.{in_phase, outcome_of}
 
 abbrev counts : ℕ → ℕ → ℕ → SideCounts

@@ -1,24 +1,12 @@
 -- The account after one list of effects and then another, and after an answer.
-use Rattle.std.proofs.Common.{◌≡◌, ℕ, true, List, [], ◌∷◌, ◌++◌, drop, refl, sym, ap, ◌∙◌}
-use Rattle.daide_token.specs.Token.{tokens_of}
-use Rattle.daide_frame.specs.declared.side.Side.{Side}
-use Rattle.daide_frame.specs.declared.side.Side.TheVariants.{Bot, Server}
-use Rattle.daide_frame.specs.declared.head.Head.{Head}
-use Rattle.daide_frame.specs.declared.head.Kind.{Kind}
-use Rattle.daide_frame.specs.declared.head.Kind.TheVariants.{Im, Rm, Dm, Fm, Em}
-use Rattle.daide_grammar.specs.declared.level.Level.{Level}
-use Rattle.daide_reader.specs.declared.verdict.Verdict.{Verdict}
-use Rattle.daide_reader.specs.declared.verdict.Verdict.TheVariants.{Relay, Prn, Huh}
-use Rattle.daide_protocol.specs.declared.account.Account.{Account}
-use Rattle.daide_protocol.specs.declared.note.Deed.{Deed}
+use Rattle.daide_protocol.proofs.Common.{◌≡◌, ℕ, true, List, [], ◌∷◌, ◌++◌, drop, refl, sym, ap, ◌∙◌, tokens_of, Side}
+use Rattle.daide_protocol.proofs.Common.{Bot, Server, Head, Kind, Im, Rm, Dm, Fm, Em, Level, Verdict, Relay, Prn, Huh}
+use Rattle.daide_protocol.proofs.Common.{Account, Deed, effect_accounted, accounted, name_after, BotName, answer_bytes}
+use Rattle.daide_protocol.proofs.Common.{answer_head, Limits, Effect, deed_of, reply_to, SessionView}
 use Rattle.daide_protocol.specs.declared.note.Deed.TheVariants as Deeds
 use Rattle.daide_protocol.specs.declared.note.Note.TheVariants as Notes
-use Rattle.daide_protocol.specs.Account.{level_after, frame_accounted, effect_accounted, accounted}
-use Rattle.daide_protocol.specs.BotName.{name_after}
-use Rattle.daide_protocol.specs.declared.bot_name.BotName.{BotName}
-use Rattle.daide_protocol.specs.Answers.{answer_bytes, answer_head}
-use Rattle.daide_protocol.specs.Machine.{Limits, Effect, deed_of, reply_to}
-use Rattle.daide_protocol.specs.Wires.{SessionView, account_after}
+use Rattle.daide_protocol.specs.Account.{level_after, frame_accounted}
+use Rattle.daide_protocol.specs.Wires.{account_after}
 use Rattle.daide_protocol.proofs.CountLemmas.{behind_head}
 
 pub accounted-append : (top : Level) (a b : List Effect) (account : Account) →

@@ -1,30 +1,14 @@
 -- While a session is open, the level of its account is that of its phase.
-use Rattle.std.proofs.Common.{◌≡◌, ℕ, Bool, true, false, cond, List, [], ◌∷◌, ◌++◌, Option, Some, None, Result, Ok, Err}
-use Rattle.std.proofs.Common.{refl, sym, ap, ◌∙◌, subst}
-use Rattle.daide_token.specs.Token.{tokens_of}
-use Rattle.daide_frame.specs.declared.side.Side.{Side}
-use Rattle.daide_frame.specs.declared.side.Side.TheVariants.{Bot, Server}
-use Rattle.daide_frame.specs.declared.head.Head.{Head}
-use Rattle.daide_frame.specs.declared.head.Kind.{Kind}
-use Rattle.daide_frame.specs.declared.head.Kind.TheVariants.{Im, Rm, Dm, Fm, Em}
-use Rattle.daide_frame.specs.declared.code.Code.{Code}
-use Rattle.daide_frame.specs.Head.{is_im}
-use Rattle.daide_frame.specs.InitialMessage.{im_of}
-use Rattle.daide_frame.specs.Frames.{FrameEvent, Begun, Whole, Wrong}
-use Rattle.daide_grammar.specs.declared.level.Level.{Level}
-use Rattle.daide_reader.specs.declared.verdict.Verdict.{Verdict}
-use Rattle.daide_reader.specs.declared.verdict.Verdict.TheVariants.{Relay, Prn, Huh}
-use Rattle.daide_protocol.specs.declared.account.Account.{Account}
-use Rattle.daide_protocol.specs.declared.note.Deed.{Deed}
-use Rattle.daide_protocol.specs.declared.phase.SessionPhase.{SessionPhase}
-use Rattle.daide_protocol.specs.declared.phase.SessionPhase.TheVariants.{WaitIm, WaitRm, Open, Over}
-use Rattle.daide_protocol.specs.Account.{nothing_accounted, level_after, frame_accounted, accounted}
-use Rattle.daide_protocol.specs.Events.{Event, Comes, Ends, Loses, ImTimerExpired, OperatorStops}
-use Rattle.daide_protocol.specs.HloLevel.{level_reported}
-use Rattle.daide_protocol.specs.Machine.{Limits, SessionState, Effect, Successor, Runs, coming, with_pending, destination}
-use Rattle.daide_protocol.specs.Machine.{is_over, is_sent, phase_after, deed_of, answered, im_answered, fault, untimely}
-use Rattle.daide_protocol.specs.Machine.{header_outcome, item_outcome, items_outcome, im_timer_expired, event_outcome}
-use Rattle.daide_protocol.specs.Machine.{initial_state}
+use Rattle.daide_protocol.proofs.Common.{◌≡◌, ℕ, Bool, true, false, cond, List, [], ◌∷◌, ◌++◌, Option, Some, None}
+use Rattle.daide_protocol.proofs.Common.{Result, Ok, Err, refl, sym, ap, ◌∙◌, subst, tokens_of, Side, Bot, Server, Head}
+use Rattle.daide_protocol.proofs.Common.{Kind, Im, Rm, Dm, Fm, Em, Code, is_im, im_of, FrameEvent, Begun, Whole, Wrong}
+use Rattle.daide_protocol.proofs.Common.{Level, Verdict, Relay, Prn, Huh, Account, Deed, SessionPhase, WaitIm, WaitRm}
+use Rattle.daide_protocol.proofs.Common.{Open, Over, nothing_accounted, accounted, Event, Comes, Ends, Loses}
+use Rattle.daide_protocol.proofs.Common.{ImTimerExpired, OperatorStops, level_reported, Limits, SessionState, Effect}
+use Rattle.daide_protocol.proofs.Common.{Successor, Runs, coming, with_pending, destination, is_over, is_sent}
+use Rattle.daide_protocol.proofs.Common.{phase_after, deed_of, answered, im_answered, fault, untimely, header_outcome}
+use Rattle.daide_protocol.proofs.Common.{item_outcome, items_outcome, im_timer_expired, event_outcome, initial_state}
+use Rattle.daide_protocol.specs.Account.{level_after, frame_accounted}
 use Rattle.daide_protocol.proofs.AccountLemmas.{accounted-append, answer_by_body}
 use Rattle.daide_protocol.proofs.FramesHeard.{items_limits}
 use Rattle.daide_protocol.proofs.LimitsKept.{event_limits}

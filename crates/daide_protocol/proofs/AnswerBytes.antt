@@ -1,15 +1,10 @@
 -- An answer is one whole frame, and its tokens are those of the message with fixed tokens around them.
-use Rattle.std.proofs.Common.{◌≡◌, ℕ, zero, suc, ◌+◌, ◌*◌, ◌%◌, ◌≤◌, true, List, [], ◌∷◌, ◌++◌}
-use Rattle.std.proofs.Common.{length, take, drop, refl, sym, ◌∙◌, ap, arith, append_assoc}
-use Rattle.std.proofs.Common.{length-append, length-take, length-drop}
-use Rattle.std.proofs.lemmas.Bool.{eqb-true, eq-eqb}
-use Rattle.daide_token.specs.Token.{bra, ket, prn, huh, err, tokens_of}
-use Rattle.daide_frame.specs.declared.head.Kind.TheVariants.{Dm}
-use Rattle.daide_frame.specs.declared.head.Head.{Head}
-use Rattle.daide_frame.specs.Head.{has_right_length, head_bytes}
-use Rattle.daide_reader.specs.declared.verdict.Verdict.TheVariants.{Prn, Huh}
+use Rattle.std.proofs.Common.{length-take, length-drop}
+use Rattle.daide_protocol.proofs.Common.{◌≡◌, ℕ, zero, suc, ◌+◌, ◌*◌, ◌%◌, ◌≤◌, true, List, [], ◌∷◌, ◌++◌, length, take}
+use Rattle.daide_protocol.proofs.Common.{drop, refl, sym, ◌∙◌, ap, arith, append_assoc, length-append, eqb-true, eq-eqb}
+use Rattle.daide_protocol.proofs.Common.{bra, ket, prn, huh, err, tokens_of, Dm, Head, has_right_length, head_bytes}
+use Rattle.daide_protocol.proofs.Common.{Prn, Huh, answer_body, answer_bytes}
 use Rattle.daide_protocol.specs.Bounds.{longest_body}
-use Rattle.daide_protocol.specs.Answers.{answer_body, answer_bytes}
 use Rattle.daide_protocol.specs.Passing.{IsFrame}
 use Rattle.daide_protocol.proofs.FrameShapes.{IsWholeFrame}
 use Rattle.daide_protocol.proofs.HloLemmas.{first_tokens}

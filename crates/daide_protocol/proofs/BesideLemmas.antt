@@ -1,26 +1,12 @@
 -- Events other than bytes from a side do not depend on that side's input, and leave it unchanged.
-use Rattle.std.proofs.Common.{◌≡◌, ℕ, Bool, true, false, cond, List, [], ◌∷◌, ◌++◌, Option, Some}
-use Rattle.std.proofs.Common.{None, Result, Ok, Err, if◌then◌else◌, refl, ◌∙◌, ap}
-use Rattle.daide_frame.specs.declared.side.Side.{Side}
-use Rattle.daide_frame.specs.declared.side.Side.TheVariants.{Bot, Server}
-use Rattle.daide_frame.specs.declared.head.Head.{Head}
-use Rattle.daide_frame.specs.declared.code.Code.{Code}
-use Rattle.daide_frame.specs.Head.{is_im}
-use Rattle.daide_frame.specs.InitialMessage.{im_of}
-use Rattle.daide_frame.specs.Frames.{FrameEvent, Begun, Whole, Wrong, last_items}
-use Rattle.daide_reader.specs.declared.verdict.Verdict.{Verdict}
-use Rattle.daide_protocol.specs.declared.phase.SessionPhase.{SessionPhase}
-use Rattle.daide_protocol.specs.declared.phase.SessionPhase.TheVariants.{WaitIm, WaitRm, Open, Over}
-use Rattle.daide_frame.specs.Side.{other, same_side}
-use Rattle.daide_protocol.specs.Events.{Event, Comes, Ends, Loses, ImTimerExpired, OperatorStops}
-use Rattle.daide_protocol.specs.Machine.{Coming, SessionState, Effect, Successor, Transition}
-use Rattle.daide_protocol.specs.Machine.{with_coming, with_pending, is_over, untimely, header_outcome}
-use Rattle.daide_protocol.specs.Machine.{answered}
-use Rattle.daide_protocol.specs.Machine.{im_answered, item_outcome, items_outcome, im_timer_expired, event_outcome, nothing}
-use Rattle.daide_protocol.specs.Machine.{question}
-use Rattle.daide_protocol.specs.Machine.{end, stop}
-use Rattle.daide_protocol.specs.declared.ending.Ending.{Ending}
-use Rattle.daide_protocol.specs.declared.ending.Ending.TheVariants.{Ended, Lost}
+use Rattle.daide_protocol.proofs.Common.{◌≡◌, ℕ, Bool, true, false, cond, List, [], ◌∷◌, ◌++◌, Option, Some, None}
+use Rattle.daide_protocol.proofs.Common.{Result, Ok, Err, if◌then◌else◌, refl, ◌∙◌, ap, Side, Bot, Server, Head, Code}
+use Rattle.daide_protocol.proofs.Common.{is_im, im_of, FrameEvent, Begun, Whole, Wrong, last_items, Verdict}
+use Rattle.daide_protocol.proofs.Common.{SessionPhase, WaitIm, WaitRm, Open, Over, other, same_side, Event, Comes, Ends}
+use Rattle.daide_protocol.proofs.Common.{Loses, ImTimerExpired, OperatorStops, Coming, SessionState, Effect, Successor}
+use Rattle.daide_protocol.proofs.Common.{Transition, with_coming, with_pending, is_over, untimely, header_outcome}
+use Rattle.daide_protocol.proofs.Common.{answered, im_answered, item_outcome, items_outcome, im_timer_expired}
+use Rattle.daide_protocol.proofs.Common.{event_outcome, nothing, question, end, stop, Ending, Ended, Lost}
 
 -- ---- events other than a side's bytes
 

@@ -1,17 +1,12 @@
 -- The result of a sequence of calls on each wire.
-use Rattle.std.proofs.Common.{◌≡◌, ℕ, Bool, true, false, ◌||◌, List, [], ◌∷◌, ◌++◌, length, nat_lt}
-use Rattle.std.proofs.Common.{refl, sym, ap, ◌∙◌, subst, append_assoc, append-nil, arith, if◌then◌else◌}
-use Rattle.std.proofs.lemmas.Bool.Decides.{nat_tests}
 use Rattle.std.proofs.lemmas.List.{length-append}
 use Rattle.std.proofs.Math.Seq.{drop-append_seam}
-use Rattle.daide_frame.specs.declared.side.Side.{Side}
-use Rattle.daide_frame.specs.declared.side.Side.TheVariants.{Bot, Server}
-use Rattle.daide_protocol.specs.declared.note.Note.{Note}
-use Rattle.daide_frame.specs.Side.{other, same_side}
-use Rattle.daide_protocol.specs.Events.{Event, Ends, Loses, ImTimerExpired, OperatorStops, bytes_come}
-use Rattle.daide_protocol.specs.Machine.{Limits, Sent, SessionState, Effect, Runs, is_over, initial_state}
-use Rattle.daide_protocol.specs.Wires.{SessionView, IsNew, Refines, Lost, Wrote, account_after, queued, sent_to}
-use Rattle.daide_protocol.specs.Wires.{sent_bytes, without}
+use Rattle.daide_protocol.proofs.Common.{◌≡◌, ℕ, Bool, true, false, ◌||◌, List, [], ◌∷◌, ◌++◌, length, nat_lt, refl}
+use Rattle.daide_protocol.proofs.Common.{sym, ap, ◌∙◌, subst, append_assoc, append-nil, arith, if◌then◌else◌, nat_tests}
+use Rattle.daide_protocol.proofs.Common.{Side, Bot, Server, Note, other, same_side, Event, Ends, Loses, ImTimerExpired}
+use Rattle.daide_protocol.proofs.Common.{OperatorStops, bytes_come, Limits, Sent, SessionState, Effect, Runs, is_over}
+use Rattle.daide_protocol.proofs.Common.{initial_state, SessionView, IsNew, queued, sent_to, sent_bytes}
+use Rattle.daide_protocol.specs.Wires.{Refines, Lost, Wrote, account_after, without}
 use Rattle.daide_protocol.specs.Calls.{Call, Feeds, Stops, TimesOut, Terminates, Fails, Puts, first_bytes, IsCall, AreCalls}
 use Rattle.daide_protocol.specs.Calls.{events_of_calls, taken_by, some_call_fails, Delivers}
 use Rattle.daide_protocol.proofs.OneRun.{one_run, runs_join}

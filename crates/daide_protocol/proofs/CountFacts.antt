@@ -1,20 +1,10 @@
 -- The counts of sent frames, worked out from the protocol: each kind of effect, for each side.
-use Rattle.std.proofs.Common.{◌≡◌, ℕ, ◌*◌, List, [], ◌∷◌, length, refl}
-use Rattle.daide_token.specs.Class.{class_of}
-use Rattle.daide_token.specs.Token.{bra, ket, huh, prn, bytes_of_tokens}
-use Rattle.daide_frame.specs.declared.side.Side.{Side}
-use Rattle.daide_frame.specs.declared.side.Side.TheVariants.{Bot, Server}
-use Rattle.daide_frame.specs.Head.{head_bytes, parse_head}
-use Rattle.daide_frame.specs.Frames.{is_alien, first_items, last_items}
-use Rattle.daide_frame.specs.InitialMessage.{im_of}
-use Rattle.daide_grammar.specs.declared.level.Level.TheVariants.{L0, L60}
-use Rattle.daide_grammar.specs.Table.Symbols.{entries, may_end_of, table_answer}
-use Rattle.daide_protocol.specs.declared.phase.Phase.{Phase}
+use Rattle.daide_protocol.proofs.Common.{◌≡◌, ℕ, ◌*◌, List, [], ◌∷◌, length, refl, class_of, bra, ket, huh, prn}
+use Rattle.daide_protocol.proofs.Common.{bytes_of_tokens, Side, Bot, Server, head_bytes, parse_head, is_alien}
+use Rattle.daide_protocol.proofs.Common.{first_items, last_items, im_of, L0, L60, entries, may_end_of, table_answer}
+use Rattle.daide_protocol.proofs.Common.{Phase, Summary, answer_bytes, Event, Ends, Loses, ImTimerExpired}
+use Rattle.daide_protocol.proofs.Common.{OperatorStops, bytes_come, SessionState, initial_state}
 use Rattle.daide_protocol.specs.declared.phase.Phase.TheVariants.{WaitIm, WaitRm, Open}
-use Rattle.daide_protocol.specs.declared.summary.Summary.{Summary}
-use Rattle.daide_protocol.specs.Answers.{answer_bytes}
-use Rattle.daide_protocol.specs.Events.{Event, Ends, Loses, ImTimerExpired, OperatorStops, bytes_come}
-use Rattle.daide_protocol.specs.Machine.{SessionState, initial_state}
 use Rattle.daide_protocol.specs.Counts.{frames_counted}
 use Rattle.daide_protocol.proofs.SomeRun.{in_phase, outcome_of}
 

@@ -1,35 +1,20 @@
 -- A session's counts are those of the frames that it sends, and those of its two sides together.
-use Rattle.std.proofs.Common.{◌≡◌, ℕ, ◌+◌, ◌%◌, ◌^◌, Bool, true, false, cond, List, [], ◌∷◌, ◌++◌, length, drop, Option, Some}
-use Rattle.std.proofs.Common.{None, Result, Ok, Err, refl, sym, ◌∙◌, ap, subst, arith, length-append}
 use Rattle.std.specs.List.{filter}
 use Rattle.std.proofs.lemmas.List.Elements.{filter-append}
-use Rattle.daide_token.specs.Token.{prn, huh, tokens_of}
-use Rattle.daide_frame.specs.declared.side.Side.{Side}
-use Rattle.daide_frame.specs.declared.side.Side.TheVariants.{Bot, Server}
-use Rattle.daide_frame.specs.declared.head.Head.{Head}
-use Rattle.daide_frame.specs.declared.code.Code.{Code}
-use Rattle.daide_frame.specs.Head.{head_bytes, is_im}
-use Rattle.daide_frame.specs.InitialMessage.{im_of}
-use Rattle.daide_frame.specs.Frames.{FrameEvent, Begun, Whole, Wrong, last_items}
-use Rattle.daide_grammar.specs.declared.level.Level.{Level}
-use Rattle.daide_reader.specs.declared.verdict.Verdict.{Verdict}
-use Rattle.daide_reader.specs.declared.verdict.Verdict.TheVariants.{Relay, Prn, Huh}
+use Rattle.daide_protocol.proofs.Common.{◌≡◌, ℕ, ◌+◌, ◌%◌, ◌^◌, Bool, true, false, cond, List, [], ◌∷◌, ◌++◌, length}
+use Rattle.daide_protocol.proofs.Common.{drop, Option, Some, None, Result, Ok, Err, refl, sym, ◌∙◌, ap, subst, arith}
+use Rattle.daide_protocol.proofs.Common.{length-append, prn, huh, tokens_of, Side, Bot, Server, Head, Code, head_bytes}
+use Rattle.daide_protocol.proofs.Common.{is_im, im_of, FrameEvent, Begun, Whole, Wrong, last_items, Level, Verdict}
+use Rattle.daide_protocol.proofs.Common.{Relay, Prn, Huh, Note, SessionPhase, WaitIm, WaitRm, Open, Over, Summary}
+use Rattle.daide_protocol.proofs.Common.{answer_body, answer_bytes, answer_head, other, Event, Comes, Ends, Loses}
+use Rattle.daide_protocol.proofs.Common.{ImTimerExpired, OperatorStops, SessionState, Sent, Effect, Successor, Runs}
+use Rattle.daide_protocol.proofs.Common.{coming, with_pending, is_over, em_to, fm_to, deed_of, destination, is_sent}
+use Rattle.daide_protocol.proofs.Common.{reply_to, header_outcome, untimely, answered, im_answered, item_outcome}
+use Rattle.daide_protocol.proofs.Common.{items_outcome, im_timer_expired, event_outcome, sent_to, nothing_counted}
+use Rattle.daide_protocol.proofs.Common.{count_note, counted_on, one_more, tallied, reduced, Account, effect_accounted}
+use Rattle.daide_protocol.proofs.Common.{accounted, summary_of}
 use Rattle.daide_protocol.specs.declared.note.Deed.TheVariants as Deeds
-use Rattle.daide_protocol.specs.declared.note.Note.{Note}
 use Rattle.daide_protocol.specs.declared.note.Note.TheVariants as Notes
-use Rattle.daide_protocol.specs.declared.phase.SessionPhase.{SessionPhase}
-use Rattle.daide_protocol.specs.declared.phase.SessionPhase.TheVariants.{WaitIm, WaitRm, Open, Over}
-use Rattle.daide_protocol.specs.declared.summary.Summary.{Summary}
-use Rattle.daide_protocol.specs.Answers.{answer_body, answer_bytes, answer_head}
-use Rattle.daide_frame.specs.Side.{other}
-use Rattle.daide_protocol.specs.Events.{Event, Comes, Ends, Loses, ImTimerExpired, OperatorStops}
-use Rattle.daide_protocol.specs.Machine.{SessionState, Sent, Effect, Successor, Runs, coming, with_pending, is_over, em_to}
-use Rattle.daide_protocol.specs.Machine.{fm_to, deed_of, destination, is_sent, reply_to, header_outcome, untimely}
-use Rattle.daide_protocol.specs.Machine.{answered, im_answered, item_outcome, items_outcome, im_timer_expired, event_outcome}
-use Rattle.daide_protocol.specs.Wires.{sent_to}
-use Rattle.daide_protocol.specs.Summary.{nothing_counted, count_note, counted_on, one_more, tallied, reduced}
-use Rattle.daide_protocol.specs.declared.account.Account.{Account}
-use Rattle.daide_protocol.specs.Account.{effect_accounted, accounted, summary_of}
 use Rattle.daide_protocol.specs.Counts.{begins_with, number_to, number_sent, frames_counted}
 use Rattle.daide_protocol.proofs.SummaryLemmas.{counted_reduced}
 use Rattle.daide_protocol.proofs.WireLemmas.{sent_to-append}

@@ -1,22 +1,12 @@
 -- The first event that ended a session is known, and so is its ending.
-use Rattle.std.proofs.Common.{◌≡◌, ℕ, Bool, true, false, List, [], ◌∷◌, ◌++◌, Option, Some, None, Result, Ok, Err}
-use Rattle.std.proofs.Common.{refl, sym, ◌∙◌, ap, subst}
-use Rattle.daide_frame.specs.declared.side.Side.{Side}
-use Rattle.daide_frame.specs.declared.side.Side.TheVariants.{Bot, Server}
-use Rattle.daide_frame.specs.declared.head.Kind.{Kind}
-use Rattle.daide_frame.specs.declared.head.Kind.TheVariants.{Im, Rm, Dm, Fm, Em}
-use Rattle.daide_frame.specs.declared.head.Head.{Head}
-use Rattle.daide_frame.specs.declared.code.Code.{Code}
-use Rattle.daide_frame.specs.InitialMessage.{im_of}
-use Rattle.daide_frame.specs.Frames.{FrameEvent, Whole, last_items}
-use Rattle.daide_grammar.specs.declared.level.Level.{Level}
-use Rattle.daide_reader.specs.declared.verdict.Verdict.{Verdict}
-use Rattle.daide_protocol.specs.declared.phase.SessionPhase.{SessionPhase}
-use Rattle.daide_protocol.specs.declared.phase.SessionPhase.TheVariants.{WaitIm, WaitRm, Open, Over}
-use Rattle.daide_protocol.specs.Events.{Event, Comes, Ends, Loses, ImTimerExpired, OperatorStops}
-use Rattle.daide_protocol.specs.Machine.{SessionState, Effect, Successor, Transition, Runs, coming, with_pending, with_noted}
-use Rattle.daide_protocol.specs.Machine.{is_over, level_in, ending_in, header_outcome, untimely, frame_outcome, answered, im_answered, items_outcome, im_timer_expired}
-use Rattle.daide_protocol.specs.Machine.{event_outcome}
+use Rattle.daide_protocol.proofs.Common.{◌≡◌, ℕ, Bool, true, false, List, [], ◌∷◌, ◌++◌, Option, Some, None, Result, Ok}
+use Rattle.daide_protocol.proofs.Common.{Err, refl, sym, ◌∙◌, ap, subst, Side, Bot, Server, Kind, Im, Rm, Dm, Fm, Em}
+use Rattle.daide_protocol.proofs.Common.{Head, Code, im_of, FrameEvent, Whole, last_items, Level, Verdict, SessionPhase}
+use Rattle.daide_protocol.proofs.Common.{WaitIm, WaitRm, Open, Over, Event, Comes, Ends, Loses, ImTimerExpired}
+use Rattle.daide_protocol.proofs.Common.{OperatorStops, SessionState, Effect, Successor, Transition, Runs, coming}
+use Rattle.daide_protocol.proofs.Common.{with_pending, with_noted, is_over, level_in, ending_in, header_outcome}
+use Rattle.daide_protocol.proofs.Common.{untimely, frame_outcome, answered, im_answered, items_outcome}
+use Rattle.daide_protocol.proofs.Common.{im_timer_expired, event_outcome, tokens_of}
 use Rattle.daide_protocol.specs.Fates.{EventCause, checked_frame, frame_cause, fault_or, items_cause, timeout_in}
 use Rattle.daide_protocol.specs.Ended.{cause_ending, ending_at, IsEndedBy}
 use Rattle.daide_protocol.proofs.FrameShapes.{Shape, quiet, headed, at_once, shape}
@@ -25,7 +15,6 @@ use Rattle.daide_protocol.proofs.FramesHeard.{not_both}
 use Rattle.daide_protocol.proofs.OneRun.{one_run}
 use Rattle.daide_protocol.proofs.PhaseLemmas.{message_ends_nothing}
 use Rattle.daide_protocol.proofs.PieceRuns.{over_stays}
-use Rattle.daide_token.specs.Token.{tokens_of}
 
 -- ---- a whole frame
 

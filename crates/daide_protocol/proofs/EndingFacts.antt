@@ -1,25 +1,14 @@
 -- The endings of sessions, and their counts, worked out from the protocol: each way to end for each side, each code of
 -- a fault, and each kind of note.
-use Rattle.std.proofs.Common.{◌≡◌, ℕ, ◌+◌, List, [], ◌∷◌, ◌++◌, Option, Some, None, refl}
-use Rattle.daide_frame.specs.declared.side.Side.{Side}
-use Rattle.daide_frame.specs.declared.side.Side.TheVariants.{Bot, Server}
-use Rattle.daide_frame.specs.declared.head.Head.{Head}
-use Rattle.daide_frame.specs.declared.code.Code.{Code}
+use Rattle.daide_protocol.proofs.Common.{◌≡◌, ℕ, ◌+◌, List, [], ◌∷◌, ◌++◌, Option, Some, None, refl, Side, Bot, Server}
+use Rattle.daide_protocol.proofs.Common.{Head, Code, parse_head, is_alien, first_items, last_items, im_of, L0, L60}
+use Rattle.daide_protocol.proofs.Common.{Ending, Ended, Lost, Final, Error, Fault, Stopped, Phase, Summary, Event, Ends}
+use Rattle.daide_protocol.proofs.Common.{Loses, ImTimerExpired, OperatorStops, bytes_come, SessionState, ending_in}
+use Rattle.daide_protocol.proofs.Common.{initial_state, count_note, counted_on}
 use Rattle.daide_frame.specs.declared.code.Code.TheVariants as Codes
-use Rattle.daide_frame.specs.Head.{parse_head}
-use Rattle.daide_frame.specs.Frames.{is_alien, first_items, last_items}
-use Rattle.daide_frame.specs.InitialMessage.{im_of}
-use Rattle.daide_grammar.specs.declared.level.Level.TheVariants.{L0, L60}
-use Rattle.daide_protocol.specs.declared.ending.Ending.{Ending}
-use Rattle.daide_protocol.specs.declared.ending.Ending.TheVariants.{Ended, Lost, Final, Error, Fault, Stopped}
 use Rattle.daide_protocol.specs.declared.note.Deed.TheVariants as Deeds
 use Rattle.daide_protocol.specs.declared.note.Note.TheVariants as Notes
-use Rattle.daide_protocol.specs.declared.phase.Phase.{Phase}
 use Rattle.daide_protocol.specs.declared.phase.Phase.TheVariants.{WaitIm, WaitRm, Open}
-use Rattle.daide_protocol.specs.declared.summary.Summary.{Summary}
-use Rattle.daide_protocol.specs.Events.{Event, Ends, Loses, ImTimerExpired, OperatorStops, bytes_come}
-use Rattle.daide_protocol.specs.Machine.{SessionState, ending_in, initial_state}
-use Rattle.daide_protocol.specs.Summary.{count_note, counted_on}
 use Rattle.daide_protocol.proofs.SomeRun.{in_phase, outcome_of}
 
 -- a session in a phase, with nothing held

@@ -1,28 +1,15 @@
 -- Each input of a run has one effect, its fate; and the frames among the inputs are those of the cut.
-use Rattle.std.proofs.Common.{◌≡◌, ℕ, Bool, true, false, List, [], ◌∷◌, ◌++◌, Option, Some, None, Result, Ok, Err}
-use Rattle.std.proofs.Common.{if◌then◌else◌, ◌⊎◌, inl, inr, refl, sym, ◌∙◌, ap, subst, append_assoc, append-nil}
-use Rattle.daide_frame.specs.declared.side.Side.{Side}
-use Rattle.daide_frame.specs.declared.side.Side.TheVariants.{Bot, Server}
-use Rattle.daide_frame.specs.declared.head.Kind.{Kind}
-use Rattle.daide_frame.specs.declared.head.Kind.TheVariants.{Im, Rm, Dm, Fm, Em}
-use Rattle.daide_frame.specs.declared.head.Head.{Head}
-use Rattle.daide_frame.specs.declared.code.Code.{Code}
-use Rattle.daide_frame.specs.Head.{is_im}
-use Rattle.daide_frame.specs.InitialMessage.{im_of}
-use Rattle.daide_frame.specs.Frames.{FrameEvent, Begun, Whole, Wrong, frame_events_of, last_items, cut}
-use Rattle.daide_grammar.specs.declared.level.Level.{Level}
-use Rattle.daide_reader.specs.declared.verdict.Verdict.{Verdict}
-use Rattle.daide_reader.specs.declared.verdict.Verdict.TheVariants.{Relay, Prn, Huh}
-use Rattle.daide_protocol.specs.declared.phase.SessionPhase.{SessionPhase}
-use Rattle.daide_protocol.specs.declared.phase.SessionPhase.TheVariants.{WaitIm, WaitRm, Open, Over}
-use Rattle.daide_protocol.specs.Answers.{answer_bytes}
-use Rattle.daide_protocol.specs.Events.{Event, Comes, Ends, Loses, ImTimerExpired, OperatorStops}
-use Rattle.daide_protocol.specs.Machine.{Limits, SessionState, Effect, Successor, Transition, Runs, IsCorrectVerdict}
-use Rattle.daide_protocol.specs.Machine.{coming, with_pending, with_noted, is_over, untimely, answered, im_answered}
-use Rattle.daide_protocol.specs.Machine.{frame_outcome, items_outcome, reply_to, asked_by, question_of, event_outcome, im_timer_expired}
-use Rattle.daide_protocol.specs.Machine.{initial_state, header_outcome, question, level_in}
-use Rattle.daide_frame.specs.Side.{same_side}
-use Rattle.daide_protocol.specs.Heard.{bytes_from, heard_at, items_heard}
+use Rattle.daide_protocol.proofs.Common.{◌≡◌, ℕ, Bool, true, false, List, [], ◌∷◌, ◌++◌, Option, Some, None, Result, Ok}
+use Rattle.daide_protocol.proofs.Common.{Err, if◌then◌else◌, ◌⊎◌, inl, inr, refl, sym, ◌∙◌, ap, subst, append_assoc}
+use Rattle.daide_protocol.proofs.Common.{append-nil, Side, Bot, Server, Kind, Im, Rm, Dm, Fm, Em, Head, Code, is_im}
+use Rattle.daide_protocol.proofs.Common.{im_of, FrameEvent, Begun, Whole, Wrong, frame_events_of, last_items, cut}
+use Rattle.daide_protocol.proofs.Common.{Level, Verdict, Relay, Prn, Huh, SessionPhase, WaitIm, WaitRm, Open, Over}
+use Rattle.daide_protocol.proofs.Common.{answer_bytes, Event, Comes, Ends, Loses, ImTimerExpired, OperatorStops, Limits}
+use Rattle.daide_protocol.proofs.Common.{SessionState, Effect, Successor, Transition, Runs, IsCorrectVerdict, coming}
+use Rattle.daide_protocol.proofs.Common.{with_pending, with_noted, is_over, untimely, answered, im_answered}
+use Rattle.daide_protocol.proofs.Common.{frame_outcome, items_outcome, reply_to, asked_by, question_of, event_outcome}
+use Rattle.daide_protocol.proofs.Common.{im_timer_expired, initial_state, header_outcome, question, level_in, same_side}
+use Rattle.daide_protocol.proofs.Common.{bytes_from, heard_at, items_heard}
 use Rattle.daide_protocol.specs.Fates.{EventCause, Frame, End, Stop, Came, checked_frame, frame_cause, fault_or}
 use Rattle.daide_protocol.specs.Fates.{items_cause, cause_at, timeout_in, came_in_phase, came_in}
 use Rattle.daide_protocol.specs.Fates.{is_passed_on, is_answered_prn, is_answered_huh, HaveFates, frames_among}

@@ -1,12 +1,9 @@
 -- The frame events that end with one byte: none, a header, a whole frame with or without its header, or a fault.
-use Rattle.std.proofs.Common.{◌≡◌, ℕ, ◌≤◌, Bool, true, false, cond, eqb, List, [], ◌∷◌, length}
-use Rattle.std.proofs.Common.{Option, Some, None, Result, Ok, Err, refl, sym, subst, arith}
-use Rattle.std.proofs.lemmas.Bool.{eqb-true}
-use Rattle.daide_frame.specs.declared.head.Head.{Head}
-use Rattle.daide_frame.specs.declared.code.Code.{Code}
-use Rattle.daide_frame.specs.declared.code.Code.TheVariants.{InvalidToken}
-use Rattle.daide_frame.specs.Head.{has_right_length, parse_head}
-use Rattle.daide_frame.specs.Frames.{FrameEvent, Begun, Whole, Wrong, alien_in, first_items, last_items}
+use Rattle.daide_protocol.proofs.Common.{◌≡◌, ℕ, ◌≤◌, Bool, true, false, cond, eqb, List, [], ◌∷◌, length, Option, Some}
+use Rattle.daide_protocol.proofs.Common.{None, Result, Ok, Err, refl, sym, subst, arith, eqb-true, Head, Code}
+use Rattle.daide_protocol.proofs.Common.{InvalidToken, has_right_length, parse_head, FrameEvent, Begun, Whole, Wrong}
+use Rattle.daide_protocol.proofs.Common.{first_items, last_items}
+use Rattle.daide_frame.specs.Frames.{alien_in}
 use Rattle.daide_frame.proofs.ListLemmas.{ltb_no, eqb_no}
 use Rattle.daide_frame.proofs.FramesLemmas.{last_items-short, at_head, alien_in-nothing, last_items-head4, at_body}
 use Rattle.daide_frame.proofs.FramesLemmas.{parse_head-append4, last_items-body4}

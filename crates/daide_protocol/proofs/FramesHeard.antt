@@ -1,28 +1,18 @@
 -- The frames that a run uses are those in the cut of the bytes from a side, and bytes of the next frame are missing.
-use Rattle.std.proofs.Common.{◌≡◌, ℕ, ◌+◌, ◌<◌, Bool, true, false, cond, ◌||◌, List, [], ◌∷◌, ◌++◌, ◌⊎◌, inl, inr}
-use Rattle.std.proofs.Common.{⊎_elim, Option, Some, None, Result, Ok, Err, refl, sym, ap, ◌∙◌, subst, arith}
-use Rattle.std.proofs.Common.{append_assoc, append-nil}
-use Rattle.daide_frame.specs.declared.side.Side.{Side}
-use Rattle.daide_frame.specs.declared.side.Side.TheVariants.{Bot, Server}
-use Rattle.daide_frame.specs.declared.code.Code.{Code}
-use Rattle.daide_frame.specs.declared.head.Head.{Head}
-use Rattle.daide_frame.specs.InitialMessage.{im_of}
-use Rattle.daide_frame.specs.Frames.{FrameEvent, Begun, Whole, Wrong, EventAtOffset, frame_events_of, event_at_offset, is_whole_frame, is_wrong}
-use Rattle.daide_frame.specs.Frames.{any_item, items_by_byte, last_items, missing, cut}
+use Rattle.daide_protocol.proofs.Common.{◌≡◌, ℕ, ◌+◌, ◌<◌, Bool, true, false, cond, ◌||◌, List, [], ◌∷◌, ◌++◌, ◌⊎◌, inl}
+use Rattle.daide_protocol.proofs.Common.{inr, ⊎_elim, Option, Some, None, Result, Ok, Err, refl, sym, ap, ◌∙◌, subst}
+use Rattle.daide_protocol.proofs.Common.{arith, append_assoc, append-nil, Side, Bot, Server, Code, Head, im_of}
+use Rattle.daide_protocol.proofs.Common.{FrameEvent, Begun, Whole, Wrong, frame_events_of, last_items, missing, cut}
+use Rattle.daide_protocol.proofs.Common.{Verdict, Ended, Lost, SessionPhase, WaitIm, WaitRm, Open, Over, other, Event}
+use Rattle.daide_protocol.proofs.Common.{Comes, Ends, Loses, ImTimerExpired, OperatorStops, Limits, SessionState}
+use Rattle.daide_protocol.proofs.Common.{Effect, Successor, Transition, Runs, initial_state, coming, with_pending}
+use Rattle.daide_protocol.proofs.Common.{is_over, fault, end, header_outcome, untimely, answered, im_answered}
+use Rattle.daide_protocol.proofs.Common.{frame_outcome, item_outcome, items_outcome, im_timer_expired, stop}
+use Rattle.daide_protocol.proofs.Common.{event_outcome, is_im, bytes_from, heard_at, items_heard}
+use Rattle.daide_frame.specs.Frames.{EventAtOffset, event_at_offset, is_whole_frame, is_wrong, any_item, items_by_byte}
 use Rattle.daide_frame.proofs.FramesLemmas.{missing-short}
 use Rattle.daide_frame.proofs.OneByte.{ByteTells, byte_tells}
 use Rattle.daide_frame.proofs.CutsAgree.{by_byte-cut}
-use Rattle.daide_reader.specs.declared.verdict.Verdict.{Verdict}
-use Rattle.daide_protocol.specs.declared.ending.Ending.TheVariants.{Ended, Lost}
-use Rattle.daide_protocol.specs.declared.phase.SessionPhase.{SessionPhase}
-use Rattle.daide_protocol.specs.declared.phase.SessionPhase.TheVariants.{WaitIm, WaitRm, Open, Over}
-use Rattle.daide_frame.specs.Side.{other}
-use Rattle.daide_protocol.specs.Events.{Event, Comes, Ends, Loses, ImTimerExpired, OperatorStops}
-use Rattle.daide_protocol.specs.Machine.{Limits, SessionState, Effect, Successor, Transition, Runs, initial_state, coming}
-use Rattle.daide_frame.specs.Head.{is_im}
-use Rattle.daide_protocol.specs.Machine.{with_pending, is_over, fault, end, header_outcome, untimely, answered}
-use Rattle.daide_protocol.specs.Machine.{im_answered, frame_outcome, item_outcome, items_outcome, im_timer_expired, stop, event_outcome}
-use Rattle.daide_protocol.specs.Heard.{bytes_from, heard_at, items_heard}
 use Rattle.daide_protocol.proofs.OneRun.{one_run}
 use Rattle.daide_protocol.proofs.WireLemmas.{same_self}
 use Rattle.daide_protocol.proofs.PieceRuns.{over_outcome, over_stays, phase_is, limits_are}

@@ -1,6 +1,5 @@
 -- How much the counts grew, and by how much they can still grow: callers need name no count.
-use Rattle.std.proofs.Common.{ℕ, ◌+◌, ◌≤◌, arith}
-use Rattle.daide_protocol.specs.declared.summary.Summary.{Summary}
+use Rattle.daide_protocol.proofs.Common.{ℕ, ◌+◌, ◌≤◌, arith, Summary}
 use Rattle.daide_protocol.specs.Summary.{HasRoom, IsMoreBy}
 
 pub no_more : (n : ℕ) (s : Summary) → IsMoreBy n s s

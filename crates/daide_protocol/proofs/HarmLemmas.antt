@@ -1,35 +1,19 @@
 -- Without a refused message a run has the same effects, except the refusal.
-use Rattle.std.proofs.Common.{◌≡◌, ℕ, ◌+◌, ◌≤◌, ◌<◌, Bool, true, false, cond, List, [], ◌∷◌, ◌++◌, length, Option, Some}
-use Rattle.std.proofs.Common.{None, Result, Ok, Err, ◌⊎◌, inl, inr, refl, sym, ◌∙◌, ap, subst, arith}
-use Rattle.std.proofs.Common.{append-nil, length-append, eqb}
 use Rattle.std.proofs.lemmas.Bool.{cases_lt}
-use Rattle.daide_frame.specs.declared.side.Side.{Side}
-use Rattle.daide_frame.specs.declared.side.Side.TheVariants.{Bot, Server}
-use Rattle.daide_frame.specs.declared.head.Kind.{Kind}
-use Rattle.daide_frame.specs.declared.head.Kind.TheVariants.{Im, Rm, Dm, Fm, Em}
-use Rattle.daide_frame.specs.declared.head.Head.{Head}
-use Rattle.daide_frame.specs.declared.code.Code.{Code}
-use Rattle.daide_frame.specs.Head.{parse_head}
-use Rattle.daide_frame.specs.InitialMessage.{im_of}
-use Rattle.daide_frame.specs.Frames.{FrameEvent, Begun, Whole, Wrong, last_items}
+use Rattle.daide_protocol.proofs.Common.{◌≡◌, ℕ, ◌+◌, ◌≤◌, ◌<◌, Bool, true, false, cond, List, [], ◌∷◌, ◌++◌, length}
+use Rattle.daide_protocol.proofs.Common.{Option, Some, None, Result, Ok, Err, ◌⊎◌, inl, inr, refl, sym, ◌∙◌, ap, subst}
+use Rattle.daide_protocol.proofs.Common.{arith, append-nil, length-append, eqb, Side, Bot, Server, Kind, Im, Rm, Dm, Fm}
+use Rattle.daide_protocol.proofs.Common.{Em, Head, Code, parse_head, im_of, FrameEvent, Begun, Whole, Wrong, last_items}
+use Rattle.daide_protocol.proofs.Common.{Level, Verdict, Relay, Prn, Huh, Note, Over, other, Event, Comes, Ends, Loses}
+use Rattle.daide_protocol.proofs.Common.{ImTimerExpired, OperatorStops, Coming, Limits, SessionState, Sent, Effect}
+use Rattle.daide_protocol.proofs.Common.{Successor, Question, Transition, Runs, coming, with_coming, with_pending}
+use Rattle.daide_protocol.proofs.Common.{with_noted, is_over, untimely, answered, level_in, im_answered, frame_outcome}
+use Rattle.daide_protocol.proofs.Common.{items_outcome, event_outcome, nothing, question_of, asked_by, IsCorrectVerdict}
+use Rattle.daide_protocol.proofs.Common.{deed_of, initial_state, fault, sent_to, heard_at, items_heard}
 use Rattle.daide_frame.proofs.FramesLemmas.{last_items-short, at_head, last_items-head}
-use Rattle.daide_grammar.specs.declared.level.Level.{Level}
-use Rattle.daide_reader.specs.declared.verdict.Verdict.{Verdict}
-use Rattle.daide_reader.specs.declared.verdict.Verdict.TheVariants.{Relay, Prn, Huh}
-use Rattle.daide_protocol.specs.declared.note.Note.{Note}
 use Rattle.daide_protocol.specs.declared.note.Note.TheVariants as Notes
 use Rattle.daide_protocol.specs.declared.ending.Ending.TheVariants as Endings
-use Rattle.daide_protocol.specs.declared.phase.SessionPhase.TheVariants.{Over}
-use Rattle.daide_frame.specs.Side.{other}
-use Rattle.daide_protocol.specs.Events.{Event, Comes, Ends, Loses, ImTimerExpired, OperatorStops}
-use Rattle.daide_protocol.specs.Machine.{Coming, Limits, SessionState, Sent, Effect, Successor, Question, Transition, Runs}
-use Rattle.daide_protocol.specs.Machine.{coming, with_coming, with_pending, with_noted, is_over, untimely}
-use Rattle.daide_protocol.specs.Machine.{answered, level_in}
-use Rattle.daide_protocol.specs.Machine.{im_answered, frame_outcome, items_outcome, event_outcome, nothing}
-use Rattle.daide_protocol.specs.Machine.{question_of, question_in, asked_by, IsCorrectVerdict, deed_of, may_reach}
-use Rattle.daide_protocol.specs.Machine.{initial_state, fault}
-use Rattle.daide_protocol.specs.Wires.{sent_to}
-use Rattle.daide_protocol.specs.Heard.{heard_at, items_heard}
+use Rattle.daide_protocol.specs.Machine.{question_in, may_reach}
 use Rattle.daide_protocol.specs.Fates.{frames_among}
 use Rattle.daide_protocol.specs.Harm.{without_bytes, IsRefusal, HasRefused, IsAsIfUnsent}
 use Rattle.daide_protocol.proofs.FrameShapes.{Shape, quiet, headed, at_once, shape}

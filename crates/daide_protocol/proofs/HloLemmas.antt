@@ -1,13 +1,12 @@
 -- The scan of an HLO after more of its tokens.
-use Rattle.std.proofs.Common.{◌≡◌, ℕ, zero, suc, ◌+◌, ◌*◌, ◌<◌, Bool, true, false, ◌==◌, List, [], ◌∷◌, ◌++◌}
-use Rattle.std.proofs.Common.{length, reverse, get_or, take, Option, Some, None, refl, sym, ap, ◌∙◌, arith}
-use Rattle.std.proofs.Common.{append_assoc, append-nil}
-use Rattle.std.specs.Prelude.{ℤ, if◌then◌else◌}
+use Rattle.std.proofs.Common.{◌==◌, reverse, get_or}
 use Rattle.std.proofs.lemmas.List.{reverse-append, length-reverse, get_or_append_left}
-use Rattle.daide_token.specs.Token.{hlo, tokens_of}
+use Rattle.daide_protocol.proofs.Common.{◌≡◌, ℕ, zero, suc, ◌+◌, ◌*◌, ◌<◌, Bool, true, false, List, [], ◌∷◌, ◌++◌}
+use Rattle.daide_protocol.proofs.Common.{length, take, Option, Some, None, refl, sym, ap, ◌∙◌, arith, append_assoc}
+use Rattle.daide_protocol.proofs.Common.{append-nil, ℤ, if◌then◌else◌, hlo, tokens_of, lvl_scan_of}
 use Rattle.daide_protocol.specs.declared.hlo.LvlScan.{LvlScan}
 use Rattle.daide_protocol.specs.declared.hlo.LvlScan.TheVariants.{NoToken, NoHlo, NoNumber, Number}
-use Rattle.daide_protocol.specs.HloLevel.{or_else, option_number, first_level, before_last, lvl_scan_by, lvl_scan_of}
+use Rattle.daide_protocol.specs.HloLevel.{or_else, option_number, first_level, before_last, lvl_scan_by}
 
 -- ---- the first option, with one more token
 

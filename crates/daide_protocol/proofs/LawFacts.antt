@@ -1,37 +1,22 @@
 -- Each law of the machine, used once at concrete values. Each fact uses only the law, so that a weaker law does not
 -- check.
-use Rattle.std.proofs.Common.{◌≡◌, ℕ, ◌<◌, true, false, List, [], ◌∷◌, ◌++◌, take, drop, Some, None}
-use Rattle.std.proofs.Common.{is_some, Bool, ◌==◌, slice_index, slice_index_or, refl, sym, ap, ◌∙◌, subst, arith}
-use Rattle.std.proofs.Common.{append-nil}
-use Rattle.std.proofs.lemmas.Bool.{eq-eqb}
-use Rattle.std.specs.List.{All}
-use Rattle.daide_token.specs.Token.{prn, huh, tokens_of}
-use Rattle.daide_frame.specs.declared.side.Side.TheVariants.{Bot, Server}
-use Rattle.daide_frame.specs.declared.head.Kind.{Kind}
-use Rattle.daide_frame.specs.declared.head.Kind.TheVariants.{Im, Rm, Dm, Fm, Em}
-use Rattle.daide_frame.specs.declared.code.Code.TheVariants.{ImTimeout}
-use Rattle.daide_frame.specs.Head.{head_bytes, parse_head}
-use Rattle.daide_frame.specs.Frames.{FrameEvent, Begun, Whole, cut, first_items, is_alien, last_items, missing}
-use Rattle.daide_frame.specs.InitialMessage.{im_of}
-use Rattle.daide_token.specs.Class.{class_of}
-use Rattle.daide_grammar.specs.Table.Symbols.{entries, may_end_of, table_answer}
-use Rattle.daide_protocol.specs.Answers.{answer_bytes}
-use Rattle.daide_grammar.specs.declared.level.Level.{Level}
-use Rattle.daide_grammar.specs.declared.level.Level.TheVariants.{L0, L20}
-use Rattle.daide_grammar.specs.declared.side.Side2.TheVariants.{ServerEnd}
+use Rattle.std.proofs.Common.{is_some, ◌==◌, slice_index, slice_index_or}
+use Rattle.daide_protocol.proofs.Common.{◌≡◌, ℕ, ◌<◌, true, false, List, [], ◌∷◌, ◌++◌, take, drop, Some, None, Bool}
+use Rattle.daide_protocol.proofs.Common.{refl, sym, ap, ◌∙◌, subst, arith, append-nil, eq-eqb, All, prn, huh, tokens_of}
+use Rattle.daide_protocol.proofs.Common.{Bot, Server, Kind, Im, Rm, Dm, Fm, Em, ImTimeout, head_bytes, parse_head}
+use Rattle.daide_protocol.proofs.Common.{FrameEvent, Begun, Whole, cut, first_items, is_alien, last_items, missing}
+use Rattle.daide_protocol.proofs.Common.{im_of, class_of, entries, may_end_of, table_answer, answer_bytes, Level, L0}
+use Rattle.daide_protocol.proofs.Common.{L20, ServerEnd, Event, Comes, Ends, ImTimerExpired, OperatorStops, bytes_come}
+use Rattle.daide_protocol.proofs.Common.{SessionState, Sent, Effect, Transition, Runs, initial_state, is_over, em_to}
+use Rattle.daide_protocol.proofs.Common.{ending_in, is_dm, plain_phase, with_pending, nothing_accounted, accounted}
+use Rattle.daide_protocol.proofs.Common.{summary_of, nothing_counted, tallied, SessionView, IsNew, queued, sent_to}
+use Rattle.daide_protocol.proofs.Common.{sent_bytes, items_heard}
 use Rattle.daide_grammar.specs.SideMessages.{IsMessage}
 use Rattle.daide_protocol.specs.declared.ending.Ending.TheVariants as Endings
 use Rattle.daide_protocol.specs.declared.note.Note.TheVariants as Notes
 use Rattle.daide_protocol.specs.declared.phase.Phase.TheVariants.{Over}
 use Rattle.daide_protocol.specs.declared.phase.SessionPhase.TheVariants as SessionPhases
-use Rattle.daide_protocol.specs.Events.{Event, Comes, Ends, ImTimerExpired, OperatorStops, bytes_come}
-use Rattle.daide_protocol.specs.Machine.{SessionState, Sent, Effect, Transition, Runs, initial_state, is_over, em_to}
-use Rattle.daide_protocol.specs.Machine.{ending_in, is_dm, plain_phase, with_pending}
-use Rattle.daide_protocol.specs.Account.{nothing_accounted, accounted, summary_of}
-use Rattle.daide_protocol.specs.Summary.{nothing_counted, tallied}
-use Rattle.daide_protocol.specs.Wires.{SessionView, IsNew, queued, sent_to, sent_bytes}
 use Rattle.daide_protocol.specs.Calls.{AreCalls, Feeds, Puts, Fails}
-use Rattle.daide_protocol.specs.Heard.{items_heard}
 use Rattle.daide_protocol.specs.Ended.{ending_at}
 use Rattle.daide_protocol.specs.Fates.{EachMessageHasOneFate, Came, HaveFates, Timeout, Stop, came_in}
 use Rattle.daide_protocol.specs.Passing.{OnlyMessagesPass, IsFrame, MayBeSent, no_message, passed, within_prn, within_huh}
@@ -41,8 +26,7 @@ use Rattle.daide_protocol.specs.Laws.{EachEventHasATransition, EventsHaveARun, A
 use Rattle.daide_protocol.specs.Laws.{PiecesDoNotMatter, CallsDeliverTheAnswers, EachWireGetsTheAnswers, OnlyEventsMatter}
 use Rattle.daide_protocol.specs.Laws.{NothingAfterTheEnd, EndingIsKnown, CountsAreTheMoves, FramesAreThoseOfTheCut}
 use Rattle.daide_protocol.specs.Laws.{EachSideIsWaitedFor, SidesAddUp, LevelIsKept}
-use Rattle.daide_protocol.proofs.SessionFacts.{fm, im, message, one_session, open_at_0, session_events, standing}
-use Rattle.daide_protocol.proofs.SessionFacts.{usual}
+use Rattle.daide_protocol.proofs.SessionFacts.{fm, im, message, one_session, open_at_0, session_events, standing, usual}
 use Rattle.daide_protocol.proofs.SomeRun.{outcome_of, run_of}
 
 -- ---- runs

@@ -1,14 +1,10 @@
 -- The level of press that a server's HLO sets, over the whole range of its number, its option and the operator's top
 -- level; and the bounds of what is held, from no open bracket to the maximum. Written from the protocol's session
 -- rules. A definition that is right for one number and wrong for the next does not check.
-use Rattle.std.proofs.Common.{◌≡◌, ℕ, zero, suc, ◌+◌, ◌*◌, ◌≤◌, List, [], ◌∷◌, ◌++◌, map, replicate, drop, refl}
-use Rattle.std.specs.List.{range_with_len}
-use Rattle.daide_frame.specs.Head.{parse_head}
-use Rattle.daide_frame.specs.Frames.{announced, head_in}
-use Rattle.daide_grammar.specs.declared.level.Level.{Level}
-use Rattle.daide_grammar.specs.declared.level.Level.TheVariants.{L0, L10, L20, L30, L40, L50, L60}
-use Rattle.daide_protocol.specs.HloLevel.{level_reported}
-use Rattle.daide_protocol.specs.Wires.{Holding}
+use Rattle.daide_protocol.proofs.Common.{◌≡◌, ℕ, zero, suc, ◌+◌, ◌*◌, ◌≤◌, List, [], ◌∷◌, ◌++◌, map, replicate, drop}
+use Rattle.daide_protocol.proofs.Common.{refl, range_with_len, parse_head, announced, head_in, Level, L0, L10, L20, L30}
+use Rattle.daide_protocol.proofs.Common.{L60, level_reported, Holding}
+use Rattle.daide_grammar.specs.declared.level.Level.TheVariants.{L40, L50}
 use Rattle.daide_protocol.specs.Weight.{IsKeptSmall}
 
 -- ---- the level

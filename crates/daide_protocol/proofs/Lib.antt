@@ -1,3 +1,4 @@
+mod Common
 pub mod PhaseLemmas
 pub mod PieceRuns
 pub mod OneRun

@@ -1,12 +1,8 @@
 -- No event changes a session's limits.
-use Rattle.std.proofs.Common.{◌≡◌, ℕ, Bool, true, false, List, [], ◌∷◌, ◌++◌, refl, sym, ap, ◌∙◌}
-use Rattle.daide_frame.specs.Frames.{last_items}
-use Rattle.daide_reader.specs.declared.verdict.Verdict.{Verdict}
-use Rattle.daide_protocol.specs.declared.phase.SessionPhase.{SessionPhase}
-use Rattle.daide_protocol.specs.declared.phase.SessionPhase.TheVariants.{WaitIm, WaitRm, Open, Over}
-use Rattle.daide_protocol.specs.Events.{Event, Comes, Ends, Loses, ImTimerExpired, OperatorStops}
-use Rattle.daide_protocol.specs.Machine.{SessionState, Effect, Successor, Runs, event_outcome, with_pending, coming}
-use Rattle.daide_protocol.specs.Machine.{is_over, im_timer_expired}
+use Rattle.daide_protocol.proofs.Common.{◌≡◌, ℕ, Bool, true, false, List, [], ◌∷◌, ◌++◌, refl, sym, ap, ◌∙◌, last_items}
+use Rattle.daide_protocol.proofs.Common.{Verdict, SessionPhase, WaitIm, WaitRm, Open, Over, Event, Comes, Ends, Loses}
+use Rattle.daide_protocol.proofs.Common.{ImTimerExpired, OperatorStops, SessionState, Effect, Successor, Runs}
+use Rattle.daide_protocol.proofs.Common.{event_outcome, with_pending, coming, is_over, im_timer_expired}
 use Rattle.daide_protocol.proofs.FramesHeard.{items_limits}
 use Rattle.daide_protocol.proofs.PieceRuns.{limits_are}
 

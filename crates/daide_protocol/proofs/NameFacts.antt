@@ -1,30 +1,17 @@
 -- What a bot calls itself, worked out from the protocol: each kind of message that may have a name, from each side, and
 -- the text of a name.
-use Rattle.std.proofs.Common.{◌≡◌, ℕ, ◌*◌, List, [], ◌∷◌, ◌++◌, length, map, refl, Some, codes}
 use Rattle.std.specs.List.{repeat}
 use Rattle.std.specs.Fmt.{digits}
-use Rattle.daide_token.specs.Class.{class_of}
+use Rattle.daide_protocol.proofs.Common.{◌≡◌, ℕ, ◌*◌, List, [], ◌∷◌, ◌++◌, length, map, refl, Some, codes, class_of}
+use Rattle.daide_protocol.proofs.Common.{text_with, bra, bytes_of_tokens, ket, Side, Bot, Server, Im, Rm, Dm, Fm, Em}
+use Rattle.daide_protocol.proofs.Common.{head_bytes, parse_head, is_alien, first_items, last_items, L0, L60, entries}
+use Rattle.daide_protocol.proofs.Common.{may_end_of, table_answer, Account, BotName, Unknown, Nme, Iam, accounted}
+use Rattle.daide_protocol.proofs.Common.{nothing_accounted, answer_bytes, token_of_character, characters, iam, kept}
+use Rattle.daide_protocol.proofs.Common.{name_after, name_text, nme, bytes_come, SessionState, initial_state}
 use Rattle.daide_token.specs.Names.{name_of, names, token_named}
-use Rattle.daide_token.specs.Text.{text_with}
-use Rattle.daide_token.specs.Token.{bra, bytes_of_tokens, ket}
-use Rattle.daide_frame.specs.declared.side.Side.{Side}
-use Rattle.daide_frame.specs.declared.side.Side.TheVariants.{Bot, Server}
-use Rattle.daide_frame.specs.declared.head.Kind.TheVariants.{Im, Rm, Dm, Fm, Em}
-use Rattle.daide_frame.specs.Head.{head_bytes, parse_head}
-use Rattle.daide_frame.specs.Frames.{is_alien, first_items, last_items}
-use Rattle.daide_grammar.specs.declared.level.Level.TheVariants.{L0, L60}
-use Rattle.daide_grammar.specs.Table.Symbols.{entries, may_end_of, table_answer}
-use Rattle.daide_protocol.specs.declared.account.Account.{Account}
-use Rattle.daide_protocol.specs.declared.bot_name.BotName.{BotName}
-use Rattle.daide_protocol.specs.declared.bot_name.BotName.TheVariants.{Unknown, Nme, Iam}
 use Rattle.daide_protocol.specs.declared.note.Deed.TheVariants.{Relayed, Dropped, Prn, Huh}
 use Rattle.daide_protocol.specs.declared.phase.Phase.TheVariants.{Open}
-use Rattle.daide_protocol.specs.Account.{accounted, nothing_accounted}
 use Rattle.daide_protocol.specs.AccountText.{account_text, name_part, rest_text, side_text}
-use Rattle.daide_protocol.specs.Answers.{answer_bytes}
-use Rattle.daide_protocol.specs.BotName.{token_of_character, characters, iam, kept, name_after, name_text, nme}
-use Rattle.daide_protocol.specs.Events.{bytes_come}
-use Rattle.daide_protocol.specs.Machine.{SessionState, initial_state}
 use Rattle.daide_protocol.proofs.SomeRun.{in_phase, outcome_of}
 
 -- NME and IAM by their names in the token table

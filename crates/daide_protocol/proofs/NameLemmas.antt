@@ -1,15 +1,13 @@
 -- What is kept of a name, as its characters arrive.
-use Rattle.std.proofs.Common.{◌≡◌, ℕ, zero, suc, ◌+◌, ◌-◌, ◌*◌, ◌/◌, ◌%◌, ◌<◌, ◌≤◌, ◌==◌, Bool, true, false, cond}
-use Rattle.std.proofs.Common.{List, [], ◌∷◌, ◌++◌, length, take, drop}
-use Rattle.std.proofs.Common.{get_or, slice_set, slice_index_or, refl, sym, ap, ◌∙◌, arith, append_assoc, append-nil}
-use Rattle.std.proofs.lemmas.Bool.Decides.{nat_tests}
+use Rattle.std.proofs.Common.{◌/◌, ◌==◌, get_or, slice_set, slice_index_or}
 use Rattle.std.proofs.lemmas.Grind.{common_steps}
 use Rattle.std.proofs.lemmas.List.{length-append, length-take-le, take_all}
 use Rattle.std.proofs.Math.Seq.{set-append_seam}
-use Rattle.daide_token.specs.Token.{token_bytes, tokens_of}
+use Rattle.daide_protocol.proofs.Common.{◌≡◌, ℕ, zero, suc, ◌+◌, ◌-◌, ◌*◌, ◌%◌, ◌<◌, ◌≤◌, Bool, true, false, cond, List}
+use Rattle.daide_protocol.proofs.Common.{[], ◌∷◌, ◌++◌, length, take, drop, refl, sym, ap, ◌∙◌, arith, append_assoc}
+use Rattle.daide_protocol.proofs.Common.{append-nil, nat_tests, token_bytes, tokens_of, NameText, characters, kept}
 use Rattle.daide_token.proofs.TextParts.{none_left}
-use Rattle.daide_protocol.specs.declared.bot_name.NameText.{NameText}
-use Rattle.daide_protocol.specs.BotName.{characters, kept, padded}
+use Rattle.daide_protocol.specs.BotName.{padded}
 
 -- of the characters of a text the first `len` are kept, zeros come after them, and the rest is to come
 pub record Fills (text bytes : List ℕ) (len : ℕ) (rest : List ℕ) : Type 0 where

@@ -1,17 +1,13 @@
 -- The text of a name, as it is written piece by piece.
-use Rattle.std.proofs.Common.{◌≡◌, ℕ, ◌+◌, ◌*◌, ◌/◌, ◌%◌, ◌<◌, ◌≤◌, Bool, true, false, cond, nat_lt}
-use Rattle.std.proofs.Common.{List, [], ◌∷◌, ◌++◌, take, slice_index_or, map, codes}
-use Rattle.std.proofs.Common.{refl, sym, ap, ◌∙◌, arith, append-nil}
-use Rattle.std.proofs.lemmas.Bool.Decides.{nat_tests}
-use Rattle.daide_token.specs.Text.{text_with}
+use Rattle.std.proofs.Common.{◌/◌, slice_index_or}
+use Rattle.daide_protocol.proofs.Common.{◌≡◌, ℕ, ◌+◌, ◌*◌, ◌%◌, ◌<◌, ◌≤◌, Bool, true, false, cond, nat_lt, List, []}
+use Rattle.daide_protocol.proofs.Common.{◌∷◌, ◌++◌, take, map, codes, refl, sym, ap, ◌∙◌, arith, append-nil, nat_tests}
+use Rattle.daide_protocol.proofs.Common.{text_with, token_bytes, tokens_of, Nme, Iam, NameText, token_of_character, iam}
+use Rattle.daide_protocol.proofs.Common.{name_text, nme}
 use Rattle.daide_token.specs.TextSteps.{end_text, place_after, place_past, some_text, token_text}
-use Rattle.daide_token.specs.Token.{token_bytes, tokens_of}
 use Rattle.daide_token.specs.declared.text.PrinterState.{PrinterState}
 use Rattle.daide_token.specs.declared.text.PrinterState.TheVariants.{Start}
 use Rattle.daide_token.proofs.TextParts.{text_by_parts}
-use Rattle.daide_protocol.specs.declared.bot_name.BotName.TheVariants.{Nme, Iam}
-use Rattle.daide_protocol.specs.declared.bot_name.NameText.{NameText}
-use Rattle.daide_protocol.specs.BotName.{token_of_character, iam, name_text, nme}
 
 -- a token of two bytes
 halves : (t : ℕ) → t / 256 * 256 + t % 256 ≡ t

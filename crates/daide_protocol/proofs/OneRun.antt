@@ -1,12 +1,9 @@
 -- From a state, events have one run: the same effects, and the same state after it. And runs can be concatenated.
-use Rattle.std.proofs.Common.{◌≡◌, ℕ, List, [], ◌∷◌, ◌++◌, Option, Some, None, sym, ap, ◌∙◌, subst, append_assoc}
-use Rattle.daide_reader.specs.declared.verdict.Verdict.{Verdict}
+use Rattle.daide_protocol.proofs.Common.{◌≡◌, ℕ, List, [], ◌∷◌, ◌++◌, Option, Some, None, sym, ap, ◌∙◌, subst}
+use Rattle.daide_protocol.proofs.Common.{append_assoc, Verdict, Words, Event, SessionState, Effect, Successor, Question}
+use Rattle.daide_protocol.proofs.Common.{Transition, Runs, IsCorrectVerdict, question, side2_of, event_outcome}
 use Rattle.daide_reader.proofs.VerdictLemmas.{verdict_is_one}
 use Rattle.daide_grammar.specs.SideMessages.{IsMessageOver}
-use Rattle.daide_grammar.specs.Words.{Words}
-use Rattle.daide_protocol.specs.Events.{Event}
-use Rattle.daide_protocol.specs.Machine.{SessionState, Effect, Successor, Question, Transition, Runs, IsCorrectVerdict, question}
-use Rattle.daide_protocol.specs.Machine.{side2_of, event_outcome}
 
 -- ---- one verdict
 

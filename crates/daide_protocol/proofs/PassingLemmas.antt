@@ -1,22 +1,15 @@
 -- The frames that a side gets in a run are whole: the other side's messages, and its own within PRN or HUH.
-use Rattle.std.proofs.Common.{◌≡◌, ℕ, ◌*◌, ◌%◌, ◌≤◌, Bool, true, false, List, [], ◌∷◌, ◌++◌, length, take, drop}
-use Rattle.std.proofs.Common.{Option, Some, None, Result, Ok, Err, if◌then◌else◌, inl, inr, refl, sym, ◌∙◌, ap}
-use Rattle.std.proofs.Common.{subst, arith}
-use Rattle.std.specs.List.{All}
 use Rattle.std.proofs.lemmas.List.Elements.{All-nil, All-cons, All-append}
-use Rattle.daide_token.specs.Token.{bra, ket, prn, huh, err, tokens_of}
-use Rattle.daide_frame.specs.declared.side.Side.{Side}
-use Rattle.daide_frame.specs.declared.side.Side.TheVariants.{Bot, Server}
-use Rattle.daide_frame.specs.declared.head.Kind.{Kind}
-use Rattle.daide_frame.specs.declared.head.Kind.TheVariants.{Im, Rm, Dm, Fm, Em}
-use Rattle.daide_frame.specs.declared.head.Head.{Head}
-use Rattle.daide_frame.specs.declared.code.Code.{Code}
-use Rattle.daide_frame.specs.declared.code.Code.TheVariants.{ImTimeout}
+use Rattle.daide_protocol.proofs.Common.{◌≡◌, ℕ, ◌*◌, ◌%◌, ◌≤◌, Bool, true, false, List, [], ◌∷◌, ◌++◌, length, take}
+use Rattle.daide_protocol.proofs.Common.{drop, Option, Some, None, Result, Ok, Err, if◌then◌else◌, inl, inr, refl, sym}
+use Rattle.daide_protocol.proofs.Common.{◌∙◌, ap, subst, arith, All, bra, ket, prn, huh, err, tokens_of, Side, Bot}
+use Rattle.daide_protocol.proofs.Common.{Server, Kind, Im, Rm, Dm, Fm, Em, Head, Code, ImTimeout, has_right_length}
+use Rattle.daide_protocol.proofs.Common.{head_bytes, is_im, im_of, FrameEvent, last_items, Level, tokens_of-length}
+use Rattle.daide_protocol.proofs.Common.{SessionPhase, WaitIm, WaitRm, Open, Over, answer_body, answer_bytes, other}
+use Rattle.daide_protocol.proofs.Common.{same_side, Event, Comes, Ends, Loses, ImTimerExpired, OperatorStops, Limits}
+use Rattle.daide_protocol.proofs.Common.{SessionState, Sent, Effect, Runs, coming, is_over, untimely, is_dm, fm_bytes}
+use Rattle.daide_protocol.proofs.Common.{fm_to, em_to, side2_of, initial_state, level_in, sent_to}
 use Rattle.daide_frame.specs.Code.{code_number}
-use Rattle.daide_frame.specs.Head.{has_right_length, head_bytes, is_im}
-use Rattle.daide_frame.specs.InitialMessage.{im_of}
-use Rattle.daide_frame.specs.Frames.{FrameEvent, last_items}
-use Rattle.daide_grammar.specs.declared.level.Level.{Level}
 use Rattle.daide_grammar.specs.SideMessages.{IsMessageOver}
 use Rattle.daide_grammar.specs.Balanced as Balance
 use Rattle.daide_grammar.specs.Balanced.{IsBalanced}
@@ -27,21 +20,13 @@ use Rattle.daide_grammar.proofs.ErrPutIn.{err-put-in, huh-err-depth}
 use Rattle.daide_reader.specs.ErrorPlace.{IsErrorPlace}
 use Rattle.daide_reader.specs.Verdict.{HasVerdict, IsRelayed}
 use Rattle.daide_reader.specs.declared.verdict.Verdict.TheVariants as Verdicts
-use Rattle.daide_reader.proofs.BodyLemmas.{tokens_of-length}
-use Rattle.daide_protocol.specs.declared.phase.SessionPhase.{SessionPhase}
-use Rattle.daide_protocol.specs.declared.phase.SessionPhase.TheVariants.{WaitIm, WaitRm, Open, Over}
 use Rattle.daide_protocol.specs.Bounds.{longest_body}
-use Rattle.daide_protocol.specs.Answers.{answer_body, answer_bytes}
-use Rattle.daide_frame.specs.Side.{other, same_side}
-use Rattle.daide_protocol.specs.Events.{Event, Comes, Ends, Loses, ImTimerExpired, OperatorStops}
-use Rattle.daide_protocol.specs.Machine.{Limits, SessionState, Sent, Effect, Runs, coming, is_over, untimely, is_dm}
-use Rattle.daide_protocol.specs.Machine.{may_reach, fm_bytes, em_bytes, fm_to, em_to, side2_of, initial_state, level_in}
-use Rattle.daide_protocol.specs.Wires.{frames_to, sent_to}
-use Rattle.daide_protocol.specs.Fates.{EventCause, Frame, Fault, End, Timeout, Stop, Came, checked_frame, frame_cause, fault_or}
-use Rattle.daide_protocol.specs.Fates.{items_cause, cause_at, timeout_in, came_in_phase, came_in, passed_on, given_back}
-use Rattle.daide_protocol.specs.Fates.{IsMessageFate, is_passed_on, is_answered_prn, is_answered_huh, IsFrameFate}
-use Rattle.daide_protocol.specs.Fates.{IsFate}
-use Rattle.daide_protocol.specs.Fates.{HaveFates}
+use Rattle.daide_protocol.specs.Machine.{may_reach, em_bytes}
+use Rattle.daide_protocol.specs.Wires.{frames_to}
+use Rattle.daide_protocol.specs.Fates.{EventCause, Frame, Fault, End, Timeout, Stop, Came, checked_frame, frame_cause}
+use Rattle.daide_protocol.specs.Fates.{fault_or, items_cause, cause_at, timeout_in, came_in_phase, came_in, passed_on}
+use Rattle.daide_protocol.specs.Fates.{given_back, IsMessageFate, is_passed_on, is_answered_prn, is_answered_huh}
+use Rattle.daide_protocol.specs.Fates.{IsFrameFate, IsFate, HaveFates}
 use Rattle.daide_protocol.specs.Passing.{IsFrame, HasCome, IsPassed, IsWithinHuh, MayBeSent, no_message}
 use Rattle.daide_protocol.specs.Passing.{passed, within_prn, within_huh}
 use Rattle.daide_protocol.proofs.FrameShapes.{IsWholeFrame, Shape, quiet, headed, at_once, shape}

@@ -1,15 +1,7 @@
 -- What a message does to the phase.
-use Rattle.std.proofs.Common.{◌≡◌, ℕ, List, refl}
-use Rattle.daide_token.specs.Token.{tokens_of}
-use Rattle.daide_frame.specs.declared.side.Side.{Side}
-use Rattle.daide_frame.specs.declared.side.Side.TheVariants.{Bot, Server}
-use Rattle.daide_frame.specs.declared.head.Kind.TheVariants.{Dm}
-use Rattle.daide_grammar.specs.declared.level.Level.{Level}
-use Rattle.daide_reader.specs.declared.verdict.Verdict.{Verdict}
-use Rattle.daide_reader.specs.declared.verdict.Verdict.TheVariants.{Relay, Prn, Huh}
-use Rattle.daide_protocol.specs.declared.phase.SessionPhase.{SessionPhase}
-use Rattle.daide_protocol.specs.declared.phase.SessionPhase.TheVariants.{WaitIm, WaitRm, Open, Over}
-use Rattle.daide_protocol.specs.Machine.{SessionState, answered, ending_in, is_over, phase_after}
+use Rattle.daide_protocol.proofs.Common.{◌≡◌, ℕ, List, refl, tokens_of, Side, Bot, Server, Dm, Level, Verdict, Relay}
+use Rattle.daide_protocol.proofs.Common.{Prn, Huh, SessionPhase, WaitIm, WaitRm, Open, Over, SessionState, answered}
+use Rattle.daide_protocol.proofs.Common.{ending_in, is_over, phase_after}
 
 -- a message neither ends a session nor opens one that is over
 pub message_ends_nothing : (top : Level) (side : Side) (v : Verdict) (tokens : List ℕ) (phase : SessionPhase) →

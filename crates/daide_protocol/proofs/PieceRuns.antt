@@ -1,18 +1,13 @@
 -- A piece is the run over its bytes: the outcome of the frame events in a piece is the machine's outcome of its bytes,
 -- one by one.
-use Rattle.std.proofs.Common.{◌≡◌, ℕ, Bool, true, false, List, [], ◌∷◌, ◌++◌, length, Option, None, refl, sym, ap, ◌∙◌}
-use Rattle.std.proofs.Common.{subst, arith, append_assoc, append-nil, length-append, ◌⊎◌, inl, inr, ⊎_elim}
-use Rattle.daide_frame.specs.declared.side.Side.{Side}
-use Rattle.daide_frame.specs.declared.side.Side.TheVariants.{Bot, Server}
-use Rattle.daide_frame.specs.Frames.{FrameEvent, last_items, is_nothing, fed, fed_items}
-use Rattle.daide_reader.specs.declared.verdict.Verdict.{Verdict}
-use Rattle.daide_reader.specs.declared.verdict.Verdict.TheVariants.{Relay}
-use Rattle.daide_protocol.specs.declared.phase.SessionPhase.{SessionPhase}
-use Rattle.daide_protocol.specs.declared.phase.SessionPhase.TheVariants.{WaitIm, WaitRm, Open, Over}
-use Rattle.daide_protocol.specs.Events.{Event, Comes, Ends, Loses, ImTimerExpired, OperatorStops, bytes_come}
-use Rattle.daide_protocol.specs.Machine.{Limits, SessionState, Successor, Question, Transition, Runs, coming, with_pending}
-use Rattle.daide_protocol.specs.Machine.{items_outcome, asked_by, question, IsCorrectVerdict, event_outcome, nothing, is_over}
-use Rattle.daide_protocol.specs.Machine.{im_timer_expired}
+use Rattle.daide_protocol.proofs.Common.{◌≡◌, ℕ, Bool, true, false, List, [], ◌∷◌, ◌++◌, length, Option, None, refl}
+use Rattle.daide_protocol.proofs.Common.{sym, ap, ◌∙◌, subst, arith, append_assoc, append-nil, length-append, ◌⊎◌, inl}
+use Rattle.daide_protocol.proofs.Common.{inr, ⊎_elim, Side, Bot, Server, FrameEvent, last_items, Verdict, Relay}
+use Rattle.daide_protocol.proofs.Common.{SessionPhase, WaitIm, WaitRm, Open, Over, Event, Comes, Ends, Loses}
+use Rattle.daide_protocol.proofs.Common.{ImTimerExpired, OperatorStops, bytes_come, Limits, SessionState, Successor}
+use Rattle.daide_protocol.proofs.Common.{Question, Transition, Runs, coming, with_pending, items_outcome, asked_by}
+use Rattle.daide_protocol.proofs.Common.{question, IsCorrectVerdict, event_outcome, nothing, is_over, im_timer_expired}
+use Rattle.daide_frame.specs.Frames.{is_nothing, fed, fed_items}
 
 -- ---- a session that is over
 

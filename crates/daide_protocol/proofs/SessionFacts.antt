@@ -1,27 +1,16 @@
 -- Sessions worked out from the protocol, event by event, for bytes from either side, with the grammar's verdicts. A
 -- rule that holds for only one side, or for another level or depth, does not check.
-use Rattle.std.proofs.Common.{◌≡◌, ℕ, ◌*◌, List, [], ◌∷◌, ◌++◌, length, take, drop, Some, None, refl}
-use Rattle.daide_token.specs.Class.{class_of}
-use Rattle.daide_token.specs.Token.{bytes_of_tokens}
-use Rattle.daide_frame.specs.declared.side.Side.{Side}
-use Rattle.daide_frame.specs.declared.side.Side.TheVariants.{Bot, Server}
-use Rattle.daide_frame.specs.declared.head.Kind.TheVariants.{Dm, Fm, Em}
-use Rattle.daide_frame.specs.declared.code.Code.TheVariants.{WrongLength, UnknownMessage, InvalidToken}
-use Rattle.daide_frame.specs.Head.{head_bytes, parse_head}
-use Rattle.daide_frame.specs.Frames.{is_alien, first_items, last_items}
-use Rattle.daide_frame.specs.InitialMessage.{im_of}
-use Rattle.daide_grammar.specs.declared.level.Level.{Level}
-use Rattle.daide_grammar.specs.declared.level.Level.TheVariants.{L0, L10, L30, L60}
-use Rattle.daide_grammar.specs.Table.Symbols.{entries, may_end_of, table_answer}
-use Rattle.daide_protocol.specs.declared.phase.Phase.{Phase}
+use Rattle.daide_protocol.proofs.Common.{◌≡◌, ℕ, ◌*◌, List, [], ◌∷◌, ◌++◌, length, take, drop, Some, None, refl}
+use Rattle.daide_protocol.proofs.Common.{class_of, bytes_of_tokens, Side, Bot, Server, Dm, Fm, Em, WrongLength}
+use Rattle.daide_protocol.proofs.Common.{InvalidToken, head_bytes, parse_head, is_alien, first_items, last_items, im_of}
+use Rattle.daide_protocol.proofs.Common.{Level, L0, L10, L30, L60, entries, may_end_of, table_answer, Phase, Event}
+use Rattle.daide_protocol.proofs.Common.{Comes, Ends, Loses, ImTimerExpired, OperatorStops, bytes_come, answer_bytes}
+use Rattle.daide_protocol.proofs.Common.{Limits, SessionState, Effect, Successor, Runs, initial_state, level_in}
+use Rattle.daide_protocol.proofs.Common.{plain_phase, with_coming, question, sent_to, sent_bytes, note_of}
+use Rattle.daide_frame.specs.declared.code.Code.TheVariants.{UnknownMessage}
 use Rattle.daide_protocol.specs.declared.phase.Phase.TheVariants.{WaitIm, WaitRm, Open, Over}
 use Rattle.daide_protocol.specs.declared.note.Deed.TheVariants as Deeds
 use Rattle.daide_protocol.specs.declared.note.Note.TheVariants as Notes
-use Rattle.daide_protocol.specs.Events.{Event, Comes, Ends, Loses, ImTimerExpired, OperatorStops, bytes_come}
-use Rattle.daide_protocol.specs.Answers.{answer_bytes}
-use Rattle.daide_protocol.specs.Machine.{Limits, SessionState, Effect, Successor, Runs, initial_state, level_in, plain_phase, with_coming}
-use Rattle.daide_protocol.specs.Machine.{question}
-use Rattle.daide_protocol.specs.Wires.{sent_to, sent_bytes, note_of}
 use Rattle.daide_protocol.proofs.SomeRun.{in_phase, outcome_of, run_of}
 
 -- ---- the tokens that are used

@@ -1,24 +1,17 @@
 -- Worked values of what a session holds, what it is missing and what it hands out: its bounds, its room, and what its
 -- calls keep. They were worked out from the documents, so that a wrong factor or the other side in a definition does
 -- not check.
-use Rattle.std.proofs.Common.{◌≡◌, ℕ, ◌≤◌, true, false, List, [], ◌∷◌, Some, None, refl, arith}
-use Rattle.daide_frame.specs.declared.side.Side.{Side}
-use Rattle.daide_frame.specs.declared.side.Side.TheVariants.{Bot, Server}
-use Rattle.daide_frame.specs.declared.head.Kind.TheVariants.{Dm, Fm}
-use Rattle.daide_frame.specs.declared.head.Head.{Head}
-use Rattle.daide_frame.specs.declared.code.Code.TheVariants.{WrongLength}
+use Rattle.daide_protocol.proofs.Common.{◌≡◌, ℕ, ◌≤◌, true, false, List, [], ◌∷◌, Some, None, refl, arith, Side, Bot}
+use Rattle.daide_protocol.proofs.Common.{Server, Dm, Fm, Head, WrongLength, parse_head, announced, head_in, missing}
+use Rattle.daide_protocol.proofs.Common.{is_alien, first_items, last_items, L0, L60, Phase, nothing_accounted, Limits}
+use Rattle.daide_protocol.proofs.Common.{Sent, fm_bytes, initial_state, with_pending, SessionView, Holding, queued}
+use Rattle.daide_protocol.proofs.Common.{sent_bytes}
 use Rattle.daide_frame.specs.PerSide.{both}
-use Rattle.daide_frame.specs.Head.{parse_head}
-use Rattle.daide_frame.specs.Frames.{announced, head_in, missing, is_alien, first_items, last_items}
-use Rattle.daide_grammar.specs.declared.level.Level.TheVariants.{L0, L60}
-use Rattle.daide_protocol.specs.declared.phase.Phase.{Phase}
 use Rattle.daide_protocol.specs.declared.phase.Phase.TheVariants.{Open, Over}
 use Rattle.daide_protocol.specs.declared.note.Deed.TheVariants as Deeds
 use Rattle.daide_protocol.specs.declared.note.Note.TheVariants as Notes
-use Rattle.daide_protocol.specs.Account.{nothing_accounted}
-use Rattle.daide_protocol.specs.Machine.{Limits, Sent, fm_bytes, initial_state, with_pending}
-use Rattle.daide_protocol.specs.Wires.{SessionView, Holding, queued, room_of, is_awaited, is_closed, without, first_len}
-use Rattle.daide_protocol.specs.Wires.{sent_bytes, held_after, grown, counts_from, asked_at_most, looked_at_most}
+use Rattle.daide_protocol.specs.Wires.{room_of, is_awaited, is_closed, without, first_len, held_after, grown}
+use Rattle.daide_protocol.specs.Wires.{counts_from, asked_at_most, looked_at_most}
 use Rattle.daide_protocol.specs.Weight.{weight_of, weight_bound, steps_bound, IsKeptSmall}
 use Rattle.daide_protocol.proofs.SomeRun.{in_phase}
 

@@ -1,21 +1,12 @@
 -- Each event has a transition from each state, and events have a run: the one that is computed with the protocol's own
 -- table.
-use Rattle.std.proofs.Common.{◌≡◌, ℕ, List, [], ◌∷◌, ◌++◌, Option, Some, None}
-use Rattle.std.proofs.Common.{refl, sym, ◌∙◌, ap, subst}
-use Rattle.daide_grammar.specs.Words.{Words}
-use Rattle.daide_reader.specs.declared.verdict.Verdict.{Verdict}
-use Rattle.daide_reader.specs.declared.verdict.Verdict.TheVariants.{Relay}
+use Rattle.daide_protocol.proofs.Common.{◌≡◌, ℕ, List, [], ◌∷◌, ◌++◌, Option, Some, None, refl, sym, ◌∙◌, ap, subst}
+use Rattle.daide_protocol.proofs.Common.{Words, Verdict, Relay, Event, Limits, SessionState, Effect, Successor}
+use Rattle.daide_protocol.proofs.Common.{Question, Transition, Runs, IsCorrectVerdict, question, side2_of}
+use Rattle.daide_protocol.proofs.Common.{event_outcome, nothing, Bot, Level, Ended, Phase, SessionPhase, WaitIm, WaitRm}
+use Rattle.daide_protocol.proofs.Common.{Open, Over}
 use Rattle.daide_reader.proofs.SomeVerdict.{plain_verdict, plain_verdict_right}
-use Rattle.daide_protocol.specs.Events.{Event}
-use Rattle.daide_protocol.specs.Machine.{Limits, SessionState, Effect, Successor, Question, Transition, Runs, IsCorrectVerdict, question}
-use Rattle.daide_protocol.specs.Machine.{side2_of, event_outcome, nothing}
-use Rattle.daide_frame.specs.declared.side.Side.TheVariants.{Bot}
-use Rattle.daide_grammar.specs.declared.level.Level.{Level}
-use Rattle.daide_protocol.specs.declared.ending.Ending.TheVariants.{Ended}
-use Rattle.daide_protocol.specs.declared.phase.Phase.{Phase}
 use Rattle.daide_protocol.specs.declared.phase.Phase.TheVariants as Plain
-use Rattle.daide_protocol.specs.declared.phase.SessionPhase.{SessionPhase}
-use Rattle.daide_protocol.specs.declared.phase.SessionPhase.TheVariants.{WaitIm, WaitRm, Open, Over}
 use Rattle.daide_protocol.proofs.LimitsKept.{event_limits}
 
 -- a message has the grammar's verdict; without a message it is Relay

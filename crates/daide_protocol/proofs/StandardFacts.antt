@@ -1,34 +1,23 @@
 -- Rows of the protocol's table of faults and of the session's rules, computed from the definitions, so that a wrong row
 -- of a definition does not check.
-use Rattle.std.proofs.Common.{◌≡◌, ℕ, List, [], ◌∷◌, ◌++◌, length, take, Some, None, refl}
-use Rattle.std.specs.Prelude.{pos}
-use Rattle.daide_frame.specs.declared.side.Side.{Side}
-use Rattle.daide_frame.specs.declared.side.Side.TheVariants.{Bot, Server}
-use Rattle.daide_frame.specs.declared.head.Kind.{Kind}
-use Rattle.daide_frame.specs.declared.head.Kind.TheVariants.{Im, Rm, Dm, Fm, Em}
-use Rattle.daide_grammar.specs.declared.level.Level.TheVariants.{L0, L10, L20, L30, L60}
-use Rattle.daide_frame.specs.declared.code.Code.TheVariants.{ImTimeout, WrongLength, InvalidToken}
-use Rattle.daide_frame.specs.Head.{head_bytes, parse_head}
-use Rattle.daide_frame.specs.Frames.{is_alien, first_items, last_items}
-use Rattle.daide_frame.specs.InitialMessage.{im_of}
-use Rattle.daide_reader.specs.declared.verdict.Verdict.{Verdict}
-use Rattle.daide_reader.specs.declared.verdict.Verdict.TheVariants.{Relay, Prn, Huh}
-use Rattle.daide_protocol.specs.declared.phase.Phase.{Phase}
-use Rattle.daide_protocol.specs.declared.phase.SessionPhase.{SessionPhase}
+use Rattle.std.proofs.Common.{pos}
+use Rattle.daide_protocol.proofs.Common.{◌≡◌, ℕ, List, [], ◌∷◌, ◌++◌, length, take, Some, None, refl, Side, Bot, Server}
+use Rattle.daide_protocol.proofs.Common.{Kind, Im, Rm, Dm, Fm, Em, L0, L10, L20, L30, L60, ImTimeout, WrongLength}
+use Rattle.daide_protocol.proofs.Common.{InvalidToken, head_bytes, parse_head, is_alien, first_items, last_items, im_of}
+use Rattle.daide_protocol.proofs.Common.{Verdict, Relay, Prn, Huh, Phase, SessionPhase, Ending, Ended, Final, Error}
+use Rattle.daide_protocol.proofs.Common.{Fault, Stopped, Comes, Ends, Loses, ImTimerExpired, OperatorStops, answer_body}
+use Rattle.daide_protocol.proofs.Common.{answer_bytes, lvl_scan_of, level_reported, Limits, SessionState, Successor}
+use Rattle.daide_protocol.proofs.Common.{coming, initial_state, nothing, header_outcome, with_coming, untimely}
+use Rattle.daide_protocol.proofs.Common.{frame_outcome, fault, end, phase_after, plain_phase, event_outcome, question}
+use Rattle.daide_protocol.proofs.Common.{sent_to, sent_bytes, note_of}
 use Rattle.daide_protocol.specs.declared.phase.SessionPhase.TheVariants as SessionPhases
 use Rattle.daide_protocol.specs.declared.phase.Phase.TheVariants.{WaitIm, WaitRm, Open, Over}
 use Rattle.daide_protocol.specs.declared.note.Deed.TheVariants as Deeds
 use Rattle.daide_protocol.specs.declared.note.Note.TheVariants as Notes
-use Rattle.daide_protocol.specs.declared.ending.Ending.{Ending}
-use Rattle.daide_protocol.specs.declared.ending.Ending.TheVariants.{Ended, Final, Error, Fault, Stopped}
-use Rattle.daide_protocol.specs.Events.{Comes, Ends, Loses, ImTimerExpired, OperatorStops}
-use Rattle.daide_protocol.specs.Answers.{prn_open, huh_open, err_bytes, close_bytes, answer_body, answer_bytes}
+use Rattle.daide_protocol.specs.Answers.{prn_open, huh_open, err_bytes, close_bytes}
 use Rattle.daide_protocol.specs.declared.hlo.LvlScan.TheVariants.{NoToken, NoHlo, NoNumber, Number}
-use Rattle.daide_protocol.specs.HloLevel.{first_level, lvl_scan_of, level_reported}
-use Rattle.daide_protocol.specs.Machine.{Limits, SessionState, Successor, coming, initial_state, nothing, header_outcome}
-use Rattle.daide_protocol.specs.Machine.{with_coming, untimely, frame_outcome, fault, end, phase_after, plain_phase, event_outcome, question}
+use Rattle.daide_protocol.specs.HloLevel.{first_level}
 use Rattle.daide_protocol.proofs.SomeRun.{in_phase, phase_at}
-use Rattle.daide_protocol.specs.Wires.{sent_to, sent_bytes, note_of}
 
 -- a session in a phase at level 0, with nothing held
 abbrev standing : Limits → Phase → SessionState

@@ -1,11 +1,9 @@
 -- A count modulo 2^64, and the same in unbounded numbers.
-use Rattle.std.proofs.Common.{◌≡◌, ℕ, ◌+◌, ◌%◌, ◌^◌, refl}
 use Rattle.std.proofs.Math.Nat.{mod-add-mod}
+use Rattle.daide_protocol.proofs.Common.{◌≡◌, ℕ, ◌+◌, ◌%◌, ◌^◌, refl, Note, Summary, count_note, counted_on, one_more}
+use Rattle.daide_protocol.proofs.Common.{reduced}
 use Rattle.daide_protocol.specs.declared.note.Deed.TheVariants as Deeds
-use Rattle.daide_protocol.specs.declared.note.Note.{Note}
 use Rattle.daide_protocol.specs.declared.note.Note.TheVariants as Notes
-use Rattle.daide_protocol.specs.declared.summary.Summary.{Summary}
-use Rattle.daide_protocol.specs.Summary.{count_note, counted_on, one_more, reduced}
 
 -- adding one to a count modulo 2^64 is adding one to the count, modulo 2^64
 one_more_mod : (n : ℕ) → one_more (n % 2 ^ 64) ≡ (n + 1) % 2 ^ 64

@@ -1,11 +1,7 @@
 -- The frames for a wire, from concatenated effects.
-use Rattle.std.proofs.Common.{◌≡◌, ℕ, true, List, [], ◌∷◌, ◌++◌, refl, sym, ap, ◌∙◌, append_assoc}
-use Rattle.daide_frame.specs.declared.side.Side.{Side}
-use Rattle.daide_frame.specs.declared.side.Side.TheVariants.{Bot, Server}
-use Rattle.daide_protocol.specs.Events.{Event, Comes, bytes_come}
-use Rattle.daide_protocol.specs.Machine.{Sent, Effect}
-use Rattle.daide_frame.specs.Side.{same_side}
-use Rattle.daide_protocol.specs.Wires.{frames_to, sent_to, sent_bytes}
+use Rattle.daide_protocol.proofs.Common.{◌≡◌, ℕ, true, List, [], ◌∷◌, ◌++◌, refl, sym, ap, ◌∙◌, append_assoc, Side, Bot}
+use Rattle.daide_protocol.proofs.Common.{Server, Event, Comes, bytes_come, Sent, Effect, same_side, sent_to, sent_bytes}
+use Rattle.daide_protocol.specs.Wires.{frames_to}
 
 pub same_self : (side : Side) → same_side side side ≡ true
 same_self Bot = refl

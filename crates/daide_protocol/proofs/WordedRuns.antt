@@ -1,18 +1,14 @@
 -- With an operator's words too, each event has a transition from each state, and events have a run.
-use Rattle.std.proofs.Common.{◌≡◌, ℕ, true, List, [], ◌∷◌, ◌++◌, Option, Some, None, refl, sym, ◌∙◌, ap, subst}
-use Rattle.std.proofs.Common.{append-nil}
+use Rattle.daide_protocol.proofs.Common.{◌≡◌, ℕ, true, List, [], ◌∷◌, ◌++◌, Option, Some, None, refl, sym, ◌∙◌, ap}
+use Rattle.daide_protocol.proofs.Common.{subst, append-nil, may_end_of, Words, Verdict, Relay, Event, Effect, Limits}
+use Rattle.daide_protocol.proofs.Common.{Question, SessionState, Transition, Runs, IsCorrectVerdict, event_outcome}
+use Rattle.daide_protocol.proofs.Common.{question, side2_of}
 use Rattle.daide_grammar.specs.Table.LawfulStack.{start_symbol}
 use Rattle.daide_grammar.specs.SideMessages.{dialect_of}
-use Rattle.daide_grammar.specs.Table.Symbols.{may_end_of, start_symbol_of}
-use Rattle.daide_grammar.specs.Words.{Words}
+use Rattle.daide_grammar.specs.Table.Symbols.{start_symbol_of}
 use Rattle.daide_words.specs.Table.OverWords.{answer_over, are_free}
 use Rattle.daide_words.specs.Proofs.WordLaws.{laws_over}
-use Rattle.daide_reader.specs.declared.verdict.Verdict.{Verdict}
-use Rattle.daide_reader.specs.declared.verdict.Verdict.TheVariants.{Relay}
 use Rattle.daide_reader.proofs.SomeVerdict.{verdict_by, verdict_by_right}
-use Rattle.daide_protocol.specs.Events.{Event}
-use Rattle.daide_protocol.specs.Machine.{Effect, Limits, Question, SessionState, Transition, Runs, IsCorrectVerdict, event_outcome}
-use Rattle.daide_protocol.specs.Machine.{question, side2_of}
 use Rattle.daide_protocol.proofs.LimitsKept.{runs_limits}
 use Rattle.daide_protocol.proofs.WordedVerdicts.{worded_verdicts}
 

@@ -1,19 +1,17 @@
 -- The verdicts of a reader over a table with an operator's words are those of the grammar over these words.
-use Rattle.std.proofs.Common.{◌≡◌, if◌then◌else◌, ℕ, Bool, true, false, List, [], ◌↔◌, inl, inr, refl}
-use Rattle.daide_grammar.specs.declared.level.Level.{Level}
+use Rattle.std.proofs.Common.{◌↔◌}
+use Rattle.daide_protocol.proofs.Common.{◌≡◌, if◌then◌else◌, ℕ, Bool, true, false, List, [], inl, inr, refl, Level}
+use Rattle.daide_protocol.proofs.Common.{Client, ServerEnd, Words, Verdict}
 use Rattle.daide_grammar.specs.declared.side.Side2.{Side2}
-use Rattle.daide_grammar.specs.declared.side.Side2.TheVariants.{Client, ServerEnd}
 use Rattle.daide_grammar.specs.Matches.{Matches}
 use Rattle.daide_grammar.specs.SideMessages.{dialect_of, message_form, IsMessageOver}
 use Rattle.daide_grammar.specs.Table.Languages.{SymbolMatchesIn}
 use Rattle.daide_grammar.specs.Table.Symbols.{form_of, start_symbol_of}
-use Rattle.daide_grammar.specs.Words.{Words}
 use Rattle.daide_words.specs.Table.OverWords.{are_free, spoken, spoken_dialect}
 use Rattle.daide_words.specs.Proofs.WordLaws.{all-spoken}
 use Rattle.daide_words.proofs.OverMessages.{start_symbol-language}
 use Rattle.daide_reader.specs.ViablePrefix.{IsMessageOf}
 use Rattle.daide_reader.specs.Verdict.{HasVerdict}
-use Rattle.daide_reader.specs.declared.verdict.Verdict.{Verdict}
 use Rattle.daide_reader.proofs.VerdictLemmas.{verdict_along}
 
 -- a list that matches a side's form is derived by its start symbol

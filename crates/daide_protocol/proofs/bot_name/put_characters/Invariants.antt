@@ -1,6 +1,5 @@
-use Rattle.std.proofs.Common.{◌≡◌, ◌≤◌, ◌+◌, ◌*◌, ◌++◌, [], length, map, take}
+use Rattle.daide_protocol.proofs.Common.{◌≡◌, ◌≤◌, ◌+◌, ◌*◌, ◌++◌, [], length, map, take, token_of_character}
 use Rattle.daide_token.specs.TextSteps.{place_past, some_text}
-use Rattle.daide_protocol.specs.BotName.{token_of_character}
 use Rattle.daide_protocol.proofs.bot_name.put_characters.Given as goal
 
 abbrev pub invariant-characters : goal.invariant-characters

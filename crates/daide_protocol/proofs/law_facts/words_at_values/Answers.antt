@@ -1,9 +1,4 @@
-use Rattle.std.proofs.Common.{[], ◌∷◌}
-use Rattle.daide_frame.specs.declared.side.Side.TheVariants.{Bot}
-use Rattle.daide_grammar.specs.declared.level.Level.TheVariants.{L0, L60}
-use Rattle.daide_grammar.specs.declared.side.Side2.TheVariants.{Client, ServerEnd}
-use Rattle.daide_reader.specs.declared.verdict.Verdict.TheVariants.{Huh, Relay}
-use Rattle.daide_protocol.specs.Events.{Comes, ImTimerExpired}
+use Rattle.daide_protocol.proofs.Common.{[], ◌∷◌, Bot, L0, L60, Client, ServerEnd, Huh, Relay, Comes, ImTimerExpired}
 use Rattle.daide_protocol.proofs.law_facts.words_at_values.Goals as goal
 
 pub returns-clause-step : goal.returns-clause-step

@@ -1,5 +1,4 @@
-use Rattle.daide_words.specs.Word.{grammar_words}
-use Rattle.daide_words.proofs.AcceptedCodes.{accepted_free}
+use Rattle.daide_protocol.proofs.Common.{grammar_words, accepted_free}
 use Rattle.daide_protocol.proofs.WordedRuns.{step_over}
 use Rattle.daide_protocol.proofs.laws.each_event_has_a_step_with_words.Goals as goal
 

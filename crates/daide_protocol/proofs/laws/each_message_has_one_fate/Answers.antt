@@ -1,4 +1,4 @@
-use Rattle.daide_protocol.specs.Machine.{initial_state}
+use Rattle.daide_protocol.proofs.Common.{initial_state}
 use Rattle.daide_protocol.proofs.FateLemmas.{run_fates, frames_come}
 use Rattle.daide_protocol.proofs.laws.each_message_has_one_fate.Goals as goal
 

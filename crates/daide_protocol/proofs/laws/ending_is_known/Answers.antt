@@ -1,5 +1,4 @@
-use Rattle.std.proofs.Common.{refl}
-use Rattle.daide_protocol.specs.Machine.{initial_state}
+use Rattle.daide_protocol.proofs.Common.{refl, initial_state}
 use Rattle.daide_protocol.proofs.EndingLemmas.{ending_known}
 use Rattle.daide_protocol.proofs.EndedLemmas.{runs_end}
 use Rattle.daide_protocol.proofs.laws.ending_is_known.Goals as goal

@@ -1,5 +1,4 @@
-use Rattle.daide_words.specs.Word.{grammar_words}
-use Rattle.daide_words.proofs.AcceptedCodes.{accepted_free}
+use Rattle.daide_protocol.proofs.Common.{grammar_words, accepted_free}
 use Rattle.daide_protocol.proofs.WordedRuns.{run_over}
 use Rattle.daide_protocol.proofs.laws.events_have_a_run_with_words.Goals as goal
 

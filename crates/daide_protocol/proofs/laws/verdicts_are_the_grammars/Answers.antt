@@ -1,4 +1,4 @@
-use Rattle.std.proofs.Common.{[], refl}
+use Rattle.daide_protocol.proofs.Common.{[], refl}
 use Rattle.daide_protocol.proofs.WordedVerdicts.{free_verdicts}
 use Rattle.daide_protocol.proofs.laws.verdicts_are_the_grammars.Goals as goal
 

@@ -1,5 +1,4 @@
-use Rattle.daide_words.specs.Word.{grammar_words}
-use Rattle.daide_words.proofs.AcceptedCodes.{accepted_free}
+use Rattle.daide_protocol.proofs.Common.{grammar_words, accepted_free}
 use Rattle.daide_protocol.proofs.WordedVerdicts.{free_verdicts}
 use Rattle.daide_protocol.proofs.laws.verdicts_with_words_are_the_grammars.Goals as goal
 

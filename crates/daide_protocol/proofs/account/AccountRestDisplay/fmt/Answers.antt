@@ -1,5 +1,5 @@
-use Rattle.std.proofs.Common.{append_assoc}
 use Rattle.std.proofs.Output.{has_written_of_eq}
+use Rattle.daide_protocol.proofs.Common.{append_assoc}
 use Rattle.daide_protocol.specs.AccountText.{rest_text}
 use Rattle.daide_protocol.proofs.account.AccountRestDisplay.fmt.Goals as goal
 

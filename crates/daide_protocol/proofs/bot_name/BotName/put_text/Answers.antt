@@ -1,5 +1,4 @@
-use Rattle.std.proofs.Common.{refl}
-use Rattle.daide_token.specs.Text.{text_with}
+use Rattle.daide_protocol.proofs.Common.{refl, text_with}
 use Rattle.daide_protocol.proofs.bot_name.BotName.put_text.Goals as goal
 
 pub returns-in-Unknown-clause-text : goal.returns-in-Unknown-clause-text

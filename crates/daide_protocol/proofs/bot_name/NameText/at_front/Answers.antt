@@ -1,6 +1,4 @@
-use Rattle.std.proofs.Common.{refl, arith, subst}
-use Rattle.daide_token.specs.Token.{tokens_of}
-use Rattle.daide_protocol.specs.BotName.{characters}
+use Rattle.daide_protocol.proofs.Common.{refl, arith, subst, tokens_of, characters}
 use Rattle.daide_protocol.proofs.NameLemmas.{Fills, fills_all, fills_more, fills_nothing, fills_too_much}
 use Rattle.daide_protocol.proofs.NameLemmas.{text_ends, text_goes_on, text_stops}
 use Rattle.daide_protocol.proofs.bot_name.NameText.at_front.Goals as goal

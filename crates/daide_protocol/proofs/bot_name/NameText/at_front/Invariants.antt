@@ -1,6 +1,4 @@
-use Rattle.std.proofs.Common.{length}
-use Rattle.daide_token.specs.Token.{tokens_of}
-use Rattle.daide_protocol.specs.BotName.{characters}
+use Rattle.daide_protocol.proofs.Common.{length, tokens_of, characters}
 use Rattle.daide_protocol.proofs.NameLemmas.{Fills}
 use Rattle.daide_protocol.proofs.bot_name.NameText.at_front.Given as goal
 

@@ -1,7 +1,5 @@
-use Rattle.std.proofs.Common.{ℕ, List, [], ◌∷◌, map, ap, ◌∙◌, arith}
-use Rattle.daide_token.specs.Text.{text_with}
-use Rattle.daide_token.specs.Token.{tokens_of}
-use Rattle.daide_protocol.specs.BotName.{token_of_character, nme}
+use Rattle.daide_protocol.proofs.Common.{ℕ, List, [], ◌∷◌, map, ap, ◌∙◌, arith, text_with, tokens_of}
+use Rattle.daide_protocol.proofs.Common.{token_of_character, nme}
 use Rattle.daide_protocol.proofs.NameTextLemmas.{cut_name, nme_text, whole_name}
 use Rattle.daide_protocol.proofs.bot_name.NameText.put.Goals as goal
 

@@ -1,7 +1,6 @@
-use Rattle.std.proofs.Common.{◌≡◌, ◌==◌, ℕ, ◌+◌, false, List, [], ◌∷◌, ◌++◌, take, drop, sym, ap, ◌∙◌, rules}
-use Rattle.std.proofs.lemmas.List.{take-append-drop}
-use Rattle.daide_token.specs.Token.{hlo, tokens_of}
-use Rattle.daide_protocol.specs.HloLevel.{lvl_scan_of}
+use Rattle.std.proofs.Common.{◌==◌}
+use Rattle.daide_protocol.proofs.Common.{◌≡◌, ℕ, ◌+◌, false, List, [], ◌∷◌, ◌++◌, take, drop, sym, ap, ◌∙◌, rules}
+use Rattle.daide_protocol.proofs.Common.{take-append-drop, hlo, tokens_of, lvl_scan_of}
 use Rattle.daide_protocol.proofs.HloLemmas.{first_tokens, no_hlo-begins, no_hlo-stays}
 use Rattle.daide_protocol.proofs.hlo.HloScan.read.Goals as goal
 

@@ -1,10 +1,7 @@
-use Rattle.std.proofs.Common.{[], ◌∷◌, ◌++◌, ◌+◌, ◌≤◌, ◌≡◌, take, drop, length, sym, ap, ◌∙◌, arith, refl}
-use Rattle.std.proofs.lemmas.List.{take-append-drop}
-use Rattle.daide_token.specs.Token.{tokens_of}
+use Rattle.daide_protocol.proofs.Common.{[], ◌∷◌, ◌++◌, ◌+◌, ◌≤◌, ◌≡◌, take, drop, length, sym, ap, ◌∙◌, arith, refl}
+use Rattle.daide_protocol.proofs.Common.{take-append-drop, tokens_of, tokens_of-length, lvl_scan_of}
 use Rattle.daide_frame.proofs.ListLemmas.{take_whole}
-use Rattle.daide_reader.proofs.BodyLemmas.{tokens_of-length}
 use Rattle.daide_reader.proofs.ReadingLemmas.{raised_none, raised_by, raised_more, raised_within}
-use Rattle.daide_protocol.specs.HloLevel.{lvl_scan_of}
 use Rattle.daide_protocol.proofs.HloLemmas.{first_tokens}
 use Rattle.daide_protocol.proofs.hlo.HloScan.read_on.Goals as goal
 

@@ -1,7 +1,5 @@
-use Rattle.std.proofs.Common.{◌≡◌, ◌-◌, ◌*◌, take}
-use Rattle.daide_token.specs.Token.{tokens_of}
+use Rattle.daide_protocol.proofs.Common.{◌≡◌, ◌-◌, ◌*◌, take, tokens_of, lvl_scan_of}
 use Rattle.daide_reader.specs.Reading.{IsRaised}
-use Rattle.daide_protocol.specs.HloLevel.{lvl_scan_of}
 use Rattle.daide_protocol.proofs.hlo.HloScan.read_on.Given as goal
 
 -- each token before i was examined once

@@ -1,4 +1,4 @@
-use Rattle.std.proofs.Common.{⊎_elim}
+use Rattle.daide_protocol.proofs.Common.{⊎_elim}
 use Rattle.daide_protocol.proofs.HloLemmas.{no_hlo-stays, number-stays}
 use Rattle.daide_protocol.proofs.hlo.LvlScan.is_settled.Goals as goal
 

@@ -1,6 +1,5 @@
-use Rattle.std.proofs.Common.{true, false, Option, sym, ap, ◌∙◌, ⊎_elim, rules, arith}
-use Rattle.std.specs.Prelude.{ℤ}
 use Rattle.std.proofs.lemmas.Int.{to_z-of_z}
+use Rattle.daide_protocol.proofs.Common.{true, false, Option, sym, ap, ◌∙◌, ⊎_elim, rules, arith, ℤ}
 use mir.Syntax.{w16}
 use mir.Val.{SFits}
 use Rattle.daide_protocol.proofs.HloLemmas.{first_found, found_with, number-next, no_hlo-next, no_number-next, none_came}
