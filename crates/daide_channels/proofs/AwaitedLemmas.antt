@@ -1,15 +1,7 @@
 -- An answer is queued exactly if its side has one. The abstract value has the contents of the fields.
-use Rattle.std.proofs.Common.{◌≡◌, ℕ, zero, suc, ◌+◌, ◌<◌, ◌≤◌, false, List, [], ◌∷◌, length, map, Option, Some, None}
-use Rattle.std.proofs.Common.{refl, sym, ap, ◌∙◌, arith}
-use Rattle.std.specs.Prelude.{is_some, ◌||◌, nat_lt}
-use Rattle.daide_frame.specs.declared.side.Side.{Side}
-use Rattle.daide_frame.specs.declared.side.Side.TheVariants.{Bot, Server}
-use Rattle.daide_reader.specs.declared.verdict.Verdict.{Verdict}
-use Rattle.daide_frame.specs.Side.{other}
-use Rattle.daide_protocol.specs.Wires.{is_awaited}
-use Rattle.daide_channels.specs.declared.send_queue.QueuedFrame.{QueuedFrame}
-use Rattle.daide_frame.specs.PerSide.{at}
-use Rattle.daide_channels.specs.Receiver.{Receiver}
+use Rattle.daide_channels.proofs.Common.{◌≡◌, ℕ, zero, suc, ◌+◌, ◌<◌, ◌≤◌, false, List, [], ◌∷◌, length, map, Option}
+use Rattle.daide_channels.proofs.Common.{Some, None, refl, sym, ap, ◌∙◌, arith, is_some, ◌||◌, nat_lt, Side, Bot}
+use Rattle.daide_channels.proofs.Common.{Server, Verdict, other, is_awaited, QueuedFrame, at, Receiver}
 use Rattle.daide_channels.specs.Channels.{ReceiveState, Channels, Fields, IsSound, answer_at, answer_mark, arrival_of, drop_sent}
 use Rattle.daide_channels.specs.Channels.{count_of, frame_of_queued, side_holding, pending, pending_by, presence, channels_of}
 use Rattle.daide_channels.proofs.FrontLemmas.{waits_at}

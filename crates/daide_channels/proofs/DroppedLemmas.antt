@@ -1,24 +1,15 @@
 -- The first frame queued for a wire is removed. If it was an answer, the frame of that answer is cleared.
-use Rattle.std.proofs.Common.{◌≡◌, ℕ, ◌+◌, ◌<◌, ◌≤◌, Bool, true, false, List, [], ◌∷◌, length, map, Option, Some, None}
-use Rattle.std.proofs.Common.{refl, sym, ap, ◌∙◌, subst, arith, drop}
-use Rattle.std.specs.Prelude.{is_some, if◌then◌else◌}
-use Rattle.daide_frame.specs.declared.side.Side.{Side}
-use Rattle.daide_frame.specs.declared.side.Side.TheVariants.{Bot, Server}
-use Rattle.daide_reader.specs.declared.verdict.Verdict.{Verdict}
-use Rattle.daide_frame.specs.Side.{other}
-use Rattle.daide_protocol.specs.Machine.{Sent, destination}
-use Rattle.daide_protocol.specs.Wires.{is_answer, parts_after}
-use Rattle.daide_channels.specs.declared.send_queue.QueuedFrame.{QueuedFrame}
-use Rattle.daide_channels.specs.declared.send_queue.QueuedFrame.TheVariants.{Answer, Em, Fm}
-use Rattle.daide_frame.specs.PerSide.{PerSide, at, put}
-use Rattle.daide_channels.specs.Receiver.{StartsFrame, Receiver, whole_answer, answer_parts}
+use Rattle.daide_channels.proofs.Common.{◌≡◌, ℕ, ◌+◌, ◌<◌, ◌≤◌, Bool, true, false, List, [], ◌∷◌, length, map, Option}
+use Rattle.daide_channels.proofs.Common.{Some, None, refl, sym, ap, ◌∙◌, subst, arith, drop, is_some, if◌then◌else◌}
+use Rattle.daide_channels.proofs.Common.{Side, Bot, Server, Verdict, other, Sent, destination, is_answer, parts_after}
+use Rattle.daide_channels.proofs.Common.{QueuedFrame, Answer, Em, Fm, PerSide, at, put, StartsFrame, Receiver}
+use Rattle.daide_channels.proofs.Common.{whole_answer, answer_parts, Queue, first_of, tail_of, at_put, put_all}
 use Rattle.daide_channels.specs.Fronts.{AreAnswerParts, AreFresh}
-use Rattle.daide_channels.specs.SendQueue.{Queue, first_of, tail_of}
 use Rattle.daide_channels.specs.Channels.{ReceiveState, Fields, IsPartlySent, IsReleased, IsSound, ReleasesFrames, Channels, answer_at, answer_mark}
 use Rattle.daide_channels.specs.Channels.{answered_by, arrival_of, drop_sent, count_of, final_frame_mark, frame_of_queued, frames_of}
 use Rattle.daide_channels.specs.Channels.{others, parts_left, pending_by, presence, channels_of}
 use Rattle.daide_channels.proofs.AwaitedLemmas.{IsSeen, seen}
-use Rattle.daide_frame.proofs.PerSideLemmas.{at_put, both_same, put_all, put_each, put_there}
+use Rattle.daide_frame.proofs.PerSideLemmas.{both_same, put_each, put_there}
 use Rattle.daide_channels.proofs.FrontLemmas.{parts_at, waits_at}
 use Rattle.daide_channels.proofs.FrontsKept.{answer_fresh}
 use Rattle.daide_channels.proofs.MarksLemmas.{Agree, both_frames, least, mark_is, same_begun, same_frames}

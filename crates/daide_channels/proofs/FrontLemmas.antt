@@ -1,16 +1,10 @@
 -- The next chunk of a wire is a front of the first frame queued for it.
-use Rattle.std.proofs.Common.{◌≡◌, ℕ, ◌-◌, ◌<◌, ◌≤◌, Bool, true, false, List, [], ◌∷◌, length, drop, Some, None}
-use Rattle.std.proofs.Common.{refl, sym, ap, ◌∙◌, subst, arith, length-drop, append-nil}
-use Rattle.std.specs.Prelude.{nat_lt}
-use Rattle.daide_frame.specs.declared.side.Side.{Side}
-use Rattle.daide_frame.specs.declared.side.Side.TheVariants.{Bot, Server}
+use Rattle.daide_channels.proofs.Common.{◌≡◌, ℕ, ◌-◌, ◌<◌, ◌≤◌, Bool, true, false, List, [], ◌∷◌, length, drop, Some}
+use Rattle.daide_channels.proofs.Common.{None, refl, sym, ap, ◌∙◌, subst, arith, length-drop, append-nil, nat_lt, Side}
+use Rattle.daide_channels.proofs.Common.{Bot, Server, first_len, parts_after, QueuedFrame, Answer, Em, Fm, PerSide, at}
+use Rattle.daide_channels.proofs.Common.{Receiver, front_after, front_in, answer_parts, Queue, first_of}
 use Rattle.daide_protocol.specs.Machine.{em_bytes, fm_bytes}
-use Rattle.daide_protocol.specs.Wires.{IsFrontOf, first_len, next_part, parts_after}
-use Rattle.daide_channels.specs.declared.send_queue.QueuedFrame.{QueuedFrame}
-use Rattle.daide_channels.specs.declared.send_queue.QueuedFrame.TheVariants.{Answer, Em, Fm}
-use Rattle.daide_frame.specs.PerSide.{PerSide, at}
-use Rattle.daide_channels.specs.Receiver.{Receiver, front_after, front_in, answer_parts}
-use Rattle.daide_channels.specs.SendQueue.{Queue, first_of}
+use Rattle.daide_protocol.specs.Wires.{IsFrontOf, next_part}
 use Rattle.daide_channels.specs.Channels.{Fields, IsPartlySent, IsSound, Channels, answer_at, queued_bytes, frames_of, queued_frames_to}
 use Rattle.daide_channels.specs.Channels.{parts_left, parts_to, size_of_first, channels_of}
 use Rattle.daide_channels.proofs.PartsLemmas.{front_of_answer, is_below, is_not_below}

@@ -1,21 +1,10 @@
 -- The next chunk of a wire stays the same if nothing is sent to the wire.
-use Rattle.std.proofs.Common.{◌≡◌, ℕ, ◌+◌, ◌-◌, List, [], ◌∷◌, ◌++◌, Option, Some, None}
-use Rattle.std.proofs.Common.{refl, sym, ap, ◌∙◌, subst, drop, length, arith, length-drop}
 use Rattle.std.proofs.lemmas.List.{drop-drop}
-use Rattle.daide_frame.specs.declared.side.Side.{Side}
-use Rattle.daide_frame.specs.declared.side.Side.TheVariants.{Bot, Server}
-use Rattle.daide_frame.specs.declared.code.Code.{Code}
-use Rattle.daide_frame.specs.declared.head.Head.{Head}
-use Rattle.daide_frame.specs.Head.{head_bytes}
-use Rattle.daide_reader.specs.declared.verdict.Verdict.{Verdict}
-use Rattle.daide_frame.specs.Side.{other}
-use Rattle.daide_protocol.specs.Machine.{Sent, destination}
-use Rattle.daide_protocol.specs.Wires.{parts_after}
-use Rattle.daide_channels.specs.declared.send_queue.QueuedFrame.{QueuedFrame}
-use Rattle.daide_channels.specs.declared.send_queue.QueuedFrame.TheVariants.{Answer, Em, Fm}
-use Rattle.daide_frame.specs.PerSide.{PerSide, at, put}
-use Rattle.daide_channels.specs.SendQueue.{Queue, pushed}
-use Rattle.daide_channels.specs.Receiver.{Receiver, Answers, whole_answer, bytes_by, parts_by, answer_parts}
+use Rattle.daide_channels.proofs.Common.{◌≡◌, ℕ, ◌+◌, ◌-◌, List, [], ◌∷◌, ◌++◌, Option, Some, None, refl, sym, ap, ◌∙◌}
+use Rattle.daide_channels.proofs.Common.{subst, drop, length, arith, length-drop, Side, Bot, Server, Code, Head}
+use Rattle.daide_channels.proofs.Common.{head_bytes, Verdict, other, Sent, destination, parts_after, QueuedFrame}
+use Rattle.daide_channels.proofs.Common.{Answer, Em, Fm, PerSide, at, put, Queue, pushed, Receiver, Answers}
+use Rattle.daide_channels.proofs.Common.{whole_answer, bytes_by, parts_by, answer_parts}
 use Rattle.daide_channels.specs.Channels.{Fields, Channels, IsPartlySent, answer_at, answer_mark, count_of}
 use Rattle.daide_channels.specs.Channels.{drop_sent, ending_of, frames_of, parts_in, parts_left, channels_of}
 use Rattle.daide_channels.specs.Fronts.{AreAnswerParts, ArePartsKept, KeepsFronts}

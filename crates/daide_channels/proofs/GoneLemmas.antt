@@ -1,19 +1,13 @@
 -- Queued frames are removed: bytes of the first, the first, or all of them.
-use Rattle.std.proofs.Common.{◌≡◌, ℕ, ◌+◌, ◌<◌, ◌≤◌, Bool, true, false, List, [], ◌∷◌, length, drop, map}
-use Rattle.std.proofs.Common.{refl, sym, ap, ◌∙◌, subst, arith, length-drop, zero, suc}
 use Rattle.std.proofs.lemmas.List.{drop_all, drop-append-le, drop-drop}
-use Rattle.std.specs.Prelude.{◌||◌}
-use Rattle.daide_frame.specs.declared.side.Side.{Side}
-use Rattle.daide_frame.specs.declared.side.Side.TheVariants.{Bot, Server}
-use Rattle.daide_protocol.specs.Machine.{Sent, destination}
-use Rattle.daide_protocol.specs.Wires.{Holding, sent_bytes, has_answer, is_awaited, first_len, without}
-use Rattle.daide_channels.specs.declared.send_queue.QueuedFrame.{QueuedFrame}
-use Rattle.daide_frame.specs.PerSide.{PerSide, at, put}
-use Rattle.daide_channels.specs.SendQueue.{Queue}
+use Rattle.daide_channels.proofs.Common.{◌≡◌, ℕ, ◌+◌, ◌<◌, ◌≤◌, Bool, true, false, List, [], ◌∷◌, length, drop, map}
+use Rattle.daide_channels.proofs.Common.{refl, sym, ap, ◌∙◌, subst, arith, length-drop, zero, suc, ◌||◌, Side, Bot}
+use Rattle.daide_channels.proofs.Common.{Server, Sent, destination, sent_bytes, is_awaited, first_len, QueuedFrame}
+use Rattle.daide_channels.proofs.Common.{PerSide, at, put, Queue, at_put, put_all}
+use Rattle.daide_protocol.specs.Wires.{Holding, has_answer, without}
 use Rattle.daide_channels.specs.Channels.{ReceiveState, Fields, IsPartlySent, IsSound, ReleasesFrames, Channels, answer_at, answer_mark}
 use Rattle.daide_channels.specs.Channels.{drop_sent, queued_bytes, count_of, final_frame_mark}
 use Rattle.daide_channels.specs.Channels.{frame_of_queued, frames_of, queued_frames_to, side_holding, others, presence, channels_of}
-use Rattle.daide_frame.proofs.PerSideLemmas.{at_put, put_all}
 use Rattle.daide_channels.proofs.FrontLemmas.{waits_at}
 use Rattle.daide_channels.proofs.MarksLemmas.{answer_behind}
 use Rattle.daide_channels.proofs.PartsLemmas.{below}

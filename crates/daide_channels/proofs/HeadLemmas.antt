@@ -1,14 +1,10 @@
 -- Facts about lengths that follow from a whole header.
-use Rattle.std.proofs.Common.{◌≡◌, ℕ, ◌≤◌, Bool, true, false, List, [], ◌∷◌, length, Option, Some, None, Result, Ok}
-use Rattle.std.proofs.Common.{Err, refl, ap, arith}
-use Rattle.std.specs.Prelude.{nat_lt, ◌&&◌, ◌==◌, slice_index}
+use Rattle.std.proofs.Common.{Result, Ok, Err, ◌&&◌, ◌==◌, slice_index}
 use Rattle.std.specs.Int.{w16, from_be_bytes}
-use Rattle.std.proofs.lemmas.Bool.Decides.{nat_tests}
+use Rattle.daide_channels.proofs.Common.{◌≡◌, ℕ, ◌≤◌, Bool, true, false, List, [], ◌∷◌, length, Option, Some, None}
+use Rattle.daide_channels.proofs.Common.{refl, ap, arith, nat_lt, nat_tests, Head, Code, head_in, head_part}
 use Rattle.daide_frame.specs.declared.head.Kind.{Kind}
-use Rattle.daide_frame.specs.declared.head.Head.{Head}
-use Rattle.daide_frame.specs.declared.code.Code.{Code}
 use Rattle.daide_frame.specs.Head.{judged, kind_of, has_right_length, is_im, parse_head}
-use Rattle.daide_frame.specs.Frames.{head_in, head_part}
 
 not_above : (limit n : ℕ) → nat_lt limit n ≡ false → n ≤ limit
 not_above limit n e = grind (arith, nat_tests)

@@ -1,3 +1,4 @@
+mod Common
 pub mod AwaitedLemmas
 pub mod DroppedLemmas
 pub mod FrontLemmas

@@ -1,23 +1,13 @@
 -- The queued frames, by the side of their answer: counted, appended, and with other answer bytes.
-use Rattle.std.proofs.Common.{◌≡◌, ℕ, ◌+◌, ◌<◌, ◌≤◌, Bool, true, false, List, [], ◌∷◌, ◌++◌, length, map, Option, Some}
-use Rattle.std.proofs.Common.{None}
-use Rattle.std.proofs.Common.{refl, sym, ap, ◌∙◌, arith}
-use Rattle.std.specs.Prelude.{if◌then◌else◌, ◌||◌, nat_lt}
 use Rattle.std.proofs.lemmas.List.{map-append}
-use Rattle.daide_frame.specs.declared.side.Side.{Side}
-use Rattle.daide_frame.specs.declared.side.Side.TheVariants.{Bot, Server}
-use Rattle.daide_reader.specs.declared.verdict.Verdict.{Verdict}
-use Rattle.daide_protocol.specs.Machine.{Sent}
-use Rattle.daide_protocol.specs.Wires.{is_answer, has_answer}
-use Rattle.daide_channels.specs.declared.send_queue.QueuedFrame.{QueuedFrame}
-use Rattle.daide_channels.specs.declared.send_queue.QueuedFrame.TheVariants.{Answer, Fm, Em}
-use Rattle.daide_frame.specs.PerSide.{PerSide, at, put}
-use Rattle.daide_channels.specs.Receiver.{Receiver}
-use Rattle.daide_channels.specs.SendQueue.{Queue, pushed}
+use Rattle.daide_channels.proofs.Common.{◌≡◌, ℕ, ◌+◌, ◌<◌, ◌≤◌, Bool, true, false, List, [], ◌∷◌, ◌++◌, length, map}
+use Rattle.daide_channels.proofs.Common.{Option, Some, None, refl, sym, ap, ◌∙◌, arith, if◌then◌else◌, ◌||◌, nat_lt}
+use Rattle.daide_channels.proofs.Common.{Side, Bot, Server, Verdict, Sent, is_answer, QueuedFrame, Answer, Fm, Em}
+use Rattle.daide_channels.proofs.Common.{PerSide, at, put, Receiver, Queue, pushed, put_all}
+use Rattle.daide_protocol.specs.Wires.{has_answer}
 use Rattle.daide_channels.specs.Channels.{answer_at, answers_of, queued_bytes, frame_of_queued, drop_sent, frames_of, answer_mark}
 use Rattle.daide_channels.specs.Channels.{final_frame_mark}
 use Rattle.daide_channels.specs.Channels.{count_of, presence, IsPartlySent, is_final_frame, has_final_frame, posted}
-use Rattle.daide_frame.proofs.PerSideLemmas.{put_all}
 use Rattle.daide_channels.proofs.PartsLemmas.{below}
 
 -- ---- counts

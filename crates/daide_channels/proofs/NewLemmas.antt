@@ -1,13 +1,8 @@
 -- Both sides in their initial state: nothing received, and nothing queued.
-use Rattle.std.proofs.Common.{◌≡◌, ℕ, ◌+◌, ◌≤◌, [], None, refl, sym, ap, ◌∙◌, subst, arith}
-use Rattle.daide_frame.specs.declared.side.Side.{Side}
-use Rattle.daide_frame.specs.declared.side.Side.TheVariants.{Bot, Server}
-use Rattle.daide_grammar.specs.declared.level.Level.TheVariants.{L0}
-use Rattle.daide_frame.specs.PerSide.{at}
-use Rattle.daide_channels.specs.Receiver.{Receiver, ReaderLimits}
+use Rattle.daide_channels.proofs.Common.{◌≡◌, ℕ, ◌+◌, ◌≤◌, [], None, refl, sym, ap, ◌∙◌, subst, arith, Side, Bot}
+use Rattle.daide_channels.proofs.Common.{Server, L0, at, Receiver, ReaderLimits, Queue}
 use Rattle.daide_channels.specs.Channels.{Fields, IsPartlySent, IsQuiet, IsSound, answer_at, answer_mark, arrival_of, count_of}
 use Rattle.daide_channels.specs.Channels.{final_frame_mark, frames_of, presence, channels_of}
-use Rattle.daide_channels.specs.SendQueue.{Queue}
 
 -- a side in its initial state
 pub record IsNewSide (cap : ℕ) (rules : ReaderLimits) (side : Side) (i : Receiver) : Type 0 where

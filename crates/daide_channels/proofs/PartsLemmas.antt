@@ -1,16 +1,12 @@
 -- The next chunk of an answer is a front of its unsent bytes.
-use Rattle.std.proofs.Common.{◌≡◌, ℕ, ◌-◌, ◌*◌, ◌<◌, ◌≤◌, Bool, true, false, List, [], ◌∷◌, ◌++◌, length, take, drop}
-use Rattle.std.proofs.Common.{Option, Some, None, refl, sym, ap, ◌∙◌, subst, arith, length-append, length-drop}
-use Rattle.std.proofs.Common.{append_assoc}
-use Rattle.std.proofs.Common.{append-nil}
-use Rattle.std.specs.Prelude.{nat_lt}
-use Rattle.std.proofs.lemmas.Bool.Decides.{nat_tests}
 use Rattle.std.proofs.lemmas.List.{take_all, drop-append-le}
 use Rattle.std.proofs.Math.Seq.{drop-append-add}
+use Rattle.daide_channels.proofs.Common.{◌≡◌, ℕ, ◌-◌, ◌*◌, ◌<◌, ◌≤◌, Bool, true, false, List, [], ◌∷◌, ◌++◌, length}
+use Rattle.daide_channels.proofs.Common.{take, drop, Option, Some, None, refl, sym, ap, ◌∙◌, subst, arith}
+use Rattle.daide_channels.proofs.Common.{length-append, length-drop, append_assoc, append-nil, nat_lt, nat_tests}
+use Rattle.daide_channels.proofs.Common.{Verdict, bytes_by, parts_by, front_in}
 use Rattle.daide_protocol.specs.Answers.{huh_open, err_bytes, close_bytes}
-use Rattle.daide_reader.specs.declared.verdict.Verdict.{Verdict}
 use Rattle.daide_reader.specs.declared.verdict.Verdict.TheVariants.{Relay, Prn, Huh}
-use Rattle.daide_channels.specs.Receiver.{bytes_by, parts_by, front_in}
 
 pub below : (m n : ℕ) → m < n → nat_lt m n ≡ true
 below m n l = grind (arith, nat_tests)

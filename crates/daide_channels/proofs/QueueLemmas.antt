@@ -1,23 +1,13 @@
 -- A frame is queued for a wire: an answer, an FM or an EM.
-use Rattle.std.proofs.Common.{◌≡◌, ℕ, ◌+◌, ◌<◌, ◌≤◌, false, List, length, drop, Option, Some, None}
-use Rattle.std.proofs.Common.{refl, sym, ap, ◌∙◌, subst, arith}
-use Rattle.daide_frame.specs.declared.side.Side.{Side}
-use Rattle.daide_frame.specs.declared.side.Side.TheVariants.{Bot, Server}
-use Rattle.daide_frame.specs.declared.head.Head.{Head}
-use Rattle.daide_frame.specs.declared.code.Code.{Code}
-use Rattle.daide_frame.specs.Head.{head_bytes}
-use Rattle.daide_reader.specs.declared.verdict.Verdict.{Verdict}
+use Rattle.daide_channels.proofs.Common.{◌≡◌, ℕ, ◌+◌, ◌<◌, ◌≤◌, false, List, length, drop, Option, Some, None, refl}
+use Rattle.daide_channels.proofs.Common.{sym, ap, ◌∙◌, subst, arith, Side, Bot, Server, Head, Code, head_bytes, Verdict}
+use Rattle.daide_channels.proofs.Common.{IsCorrectVerdict, Sent, destination, question_of, Answer, PerSide, at, put}
+use Rattle.daide_channels.proofs.Common.{Answers, Receiver, whole_answer, Queue, pushed, at_put, put_all}
 use Rattle.daide_protocol.specs.Answers.{answer_bytes}
-use Rattle.daide_protocol.specs.Machine.{IsCorrectVerdict, Sent, destination, question_of}
-use Rattle.daide_channels.specs.declared.send_queue.QueuedFrame.TheVariants.{Answer}
-use Rattle.daide_frame.specs.PerSide.{PerSide, at, put}
-use Rattle.daide_channels.specs.Receiver.{Answers, Receiver, whole_answer}
-use Rattle.daide_channels.specs.SendQueue.{Queue, pushed}
 use Rattle.daide_channels.specs.Channels.{ReceiveState, Fields, IsPartlySent, IsSound, Channels, answer_at, answer_mark, queued_bytes, count_of}
 use Rattle.daide_channels.specs.Channels.{final_frame_mark, final_frame_to, ending_of, frame_of_queued, has_final_frame, noted, pending, posted}
 use Rattle.daide_channels.specs.Channels.{presence, channels_of}
 use Rattle.daide_channels.proofs.AwaitedLemmas.{IsSeenFree, silent}
-use Rattle.daide_frame.proofs.PerSideLemmas.{at_put, put_all}
 use Rattle.daide_channels.proofs.FrontLemmas.{waits_at}
 use Rattle.daide_channels.proofs.FrontsKept.{answered_header}
 use Rattle.daide_channels.proofs.MarksLemmas.{agree_put, begun_pushed, count_pushed, same_begun, same_both}

@@ -1,11 +1,7 @@
 -- The bytes queued for a wire: the unsent bytes of all its frames.
-use Rattle.std.proofs.Common.{◌≡◌, ℕ, ◌-◌, ◌≤◌, List, [], ◌∷◌, length, drop, refl, arith, length-drop, length-append}
-use Rattle.std.specs.Prelude.{map, sum_by}
 use Rattle.std.proofs.lemmas.List.Sums.{sum_by-cons}
-use Rattle.daide_frame.specs.declared.side.Side.{Side}
-use Rattle.daide_frame.specs.PerSide.{at}
-use Rattle.daide_protocol.specs.Wires.{sent_bytes}
-use Rattle.daide_channels.specs.declared.send_queue.QueuedFrame.{QueuedFrame}
+use Rattle.daide_channels.proofs.Common.{◌≡◌, ℕ, ◌-◌, ◌≤◌, List, [], ◌∷◌, length, drop, refl, arith, length-drop}
+use Rattle.daide_channels.proofs.Common.{length-append, map, sum_by, Side, at, sent_bytes, QueuedFrame}
 use Rattle.daide_channels.specs.Channels.{Fields, IsPartlySent, IsSound, answer_at, queued_bytes, frame_of_queued, frames_of, queued_frames_to}
 
 -- the length of a queued frame

@@ -1,33 +1,22 @@
 -- How a side's reader follows as more bytes of a frame arrive.
-use Rattle.std.proofs.Common.{◌≡◌, ℕ, ◌+◌, ◌-◌, ◌*◌, ◌/◌, ◌%◌, ◌^◌, ◌<◌, ◌≤◌, Bool, true, false, List, [], ◌∷◌, ◌++◌}
-use Rattle.std.proofs.Common.{length, take, drop}
-use Rattle.std.proofs.Common.{Option, None, refl, sym, ap, ◌∙◌, subst, arith, length-append, length-drop, append_assoc}
-use Rattle.std.proofs.Common.{append-nil}
-use Rattle.std.specs.Prelude.{nat_lt, if◌then◌else◌}
-use Rattle.std.proofs.lemmas.Bool.Decides.{nat_tests}
+use Rattle.std.proofs.Common.{◌%◌, ◌^◌}
 use Rattle.std.proofs.lemmas.List.{take-append-le, drop-append-le, drop_all}
-use Rattle.daide_token.specs.Token.{tokens_of}
-use Rattle.daide_frame.specs.declared.side.Side.{Side}
-use Rattle.daide_frame.specs.declared.head.Head.{Head}
-use Rattle.daide_frame.specs.Frames.{Cut, fed, head_in, head_part, is_nothing, last_items}
+use Rattle.daide_channels.proofs.Common.{◌≡◌, ℕ, ◌+◌, ◌-◌, ◌*◌, ◌/◌, ◌<◌, ◌≤◌, Bool, true, false, List, [], ◌∷◌, ◌++◌}
+use Rattle.daide_channels.proofs.Common.{length, take, drop, Option, None, refl, sym, ap, ◌∙◌, subst, arith}
+use Rattle.daide_channels.proofs.Common.{length-append, length-drop, append_assoc, append-nil, nat_lt, if◌then◌else◌}
+use Rattle.daide_channels.proofs.Common.{nat_tests, tokens_of, Side, Head, fed, head_in, head_part, lvl_scan_of}
+use Rattle.daide_channels.proofs.Common.{tokens_held, is_dm_head, IsCorrectVerdict, question_of, is_dm, side2_of, Level}
+use Rattle.daide_channels.proofs.Common.{start_symbol_of, Reading, IsRaised, HasReadPrefix, Verdict, StartsFrame}
+use Rattle.daide_channels.proofs.Common.{Receiver, ReaderLimits, ReadsMessageBytes, receiver_of, rules_of, tokens_ended}
+use Rattle.daide_frame.specs.Frames.{Cut, is_nothing, last_items}
 use Rattle.daide_frame.proofs.FramesLemmas.{head_in-short, head_in-whole, parse_head-append4}
 use Rattle.daide_protocol.specs.declared.hlo.HloScan.{HloScan}
-use Rattle.daide_protocol.specs.HloLevel.{lvl_scan_of}
-use Rattle.daide_protocol.specs.Weight.{tokens_held}
-use Rattle.daide_protocol.specs.Wires.{is_dm_head}
-use Rattle.daide_protocol.specs.Machine.{IsCorrectVerdict, question_of, is_dm, side2_of}
-use Rattle.daide_grammar.specs.declared.level.Level.{Level}
 use Rattle.daide_grammar.specs.declared.predict.Predict.{Ghosts}
 use Rattle.daide_grammar.specs.SideMessages.{IsMessageOver}
-use Rattle.daide_grammar.specs.Table.Symbols.{start_symbol_of}
 use Rattle.daide_grammar.specs.Words.{Words}
-use Rattle.daide_reader.specs.Reading.{Reading, IsRaised, HasReadPrefix}
-use Rattle.daide_reader.specs.declared.verdict.Verdict.{Verdict}
 use Rattle.daide_reader.specs.declared.verdict.Verdict.TheVariants.{Relay}
-use Rattle.daide_reader.specs.Verdict.{IsPlaceIn}
-use Rattle.daide_reader.specs.Verdict.{HasVerdict}
-use Rattle.daide_channels.specs.Receiver.{StartsFrame, Receiver, ReaderLimits, IsReadOn, HasHuhIndex, ReadsMessageBytes, receiver_of, rules_of}
-use Rattle.daide_channels.specs.Receiver.{tokens_ended}
+use Rattle.daide_reader.specs.Verdict.{IsPlaceIn, HasVerdict}
+use Rattle.daide_channels.specs.Receiver.{IsReadOn, HasHuhIndex}
 use Rattle.daide_reader.proofs.BodyLemmas.{tokens_of-length, tokens_of-all}
 
 -- a piece lengthens the bytes by at most its own length

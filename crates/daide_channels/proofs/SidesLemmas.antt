@@ -1,25 +1,15 @@
 -- A side's frame changes, and no answer to it is queued before or after.
-use Rattle.std.proofs.Common.{◌≡◌, ℕ, ◌*◌, ◌<◌, ◌≤◌, List, [], ◌++◌, length, drop, Option, None, Some}
-use Rattle.std.proofs.Common.{refl, sym, ap, ◌∙◌, subst, arith, ◌⊎◌}
-use Rattle.daide_frame.specs.declared.side.Side.{Side}
-use Rattle.daide_frame.specs.declared.side.Side.TheVariants.{Bot, Server}
+use Rattle.std.proofs.Common.{◌⊎◌}
+use Rattle.daide_channels.proofs.Common.{◌≡◌, ℕ, ◌*◌, ◌<◌, ◌≤◌, List, [], ◌++◌, length, drop, Option, None, Some, refl}
+use Rattle.daide_channels.proofs.Common.{sym, ap, ◌∙◌, subst, arith, Side, Bot, Server, Head, fed, head_in, Level}
+use Rattle.daide_channels.proofs.Common.{other, destination, IsRaised, Verdict, PerSide, at, put, Answers, Receiver}
+use Rattle.daide_channels.proofs.Common.{StartsFrame, ReadsMessageBytes, whole_answer, tokens_ended, Queue, put_all}
 use Rattle.daide_frame.specs.declared.cutter.Step.{Step}
-use Rattle.daide_frame.specs.declared.head.Head.{Head}
-use Rattle.daide_frame.specs.Frames.{fed, fed_items, items_of_step, head_in, missing, IsFault, HoldsFrame}
-use Rattle.daide_grammar.specs.declared.level.Level.{Level}
-use Rattle.daide_frame.specs.Side.{other}
-use Rattle.daide_protocol.specs.Machine.{destination}
-use Rattle.daide_reader.specs.Reading.{IsRaised}
-use Rattle.daide_reader.specs.declared.verdict.Verdict.{Verdict}
-use Rattle.daide_frame.specs.PerSide.{PerSide, at, put}
-use Rattle.daide_channels.specs.Receiver.{Answers, Receiver, StartsFrame, ReadsMessageBytes, whole_answer, tokens_ended}
-use Rattle.daide_channels.specs.Channels.{ReceiveState, Channels, Fields, IsSound, IsAnswered, IsCleared, IsGrown, IsStarted}
-use Rattle.daide_channels.specs.Channels.{Keeps, answer_at, answer_mark, arrival_of, count_of, side_holding, pending}
-use Rattle.daide_channels.specs.Channels.{pending_by, presence}
-use Rattle.daide_channels.specs.Channels.{channels_of}
-use Rattle.daide_channels.specs.SendQueue.{Queue}
+use Rattle.daide_frame.specs.Frames.{fed_items, items_of_step, missing, IsFault, HoldsFrame}
+use Rattle.daide_channels.specs.Channels.{ReceiveState, Channels, Fields, IsSound, IsAnswered, IsCleared, IsGrown}
+use Rattle.daide_channels.specs.Channels.{IsStarted, Keeps, answer_at, answer_mark, arrival_of, count_of, side_holding}
+use Rattle.daide_channels.specs.Channels.{pending, pending_by, presence, channels_of}
 use Rattle.daide_channels.proofs.AwaitedLemmas.{IsSeen, IsSeenFree, silent}
-use Rattle.daide_frame.proofs.PerSideLemmas.{put_all}
 use Rattle.daide_channels.proofs.MarksLemmas.{agree_put, same_begun, same_both}
 
 abbrev pub with_side : Fields → Side → Receiver → Fields

@@ -1,5 +1,4 @@
-use Rattle.std.proofs.Common.{◌≡◌, ◌*◌, ◌≤◌, take}
-use Rattle.std.specs.Prelude.{sum_by}
+use Rattle.daide_channels.proofs.Common.{◌≡◌, ◌*◌, ◌≤◌, take, sum_by}
 use Rattle.daide_channels.specs.Channels.{answer_at}
 use Rattle.daide_channels.proofs.QueuedLemmas.{len_in}
 use Rattle.daide_channels.proofs.channels.frames_len.Given as goal

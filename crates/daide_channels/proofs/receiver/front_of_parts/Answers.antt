@@ -1,4 +1,4 @@
-use Rattle.std.proofs.Common.{◌-◌, length, arith}
+use Rattle.daide_channels.proofs.Common.{◌-◌, length, arith}
 use Rattle.daide_channels.proofs.PartsLemmas.{below, not_below, rest_of}
 use Rattle.daide_channels.proofs.receiver.front_of_parts.Goals as goal
 

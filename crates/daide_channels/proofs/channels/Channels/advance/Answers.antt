@@ -1,8 +1,5 @@
-use Rattle.std.proofs.Common.{◌≡◌, ◌-◌, ap, arith, refl, sym, ◌∙◌}
-use Rattle.daide_protocol.specs.Wires.{first_len}
-use Rattle.daide_frame.specs.PerSide.{at}
+use Rattle.daide_channels.proofs.Common.{◌≡◌, ◌-◌, ap, arith, refl, sym, ◌∙◌, first_len, at, Queue}
 use Rattle.daide_channels.specs.Channels.{Channels, answer_at, fields, size_of_first}
-use Rattle.daide_channels.specs.SendQueue.{Queue}
 use Rattle.daide_channels.proofs.FrontLemmas.{first_len_is, waits_at}
 use Rattle.daide_channels.proofs.FrontsKept.{advanced_front, advanced_other}
 use Rattle.daide_channels.proofs.GoneLemmas.{advance_sound, advanced_waiting, further}

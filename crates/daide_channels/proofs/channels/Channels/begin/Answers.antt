@@ -1,4 +1,4 @@
-use Rattle.std.proofs.Common.{ap, drop, refl, sym, ◌∙◌}
+use Rattle.daide_channels.proofs.Common.{ap, drop, refl, sym, ◌∙◌}
 use Rattle.daide_channels.proofs.AwaitedLemmas.{seen_free}
 use Rattle.daide_channels.proofs.FrontsKept.{fronts_side}
 use Rattle.daide_channels.proofs.SidesLemmas.{begun_sound, keeps_side, same_if_begun, started, waiting_side}

@@ -1,4 +1,4 @@
-use Rattle.std.proofs.Common.{refl}
+use Rattle.daide_channels.proofs.Common.{refl}
 use Rattle.daide_channels.proofs.AwaitedLemmas.{seen_free}
 use Rattle.daide_channels.proofs.FrontsKept.{fronts_side}
 use Rattle.daide_channels.proofs.SidesLemmas.{begun_sound, cleared, keeps_side, same_if_begun, waiting_side}

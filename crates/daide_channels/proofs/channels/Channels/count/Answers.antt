@@ -1,5 +1,4 @@
-use Rattle.std.proofs.Common.{◌∙◌, ap, length, refl}
-use Rattle.daide_channels.specs.SendQueue.{Queue}
+use Rattle.daide_channels.proofs.Common.{◌∙◌, ap, length, refl, Queue}
 use Rattle.daide_channels.proofs.AwaitedLemmas.{seen, waits_len}
 use Rattle.daide_channels.proofs.channels.Channels.count.Goals as goal
 

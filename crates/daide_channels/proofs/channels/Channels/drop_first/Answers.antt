@@ -1,7 +1,5 @@
-use Rattle.std.proofs.Common.{ap, ◌∙◌}
-use Rattle.daide_frame.specs.PerSide.{at, put}
+use Rattle.daide_channels.proofs.Common.{ap, ◌∙◌, at, put, Queue, first_of, tail_of}
 use Rattle.daide_channels.specs.Channels.{fields}
-use Rattle.daide_channels.specs.SendQueue.{Queue, first_of, tail_of}
 use Rattle.daide_channels.proofs.DroppedLemmas.{IsLeft, dropped_first}
 use Rattle.daide_channels.proofs.channels.Channels.drop_first.Given.{Over}
 use Rattle.daide_channels.proofs.channels.Channels.drop_first.Goals.{After-release}

@@ -1,4 +1,4 @@
-use Rattle.std.proofs.Common.{length, refl}
+use Rattle.daide_channels.proofs.Common.{length, refl}
 use Rattle.daide_channels.proofs.AwaitedLemmas.{seen_free}
 use Rattle.daide_channels.proofs.FrontsKept.{fronts_side}
 use Rattle.daide_channels.proofs.SidesLemmas.{fits_side, grown, keeps_side, looked_side, raised_ended, read_sound}

@@ -1,8 +1,5 @@
-use Rattle.std.proofs.Common.{◌≡◌, ◌-◌, ℕ, sym, ap, ◌∙◌, arith}
-use Rattle.daide_protocol.specs.Wires.{first_len}
-use Rattle.daide_frame.specs.PerSide.{at}
+use Rattle.daide_channels.proofs.Common.{◌≡◌, ◌-◌, ℕ, sym, ap, ◌∙◌, arith, first_len, at, Queue}
 use Rattle.daide_channels.specs.Channels.{fields, Channels, answer_at, size_of_first}
-use Rattle.daide_channels.specs.SendQueue.{Queue}
 use Rattle.daide_channels.proofs.FrontLemmas.{begun_within, first_len_is, none_left, waits_at}
 use Rattle.daide_channels.proofs.channels.Channels.first_len.Goals as goal
 

@@ -1,10 +1,6 @@
-use Rattle.std.proofs.Common.{◌≡◌, [], Some, sym, ap, ◌∙◌}
-use Rattle.daide_channels.specs.declared.send_queue.QueuedFrame.{QueuedFrame}
-use Rattle.daide_channels.specs.declared.send_queue.QueuedFrame.TheVariants.{Answer}
-use Rattle.daide_frame.specs.PerSide.{at}
-use Rattle.daide_channels.specs.Receiver.{Receiver, front_after}
+use Rattle.daide_channels.proofs.Common.{◌≡◌, [], Some, sym, ap, ◌∙◌, QueuedFrame, Answer, at, Receiver, front_after}
+use Rattle.daide_channels.proofs.Common.{first_of}
 use Rattle.daide_channels.specs.Channels.{fields}
-use Rattle.daide_channels.specs.SendQueue.{first_of}
 use Rattle.daide_channels.proofs.FrontLemmas.{front_for, front_none, front_of, front_some}
 use Rattle.daide_channels.proofs.channels.Channels.front.Goals as goal
 

@@ -1,4 +1,4 @@
-use Rattle.std.proofs.Common.{refl, sym, ◌∙◌}
+use Rattle.daide_channels.proofs.Common.{refl, sym, ◌∙◌}
 use Rattle.daide_channels.proofs.AwaitedLemmas.{picked, tied}
 use Rattle.daide_channels.proofs.channels.Channels.is_awaited.Goals as goal
 

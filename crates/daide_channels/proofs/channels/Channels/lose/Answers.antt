@@ -1,4 +1,4 @@
-use Rattle.std.proofs.Common.{refl, ◌∙◌, arith}
+use Rattle.daide_channels.proofs.Common.{refl, ◌∙◌, arith}
 use Rattle.daide_channels.proofs.GoneLemmas.{losing_none, losing_one, lost_all}
 use Rattle.daide_channels.proofs.channels.Channels.lose.Goals as goal
 

@@ -1,6 +1,4 @@
-use Rattle.std.proofs.Common.{◌≡◌}
-use Rattle.daide_frame.specs.Side.{other}
-use Rattle.daide_frame.specs.PerSide.{at}
+use Rattle.daide_channels.proofs.Common.{◌≡◌, other, at}
 use Rattle.daide_channels.proofs.GoneLemmas.{IsLosing}
 use Rattle.daide_channels.proofs.channels.Channels.lose.Given as goal
 

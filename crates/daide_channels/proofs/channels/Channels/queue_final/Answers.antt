@@ -1,7 +1,5 @@
-use Rattle.std.proofs.Common.{◌≡◌, ap, ◌∙◌}
-use Rattle.daide_frame.specs.PerSide.{at, put}
+use Rattle.daide_channels.proofs.Common.{◌≡◌, ap, ◌∙◌, at, put, Queue, pushed}
 use Rattle.daide_channels.specs.Channels.{ending_of, fields}
-use Rattle.daide_channels.specs.SendQueue.{Queue, pushed}
 use Rattle.daide_channels.proofs.FrontsKept.{end_fronts}
 use Rattle.daide_channels.proofs.QueueLemmas.{end_room, end_sound, end_waiting}
 use Rattle.daide_channels.proofs.channels.Channels.queue_final.Goals as goal

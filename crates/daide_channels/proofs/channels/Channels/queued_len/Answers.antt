@@ -1,8 +1,4 @@
-use Rattle.std.proofs.Common.{◌≡◌, ◌-◌, ℕ, length, sym, ap, ◌∙◌, arith}
-use Rattle.std.specs.Prelude.{sum_by}
-use Rattle.daide_frame.specs.PerSide.{at}
-use Rattle.daide_protocol.specs.Wires.{sent_bytes}
-use Rattle.daide_channels.specs.SendQueue.{Queue}
+use Rattle.daide_channels.proofs.Common.{◌≡◌, ◌-◌, ℕ, length, sym, ap, ◌∙◌, arith, sum_by, at, sent_bytes, Queue}
 use Rattle.daide_channels.specs.Channels.{fields, Channels, answer_at}
 use Rattle.daide_channels.proofs.FrontLemmas.{waits_at}
 use Rattle.daide_channels.proofs.QueuedLemmas.{len_in, queued_len_is}

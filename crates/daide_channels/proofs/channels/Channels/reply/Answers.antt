@@ -1,5 +1,4 @@
-use Rattle.std.proofs.Common.{refl}
-use Rattle.daide_frame.specs.PerSide.{put}
+use Rattle.daide_channels.proofs.Common.{refl, put}
 use Rattle.daide_channels.proofs.AwaitedLemmas.{reply_room, seen_free}
 use Rattle.daide_channels.proofs.FrontsKept.{post_fronts}
 use Rattle.daide_channels.proofs.SidesLemmas.{answered, keeps_side, raised_side, same_if_answered, unasked_side}

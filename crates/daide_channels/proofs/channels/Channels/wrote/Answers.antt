@@ -1,6 +1,4 @@
-use Rattle.std.proofs.Common.{◌<◌, arith}
-use Rattle.daide_protocol.specs.Wires.{first_len}
-use Rattle.daide_frame.specs.PerSide.{at}
+use Rattle.daide_channels.proofs.Common.{◌<◌, arith, first_len, at}
 use Rattle.daide_channels.proofs.GoneLemmas.{lets_none_go, wrote_bytes, wrote_less}
 use Rattle.daide_channels.proofs.channels.Channels.wrote.Goals as goal
 

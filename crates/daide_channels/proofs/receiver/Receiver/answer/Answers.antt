@@ -1,20 +1,11 @@
-use Rattle.std.proofs.Common.{◌≡◌, ℕ, List, true, false, drop, sym, ap, ◌∙◌, subst, refl, arith, length}
-use Rattle.daide_token.specs.Token.{tokens_of}
-use Rattle.daide_frame.specs.Frames.{head_in}
-use Rattle.daide_frame.specs.Head.{head_bytes}
+use Rattle.daide_channels.proofs.Common.{◌≡◌, ℕ, List, true, false, drop, sym, ap, ◌∙◌, subst, refl, arith, length}
+use Rattle.daide_channels.proofs.Common.{tokens_of, head_in, head_bytes, start_symbol_of, ghosts, extended_look_ups}
+use Rattle.daide_channels.proofs.Common.{spoken_words, spoken, IsCorrectVerdict, question_of, is_dm, side2_of}
+use Rattle.daide_channels.proofs.Common.{tokens_held, is_dm_head, IsRaised, Receiver, rules_of, words_in}
 use Rattle.daide_grammar.specs.SideMessages.{IsMessageOver}
-use Rattle.daide_grammar.specs.Table.Symbols.{start_symbol_of}
-use Rattle.daide_words.specs.contracts.extended.ExtendedPredict.TheImpl.{ghosts}
-use Rattle.daide_words.specs.Table.Extended.{extended_look_ups, spoken_words}
-use Rattle.daide_words.specs.Table.OverWords.{spoken}
-use Rattle.daide_protocol.specs.Machine.{IsCorrectVerdict, question_of, is_dm, side2_of}
-use Rattle.daide_protocol.specs.Weight.{tokens_held}
-use Rattle.daide_protocol.specs.Wires.{is_dm_head}
-use Rattle.daide_reader.specs.Reading.{IsRaised}
 use Rattle.daide_reader.specs.Verdict.{HasVerdict}
 use Rattle.daide_reader.specs.declared.verdict.Verdict.TheVariants.{Relay}
 use Rattle.daide_reader.proofs.BodyLemmas.{place_in}
-use Rattle.daide_channels.specs.Receiver.{Receiver, rules_of, words_in}
 use Rattle.daide_protocol.proofs.WordedVerdicts.{spoken_verdicts}
 use Rattle.daide_channels.proofs.HeadLemmas.{head_capped}
 use Rattle.daide_channels.proofs.ReceiverLemmas.{IsJudged, all_held, raised_none, right_message, right_other, rules_kept}

@@ -1,10 +1,5 @@
-use Rattle.std.proofs.Common.{[], refl, ap, ◌∙◌, drop, subst, rules}
-use Rattle.daide_grammar.specs.declared.side.Side2.{Side2}
-use Rattle.daide_grammar.specs.Table.Symbols.{start_symbol_of}
-use Rattle.daide_reader.specs.Reading.{HasReadPrefix}
-use Rattle.daide_words.specs.contracts.extended.ExtendedPredict.TheImpl.{ghosts}
-use Rattle.daide_words.specs.Table.Extended.{extended_look_ups, spoken_words}
-use Rattle.daide_channels.specs.Receiver.{Receiver, StartsFrame, words_in}
+use Rattle.daide_channels.proofs.Common.{[], refl, ap, ◌∙◌, drop, subst, rules, Side2, start_symbol_of, HasReadPrefix}
+use Rattle.daide_channels.proofs.Common.{ghosts, extended_look_ups, spoken_words, Receiver, StartsFrame, words_in}
 use Rattle.daide_channels.proofs.ReceiverLemmas.{begins_of, fresh_on}
 use Rattle.daide_channels.proofs.receiver.Receiver.begin.Goals as goal
 

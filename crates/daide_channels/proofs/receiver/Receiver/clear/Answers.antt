@@ -1,7 +1,4 @@
-use Rattle.std.proofs.Common.{[], refl, ap, drop, rules}
-use Rattle.daide_words.specs.contracts.extended.ExtendedPredict.TheImpl.{ghosts}
-use Rattle.daide_words.specs.Table.Extended.{extended_look_ups}
-use Rattle.daide_channels.specs.Receiver.{Receiver, words_in}
+use Rattle.daide_channels.proofs.Common.{[], refl, ap, drop, rules, ghosts, extended_look_ups, Receiver, words_in}
 use Rattle.daide_channels.proofs.ReceiverLemmas.{begins_of, fresh_on}
 use Rattle.daide_channels.proofs.receiver.Receiver.clear.Goals as goal
 

@@ -1,10 +1,6 @@
-use Rattle.std.proofs.Common.{◌+◌, ◌*◌, ◌≤◌, subst}
+use Rattle.daide_channels.proofs.Common.{◌+◌, ◌*◌, ◌≤◌, subst, start_symbol_of, side2_of, tokens_held, spoken_words}
+use Rattle.daide_channels.proofs.Common.{Receiver}
 use Rattle.daide_grammar.specs.Depth.{open_brackets}
-use Rattle.daide_grammar.specs.Table.Symbols.{start_symbol_of}
-use Rattle.daide_protocol.specs.Machine.{side2_of}
-use Rattle.daide_protocol.specs.Weight.{tokens_held}
-use Rattle.daide_words.specs.Table.Extended.{spoken_words}
-use Rattle.daide_channels.specs.Receiver.{Receiver}
 use Rattle.daide_channels.proofs.receiver.Receiver.entries.Goals as goal
 
 pub returns-clause-few : goal.returns-clause-few

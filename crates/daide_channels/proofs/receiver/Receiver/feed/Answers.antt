@@ -1,22 +1,13 @@
-use Rattle.std.proofs.Common.{◌≡◌, ℕ, ◌+◌, ◌-◌, ◌*◌, ◌/◌, ◌≤◌, List, [], None, true, false, length, take, drop, rules}
-use Rattle.std.proofs.Common.{refl, sym, ap, ◌∙◌, subst, arith}
 use Rattle.std.proofs.lemmas.List.{nil_from_length}
-use Rattle.daide_token.specs.Token.{tokens_of}
-use Rattle.daide_frame.specs.Frames.{fed, head_in}
-use Rattle.daide_grammar.specs.Table.Symbols.{start_symbol_of}
+use Rattle.daide_channels.proofs.Common.{◌≡◌, ℕ, ◌+◌, ◌-◌, ◌*◌, ◌/◌, ◌≤◌, List, [], None, true, false, length, take}
+use Rattle.daide_channels.proofs.Common.{drop, rules, refl, sym, ap, ◌∙◌, subst, arith, tokens_of, fed, head_in}
+use Rattle.daide_channels.proofs.Common.{start_symbol_of, ghosts, extended_look_ups, spoken_words, spoken, lvl_scan_of}
+use Rattle.daide_channels.proofs.Common.{side2_of, tokens_held, is_dm_head, Reading, IsRaised, HasReadPrefix, Receiver}
+use Rattle.daide_channels.proofs.Common.{ReadsMessageBytes, receiver_of, tokens_ended, words_in}
 use Rattle.daide_words.specs.declared.extended.Extended.{Extended}
-use Rattle.daide_words.specs.contracts.extended.ExtendedPredict.TheImpl.{ghosts}
-use Rattle.daide_words.specs.Table.Extended.{extended_look_ups, spoken_words}
-use Rattle.daide_words.specs.Table.OverWords.{spoken}
-use Rattle.daide_protocol.specs.HloLevel.{lvl_scan_of}
-use Rattle.daide_protocol.specs.Machine.{side2_of}
-use Rattle.daide_protocol.specs.Weight.{tokens_held}
-use Rattle.daide_protocol.specs.Wires.{is_dm_head}
-use Rattle.daide_reader.specs.Reading.{Reading, IsRaised, HasReadPrefix, tokens_read}
-use Rattle.daide_channels.specs.Receiver.{Receiver, ReadsMessageBytes, receiver_of, tokens_ended, words_in}
-use Rattle.daide_channels.proofs.ReceiverLemmas.{bodiless_before, few_ended, fed_on, fed_past, none_begun}
-use Rattle.daide_channels.proofs.ReceiverLemmas.{none_held, raised_most}
-use Rattle.daide_channels.proofs.ReceiverLemmas.{read_along, reads_of, rules_kept}
+use Rattle.daide_reader.specs.Reading.{tokens_read}
+use Rattle.daide_channels.proofs.ReceiverLemmas.{bodiless_before, few_ended, fed_on, fed_past, none_begun, none_held}
+use Rattle.daide_channels.proofs.ReceiverLemmas.{raised_most, read_along, reads_of, rules_kept}
 use Rattle.daide_channels.proofs.receiver.Receiver.feed.Goals as goal
 
 pub read-requires : goal.read-requires

@@ -1,7 +1,4 @@
-use Rattle.std.proofs.Common.{ap, ◌∙◌}
-use Rattle.daide_protocol.specs.HloLevel.{lvl_scan_of}
-use Rattle.daide_protocol.specs.Weight.{tokens_held}
-use Rattle.daide_channels.specs.Receiver.{Receiver}
+use Rattle.daide_channels.proofs.Common.{ap, ◌∙◌, lvl_scan_of, tokens_held, Receiver}
 use Rattle.daide_channels.proofs.receiver.Receiver.found.Goals as goal
 
 pub returns : goal.returns

@@ -1,6 +1,4 @@
-use Rattle.std.proofs.Common.{ap, ◌∙◌}
-use Rattle.std.specs.Prelude.{is_some}
-use Rattle.daide_channels.specs.Receiver.{Receiver}
+use Rattle.daide_channels.proofs.Common.{ap, ◌∙◌, is_some, Receiver}
 use Rattle.daide_channels.proofs.receiver.Receiver.is_awaited.Goals as goal
 
 pub returns : goal.returns

@@ -1,12 +1,5 @@
-use Rattle.std.proofs.Common.{[], refl, ap, ◌∙◌, drop, subst, arith}
-use Rattle.daide_grammar.specs.declared.level.Level.TheVariants.{L0}
-use Rattle.daide_grammar.specs.declared.side.Side2.{Side2}
-use Rattle.daide_grammar.specs.Table.Symbols.{start_symbol_of}
-use Rattle.daide_reader.specs.Reading.{HasReadPrefix}
-use Rattle.daide_words.specs.contracts.extended.ExtendedPredict.TheImpl.{ghosts}
-use Rattle.daide_words.specs.Table.Extended.{extended_look_ups, spoken_words}
-use Rattle.daide_words.specs.Table.OverWords.{spoken}
-use Rattle.daide_channels.specs.Receiver.{words_in}
+use Rattle.daide_channels.proofs.Common.{[], refl, ap, ◌∙◌, drop, subst, arith, L0, Side2, start_symbol_of}
+use Rattle.daide_channels.proofs.Common.{HasReadPrefix, ghosts, extended_look_ups, spoken_words, spoken, words_in}
 use Rattle.daide_channels.proofs.ReceiverLemmas.{fresh_on, rules_set}
 use Rattle.daide_channels.proofs.receiver.Receiver.new.Goals as goal
 

@@ -1,4 +1,4 @@
-use Rattle.std.proofs.Common.{rules}
+use Rattle.daide_channels.proofs.Common.{rules}
 use Rattle.daide_channels.proofs.send_queue.SendQueue.push.Goals as goal
 
 pub returns : goal.returns
