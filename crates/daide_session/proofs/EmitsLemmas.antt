@@ -1,25 +1,14 @@
 -- The channels carry out the moves of an outcome.
-use Rattle.std.proofs.Common.{◌≡◌, ℕ, Bool, true, false, cond, List, [], ◌∷◌, ◌++◌, Option, Some, None, refl, sym, ap}
-use Rattle.std.proofs.Common.{◌∙◌, subst, append_assoc, append-nil, ◌<◌, ◌≤◌, length, arith}
-use Rattle.daide_frame.specs.declared.side.Side.{Side}
-use Rattle.daide_frame.specs.declared.side.Side.TheVariants.{Bot, Server}
-use Rattle.daide_frame.specs.declared.code.Code.{Code}
-use Rattle.daide_protocol.specs.declared.ending.Ending.{Ending}
+use Rattle.std.proofs.Common.{append_assoc}
+use Rattle.daide_session.proofs.Common.{◌≡◌, ℕ, Bool, true, false, cond, List, [], ◌∷◌, ◌++◌, Option, Some, None, refl}
+use Rattle.daide_session.proofs.Common.{sym, ap, ◌∙◌, subst, append-nil, ◌<◌, ◌≤◌, length, arith, ◌==◌, Side, Bot}
+use Rattle.daide_session.proofs.Common.{Server, Code, Ending, SessionPhase, WaitIm, WaitRm, Open, Over, Account, other}
+use Rattle.daide_session.proofs.Common.{same_side, Sent, Coming, fm_to, coming, is_over, missing, SessionView, queued}
+use Rattle.daide_session.proofs.Common.{frames_to, is_awaited, room_of, ProtocolState, PerSide, at, Channels, posted}
+use Rattle.daide_session.proofs.Common.{final_frame_to, pending, state_of, view_of, Emits, KeepsSides}
 use Rattle.daide_protocol.specs.declared.ending.Ending.TheVariants as Endings
-use Rattle.daide_protocol.specs.declared.phase.SessionPhase.{SessionPhase}
-use Rattle.daide_protocol.specs.declared.phase.SessionPhase.TheVariants.{WaitIm, WaitRm, Open, Over}
-use Rattle.daide_protocol.specs.declared.account.Account.{Account}
 use Rattle.daide_protocol.specs.Account.{fault_accounted}
-use Rattle.daide_frame.specs.Side.{other, same_side}
-use Rattle.daide_protocol.specs.Machine.{Sent, Coming, fault, fm_to, em_to, stop, coming, is_over}
-use Rattle.std.specs.Prelude.{◌==◌}
-use Rattle.daide_frame.specs.Frames.{missing}
-use Rattle.daide_protocol.specs.Wires.{SessionView, queued, frames_to, is_awaited, room_of}
-use Rattle.daide_session.specs.declared.protocol_state.ProtocolState.{ProtocolState}
-use Rattle.daide_frame.specs.PerSide.{PerSide, at}
-use Rattle.daide_channels.specs.Channels.{Channels, posted, final_frame_to, pending}
-use Rattle.daide_session.specs.Session.{state_of, view_of}
-use Rattle.daide_session.specs.FrameEvents.{Emits, KeepsSides}
+use Rattle.daide_protocol.specs.Machine.{fault, em_to, stop}
 
 -- ---- the value by its parts
 

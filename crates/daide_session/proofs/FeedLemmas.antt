@@ -1,38 +1,23 @@
 -- The effect of a piece of bytes on a session: a part of a run, and the bytes held after it.
-use Rattle.std.proofs.Common.{◌≡◌, ℕ, ◌*◌, ◌<◌, Bool, true, false, cond, List, [], ◌∷◌, ◌++◌, length}
-use Rattle.std.proofs.Common.{drop}
-use Rattle.std.proofs.Common.{Option, Some, None, refl, sym, ap, ◌∙◌, subst, arith, ◌⊎◌, inl, inr, ⊎_elim}
-use Rattle.std.proofs.Common.{length-append, length-drop, append-nil}
-use Rattle.daide_frame.specs.declared.side.Side.{Side}
-use Rattle.daide_frame.specs.declared.side.Side.TheVariants.{Bot, Server}
-use Rattle.daide_frame.specs.declared.head.Head.{Head}
-use Rattle.daide_frame.specs.declared.cutter.Step.{Step}
+use Rattle.std.proofs.Common.{◌*◌, length-append, length-drop}
+use Rattle.daide_session.proofs.Common.{◌≡◌, ℕ, ◌<◌, Bool, true, false, cond, List, [], ◌∷◌, ◌++◌, length, drop, Option}
+use Rattle.daide_session.proofs.Common.{Some, None, refl, sym, ap, ◌∙◌, subst, arith, ◌⊎◌, inl, inr, ⊎_elim, append-nil}
+use Rattle.daide_session.proofs.Common.{Side, Bot, Server, Head, Step, FrameEvent, last_items, head_in, missing}
+use Rattle.daide_session.proofs.Common.{head_in-short, Verdict, IsRaised, Note, other, bytes_come, Sent, Effect}
+use Rattle.daide_session.proofs.Common.{Successor, SessionState, Coming, Runs, IsCorrectVerdict, coming, with_pending}
+use Rattle.daide_session.proofs.Common.{is_over, asked_by, Account, accounted, SessionView, Holding, account_after}
+use Rattle.daide_session.proofs.Common.{queued, holding, sent_to, note_of, held_after, is_dm_head, Refines}
+use Rattle.daide_session.proofs.Common.{ProtocolState, at, Channels, pending, state_of, view_of, Asks}
+use Rattle.daide_session.proofs.Common.{HandlesFrameEvents, IsPaidBy, tokens_ended}
 use Rattle.daide_frame.specs.declared.cutter.Step.TheVariants.{More, Headed, Bodied, Fault}
-use Rattle.daide_frame.specs.Frames.{FrameEvent, is_nothing, last_items, fed, fed_items, items_of_step, head_in, missing, IsFault}
-use Rattle.daide_frame.specs.Frames.{HoldsFrame, IsBodied}
-use Rattle.daide_frame.proofs.FramesLemmas.{head_in-short}
-use Rattle.daide_reader.specs.declared.verdict.Verdict.{Verdict}
-use Rattle.daide_reader.specs.Reading.{IsRaised}
+use Rattle.daide_frame.specs.Frames.{is_nothing, fed, fed_items, items_of_step, IsFault, HoldsFrame, IsBodied}
 use Rattle.daide_reader.proofs.ReadingLemmas.{raised_more, raised_none}
-use Rattle.daide_protocol.specs.declared.note.Note.{Note}
 use Rattle.daide_protocol.specs.declared.note.Note.TheVariants as Notes
-use Rattle.daide_frame.specs.Side.{other}
-use Rattle.daide_protocol.specs.Events.{bytes_come}
-use Rattle.daide_protocol.specs.Machine.{Sent, Effect, Successor, SessionState, Coming, Runs, IsCorrectVerdict, coming}
-use Rattle.daide_protocol.specs.Machine.{with_pending}
-use Rattle.daide_protocol.specs.Machine.{is_over, items_outcome, asked_by}
-use Rattle.daide_protocol.specs.declared.account.Account.{Account}
-use Rattle.daide_protocol.specs.Account.{accounted}
-use Rattle.daide_protocol.specs.Wires.{SessionView, Holding, account_after, queued, holding, sent_to, note_of, held_after, counts_from}
-use Rattle.daide_protocol.specs.Wires.{is_dm_head, asked_at_most, looked_at_most, Refines, ReceivesBytes}
+use Rattle.daide_protocol.specs.Machine.{items_outcome}
+use Rattle.daide_protocol.specs.Wires.{counts_from, asked_at_most, looked_at_most, ReceivesBytes}
 use Rattle.daide_protocol.proofs.PieceRuns.{piece_runs, piece_outcome, IsTaken}
-use Rattle.daide_session.specs.declared.protocol_state.ProtocolState.{ProtocolState}
-use Rattle.daide_frame.specs.PerSide.{at}
-use Rattle.daide_channels.specs.Channels.{ReceiveState, Channels, Keeps, IsGrown, pending}
-use Rattle.daide_session.specs.Session.{state_of, view_of}
-use Rattle.daide_session.specs.FrameEvents.{Asks, HasNoMessageBytes, HandlesFrameEvents}
-use Rattle.daide_session.specs.Work.{IsPaidBy}
-use Rattle.daide_channels.specs.Receiver.{tokens_ended}
+use Rattle.daide_channels.specs.Channels.{ReceiveState, Keeps, IsGrown}
+use Rattle.daide_session.specs.FrameEvents.{HasNoMessageBytes}
 use Rattle.daide_channels.proofs.ReceiverLemmas.{fed_grows, few_ended, no_dm_before}
 use Rattle.daide_session.proofs.EmitsLemmas.{coming_at, waits_same}
 use Rattle.daide_session.proofs.FrameEventsLemmas.{holding_at, holding_same}

@@ -1,47 +1,22 @@
 -- The effect on a session's value of the frame events that end with a byte.
-use Rattle.std.proofs.Common.{◌≡◌, ℕ, true, false, List, [], ◌∷◌, ◌++◌, drop, Option}
-use Rattle.std.proofs.Common.{Some, None, Ok}
-use Rattle.std.proofs.Common.{refl, sym, ap, ◌∙◌, subst, append-nil, inl, inr, ⊎_elim}
-use Rattle.daide_frame.specs.declared.side.Side.{Side}
-use Rattle.daide_frame.specs.declared.side.Side.TheVariants.{Bot, Server}
-use Rattle.daide_frame.specs.declared.head.Head.{Head}
-use Rattle.daide_frame.specs.declared.code.Code.{Code}
-use Rattle.daide_frame.specs.declared.head.Kind.{Kind}
-use Rattle.daide_frame.specs.declared.head.Kind.TheVariants.{Im, Rm, Dm, Fm, Em}
-use Rattle.daide_token.specs.Token.{tokens_of}
-use Rattle.daide_frame.specs.Frames.{Begun, Whole, head_in}
-use Rattle.daide_frame.specs.Head.{is_im}
-use Rattle.daide_grammar.specs.declared.level.Level.{Level}
+use Rattle.daide_session.proofs.Common.{◌≡◌, ℕ, true, false, List, [], ◌∷◌, ◌++◌, drop, Option, Some, None, Ok, refl}
+use Rattle.daide_session.proofs.Common.{sym, ap, ◌∙◌, subst, append-nil, inl, inr, ⊎_elim, Side, Bot, Server, Head}
+use Rattle.daide_session.proofs.Common.{Code, Kind, Im, Rm, Dm, Fm, Em, tokens_of, Begun, Whole, head_in, is_im, Level}
+use Rattle.daide_session.proofs.Common.{SessionPhase, Verdict, Relay, Prn, Huh, IsRaised, Note, other, Sent, Effect}
+use Rattle.daide_session.proofs.Common.{Successor, SessionState, Coming, with_noted, is_over, is_dm, is_sent, level_in}
+use Rattle.daide_session.proofs.Common.{with_pending, frame_outcome, answered, im_answered, reply_to, deed_of}
+use Rattle.daide_session.proofs.Common.{IsCorrectVerdict, Account, Deed, frame_accounted, accounted, name_after, Words}
+use Rattle.daide_session.proofs.Common.{SessionView, Holding, account_after, queued, holding, sent_to, note_of}
+use Rattle.daide_session.proofs.Common.{held_after, is_dm_head, frames_to, tokens_held, ProtocolState, PerSide, at}
+use Rattle.daide_session.proofs.Common.{ReaderLimits, Channels, pending, posted, state_of, view_of, HandlesFrameEvents}
 use Rattle.daide_protocol.specs.declared.note.Deed.TheVariants.{Dropped}
-use Rattle.daide_protocol.specs.declared.phase.SessionPhase.{SessionPhase}
-use Rattle.daide_reader.specs.declared.verdict.Verdict.{Verdict}
-use Rattle.daide_reader.specs.declared.verdict.Verdict.TheVariants.{Relay, Prn, Huh}
 use Rattle.daide_reader.proofs.ReadingLemmas.{raised_none}
-use Rattle.daide_reader.specs.Reading.{IsRaised}
-use Rattle.daide_protocol.specs.declared.note.Note.{Note}
 use Rattle.daide_protocol.specs.declared.note.Note.TheVariants as Notes
-use Rattle.daide_frame.specs.Side.{other}
-use Rattle.daide_protocol.specs.Machine.{Sent, Effect, Successor, SessionState, Coming, with_noted}
-use Rattle.daide_protocol.specs.Machine.{is_over, is_dm, is_sent, level_in, phase_after, with_pending}
-use Rattle.daide_protocol.specs.Machine.{untimely, frame_outcome, answered, im_answered}
-use Rattle.daide_protocol.specs.Machine.{one_effect, reply_to, destination, deed_of}
-use Rattle.daide_protocol.specs.declared.account.Account.{Account}
-use Rattle.daide_protocol.specs.declared.note.Deed.{Deed}
+use Rattle.daide_protocol.specs.Machine.{phase_after, untimely, one_effect, destination, items_outcome, question_of}
 use Rattle.daide_protocol.specs.declared.bot_name.BotName.{BotName}
-use Rattle.daide_protocol.specs.Account.{level_after, frame_accounted, accounted}
-use Rattle.daide_protocol.specs.BotName.{name_after}
-use Rattle.daide_grammar.specs.Words.{Words}
-use Rattle.daide_protocol.specs.Machine.{items_outcome, IsCorrectVerdict}
-use Rattle.daide_protocol.specs.Machine.{question_of}
-use Rattle.daide_protocol.specs.Wires.{SessionView, Holding, account_after, queued, holding, sent_to, note_of, held_after}
-use Rattle.daide_protocol.specs.Weight.{tokens_held}
-use Rattle.daide_protocol.specs.Wires.{is_dm_head, frames_to}
-use Rattle.daide_session.specs.declared.protocol_state.ProtocolState.{ProtocolState}
-use Rattle.daide_frame.specs.PerSide.{PerSide, at}
-use Rattle.daide_channels.specs.Receiver.{ReaderLimits}
-use Rattle.daide_channels.specs.Channels.{Channels, ReceiveState, IsAnswered, IsCleared, Keeps, pending, posted}
-use Rattle.daide_session.specs.Session.{state_of, view_of}
-use Rattle.daide_session.specs.FrameEvents.{HasNoMessageBytes, HandlesFrameEvents, StartsMessage, note_by, check_of}
+use Rattle.daide_protocol.specs.Account.{level_after}
+use Rattle.daide_channels.specs.Channels.{ReceiveState, IsAnswered, IsCleared, Keeps}
+use Rattle.daide_session.specs.FrameEvents.{HasNoMessageBytes, StartsMessage, note_by, check_of}
 use Rattle.daide_protocol.proofs.AccountLemmas.{answer_by_body}
 use Rattle.daide_session.proofs.EmitsLemmas.{coming_at, waiting_at, waits_same, posted_at}
 

@@ -1,33 +1,20 @@
 -- With the same limits and words, the next gateway relays each message from the first, except for a lower level and one
 -- bracket.
-use Rattle.std.proofs.Common.{◌≡◌, ℕ, ◌+◌, ◌≤◌, ◌<◌, true, false, List, [], ◌∷◌, ◌++◌, take, drop}
-use Rattle.std.proofs.Common.{inl, inr, refl, sym, ◌∙◌, subst, arith, ◌⊎◌}
-use Rattle.std.specs.List.{All}
 use Rattle.std.proofs.lemmas.Bool.{cases_lt}
-use Rattle.daide_token.specs.Token.{bra, ket, huh, err, tokens_of}
-use Rattle.daide_frame.specs.declared.side.Side.{Side}
-use Rattle.daide_frame.specs.declared.head.Kind.{Kind}
-use Rattle.daide_frame.specs.declared.head.Kind.TheVariants.{Im, Rm, Dm, Fm, Em}
-use Rattle.daide_frame.specs.Head.{kind_number, head_bytes}
-use Rattle.daide_grammar.specs.declared.level.Level.{Level}
-use Rattle.daide_grammar.specs.Level.{level_number}
-use Rattle.daide_grammar.specs.SideMessages.{IsMessageOver}
-use Rattle.daide_grammar.specs.Words.{Words}
+use Rattle.daide_session.proofs.Common.{◌≡◌, ℕ, ◌+◌, ◌≤◌, ◌<◌, true, false, List, [], ◌∷◌, ◌++◌, take, drop, inl, inr}
+use Rattle.daide_session.proofs.Common.{refl, sym, ◌∙◌, subst, arith, ◌⊎◌, All, bra, tokens_of, Side, Kind, Im, Rm, Dm}
+use Rattle.daide_session.proofs.Common.{Fm, Em, kind_number, head_bytes, Level, level_number, IsMessageOver, Words}
+use Rattle.daide_session.proofs.Common.{depth_of, Verdict, Relay, Prn, Huh, are_free, other, Limits, Sent, is_dm}
+use Rattle.daide_session.proofs.Common.{side2_of, Came, IsJudged, IsFrame, HasCome, IsWithinPrn, IsWithinHuh, MayBeSent}
+use Rattle.daide_session.proofs.Common.{no_message, passed, within_prn, within_huh, IsVerdictAtOneLevel, passes}
+use Rattle.daide_session.proofs.Common.{too_deep, IsVerdictOfNext, at_one_level, lower}
+use Rattle.daide_token.specs.Token.{ket, huh, err}
 use Rattle.daide_grammar.specs.Paired.{IsPaired}
-use Rattle.daide_grammar.specs.Depth.{depth_of}
 use Rattle.daide_reader.specs.Verdict.{HasVerdict, IsRelayed}
-use Rattle.daide_reader.specs.declared.verdict.Verdict.{Verdict}
-use Rattle.daide_reader.specs.declared.verdict.Verdict.TheVariants.{Relay, Prn, Huh}
-use Rattle.daide_words.specs.Table.OverWords.{are_free}
 use Rattle.daide_words.proofs.WordsGrow.{levels-only-add-over}
 use Rattle.daide_words.proofs.PairedOverWords.{huh-err-over}
-use Rattle.daide_frame.specs.Side.{other}
-use Rattle.daide_protocol.specs.Machine.{Limits, Sent, is_dm, side2_of}
-use Rattle.daide_protocol.specs.Fates.{Came, IsJudged}
-use Rattle.daide_protocol.specs.Passing.{IsFrame, HasCome, IsPassed, IsWithinPrn, IsWithinHuh, MayBeSent, no_message}
-use Rattle.daide_protocol.specs.Passing.{passed, within_prn, within_huh}
+use Rattle.daide_protocol.specs.Passing.{IsPassed}
 use Rattle.daide_protocol.proofs.PassingLemmas.{not_report}
-use Rattle.daide_session.specs.InARow.{IsVerdictAtOneLevel, passes, too_deep, IsVerdictOfNext, at_one_level, lower}
 
 -- ---- a frame has one kind and one body
 

@@ -1,47 +1,34 @@
 -- The next of two joined gateways hears the frames that the first sent, and handles them.
-use Rattle.std.proofs.Common.{◌≡◌, ℕ, zero, suc, ◌+◌, ◌≤◌, ◌<◌, ◌^◌, Bool, true, false, ◌&&◌, cond, leb, ltb, eqb}
-use Rattle.std.proofs.Common.{List, [], ◌∷◌, ◌++◌, length, take, drop, Option, Some, None, Result, Ok, Err}
-use Rattle.std.proofs.Common.{refl, sym, ◌∙◌, ap, subst, arith}
+use Rattle.std.proofs.Common.{zero, suc, ◌^◌, ◌&&◌, leb, ltb}
 use Rattle.std.specs.Int.{w16, from_be_bytes, to_be_bytes}
-use Rattle.std.specs.List.{All}
 use Rattle.std.proofs.lemmas.List.{take-append-le, drop-append-le, take_at, drop_at, drop-drop}
 use Rattle.std.proofs.lemmas.List.Elements.{All-head, All-tail, All-weaker}
 use Rattle.std.proofs.lemmas.Nat.{from_be_bytes-to_be_bytes_2}
 use Rattle.std.proofs.lemmas.Bool.{leb-true}
-use Rattle.daide_frame.specs.declared.side.Side.{Side}
-use Rattle.daide_frame.specs.declared.head.Kind.{Kind}
-use Rattle.daide_frame.specs.declared.head.Kind.TheVariants.{Im, Rm, Dm, Fm, Em}
-use Rattle.daide_frame.specs.declared.head.Head.{Head}
-use Rattle.daide_frame.specs.declared.code.Code.{Code}
+use Rattle.daide_session.proofs.Common.{◌≡◌, ℕ, ◌+◌, ◌≤◌, ◌<◌, Bool, true, false, cond, eqb, List, [], ◌∷◌, ◌++◌}
+use Rattle.daide_session.proofs.Common.{length, take, drop, Option, Some, None, Result, Ok, Err, refl, sym, ◌∙◌, ap}
+use Rattle.daide_session.proofs.Common.{subst, arith, All, Side, Kind, Im, Rm, Dm, Fm, Em, Head, Code, kind_number}
+use Rattle.daide_session.proofs.Common.{parse_head, head_bytes, is_im, FrameEvent, Begun, Whole, Wrong, Level, Verdict}
+use Rattle.daide_session.proofs.Common.{Relay, Prn, Huh, Word, SessionPhase, longest_body, answer_bytes, other}
+use Rattle.daide_session.proofs.Common.{same_side, Limits, Sent, Effect, initial_state, reply_to, sent_to, sent_bytes}
+use Rattle.daide_session.proofs.Common.{EventCause, Frame, Fault, End, Timeout, Stop, Came, came_in, frames_from}
+use Rattle.daide_session.proofs.Common.{IsJudged, IsFate, HaveFates, IsFrame, MayBeSent, no_message, passed, within_prn}
+use Rattle.daide_session.proofs.Common.{within_huh, frame_whole, run_fates, IsGood, AreGood, run_good, only_messages}
+use Rattle.daide_session.proofs.Common.{IsVerdictOfNext}
 use Rattle.daide_frame.specs.declared.code.Code.TheVariants.{WrongEndian, UnknownMessage, WrongLength}
-use Rattle.daide_frame.specs.Head.{kind_number, kind_of, has_right_length, judged, parse_head, head_bytes, is_im}
-use Rattle.daide_frame.specs.Frames.{FrameEvent, Begun, Whole, Wrong, EventAtOffset, alien_in, items_of_body, items_from_head}
-use Rattle.daide_frame.specs.Frames.{first_items, frame_events_of, frame_end, moved, or_nothing, cut_frames, cut}
+use Rattle.daide_frame.specs.Head.{kind_of, has_right_length, judged}
+use Rattle.daide_frame.specs.Frames.{EventAtOffset, alien_in, items_of_body, items_from_head, first_items}
+use Rattle.daide_frame.specs.Frames.{frame_events_of, frame_end, moved, or_nothing, cut_frames, cut}
 use Rattle.daide_frame.proofs.ListLemmas.{ltb_no}
 use Rattle.daide_frame.proofs.FramesLemmas.{first_items-short}
-use Rattle.daide_grammar.specs.declared.level.Level.{Level}
-use Rattle.daide_reader.specs.declared.verdict.Verdict.{Verdict}
-use Rattle.daide_reader.specs.declared.verdict.Verdict.TheVariants.{Relay, Prn, Huh}
-use Rattle.daide_words.specs.declared.word.Word.{Word}
-use Rattle.daide_protocol.specs.declared.phase.SessionPhase.{SessionPhase}
-use Rattle.daide_protocol.specs.Bounds.{longest_body}
-use Rattle.daide_protocol.specs.Answers.{answer_bytes}
-use Rattle.daide_frame.specs.Side.{other, same_side}
-use Rattle.daide_protocol.specs.Machine.{Limits, Sent, Effect, initial_state, reply_to}
-use Rattle.daide_protocol.specs.Wires.{sent_to, sent_bytes}
 use Rattle.daide_protocol.specs.Heard.{bytes_from}
-use Rattle.daide_protocol.specs.Fates.{EventCause, Frame, Fault, End, Timeout, Stop, Came, came_in, whole_frame_from, frames_among}
-use Rattle.daide_protocol.specs.Fates.{frames_from, IsJudged, IsMessageFate, is_passed_on, is_answered_prn}
-use Rattle.daide_protocol.specs.Fates.{is_answered_huh, IsFrameFate, IsFate, HaveFates}
-use Rattle.daide_protocol.specs.Passing.{IsFrame, MayBeSent, no_message, passed, within_prn, within_huh}
+use Rattle.daide_protocol.specs.Fates.{whole_frame_from, frames_among, IsMessageFate, is_passed_on, is_answered_prn}
+use Rattle.daide_protocol.specs.Fates.{is_answered_huh, IsFrameFate}
 use Rattle.daide_protocol.proofs.FrameShapes.{IsWholeFrame}
-use Rattle.daide_protocol.proofs.AnswerBytes.{frame_whole}
-use Rattle.daide_protocol.proofs.FateLemmas.{run_fates, frames_come}
+use Rattle.daide_protocol.proofs.FateLemmas.{frames_come}
 use Rattle.daide_protocol.proofs.WireLemmas.{same_self}
-use Rattle.daide_protocol.proofs.PassingLemmas.{IsGood, AreGood, run_good, only_messages}
-use Rattle.daide_session.specs.InARow.{IsVerdictOfNext, InARowOver}
-use Rattle.daide_session.specs.Joined.{AreFirst, IsFateAtNext, HaveFatesAtNext}
-use Rattle.daide_session.specs.Joined.{JoinedSessionsOver}
+use Rattle.daide_session.specs.InARow.{InARowOver}
+use Rattle.daide_session.specs.Joined.{AreFirst, IsFateAtNext, HaveFatesAtNext, JoinedSessionsOver}
 
 -- ---- the sent frames are whole
 

@@ -1,30 +1,13 @@
 -- Each law of two gateways, used once at worked values: depth 62, messages of at most 61 brackets, and level 60 or the
 -- bot's side. Each fact takes only the law, so that a weaker law does not check.
-use Rattle.std.proofs.Common.{◌≡◌, ℕ, ◌≤◌, ◌<◌, List, [], ◌∷◌, ◌++◌, refl, subst}
-use Rattle.std.proofs.Common.{arith}
-use Rattle.std.specs.List.{All}
-use Rattle.daide_token.specs.Token.{tokens_of}
-use Rattle.daide_frame.specs.declared.side.Side.{Side}
-use Rattle.daide_frame.specs.declared.side.Side.TheVariants.{Bot, Server}
-use Rattle.daide_frame.specs.declared.head.Kind.TheVariants.{Dm}
-use Rattle.daide_frame.specs.declared.head.Head.{Head}
-use Rattle.daide_frame.specs.Head.{head_bytes}
-use Rattle.daide_frame.specs.Frames.{FrameEvent, Whole}
-use Rattle.daide_grammar.specs.declared.level.Level.{Level}
-use Rattle.daide_grammar.specs.declared.level.Level.TheVariants.{L0, L10, L20, L30, L40, L50, L60}
-use Rattle.daide_grammar.specs.Level.{level_number}
-use Rattle.daide_grammar.specs.Depth.{depth_of}
-use Rattle.daide_reader.specs.declared.verdict.Verdict.{Verdict}
-use Rattle.daide_reader.specs.declared.verdict.Verdict.TheVariants.{Relay}
-use Rattle.daide_frame.specs.Side.{other}
-use Rattle.daide_protocol.specs.Events.{Event}
-use Rattle.daide_protocol.specs.Machine.{Limits, SessionState, Sent, Effect, Runs, initial_state, reply_to}
-use Rattle.daide_protocol.specs.Wires.{sent_to}
-use Rattle.daide_protocol.specs.declared.phase.SessionPhase.{SessionPhase}
-use Rattle.daide_protocol.specs.Fates.{Came, Frame, IsJudged, came_in, frames_from}
-use Rattle.daide_protocol.specs.Passing.{HasCome, IsFrame}
-use Rattle.daide_session.specs.InARow.{IsVerdictAtOneLevel, IsVerdictOfNext, TwoSessionsInARow, passes, too_deep, lower}
-use Rattle.daide_session.specs.InARow.{at_one_level}
+use Rattle.daide_session.proofs.Common.{◌≡◌, ℕ, ◌≤◌, ◌<◌, List, [], ◌∷◌, ◌++◌, refl, subst, arith, All, tokens_of, Side}
+use Rattle.daide_session.proofs.Common.{Bot, Server, Dm, Head, head_bytes, FrameEvent, Whole, Level, L0, level_number}
+use Rattle.daide_session.proofs.Common.{depth_of, Verdict, Relay, other, Event, Limits, SessionState, Sent, Effect}
+use Rattle.daide_session.proofs.Common.{Runs, initial_state, reply_to, sent_to, SessionPhase, Came, Frame, IsJudged}
+use Rattle.daide_session.proofs.Common.{came_in, frames_from, HasCome, IsFrame, IsVerdictAtOneLevel, IsVerdictOfNext}
+use Rattle.daide_session.proofs.Common.{passes, too_deep, lower, at_one_level}
+use Rattle.daide_grammar.specs.declared.level.Level.TheVariants.{L10, L20, L30, L40, L50, L60}
+use Rattle.daide_session.specs.InARow.{TwoSessionsInARow}
 use Rattle.daide_session.specs.Joined.{AreFirst, AreJoined, HaveFatesAtNext, JoinedSessions, LevelsAgreeTowardTheBot}
 
 -- the operator's limits: by default, without words

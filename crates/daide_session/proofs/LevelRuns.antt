@@ -1,38 +1,25 @@
 -- The level of press over a run: a server's message is judged by the present level, which follows the HLOs that are
 -- relayed.
-use Rattle.std.proofs.Common.{◌≡◌, ℕ, ◌<◌, Bool, true, false, cond, eqb, List, [], ◌∷◌, ◌++◌, length}
-use Rattle.std.proofs.Common.{Option, Some, None, Result, Ok, Err, refl, sym, ◌∙◌, ap, subst, arith, append-nil}
 use Rattle.std.proofs.Common.{length-append}
-use Rattle.daide_token.specs.Token.{tokens_of}
-use Rattle.daide_frame.specs.declared.side.Side.{Side}
-use Rattle.daide_frame.specs.declared.side.Side.TheVariants.{Bot, Server}
-use Rattle.daide_frame.specs.declared.head.Kind.{Kind}
-use Rattle.daide_frame.specs.declared.head.Kind.TheVariants.{Im, Rm, Dm, Fm, Em}
-use Rattle.daide_frame.specs.declared.head.Head.{Head}
-use Rattle.daide_frame.specs.declared.code.Code.{Code}
+use Rattle.daide_session.proofs.Common.{◌≡◌, ℕ, ◌<◌, Bool, true, false, cond, eqb, List, [], ◌∷◌, ◌++◌, length, Option}
+use Rattle.daide_session.proofs.Common.{Some, None, Result, Ok, Err, refl, sym, ◌∙◌, ap, subst, arith, append-nil}
+use Rattle.daide_session.proofs.Common.{tokens_of, Side, Bot, Server, Kind, Im, Rm, Dm, Fm, Em, Head, Code, parse_head}
+use Rattle.daide_session.proofs.Common.{im_of, FrameEvent, Begun, Whole, Wrong, head_in, last_items, head_in-short}
+use Rattle.daide_session.proofs.Common.{Level, L0, Verdict, Relay, Prn, Huh, SessionPhase, WaitIm, WaitRm, Open, Over}
+use Rattle.daide_session.proofs.Common.{Event, Comes, Ends, Loses, ImTimerExpired, OperatorStops, Limits, SessionState}
+use Rattle.daide_session.proofs.Common.{Sent, Effect, Successor, Transition, Runs, IsCorrectVerdict, with_pending}
+use Rattle.daide_session.proofs.Common.{with_noted, is_over, level_in, reply_to, answered, im_answered, frame_outcome}
+use Rattle.daide_session.proofs.Common.{header_outcome, event_outcome, asked_by, initial_state, EventCause, Frame}
+use Rattle.daide_session.proofs.Common.{Fault, End, Timeout, Stop, Came, came_in, IsJudged, HaveFates, not_both}
+use Rattle.daide_session.proofs.Common.{run_fates, runs_limits}
 use Rattle.daide_frame.specs.declared.code.Code.TheVariants.{InvalidToken}
-use Rattle.daide_frame.specs.Head.{parse_head}
-use Rattle.daide_frame.specs.InitialMessage.{im_of}
-use Rattle.daide_frame.specs.Frames.{FrameEvent, Begun, Whole, Wrong, alien_in, head_part, head_in, last_items}
-use Rattle.daide_frame.proofs.FramesLemmas.{last_items-short, head_in-short, head_in-whole, at_head, at_body}
-use Rattle.daide_frame.proofs.FramesLemmas.{last_items-head4, last_items-body4, parse_head-append4}
-use Rattle.daide_grammar.specs.declared.level.Level.{Level}
-use Rattle.daide_grammar.specs.declared.level.Level.TheVariants.{L0}
-use Rattle.daide_reader.specs.declared.verdict.Verdict.{Verdict}
-use Rattle.daide_reader.specs.declared.verdict.Verdict.TheVariants.{Relay, Prn, Huh}
-use Rattle.daide_protocol.specs.declared.phase.SessionPhase.{SessionPhase}
-use Rattle.daide_protocol.specs.declared.phase.SessionPhase.TheVariants.{WaitIm, WaitRm, Open, Over}
-use Rattle.daide_protocol.specs.Events.{Event, Comes, Ends, Loses, ImTimerExpired, OperatorStops}
-use Rattle.daide_protocol.specs.Machine.{Limits, SessionState, Sent, Effect, Successor, Transition, Runs, IsCorrectVerdict}
-use Rattle.daide_protocol.specs.Machine.{with_pending, with_noted, is_over, untimely, level_in, phase_after, reply_to, answered}
-use Rattle.daide_protocol.specs.Machine.{im_answered, frame_outcome, header_outcome, items_outcome, im_timer_expired, event_outcome, asked_by}
-use Rattle.daide_protocol.specs.Machine.{question_of, question, initial_state}
-use Rattle.daide_protocol.specs.Fates.{EventCause, Frame, Fault, End, Timeout, Stop, Came, checked_frame, frame_cause, fault_or}
-use Rattle.daide_protocol.specs.Fates.{items_cause, cause_at, timeout_in, came_in_phase, came_in, IsJudged, HaveFates}
+use Rattle.daide_frame.specs.Frames.{alien_in, head_part}
+use Rattle.daide_frame.proofs.FramesLemmas.{last_items-short, head_in-whole, at_head, at_body, last_items-head4}
+use Rattle.daide_frame.proofs.FramesLemmas.{last_items-body4, parse_head-append4}
+use Rattle.daide_protocol.specs.Machine.{untimely, phase_after, items_outcome, im_timer_expired, question_of, question}
+use Rattle.daide_protocol.specs.Fates.{checked_frame, frame_cause, fault_or, items_cause, cause_at, timeout_in}
+use Rattle.daide_protocol.specs.Fates.{came_in_phase}
 use Rattle.daide_protocol.proofs.FrameShapes.{refused}
-use Rattle.daide_protocol.proofs.FramesHeard.{not_both}
-use Rattle.daide_protocol.proofs.FateLemmas.{run_fates}
-use Rattle.daide_protocol.proofs.LimitsKept.{runs_limits}
 use Rattle.daide_protocol.proofs.OneRun.{one_run}
 use Rattle.daide_protocol.proofs.PieceRuns.{over_stays}
 

@@ -1,39 +1,17 @@
 -- The next of two joined gateways, if it is nearer the bot, judges by the levels of the first.
-use Rattle.std.proofs.Common.{◌≡◌, ℕ, ◌≤◌, Bool, true, false, cond, List, [], ◌∷◌, ◌++◌}
-use Rattle.std.proofs.Common.{inl, inr, refl, sym, ◌∙◌, ap, subst}
-use Rattle.std.specs.Prelude.{◌==◌}
-use Rattle.daide_token.specs.Token.{bra, ket, hlo, prn, huh, tokens_of}
-use Rattle.daide_frame.specs.declared.side.Side.{Side}
-use Rattle.daide_frame.specs.declared.side.Side.TheVariants.{Bot, Server}
-use Rattle.daide_frame.specs.declared.head.Kind.{Kind}
-use Rattle.daide_frame.specs.declared.head.Kind.TheVariants.{Im, Rm, Dm, Fm, Em}
-use Rattle.daide_frame.specs.Head.{head_bytes}
-use Rattle.daide_grammar.specs.declared.level.Level.{Level}
-use Rattle.daide_grammar.specs.SideMessages.{IsMessageOver}
-use Rattle.daide_grammar.specs.Words.{Words}
-use Rattle.daide_reader.specs.declared.verdict.Verdict.{Verdict}
-use Rattle.daide_reader.specs.declared.verdict.Verdict.TheVariants.{Relay, Prn, Huh}
+use Rattle.daide_session.proofs.Common.{◌≡◌, ℕ, ◌≤◌, Bool, true, false, cond, List, [], ◌∷◌, ◌++◌, inl, inr, refl, sym}
+use Rattle.daide_session.proofs.Common.{◌∙◌, ap, subst, ◌==◌, bra, tokens_of, Side, Bot, Server, Kind, Im, Rm, Dm, Fm}
+use Rattle.daide_session.proofs.Common.{Em, head_bytes, Level, IsMessageOver, Words, Verdict, Relay, Prn, Huh, Word}
+use Rattle.daide_session.proofs.Common.{grammar_words, are_free, accepted_free, SessionPhase, longest_body}
+use Rattle.daide_session.proofs.Common.{answer_bytes, Limits, Sent, Effect, initial_state, is_dm, reply_to, side2_of}
+use Rattle.daide_session.proofs.Common.{level_in, same_side, frames_to, sent_to, EventCause, Frame, Fault, End, Timeout}
+use Rattle.daide_session.proofs.Common.{Stop, Came, came_in, frames_from, IsJudged, IsFate, HaveFates, IsFrame, HasCome}
+use Rattle.daide_session.proofs.Common.{IsWithinPrn, IsWithinHuh, MayBeSent, no_message, passed, within_prn, within_huh}
+use Rattle.daide_session.proofs.Common.{frame_whole, run_fates, IsGood, AreGood, run_good, IsVerdictAtOneLevel, passes}
+use Rattle.daide_token.specs.Token.{ket, hlo, prn, huh}
 use Rattle.daide_reader.proofs.VerdictLemmas.{verdict_is_one}
-use Rattle.daide_words.specs.declared.word.Word.{Word}
 use Rattle.daide_words.specs.Accepted.{are_accepted}
-use Rattle.daide_words.specs.Word.{grammar_words}
-use Rattle.daide_words.specs.Table.OverWords.{are_free}
-use Rattle.daide_words.proofs.AcceptedCodes.{accepted_free}
-use Rattle.daide_protocol.specs.declared.phase.SessionPhase.{SessionPhase}
-use Rattle.daide_protocol.specs.Bounds.{longest_body}
-use Rattle.daide_protocol.specs.Answers.{answer_bytes}
-use Rattle.daide_protocol.specs.Machine.{Limits, Sent, Effect, initial_state, is_dm, reply_to}
-use Rattle.daide_protocol.specs.Machine.{side2_of, level_in}
-use Rattle.daide_frame.specs.Side.{same_side}
-use Rattle.daide_protocol.specs.Wires.{frames_to, sent_to}
-use Rattle.daide_protocol.specs.Fates.{EventCause, Frame, Fault, End, Timeout, Stop, Came, came_in, frames_from, IsJudged, IsFate}
-use Rattle.daide_protocol.specs.Fates.{HaveFates}
-use Rattle.daide_protocol.specs.Passing.{IsFrame, HasCome, IsWithinPrn, IsWithinHuh, MayBeSent, no_message, passed}
-use Rattle.daide_protocol.specs.Passing.{within_prn, within_huh}
-use Rattle.daide_protocol.proofs.AnswerBytes.{frame_whole}
-use Rattle.daide_protocol.proofs.FateLemmas.{run_fates}
-use Rattle.daide_protocol.proofs.PassingLemmas.{IsGood, AreGood, run_good, EachTo, cause_may}
-use Rattle.daide_session.specs.InARow.{IsVerdictAtOneLevel, passes}
+use Rattle.daide_protocol.proofs.PassingLemmas.{EachTo, cause_may}
 use Rattle.daide_session.specs.Joined.{AreFirst, IsFateAtNext, HaveFatesAtNext, JoinedSessionsOver}
 use Rattle.daide_session.specs.Joined.{LevelsAgreeTowardTheBotOver}
 use Rattle.daide_session.proofs.InARowLemmas.{same_frame, no_dm, prn_next, huh_next}

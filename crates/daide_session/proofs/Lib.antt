@@ -1,3 +1,4 @@
+mod Common
 pub mod FeedLemmas
 pub mod SessionFronts
 pub mod EmitsLemmas

@@ -1,25 +1,15 @@
 -- A run that leaves a session open sends replies to frames, and no final frame.
-use Rattle.std.proofs.Common.{◌≡◌, ℕ, Bool, true, false, cond, List, [], ◌∷◌, ◌++◌, Option, Some, None}
-use Rattle.std.proofs.Common.{Result, Ok, Err, refl, sym, ap, ◌∙◌, subst}
-use Rattle.std.specs.Prelude.{◌||◌}
-use Rattle.daide_frame.specs.declared.side.Side.{Side}
-use Rattle.daide_frame.specs.declared.code.Code.{Code}
-use Rattle.daide_frame.specs.declared.head.Head.{Head}
-use Rattle.daide_frame.specs.Head.{is_im}
-use Rattle.daide_frame.specs.InitialMessage.{im_of}
-use Rattle.daide_frame.specs.Frames.{FrameEvent, Begun, Whole, Wrong, last_items}
-use Rattle.daide_reader.specs.declared.verdict.Verdict.{Verdict}
-use Rattle.daide_protocol.specs.declared.phase.SessionPhase.{SessionPhase}
-use Rattle.daide_protocol.specs.declared.phase.SessionPhase.TheVariants.{WaitIm, WaitRm, Open, Over}
-use Rattle.daide_protocol.specs.Events.{Event, Comes, Ends, Loses, ImTimerExpired, OperatorStops}
-use Rattle.daide_protocol.specs.Machine.{Sent, Effect, Successor, SessionState, Transition, Runs, coming, with_pending, is_over}
-use Rattle.daide_protocol.specs.Machine.{header_outcome, untimely, answered, im_answered, destination, is_sent}
-use Rattle.daide_protocol.specs.Machine.{reply_to, item_outcome, items_outcome, im_timer_expired, event_outcome}
-use Rattle.daide_frame.specs.Side.{same_side}
-use Rattle.daide_protocol.specs.Wires.{sent_to}
+use Rattle.daide_session.proofs.Common.{◌≡◌, ℕ, Bool, true, false, cond, List, [], ◌∷◌, ◌++◌, Option, Some, None}
+use Rattle.daide_session.proofs.Common.{Result, Ok, Err, refl, sym, ap, ◌∙◌, subst, ◌||◌, Side, Code, Head, is_im}
+use Rattle.daide_session.proofs.Common.{im_of, FrameEvent, Begun, Whole, Wrong, last_items, Verdict, SessionPhase}
+use Rattle.daide_session.proofs.Common.{WaitIm, WaitRm, Open, Over, Event, Comes, Ends, Loses, ImTimerExpired}
+use Rattle.daide_session.proofs.Common.{OperatorStops, Sent, Effect, Successor, SessionState, Transition, Runs, coming}
+use Rattle.daide_session.proofs.Common.{with_pending, is_over, header_outcome, answered, im_answered, is_sent, reply_to}
+use Rattle.daide_session.proofs.Common.{event_outcome, same_side, sent_to, not_both, has_final_frame}
+use Rattle.daide_protocol.specs.Machine.{untimely, destination, item_outcome, items_outcome, im_timer_expired}
 use Rattle.daide_protocol.proofs.WireLemmas.{sent_to-append}
-use Rattle.daide_protocol.proofs.FramesHeard.{not_both, over_for_good, ended, lost, stopped}
-use Rattle.daide_channels.specs.Channels.{is_final_frame, has_final_frame}
+use Rattle.daide_protocol.proofs.FramesHeard.{over_for_good, ended, lost, stopped}
+use Rattle.daide_channels.specs.Channels.{is_final_frame}
 
 -- the moves send no final frame to either wire
 abbrev pub NoEnd : List Effect → Type 0

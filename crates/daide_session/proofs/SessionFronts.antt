@@ -1,18 +1,9 @@
 -- The next chunk of a wire stays the same if nothing is sent to the wire.
-use Rattle.std.proofs.Common.{◌≡◌, ℕ, ◌<◌, Bool, false, eqb, List, [], ◌∷◌, ◌++◌, length, refl, sym, ap, ◌∙◌, subst}
-use Rattle.std.proofs.Common.{arith}
-use Rattle.std.proofs.lemmas.Bool.Decides.{nat_tests}
-use Rattle.daide_frame.specs.declared.side.Side.{Side}
-use Rattle.daide_frame.specs.declared.side.Side.TheVariants.{Bot, Server}
-use Rattle.daide_frame.specs.Side.{other}
-use Rattle.daide_protocol.specs.Machine.{Sent}
-use Rattle.daide_protocol.specs.Wires.{SessionView, IsFrontOf, frames_to, no_frame, parts_of}
-use Rattle.daide_frame.specs.PerSide.{PerSide, at, put}
-use Rattle.daide_channels.specs.Fronts.{AreFresh, ArePartsKept, KeepsFront, KeepsFronts}
-use Rattle.daide_channels.specs.Channels.{Channels, posted}
-use Rattle.daide_channels.proofs.FrontsKept.{fronts_stay}
-use Rattle.daide_session.specs.declared.protocol_state.ProtocolState.{ProtocolState}
-use Rattle.daide_session.specs.Session.{view_of}
+use Rattle.daide_session.proofs.Common.{◌≡◌, ℕ, ◌<◌, Bool, false, eqb, List, [], ◌∷◌, ◌++◌, length, refl, sym, ap, ◌∙◌}
+use Rattle.daide_session.proofs.Common.{subst, arith, nat_tests, Side, Bot, Server, other, Sent, SessionView, IsFrontOf}
+use Rattle.daide_session.proofs.Common.{frames_to, no_frame, parts_of, PerSide, at, put, AreFresh, KeepsFront, Channels}
+use Rattle.daide_session.proofs.Common.{posted, fronts_stay, ProtocolState, view_of}
+use Rattle.daide_channels.specs.Fronts.{ArePartsKept, KeepsFronts}
 use Rattle.daide_session.proofs.EmitsLemmas.{posted_at}
 
 -- only the first frame has parts, whatever is queued after it

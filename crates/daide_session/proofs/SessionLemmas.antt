@@ -1,38 +1,24 @@
 -- Each call of a session is a part of a run of the machine, and keeps the invariant.
-use Rattle.std.proofs.Common.{◌≡◌, ℕ, ◌<◌, Bool, true, false, List, [], ◌∷◌, length, Option, None, refl, sym, ap}
-use Rattle.std.proofs.Common.{◌∙◌, subst, arith, append-nil}
-use Rattle.std.specs.Prelude.{◌||◌, nat_lt}
-use Rattle.std.specs.Option.{unwrap_or}
-use Rattle.daide_frame.specs.declared.side.Side.{Side}
-use Rattle.daide_frame.specs.declared.side.Side.TheVariants.{Bot, Server}
+use Rattle.daide_session.proofs.Common.{◌≡◌, ℕ, ◌<◌, Bool, true, false, List, [], ◌∷◌, length, Option, None, refl, sym}
+use Rattle.daide_session.proofs.Common.{ap, ◌∙◌, subst, arith, append-nil, ◌||◌, nat_lt, unwrap_or, Side, Bot, Server}
+use Rattle.daide_session.proofs.Common.{missing, Level, L0, Relay, Note, WaitIm, other, Event, ImTimerExpired, Sent}
+use Rattle.daide_session.proofs.Common.{Successor, SessionState, Runs, IsCorrectVerdict, coming, is_over, event_outcome}
+use Rattle.daide_session.proofs.Common.{initial_state, SessionView, queued, sent_to, note_of, Refines, Holding, holding}
+use Rattle.daide_session.proofs.Common.{not_both, Ending, Account, ProtocolState, Word, grammar_words, ReaderLimits}
+use Rattle.daide_session.proofs.Common.{Channels, has_final_frame, state_of, view_of, Dropped, Emits, stopped}
+use Rattle.daide_session.proofs.Common.{terminated}
 use Rattle.daide_frame.specs.declared.code.Code.TheVariants.{ImTimeout}
-use Rattle.daide_frame.specs.Frames.{missing}
 use Rattle.daide_frame.proofs.FramesLemmas.{missing-short}
-use Rattle.daide_grammar.specs.declared.level.Level.{Level}
-use Rattle.daide_grammar.specs.declared.level.Level.TheVariants.{L0}
 use Rattle.daide_grammar.specs.Level.{level_of_number}
-use Rattle.daide_reader.specs.declared.verdict.Verdict.TheVariants.{Relay}
-use Rattle.daide_protocol.specs.declared.note.Note.{Note}
 use Rattle.daide_protocol.specs.declared.note.Note.TheVariants as Notes
-use Rattle.daide_protocol.specs.declared.phase.SessionPhase.TheVariants.{WaitIm}
-use Rattle.daide_frame.specs.Side.{other}
-use Rattle.daide_protocol.specs.Events.{Event, ImTimerExpired}
-use Rattle.daide_protocol.specs.Machine.{Sent, Successor, SessionState, Question, Runs, IsCorrectVerdict, question, coming}
-use Rattle.daide_protocol.specs.Machine.{is_over, fault, im_timer_expired, event_outcome, initial_state, stop}
-use Rattle.daide_protocol.specs.Wires.{SessionView, queued, sent_to, note_of, without, IsNew, Refines, Wrote, Holding, holding}
-use Rattle.daide_protocol.proofs.FramesHeard.{not_both, over_for_good, run_waits}
-use Rattle.daide_protocol.specs.declared.ending.Ending.{Ending}
-use Rattle.daide_protocol.specs.declared.account.Account.{Account}
+use Rattle.daide_protocol.specs.Machine.{Question, question, fault, im_timer_expired, stop}
+use Rattle.daide_protocol.specs.Wires.{without, IsNew, Wrote}
+use Rattle.daide_protocol.proofs.FramesHeard.{over_for_good, run_waits}
 use Rattle.daide_protocol.specs.Account.{nothing_accounted}
-use Rattle.daide_session.specs.declared.protocol_state.ProtocolState.{ProtocolState}
 use Rattle.daide_protocol.specs.declared.config.Config.{Config}
-use Rattle.daide_words.specs.declared.word.Word.{Word}
-use Rattle.daide_words.specs.Word.{grammar_words}
-use Rattle.daide_channels.specs.Receiver.{ReaderLimits}
-use Rattle.daide_channels.specs.Channels.{Channels, IsQuiet, is_final_frame, has_final_frame, side_holding}
+use Rattle.daide_channels.specs.Channels.{IsQuiet, is_final_frame, side_holding}
 use Rattle.daide_protocol.specs.Config.{limits_with}
-use Rattle.daide_session.specs.Session.{IsConsistentSession, state_of, view_of, Dropped}
-use Rattle.daide_session.specs.FrameEvents.{Emits, stopped, terminated}
+use Rattle.daide_session.specs.Session.{IsConsistentSession}
 use Rattle.daide_session.proofs.EmitsLemmas.{waiting_at}
 use Rattle.daide_session.proofs.OpenRuns.{run_sends, has_final_frame-append}
 use Rattle.daide_session.proofs.FrameEventsLemmas.{holding_at}

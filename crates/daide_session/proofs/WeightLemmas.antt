@@ -1,21 +1,14 @@
 -- The weight of a session, and the look-ups in its readers' tables.
-use Rattle.std.proofs.Common.{◌≡◌, ℕ, ◌+◌, ◌*◌, ◌≤◌, Bool, true, false, cond, List, length, drop, refl, sym, ap}
-use Rattle.std.proofs.Common.{subst, arith}
-use Rattle.std.specs.Prelude.{min, ◌||◌, ◌==◌}
+use Rattle.std.proofs.Common.{◌*◌, min}
 use Rattle.std.proofs.lemmas.List.Sums.{count_by-le-length}
-use Rattle.daide_token.specs.Token.{bra}
-use Rattle.daide_frame.specs.declared.side.Side.{Side}
-use Rattle.daide_frame.specs.declared.side.Side.TheVariants.{Bot, Server}
-use Rattle.daide_frame.specs.Frames.{announced, head_in}
+use Rattle.daide_session.proofs.Common.{◌≡◌, ℕ, ◌+◌, ◌≤◌, Bool, true, false, cond, List, length, drop, refl, sym, ap}
+use Rattle.daide_session.proofs.Common.{subst, arith, ◌||◌, ◌==◌, bra, Side, Bot, Server, announced, head_in, Holding}
+use Rattle.daide_session.proofs.Common.{queued, is_awaited, is_dm_head, tokens_held, steps_bound, ProtocolState, at}
+use Rattle.daide_session.proofs.Common.{Channels, pending, view_of}
 use Rattle.daide_grammar.specs.Paired.{begins_with_prn}
 use Rattle.daide_grammar.specs.Depth.{open_brackets, has_unmatched_ket, bras}
 use Rattle.daide_reader.proofs.BodyLemmas.{tokens_of-length}
-use Rattle.daide_protocol.specs.Wires.{Holding, queued, is_awaited, is_dm_head}
-use Rattle.daide_protocol.specs.Weight.{tokens_held, direction_bound, weight_of, weight_bound, steps_bound, IsTied}
-use Rattle.daide_session.specs.declared.protocol_state.ProtocolState.{ProtocolState}
-use Rattle.daide_frame.specs.PerSide.{at}
-use Rattle.daide_channels.specs.Channels.{Channels, pending}
-use Rattle.daide_session.specs.Session.{view_of}
+use Rattle.daide_protocol.specs.Weight.{direction_bound, weight_of, weight_bound, IsTied}
 use Rattle.daide_session.proofs.FrameEventsLemmas.{holding_at}
 
 -- ---- the open brackets of a held message

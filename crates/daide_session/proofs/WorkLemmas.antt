@@ -1,30 +1,20 @@
 -- The number of table look-ups, over consecutive parts of a run.
-use Rattle.std.proofs.Common.{◌≡◌, ℕ, ◌+◌, ◌-◌, ◌*◌, ◌/◌, ◌<◌, ◌≤◌, Bool, true, false, cond, List, []}
-use Rattle.std.proofs.Common.{length, drop, Option, Some, None, refl, sym, ap, ◌∙◌, subst, arith, ◌⊎◌, inl, ⊎_elim}
-use Rattle.std.proofs.Common.{length-append, length-drop}
-use Rattle.std.specs.Prelude.{nat_lt, ◌==◌, is_some}
-use Rattle.std.proofs.lemmas.Bool.Decides.{nat_tests}
-use Rattle.daide_frame.specs.declared.side.Side.{Side}
-use Rattle.daide_frame.specs.declared.side.Side.TheVariants.{Bot, Server}
-use Rattle.daide_frame.specs.declared.head.Head.{Head}
-use Rattle.daide_frame.specs.declared.cutter.Step.{Step}
+use Rattle.std.proofs.Common.{◌-◌, ◌*◌, ◌/◌, length-append, length-drop}
+use Rattle.daide_session.proofs.Common.{◌≡◌, ℕ, ◌+◌, ◌<◌, ◌≤◌, Bool, true, false, cond, List, [], length, drop, Option}
+use Rattle.daide_session.proofs.Common.{Some, None, refl, sym, ap, ◌∙◌, subst, arith, ◌⊎◌, inl, ⊎_elim, nat_lt, ◌==◌}
+use Rattle.daide_session.proofs.Common.{is_some, nat_tests, Side, Bot, Server, Head, Step, head_in, missing}
+use Rattle.daide_session.proofs.Common.{head_in-short, IsRaised, Note, Limits, tokens_held, SessionView, Holding}
+use Rattle.daide_session.proofs.Common.{holding, held_after, is_dm_head, tokens_ended, IsPaidBy, HoldsNoMore, Asks}
 use Rattle.daide_frame.specs.declared.cutter.Step.TheVariants.{More, Headed, Bodied, Fault}
-use Rattle.daide_frame.specs.Frames.{HoldsFrame, IsBodied, IsWholeBody, alien_in, fed, head_in, missing, missing_of_body}
-use Rattle.daide_frame.proofs.FramesLemmas.{head_in-short}
-use Rattle.daide_reader.specs.Reading.{IsRaised}
+use Rattle.daide_frame.specs.Frames.{HoldsFrame, IsBodied, IsWholeBody, alien_in, fed, missing_of_body}
 use Rattle.daide_reader.proofs.BodyLemmas.{tokens_of-length}
 use Rattle.daide_reader.proofs.ReadingLemmas.{raised_none}
 use Rattle.daide_protocol.specs.declared.note.Deed.TheVariants as Deeds
-use Rattle.daide_protocol.specs.declared.note.Note.{Note}
 use Rattle.daide_protocol.specs.declared.note.Note.TheVariants as Notes
-use Rattle.daide_protocol.specs.Machine.{Limits}
-use Rattle.daide_protocol.specs.Weight.{tokens_held}
-use Rattle.daide_protocol.specs.Wires.{AsksNothing, SessionView, Holding, HoldsTheSame, holding, held_after, is_dm_head}
-use Rattle.daide_channels.specs.Receiver.{tokens_ended}
+use Rattle.daide_protocol.specs.Wires.{AsksNothing, HoldsTheSame}
 use Rattle.daide_channels.proofs.ReceiverLemmas.{Grows, all_held, below_four, fed_grows, head_in-more, no_dm_before}
 use Rattle.daide_channels.proofs.ReceiverLemmas.{none_held, not_below_four}
-use Rattle.daide_session.specs.Work.{is_whole_message, answers_for, left_of, unspent, IsPaidBy, HoldsNoMore}
-use Rattle.daide_session.specs.FrameEvents.{Asks}
+use Rattle.daide_session.specs.Work.{is_whole_message, answers_for, left_of, unspent}
 
 -- ---- no look-up
 

@@ -1,27 +1,16 @@
 -- The bytes written and the bytes lost, as the clauses of a session state them.
-use Rattle.std.proofs.Common.{◌≡◌, ℕ, Bool, true, false, cond, List, [], ◌∷◌, ◌++◌, drop, None, refl}
-use Rattle.std.proofs.Common.{sym, ap}
-use Rattle.std.proofs.Common.{◌∙◌, subst, ◌⊎◌, inl, inr}
-use Rattle.std.specs.Prelude.{◌||◌}
-use Rattle.daide_frame.specs.declared.side.Side.{Side}
-use Rattle.daide_frame.specs.declared.side.Side.TheVariants.{Bot, Server}
+use Rattle.daide_session.proofs.Common.{◌≡◌, ℕ, Bool, true, false, cond, List, [], ◌∷◌, ◌++◌, drop, None, refl, sym, ap}
+use Rattle.daide_session.proofs.Common.{◌∙◌, subst, ◌⊎◌, inl, inr, ◌||◌, Side, Bot, Server, Ending, other, same_side}
+use Rattle.daide_session.proofs.Common.{Loses, Sent, SessionState, Runs, is_over, fm_to, Holding, holding, is_awaited}
+use Rattle.daide_session.proofs.Common.{queued, frames_to, sent_to, sent_bytes, Refines, Lost, ProtocolState, PerSide}
+use Rattle.daide_session.proofs.Common.{at, put, Channels, fronts_stay, state_of, view_of, Dropped, HoldsNoMore, Emits}
+use Rattle.daide_session.proofs.Common.{KeepsSides, stopped}
 use Rattle.daide_protocol.specs.declared.note.Note.TheVariants as Notes
-use Rattle.daide_protocol.specs.declared.ending.Ending.{Ending}
 use Rattle.daide_protocol.specs.declared.ending.Ending.TheVariants as Endings
-use Rattle.daide_frame.specs.Side.{other, same_side}
-use Rattle.daide_protocol.specs.Events.{Loses}
-use Rattle.daide_protocol.specs.Machine.{Sent, SessionState, Runs, is_over, fm_to, may_reach}
-use Rattle.daide_protocol.specs.Wires.{Holding, holding, is_answer, has_answer, is_awaited, queued}
-use Rattle.daide_protocol.specs.Wires.{frames_to, sent_to, sent_bytes, without, Refines, Lost, Wrote, Releases}
-use Rattle.daide_session.specs.declared.protocol_state.ProtocolState.{ProtocolState}
-use Rattle.daide_frame.specs.PerSide.{PerSide, at, put}
-use Rattle.daide_channels.specs.Channels.{Channels, ReceiveState}
-use Rattle.daide_channels.specs.Channels.{ReleasesFrames as ReleasesChannels}
+use Rattle.daide_protocol.specs.Machine.{may_reach}
+use Rattle.daide_protocol.specs.Wires.{is_answer, has_answer, without, Wrote, Releases}
+use Rattle.daide_channels.specs.Channels.{ReceiveState, ReleasesFrames as ReleasesChannels}
 use Rattle.daide_frame.proofs.PerSideLemmas.{at_put, put_there, on_both}
-use Rattle.daide_channels.proofs.FrontsKept.{fronts_stay}
-use Rattle.daide_session.specs.Session.{state_of, view_of, Dropped}
-use Rattle.daide_session.specs.Work.{HoldsNoMore}
-use Rattle.daide_session.specs.FrameEvents.{Emits, KeepsSides, stopped}
 use Rattle.daide_session.proofs.SessionFronts.{other_front}
 use Rattle.daide_session.proofs.EmitsLemmas.{waiting_at}
 use Rattle.daide_session.proofs.FrameEventsLemmas.{holding_at}

@@ -1,16 +1,7 @@
-use Rattle.std.proofs.Common.{ℕ, List, [], true, refl, sym, ap, ◌∙◌, drop}
-use Rattle.daide_token.specs.Token.{tokens_of}
-use Rattle.daide_frame.specs.declared.side.Side.{Side}
-use Rattle.daide_protocol.specs.declared.note.Deed.{Deed}
+use Rattle.daide_session.proofs.Common.{ℕ, List, [], true, refl, sym, ap, ◌∙◌, drop, tokens_of, Side, Deed, at}
+use Rattle.daide_session.proofs.Common.{frame_accounted, name_after, Account, deed_of, is_sent, tokens_held, pending}
 use Rattle.daide_protocol.specs.declared.note.Note.TheVariants as Note
-use Rattle.daide_frame.specs.PerSide.{at}
-use Rattle.daide_protocol.specs.Account.{frame_accounted}
-use Rattle.daide_protocol.specs.BotName.{name_after}
-use Rattle.daide_protocol.specs.declared.account.Account.{Account}
 use Rattle.daide_protocol.proofs.AccountLemmas.{named_account}
-use Rattle.daide_protocol.specs.Machine.{deed_of, is_sent}
-use Rattle.daide_protocol.specs.Weight.{tokens_held}
-use Rattle.daide_channels.specs.Channels.{pending}
 use Rattle.daide_session.proofs.FrameEventsLemmas.{account_held, answered_whole, dropped_whole, phase_held}
 use Rattle.daide_session.proofs.SessionFronts.{fronts_same}
 use Rattle.daide_session.proofs.frame_events.answer.Goals as goal

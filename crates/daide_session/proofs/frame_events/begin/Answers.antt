@@ -1,6 +1,4 @@
-use Rattle.std.proofs.Common.{refl, sym, ap, ◌∙◌, subst}
-use Rattle.daide_frame.specs.PerSide.{at}
-use Rattle.daide_grammar.specs.declared.level.Level.{Level}
+use Rattle.daide_session.proofs.Common.{refl, sym, ap, ◌∙◌, subst, at, Level}
 use Rattle.daide_channels.specs.Channels.{IsStarted}
 use Rattle.daide_session.specs.FrameEvents.{note_by}
 use Rattle.daide_session.proofs.FrameEventsLemmas.{begun_alone}

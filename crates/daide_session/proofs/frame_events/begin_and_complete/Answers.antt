@@ -1,11 +1,5 @@
-use Rattle.std.proofs.Common.{rules, ◌≡◌, ℕ, List, [], ◌∷◌, drop, ap, ◌∙◌, subst}
-use Rattle.daide_frame.specs.Frames.{Whole}
-use Rattle.daide_protocol.specs.Machine.{Coming, Sent}
-use Rattle.daide_protocol.specs.Wires.{is_awaited}
-use Rattle.daide_frame.specs.PerSide.{PerSide, at}
-use Rattle.daide_channels.specs.Channels.{pending}
-use Rattle.daide_session.specs.Session.{view_of}
-use Rattle.daide_session.specs.FrameEvents.{HandlesFrameEvents}
+use Rattle.daide_session.proofs.Common.{rules, ◌≡◌, ℕ, List, [], ◌∷◌, drop, ap, ◌∙◌, subst, Whole, Coming, Sent}
+use Rattle.daide_session.proofs.Common.{is_awaited, PerSide, at, pending, view_of, HandlesFrameEvents}
 use Rattle.daide_session.proofs.FrameEventsLemmas.{begun_and_empty, begun_late, no_code, some_code}
 use Rattle.daide_session.proofs.SessionFronts.{fronts_from}
 use Rattle.daide_session.proofs.frame_events.begin_and_complete.Goals as goal

@@ -1,14 +1,5 @@
-use Rattle.std.proofs.Common.{◌≡◌, ℕ, ◌≤◌, List, subst, arith}
-use Rattle.std.specs.List.{All}
-use Rattle.daide_frame.specs.declared.head.Kind.TheVariants.{Dm}
-use Rattle.daide_frame.specs.declared.side.Side.TheVariants.{Bot, Server}
-use Rattle.daide_grammar.specs.declared.level.Level.{Level}
-use Rattle.daide_reader.specs.declared.verdict.Verdict.{Verdict}
-use Rattle.daide_protocol.specs.Bounds.{longest_body}
-use Rattle.daide_protocol.specs.Machine.{Sent, initial_state}
-use Rattle.daide_protocol.specs.Fates.{IsJudged, came_in}
-use Rattle.daide_protocol.specs.Passing.{IsFrame}
-use Rattle.daide_session.specs.InARow.{IsVerdictOfNext}
+use Rattle.daide_session.proofs.Common.{◌≡◌, ℕ, ◌≤◌, List, subst, arith, All, Dm, Bot, Server, Level, Verdict}
+use Rattle.daide_session.proofs.Common.{longest_body, Sent, initial_state, IsJudged, came_in, IsFrame, IsVerdictOfNext}
 use Rattle.daide_session.proofs.law_facts.held_at_values.Goals as goal
 
 short : (cap : ℕ) → cap ≡ 512 → cap ≤ longest_body

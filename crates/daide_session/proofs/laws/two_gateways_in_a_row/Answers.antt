@@ -1,9 +1,4 @@
-use Rattle.daide_words.specs.Word.{grammar_words}
-use Rattle.daide_words.proofs.AcceptedCodes.{accepted_free}
-use Rattle.daide_protocol.specs.Machine.{initial_state}
-use Rattle.daide_protocol.specs.Wires.{sent_to}
-use Rattle.daide_protocol.specs.Fates.{came_in}
-use Rattle.daide_protocol.proofs.PassingLemmas.{only_messages}
+use Rattle.daide_session.proofs.Common.{grammar_words, accepted_free, initial_state, sent_to, came_in, only_messages}
 use Rattle.daide_session.proofs.InARowLemmas.{all_next}
 use Rattle.daide_session.proofs.laws.two_gateways_in_a_row.Goals as goal
 

@@ -1,10 +1,5 @@
-use Rattle.std.proofs.Common.{List, ap, ◌∙◌}
-use Rattle.daide_protocol.specs.Machine.{Sent, fm_to}
-use Rattle.daide_protocol.specs.Wires.{frames_to}
-use Rattle.daide_frame.specs.Side.{other}
-use Rattle.daide_frame.specs.PerSide.{PerSide, at}
-use Rattle.daide_channels.specs.Channels.{final_frame_to, has_final_frame}
-use Rattle.std.proofs.Common.{Some}
+use Rattle.daide_session.proofs.Common.{List, ap, ◌∙◌, Some, Sent, fm_to, frames_to, other, PerSide, at, final_frame_to}
+use Rattle.daide_session.proofs.Common.{has_final_frame}
 use Rattle.daide_session.proofs.SessionFronts.{fronts_kept_on}
 use Rattle.daide_session.proofs.EmitsLemmas.{other_post, failed}
 use Rattle.daide_session.proofs.protocol_state.fail.Goals as goal

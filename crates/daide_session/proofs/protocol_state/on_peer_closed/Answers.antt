@@ -1,7 +1,4 @@
-use Rattle.std.proofs.Common.{sym, ap, ◌∙◌}
-use Rattle.daide_frame.specs.Side.{other}
-use Rattle.daide_channels.specs.Channels.{has_final_frame}
-use Rattle.daide_channels.proofs.FrontsKept.{fronts_stay}
+use Rattle.daide_session.proofs.Common.{sym, ap, ◌∙◌, other, has_final_frame, fronts_stay}
 use Rattle.daide_session.proofs.EmitsLemmas.{waiting_at}
 use Rattle.daide_session.proofs.protocol_state.on_peer_closed.Goals as goal
 

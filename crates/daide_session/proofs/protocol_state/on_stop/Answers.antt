@@ -1,13 +1,7 @@
-use Rattle.std.proofs.Common.{List, None, sym, ap, ◌∙◌, subst}
-use Rattle.daide_frame.specs.declared.side.Side.TheVariants.{Bot, Server}
-use Rattle.daide_frame.specs.PerSide.{PerSide, at}
-use Rattle.daide_protocol.specs.Machine.{Sent, Successor, fm_to}
-use Rattle.daide_protocol.specs.Wires.{frames_to}
-use Rattle.daide_channels.specs.Channels.{final_frame_to, has_final_frame}
-use Rattle.daide_channels.proofs.FrontsKept.{fronts_stay}
+use Rattle.daide_session.proofs.Common.{List, None, sym, ap, ◌∙◌, subst, Bot, Server, PerSide, at, Sent, Successor}
+use Rattle.daide_session.proofs.Common.{fm_to, frames_to, final_frame_to, has_final_frame, fronts_stay, state_of}
+use Rattle.daide_session.proofs.Common.{view_of, Emits}
 use Rattle.daide_session.proofs.EmitsLemmas.{waiting_at, other_post, halted}
-use Rattle.daide_session.specs.Session.{state_of, view_of}
-use Rattle.daide_session.specs.FrameEvents.{Emits}
 use Rattle.daide_session.proofs.SessionFronts.{fronts_kept_on}
 use Rattle.daide_session.proofs.SessionLemmas.{nothing_note, stopped_note, terminated_is}
 use Rattle.daide_session.proofs.protocol_state.on_stop.Goals as goal

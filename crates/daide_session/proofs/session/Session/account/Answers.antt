@@ -1,5 +1,4 @@
-use Rattle.std.proofs.Common.{ap}
-use Rattle.daide_protocol.specs.Wires.{SessionView}
+use Rattle.daide_session.proofs.Common.{ap, SessionView}
 use Rattle.daide_session.proofs.session.Session.account.Goals as goal
 
 pub returns : goal.returns

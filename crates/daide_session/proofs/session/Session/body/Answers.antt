@@ -1,6 +1,5 @@
-use Rattle.std.proofs.Common.{sym, ap, ◌∙◌, drop, ◌≤◌, length, subst}
-use Rattle.daide_frame.specs.Frames.{announced}
-use Rattle.daide_protocol.specs.Wires.{SessionView, Holding, holding}
+use Rattle.daide_session.proofs.Common.{sym, ap, ◌∙◌, drop, ◌≤◌, length, subst, announced, SessionView, Holding}
+use Rattle.daide_session.proofs.Common.{holding}
 use Rattle.daide_session.proofs.FrameEventsLemmas.{holding_at}
 use Rattle.daide_session.proofs.session.Session.body.Goals as goal
 

@@ -1,8 +1,5 @@
-use Rattle.std.proofs.Common.{ℕ, ◌≤◌, subst, arith}
-use Rattle.daide_frame.specs.declared.side.Side.TheVariants.{Bot, Server}
-use Rattle.daide_frame.specs.declared.side.Side.{Side}
-use Rattle.daide_protocol.specs.Wires.{holding, steps_of}
-use Rattle.daide_protocol.specs.Weight.{weight_bound, steps_bound}
+use Rattle.daide_session.proofs.Common.{ℕ, ◌≤◌, subst, arith, Bot, Server, Side, holding, steps_of, steps_bound}
+use Rattle.daide_protocol.specs.Weight.{weight_bound}
 use Rattle.daide_frame.proofs.PerSideLemmas.{on_both}
 use Rattle.daide_session.proofs.session.Session.bounds.Goals as goal
 

@@ -1,6 +1,4 @@
-use Rattle.std.proofs.Common.{subst}
-use Rattle.daide_protocol.specs.Wires.{SessionView}
-use Rattle.daide_session.specs.Session.{view_of, Dropped}
+use Rattle.daide_session.proofs.Common.{subst, SessionView, view_of, Dropped}
 use Rattle.daide_session.proofs.WrittenLemmas.{dropped_of}
 use Rattle.daide_session.proofs.SessionLemmas.{standing_dropped}
 use Rattle.daide_session.proofs.session.Session.drop_waiting.Given.{Over}

@@ -1,8 +1,5 @@
-use Rattle.std.proofs.Common.{Option, ap, ◌∙◌}
-use Rattle.std.specs.Prelude.{is_some}
-use Rattle.daide_protocol.specs.declared.ending.Ending.{Ending}
+use Rattle.daide_session.proofs.Common.{Option, ap, ◌∙◌, is_some, Ending, SessionView}
 use Rattle.daide_protocol.specs.Machine.{ending_in}
-use Rattle.daide_protocol.specs.Wires.{SessionView}
 use Rattle.daide_protocol.proofs.EndingLemmas.{ending_known}
 use Rattle.daide_session.proofs.session.Session.ending.Goals as goal
 

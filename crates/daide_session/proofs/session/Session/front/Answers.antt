@@ -1,6 +1,5 @@
-use Rattle.std.proofs.Common.{List, sym, ap, ◌∙◌, subst}
-use Rattle.daide_protocol.specs.Machine.{Sent}
-use Rattle.daide_protocol.specs.Wires.{SessionView, queued, front_of, next_part, IsFrontOf}
+use Rattle.daide_session.proofs.Common.{List, sym, ap, ◌∙◌, subst, Sent, SessionView, queued, IsFrontOf}
+use Rattle.daide_protocol.specs.Wires.{front_of, next_part}
 use Rattle.daide_session.proofs.SessionFronts.{parts_at}
 use Rattle.daide_session.proofs.EmitsLemmas.{waiting_at}
 use Rattle.daide_session.proofs.session.Session.front.Goals as goal

@@ -1,6 +1,4 @@
-use Rattle.std.proofs.Common.{sym, ap, ◌∙◌}
-use Rattle.daide_frame.specs.Frames.{head_in}
-use Rattle.daide_protocol.specs.Wires.{SessionView, Holding, holding}
+use Rattle.daide_session.proofs.Common.{sym, ap, ◌∙◌, head_in, SessionView, Holding, holding}
 use Rattle.daide_session.proofs.FrameEventsLemmas.{holding_at}
 use Rattle.daide_session.proofs.session.Session.head.Goals as goal
 

@@ -1,6 +1,5 @@
-use Rattle.std.proofs.Common.{sym, ap, ◌∙◌, take}
-use Rattle.daide_protocol.specs.Machine.{Coming, coming}
-use Rattle.daide_protocol.specs.Wires.{SessionView, Holding, holding, is_awaited, queued}
+use Rattle.daide_session.proofs.Common.{sym, ap, ◌∙◌, take, Coming, coming, SessionView, Holding, holding, is_awaited}
+use Rattle.daide_session.proofs.Common.{queued}
 use Rattle.daide_session.proofs.FrameEventsLemmas.{holding_at}
 use Rattle.daide_session.proofs.EmitsLemmas.{coming_at}
 use Rattle.daide_session.proofs.session.Session.header.Goals as goal

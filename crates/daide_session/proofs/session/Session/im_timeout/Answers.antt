@@ -1,10 +1,5 @@
-use Rattle.std.proofs.Common.{[], ◌∷◌, sym, ap, ◌∙◌, subst}
-use Rattle.daide_protocol.specs.Events.{ImTimerExpired}
-use Rattle.daide_protocol.specs.Machine.{is_over}
-use Rattle.daide_protocol.specs.Wires.{SessionView, Refines}
-use Rattle.daide_channels.specs.Channels.{has_final_frame}
-use Rattle.daide_channels.specs.Fronts.{KeepsFront}
-use Rattle.daide_session.specs.Session.{view_of}
+use Rattle.daide_session.proofs.Common.{[], ◌∷◌, sym, ap, ◌∙◌, subst, ImTimerExpired, is_over, SessionView, Refines}
+use Rattle.daide_session.proofs.Common.{has_final_frame, KeepsFront, view_of}
 use Rattle.daide_session.proofs.SessionFronts.{fronts_seen}
 use Rattle.daide_session.proofs.EmitsLemmas.{waiting_at}
 use Rattle.daide_session.proofs.SessionLemmas.{goes_im_timer_expired, standing_on}

@@ -1,6 +1,4 @@
-use Rattle.std.proofs.Common.{◌≡◌, true, false, sym, ◌∙◌}
-use Rattle.daide_protocol.specs.Machine.{is_over}
-use Rattle.daide_protocol.specs.Wires.{no_frame}
+use Rattle.daide_session.proofs.Common.{◌≡◌, true, false, sym, ◌∙◌, is_over, no_frame}
 use Rattle.daide_session.proofs.SessionFronts.{none_waits}
 use Rattle.daide_session.proofs.session.Session.is_closed.Goals.{then-is_over, else-is_over}
 use Rattle.daide_session.proofs.session.Session.is_closed.Goals as goal

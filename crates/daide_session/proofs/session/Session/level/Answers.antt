@@ -1,6 +1,4 @@
-use Rattle.std.proofs.Common.{ap, ◌∙◌}
-use Rattle.daide_protocol.specs.Machine.{level_in}
-use Rattle.daide_protocol.specs.Wires.{SessionView}
+use Rattle.daide_session.proofs.Common.{ap, ◌∙◌, level_in, SessionView}
 use Rattle.daide_session.proofs.session.Session.level.Goals as goal
 
 pub returns : goal.returns

@@ -1,11 +1,6 @@
-use Rattle.std.proofs.Common.{[], ap, ◌∙◌, subst, sym}
-use Rattle.daide_frame.specs.Side.{other}
-use Rattle.daide_protocol.specs.Wires.{SessionView, Lost, Holding, holding}
-use Rattle.daide_frame.specs.PerSide.{PerSide, at}
+use Rattle.daide_session.proofs.Common.{[], ap, ◌∙◌, subst, sym, other, SessionView, Lost, Holding, holding, PerSide}
+use Rattle.daide_session.proofs.Common.{at, KeepsFront, view_of, HoldsNoMore}
 use Rattle.daide_channels.specs.Channels.{ReceiveState}
-use Rattle.daide_channels.specs.Fronts.{KeepsFront}
-use Rattle.daide_session.specs.Session.{view_of}
-use Rattle.daide_session.specs.Work.{HoldsNoMore}
 use Rattle.daide_session.proofs.SessionFronts.{other_front}
 use Rattle.daide_session.proofs.WrittenLemmas.{holds_less, lost_of}
 use Rattle.daide_session.proofs.SessionLemmas.{standing_over}

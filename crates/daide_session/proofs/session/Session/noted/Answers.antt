@@ -1,6 +1,4 @@
-use Rattle.std.proofs.Common.{sym, ap, ◌∙◌}
-use Rattle.daide_protocol.specs.Machine.{Coming, coming}
-use Rattle.daide_protocol.specs.Wires.{SessionView}
+use Rattle.daide_session.proofs.Common.{sym, ap, ◌∙◌, Coming, coming, SessionView}
 use Rattle.daide_session.proofs.EmitsLemmas.{coming_at}
 use Rattle.daide_session.proofs.session.Session.noted.Goals as goal
 

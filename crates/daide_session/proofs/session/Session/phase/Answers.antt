@@ -1,6 +1,5 @@
-use Rattle.std.proofs.Common.{ap, ◌∙◌}
+use Rattle.daide_session.proofs.Common.{ap, ◌∙◌, SessionView}
 use Rattle.daide_protocol.specs.Machine.{plain_phase}
-use Rattle.daide_protocol.specs.Wires.{SessionView}
 use Rattle.daide_session.proofs.session.Session.phase.Goals as goal
 
 pub returns : goal.returns

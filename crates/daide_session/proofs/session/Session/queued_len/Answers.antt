@@ -1,6 +1,4 @@
-use Rattle.std.proofs.Common.{List, length, sym, ap, ◌∙◌}
-use Rattle.daide_protocol.specs.Machine.{Sent}
-use Rattle.daide_protocol.specs.Wires.{SessionView, queued, sent_bytes}
+use Rattle.daide_session.proofs.Common.{List, length, sym, ap, ◌∙◌, Sent, SessionView, queued, sent_bytes}
 use Rattle.daide_session.proofs.EmitsLemmas.{waiting_at}
 use Rattle.daide_session.proofs.session.Session.queued_len.Goals as goal
 

@@ -1,9 +1,5 @@
-use Rattle.std.proofs.Common.{ℕ, ◌<◌, sym, ap, ◌∙◌, subst}
-use Rattle.daide_frame.specs.Frames.{missing}
-use Rattle.daide_protocol.specs.Machine.{Coming, coming, is_over}
-use Rattle.daide_protocol.specs.Wires.{SessionView, Holding, holding, queued, room_of, is_awaited}
-use Rattle.daide_protocol.proofs.FramesHeard.{not_both}
-use Rattle.daide_session.specs.Session.{view_of}
+use Rattle.daide_session.proofs.Common.{ℕ, ◌<◌, sym, ap, ◌∙◌, subst, missing, Coming, coming, is_over, SessionView}
+use Rattle.daide_session.proofs.Common.{Holding, holding, queued, room_of, is_awaited, not_both, view_of}
 use Rattle.daide_session.proofs.EmitsLemmas.{room_over, room_awaited, room_open, coming_at}
 use Rattle.daide_session.proofs.FrameEventsLemmas.{holding_at}
 use Rattle.daide_session.proofs.session.Session.room.Goals.{then-is_over-via-then-is_over}

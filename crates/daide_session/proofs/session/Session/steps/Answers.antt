@@ -1,6 +1,4 @@
-use Rattle.std.proofs.Common.{◌≤◌, sym, ap, ◌∙◌, subst}
-use Rattle.daide_protocol.specs.Wires.{SessionView, holding, steps_of}
-use Rattle.daide_protocol.specs.Weight.{steps_bound}
+use Rattle.daide_session.proofs.Common.{◌≤◌, sym, ap, ◌∙◌, subst, SessionView, holding, steps_of, steps_bound}
 use Rattle.daide_session.proofs.FrameEventsLemmas.{holding_at}
 use Rattle.daide_session.proofs.WeightLemmas.{steps_few}
 use Rattle.daide_session.proofs.session.Session.steps.Goals as goal

@@ -1,9 +1,5 @@
-use Rattle.std.proofs.Common.{[], ◌∷◌, refl, subst}
-use Rattle.daide_protocol.specs.Events.{OperatorStops}
-use Rattle.daide_protocol.specs.Wires.{SessionView, Refines}
-use Rattle.daide_session.specs.Session.{state_of, view_of}
-use Rattle.daide_session.specs.FrameEvents.{terminated}
-use Rattle.daide_channels.specs.Fronts.{KeepsFront}
+use Rattle.daide_session.proofs.Common.{[], ◌∷◌, refl, subst, OperatorStops, SessionView, Refines, state_of, view_of}
+use Rattle.daide_session.proofs.Common.{terminated, KeepsFront}
 use Rattle.daide_session.proofs.SessionFronts.{fronts_seen}
 use Rattle.daide_session.proofs.SessionLemmas.{goes_event, standing_on}
 use Rattle.daide_session.proofs.session.Session.stop.Given.{Over}

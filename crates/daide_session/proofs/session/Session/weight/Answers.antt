@@ -1,5 +1,4 @@
-use Rattle.std.proofs.Common.{◌+◌, ◌≤◌, length, ap, ◌∙◌, subst, arith}
-use Rattle.daide_protocol.specs.Wires.{SessionView}
+use Rattle.daide_session.proofs.Common.{◌+◌, ◌≤◌, length, ap, ◌∙◌, subst, arith, SessionView}
 use Rattle.daide_protocol.specs.Weight.{weight_of, weight_bound, IsTied}
 use Rattle.daide_session.proofs.WeightLemmas.{IsLight, light, weight_is, weight_few, tied_by}
 use Rattle.daide_session.proofs.session.Session.weight.Given.{Over}

@@ -1,7 +1,4 @@
-use Rattle.std.proofs.Common.{Option, ap, ◌∙◌}
-use Rattle.std.specs.Option.{unwrap_or}
-use Rattle.daide_grammar.specs.declared.level.Level.{Level}
-use Rattle.daide_grammar.specs.declared.level.Level.TheVariants.{L0}
+use Rattle.daide_session.proofs.Common.{Option, ap, ◌∙◌, unwrap_or, Level, L0}
 use Rattle.daide_words.specs.Words.{words_of}
 use Rattle.daide_session.proofs.SessionLemmas.{new_of, standing_new}
 use Rattle.daide_session.proofs.session.Session.with_limits.Goals as goal
