@@ -1,5 +1,5 @@
 -- Which texts are addresses: both sides of each limit, worked out from docs/FORMATS.md.
-use Rattle.std.proofs.Common.{◌≡◌, true, false, refl, codes}
+use Rattle.daide_settings.proofs.Common.{◌≡◌, true, false, refl, codes}
 use Rattle.daide_settings.specs.Addresses.{is_address}
 
 -- ---- the host

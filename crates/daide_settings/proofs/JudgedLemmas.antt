@@ -1,18 +1,12 @@
 -- A document has no fault exactly if it gives settings.
-use Rattle.std.proofs.Common.{◌≡◌, ◌&&◌, ℕ, Bool, true, false, List, Option, Some, None, Result, Ok, Err, refl}
-use Rattle.std.specs.Prelude.{is_none, is_ok, if◌then◌else◌}
+use Rattle.std.proofs.Common.{is_none, is_ok, if◌then◌else◌}
 use Rattle.std.specs.Result.{result_err}
-use Rattle.toml.specs.Data.{Members, get_member}
-use Rattle.daide_words.specs.declared.word.Word.{Word}
-use Rattle.daide_settings.specs.declared.settings.key.Key.TheVariants.{Listen, Server, TopLevel, MaxBody, MaxDepth}
-use Rattle.daide_settings.specs.declared.settings.key.Key.TheVariants.{ImSeconds, MaxSessions, Sessions, Turns, IdleSeconds}
-use Rattle.daide_settings.specs.declared.settings.key.Key.TheVariants.{Words, StallSeconds, Endless, Allow, MaxPerAddress, Control}
-use Rattle.daide_settings.specs.declared.settings.ranges.AddressRange.{AddressRange}
-use Rattle.daide_settings.specs.declared.settings.SettingsError.{SettingsError}
-use Rattle.daide_settings.specs.declared.settings.SettingsError.TheVariants.{Unknown}
-use Rattle.daide_settings.specs.Settings.{Given, key_text, address_of, read_number, read_flag, read_text, then_with, keys_judged}
-use Rattle.daide_settings.specs.Settings.{judged_members, judged_settings, has_only_known}
-use Rattle.daide_settings.specs.WordSettings.{words_judged}
+use Rattle.daide_settings.proofs.Common.{◌≡◌, ◌&&◌, ℕ, Bool, true, false, List, Option, Some, None, Result, Ok, Err}
+use Rattle.daide_settings.proofs.Common.{refl, Members, get_member, Word, Listen, Server, TopLevel, MaxBody, MaxDepth}
+use Rattle.daide_settings.proofs.Common.{ImSeconds, MaxSessions, Sessions, Turns, IdleSeconds, Words, StallSeconds}
+use Rattle.daide_settings.proofs.Common.{Endless, Allow, MaxPerAddress, Control, AddressRange, SettingsError, Unknown}
+use Rattle.daide_settings.proofs.Common.{Given, key_text, address_of, read_number, read_flag, read_text, then_with}
+use Rattle.daide_settings.proofs.Common.{keys_judged, judged_members, judged_settings, has_only_known, words_judged}
 use Rattle.daide_settings.specs.Ranges.{allow_judged}
 use Rattle.daide_settings.specs.Judged.{keys_are_right, is_right, is_right_document}
 

@@ -1,3 +1,4 @@
+mod Common
 pub mod Members
 pub mod Named
 pub mod RangeItems

@@ -1,16 +1,13 @@
 -- The keys of a document, with its limits in the two parts in which the code reads them.
-use Rattle.std.proofs.Common.{◌≡◌, ◌≢◌, true, Result, Ok, Err, refl}
+use Rattle.std.proofs.Common.{◌≢◌}
 use Rattle.std.specs.Result.{IfErr, IsErrAnd}
-use Rattle.toml.specs.Data.{Members, get_member}
-use Rattle.daide_settings.specs.declared.settings.key.Key.TheVariants.{Listen, Server, Words, StallSeconds, Endless}
-use Rattle.daide_settings.specs.declared.settings.key.Key.TheVariants.{Allow, MaxPerAddress, Control}
-use Rattle.daide_settings.specs.declared.settings.SettingsError.{SettingsError}
+use Rattle.daide_settings.proofs.Common.{◌≡◌, true, Result, Ok, Err, refl, Members, get_member, Listen, Server, Words}
+use Rattle.daide_settings.proofs.Common.{StallSeconds, Endless, Allow, MaxPerAddress, Control, SettingsError, Given}
+use Rattle.daide_settings.proofs.Common.{key_text, address_of, read_number, read_flag, read_text, then_with}
+use Rattle.daide_settings.proofs.Common.{has_only_known, judged_members, keys_judged, words_judged}
 use Rattle.daide_settings.specs.declared.settings.SettingsError.TheVariants.{Memory}
 use Rattle.daide_settings.specs.LimitSettings.{config_judged, run_limits_judged}
 use Rattle.daide_settings.specs.Ranges.{allow_judged}
-use Rattle.daide_settings.specs.Settings.{Given, key_text, address_of, read_number, read_flag, read_text, then_with}
-use Rattle.daide_settings.specs.Settings.{has_only_known, judged_members, keys_judged}
-use Rattle.daide_settings.specs.WordSettings.{words_judged}
 
 -- checks that follow a chain of checks extend the chain
 extended :

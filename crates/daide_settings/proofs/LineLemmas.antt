@@ -1,14 +1,10 @@
 -- The lines of a report: that of a key's fault, and those of unknown keys.
-use Rattle.std.proofs.Common.{◌≡◌, ◌++◌, ℕ, List, Option, Some, sym, subst, codes}
-use Rattle.std.proofs.Common.{map, IsPermutation}
+use Rattle.std.proofs.Common.{subst, IsPermutation}
 use Rattle.std.proofs.lemmas.List.Sorted.{IsPermutation-map}
-use Rattle.toml.specs.Data.{Data, Members}
-use Rattle.daide_settings.specs.declared.settings.key.Key.{Key}
-use Rattle.daide_settings.specs.declared.settings.SettingsError.{SettingsError}
-use Rattle.daide_settings.specs.declared.settings.parts.ValuePart.{ValuePart}
-use Rattle.daide_settings.specs.Parts.{faulty_part, part_value}
-use Rattle.daide_settings.specs.Report.{AreParts, AreUnknownLines, IsFaultLine, IsFaultPart, IsShownValue, IsUnknownLine}
-use Rattle.daide_settings.specs.Report.{failing_words, part_words, path_text, place_text, unknown_keys}
+use Rattle.daide_settings.proofs.Common.{◌≡◌, ◌++◌, ℕ, List, Option, Some, sym, codes, map, Data, Members, Key}
+use Rattle.daide_settings.proofs.Common.{SettingsError, ValuePart, faulty_part, part_value, AreParts, IsFaultPart}
+use Rattle.daide_settings.proofs.Common.{IsUnknownLine, part_words, path_text, unknown_keys}
+use Rattle.daide_settings.specs.Report.{AreUnknownLines, IsFaultLine, IsShownValue, failing_words, place_text}
 
 -- the line of a key's fault, by what its check, its look-up and the search for the part returned
 pub fault_part : (key : Key) (checked : Option SettingsError) (value shown : Option Data) (fault : SettingsError)

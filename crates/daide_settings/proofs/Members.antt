@@ -1,9 +1,6 @@
 -- Tests of all keys of a table, and of all values of an array, are tests of its members and items.
-use Rattle.std.proofs.Common.{◌≡◌, ℕ, Bool, ◌&&◌, List, [], ◌∷◌, String, Global, string_bytes, refl, ap}
-use Rattle.std.specs.List.{list_all}
-use Rattle.std.specs.Map.{keys_of}
-use Rattle.toml.specs.declared.value.Value.{Value}
-use Rattle.toml.specs.View.{items_view, members_view, view}
+use Rattle.daide_settings.proofs.Common.{◌≡◌, ℕ, Bool, ◌&&◌, List, [], ◌∷◌, String, Global, string_bytes, refl, ap}
+use Rattle.daide_settings.proofs.Common.{list_all, keys_of, Value, items_view, members_view, view}
 use Rattle.daide_settings.specs.WordSettings.{are_entries, has_only, is_entry}
 
 pub keys_only : (allowed : List ℕ → Bool) (entries : List (String Global × Value))

@@ -1,21 +1,17 @@
 -- Two faults in one document, for each pair of keys and each pair of kinds: the fault of the first key is reported,
 -- whatever the later one is. The order is that of the table of settings in docs/FORMATS.md, so two swapped keys do not
 -- check. Also: the length of an address is that of its bytes.
-use Rattle.std.proofs.Common.{◌≡◌, codes, true, false, List, ℕ, ◌+◌, ◌-◌, [], ◌∷◌, ◌++◌, map}
-use Rattle.std.proofs.Common.{replicate, Some, refl}
-use Rattle.std.proofs.Common.{Result, Ok, Err}
-use Rattle.std.specs.Prelude.{◌==◌, if◌then◌else◌, pos, slice_index_or}
+use Rattle.std.proofs.Common.{replicate, ◌==◌, if◌then◌else◌, slice_index_or}
 use Rattle.std.specs.List.{range_with_len, concat}
-use Rattle.toml.specs.Data.{Data, string, integer, boolean, array, no_items, item, Members, no_members, member, table}
-use Rattle.daide_settings.specs.declared.settings.key.Key.{Key}
-use Rattle.daide_settings.specs.declared.settings.key.Key.TheVariants.{Listen, Server, TopLevel, MaxBody, MaxDepth}
-use Rattle.daide_settings.specs.declared.settings.key.Key.TheVariants.{ImSeconds, MaxSessions, Sessions, Turns, IdleSeconds}
-use Rattle.daide_settings.specs.declared.settings.key.Key.TheVariants.{Words, StallSeconds, Endless, Allow, MaxPerAddress, Control}
+use Rattle.daide_settings.proofs.Common.{◌≡◌, codes, true, false, List, ℕ, ◌+◌, ◌-◌, [], ◌∷◌, ◌++◌, map, Some, refl}
+use Rattle.daide_settings.proofs.Common.{Result, Ok, Err, pos, Data, string, integer, boolean, array, no_items, item}
+use Rattle.daide_settings.proofs.Common.{Members, no_members, member, table, Key, Listen, Server, TopLevel, MaxBody}
+use Rattle.daide_settings.proofs.Common.{MaxDepth, ImSeconds, MaxSessions, Sessions, Turns, IdleSeconds, Words}
+use Rattle.daide_settings.proofs.Common.{StallSeconds, Endless, Allow, MaxPerAddress, Control, SettingsError, Unknown}
+use Rattle.daide_settings.proofs.Common.{WrongType, Range, Given, is_in_range, judged_members}
 use Rattle.daide_settings.specs.declared.settings.ranges.Host.TheVariants.{V4}
 use Rattle.std.specs.Net.Reader.{read_number, read_octet, read_ipv4}
-use Rattle.daide_settings.specs.declared.settings.SettingsError.{SettingsError}
-use Rattle.daide_settings.specs.declared.settings.SettingsError.TheVariants.{Unknown, WrongType, Range}
-use Rattle.daide_settings.specs.Settings.{Given, is_in_range, address_judged, judged_members}
+use Rattle.daide_settings.specs.Settings.{address_judged}
 
 -- ---- documents with all sixteen keys
 

@@ -1,14 +1,11 @@
 -- Which part of a value is at fault, worked out from docs/FORMATS.md.
-use Rattle.std.proofs.Common.{◌≡◌, codes, ℕ, List, Some, None, refl}
-use Rattle.std.specs.Prelude.{pos}
 use Rattle.std.specs.Net.Reader.{read_number, read_octet, read_ipv4, read_segment, read_segments, read_ipv6}
+use Rattle.daide_settings.proofs.Common.{◌≡◌, codes, ℕ, List, Some, None, refl, pos, Data, string, integer, array}
+use Rattle.daide_settings.proofs.Common.{no_items, item, no_members, member, table, MaxDepth, Words, Allow, Missing}
+use Rattle.daide_settings.proofs.Common.{WrongType, Range, faulty_part, part_value}
 use Rattle.daide_token.specs.Names.{token_named, names, name_of}
-use Rattle.toml.specs.Data.{Data, string, integer, array, no_items, item, no_members, member, table}
-use Rattle.daide_settings.specs.declared.settings.key.Key.TheVariants.{MaxDepth, Words, Allow}
-use Rattle.daide_settings.specs.declared.settings.SettingsError.TheVariants.{Missing, WrongType, Range}
 use Rattle.daide_settings.specs.declared.settings.parts.Field.TheVariants.{Name, Code, Level}
 use Rattle.daide_settings.specs.declared.settings.parts.ValuePart.TheVariants.{Whole, Entry, Member}
-use Rattle.daide_settings.specs.Parts.{faulty_part, part_value}
 
 -- ---- ranges
 

@@ -1,10 +1,8 @@
 -- The part at fault among the entries left is that among all.
-use Rattle.std.proofs.Common.{◌≡◌, ◌≤◌, ◌+◌, ◌-◌, ℕ, List, [], ◌∷◌, Result, Ok, Option, length, take, drop, get_or, sym, ap, ◌∙◌, arith}
-use Rattle.toml.specs.declared.value.Value.{Value}
-use Rattle.toml.specs.View.{items_view, view}
-use Rattle.daide_words.specs.declared.word.Word.{Word}
+use Rattle.daide_settings.proofs.Common.{◌≡◌, ◌≤◌, ◌+◌, ◌-◌, ℕ, List, [], ◌∷◌, Result, Ok, Option, length, take, drop}
+use Rattle.daide_settings.proofs.Common.{get_or, sym, ap, ◌∙◌, arith, Value, items_view, view, Word, added, unfit_part}
 use Rattle.daide_settings.specs.declared.settings.parts.Field.{Field}
-use Rattle.daide_settings.specs.Parts.{added, unfit_after, unfit_part}
+use Rattle.daide_settings.specs.Parts.{unfit_after}
 use Rattle.daide_settings.proofs.ReportLemmas.{take_all}
 
 -- the first entry left has a word that is accepted

@@ -1,14 +1,11 @@
 -- Which text is a range, which hosts a range contains, and who may come, at values worked out from docs/FORMATS.md.
-use Rattle.std.proofs.Common.{◌≡◌, codes, true, false, List, ℕ, [], ◌∷◌, Some, None, Ok, Err, map, refl}
-use Rattle.std.specs.Prelude.{pos, ◌+◌, ◌-◌, Result, Bool, replicate}
+use Rattle.std.proofs.Common.{replicate}
 use Rattle.std.specs.Net.Reader.{read_number, read_octet, read_ipv4, read_segment, read_segments, read_ipv6}
-use Rattle.toml.specs.Data.{Data, string, integer, array, table, Items, no_items, item, no_members}
-use Rattle.daide_settings.specs.declared.settings.key.Key.TheVariants.{Allow}
-use Rattle.daide_settings.specs.declared.settings.SettingsError.{SettingsError}
-use Rattle.daide_settings.specs.declared.settings.SettingsError.TheVariants.{WrongType, Range}
+use Rattle.daide_settings.proofs.Common.{◌≡◌, codes, true, false, List, ℕ, [], ◌∷◌, Some, None, Ok, Err, map, refl, pos}
+use Rattle.daide_settings.proofs.Common.{◌+◌, ◌-◌, Result, Bool, Data, string, integer, array, table, Items, no_items}
+use Rattle.daide_settings.proofs.Common.{item, no_members, Allow, SettingsError, WrongType, Range, AddressRange}
 use Rattle.daide_settings.specs.declared.settings.ranges.Host.{Host}
 use Rattle.daide_settings.specs.declared.settings.ranges.Host.TheVariants.{V4, V6}
-use Rattle.daide_settings.specs.declared.settings.ranges.AddressRange.{AddressRange}
 use Rattle.daide_settings.specs.Ranges.{range_named, contains, canonical, may_come, allow_judged}
 
 abbrev range : Host → ℕ → AddressRange

@@ -1,12 +1,8 @@
 -- The ranges of some values, one after the other.
-use Rattle.std.proofs.Common.{◌≡◌, ◌&&◌, List, [], ◌∷◌, ◌++◌, Result, length, option_map, arith, refl, ap}
-use Rattle.std.specs.Prelude.{is_some}
-use Rattle.std.specs.List.{list_all}
-use Rattle.toml.specs.Data.{Items, as_str}
-use Rattle.toml.specs.declared.value.Value.{Value}
-use Rattle.toml.specs.View.{items_view, view}
-use Rattle.daide_settings.specs.declared.settings.ranges.AddressRange.{AddressRange}
-use Rattle.daide_settings.specs.declared.settings.SettingsError.{SettingsError}
+use Rattle.std.proofs.Common.{option_map, is_some}
+use Rattle.daide_settings.proofs.Common.{◌≡◌, ◌&&◌, List, [], ◌∷◌, ◌++◌, Result, length, arith, refl, ap, list_all}
+use Rattle.daide_settings.proofs.Common.{Items, Value, items_view, view, AddressRange, SettingsError}
+use Rattle.toml.specs.Data.{as_str}
 use Rattle.daide_settings.specs.Ranges.{are_texts, item_count, ranges_of, named_or_range}
 
 pub all_texts : (values : List Value) →

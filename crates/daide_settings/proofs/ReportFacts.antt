@@ -1,23 +1,15 @@
 -- What `settings` prints of some documents, worked out from docs/FORMATS.md.
-use Rattle.std.proofs.Common.{◌≡◌, ℕ, List, [], ◌∷◌, ◌++◌, Option, Some, None, refl, ap, ◌∙◌, codes}
-use Rattle.std.proofs.Common.{length, arith}
 use Rattle.std.proofs.lemmas.List.Sorted.{length_permutation}
 use Rattle.std.specs.Fmt.{digits}
-use Rattle.toml.specs.Data.{no_members}
-use Rattle.daide_settings.specs.declared.settings.key.Key.{Key}
-use Rattle.daide_settings.specs.declared.settings.key.Key.TheVariants.{TopLevel, MaxBody, MaxDepth}
-use Rattle.daide_settings.specs.declared.settings.key.Key.TheVariants.{ImSeconds, MaxSessions, Sessions, Turns, IdleSeconds}
-use Rattle.daide_settings.specs.declared.settings.key.Key.TheVariants.{Words, StallSeconds, Endless, Allow, MaxPerAddress, Control}
-use Rattle.daide_settings.specs.declared.settings.key.TheConstants.Key.{ALL}
-use Rattle.daide_settings.specs.declared.settings.SettingsError.{SettingsError}
-use Rattle.daide_settings.specs.declared.settings.SettingsError.TheVariants.{WrongType, Range}
-use Rattle.daide_settings.specs.Judged.{fault_at}
+use Rattle.daide_settings.proofs.Common.{◌≡◌, ℕ, List, [], ◌∷◌, ◌++◌, Option, Some, None, refl, ap, ◌∙◌, codes, length}
+use Rattle.daide_settings.proofs.Common.{arith, no_members, Key, TopLevel, MaxBody, MaxDepth, ImSeconds, MaxSessions}
+use Rattle.daide_settings.proofs.Common.{Sessions, Turns, IdleSeconds, Words, StallSeconds, Endless, Allow}
+use Rattle.daide_settings.proofs.Common.{MaxPerAddress, Control, ALL, SettingsError, WrongType, Range, fault_at}
+use Rattle.daide_settings.proofs.Common.{ValuePart, key_text, default_line, part_words, path_text, AreParts}
+use Rattle.daide_settings.proofs.Common.{IsFaultPart, IsUnknownLine}
 use Rattle.daide_settings.specs.declared.settings.parts.Field.TheVariants.{Level}
-use Rattle.daide_settings.specs.declared.settings.parts.ValuePart.{ValuePart}
 use Rattle.daide_settings.specs.declared.settings.parts.ValuePart.TheVariants.{Whole, Entry, Member}
-use Rattle.daide_settings.specs.Settings.{key_text}
-use Rattle.daide_settings.specs.Report.{default_line, failing_words, part_words, path_text, range_words, AreFaultLines}
-use Rattle.daide_settings.specs.Report.{AreParts, AreUnknownLines, IsFaultPart, IsSettingsReport, IsUnknownLine}
+use Rattle.daide_settings.specs.Report.{failing_words, range_words, AreFaultLines, AreUnknownLines, IsSettingsReport}
 
 -- ---- the lines of keys that are not set
 

@@ -1,14 +1,9 @@
 -- A report is written part by part.
-use Rattle.std.proofs.Common.{zero, suc, ◌-◌, ◌<◌, ◌≤◌, length, take, drop, get_or, arith}
-use Rattle.std.proofs.Common.{◌≡◌, ℕ, List, [], ◌∷◌, ◌++◌, Option, refl, sym, ap, ◌∙◌, subst, append_assoc, append-nil}
-use Rattle.std.proofs.Common.{String, Global, string_bytes, map, if◌then◌else◌}
-use Rattle.std.specs.Map.{keys_of}
-use Rattle.toml.specs.Data.{Data}
-use Rattle.toml.specs.declared.value.Value.{Value}
-use Rattle.toml.specs.View.{members_view}
-use Rattle.daide_settings.specs.declared.settings.key.Key.{Key}
-use Rattle.daide_settings.specs.Settings.{is_known}
-use Rattle.daide_settings.specs.Report.{AreParts, IsValueLine, unknown_keys}
+use Rattle.std.proofs.Common.{zero, suc, ◌<◌, subst, if◌then◌else◌}
+use Rattle.daide_settings.proofs.Common.{◌-◌, ◌≤◌, length, take, drop, get_or, arith, ◌≡◌, ℕ, List, [], ◌∷◌, ◌++◌}
+use Rattle.daide_settings.proofs.Common.{Option, refl, sym, ap, ◌∙◌, append_assoc, append-nil, String, Global}
+use Rattle.daide_settings.proofs.Common.{string_bytes, map, keys_of, Data, Value, members_view, Key, is_known, AreParts}
+use Rattle.daide_settings.proofs.Common.{IsValueLine, unknown_keys}
 
 -- whatever parts of the remaining keys come next, they complete the parts of all keys
 abbrev pub IsWithout : {K : Type 0} → (K → List ℕ → Type 0) → List K → List K → List ℕ → List ℕ → Type 0

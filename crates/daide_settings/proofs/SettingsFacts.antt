@@ -1,28 +1,20 @@
 -- Rows of the table of settings in docs/FORMATS.md, computed from the definitions: the list of keys, each range at both
 -- ends, each default, and the order of the faults.
-use Rattle.std.proofs.Common.{◌≡◌, codes, true, false, List, ℕ, [], ◌∷◌, Some, None, Ok, Err, refl}
-use Rattle.std.specs.Prelude.{pos, negsuc}
-use Rattle.toml.specs.Data.{Data, string, integer, boolean, array, table, Items, no_items, item, Members, no_members}
-use Rattle.toml.specs.Data.{member}
-use Rattle.toml.specs.Parse.{parse_document}
+use Rattle.std.proofs.Common.{negsuc}
+use Rattle.daide_settings.proofs.Common.{◌≡◌, codes, true, false, List, ℕ, [], ◌∷◌, Some, None, Ok, Err, refl, pos}
+use Rattle.daide_settings.proofs.Common.{Result, Data, string, integer, boolean, array, table, Items, no_items, item}
+use Rattle.daide_settings.proofs.Common.{Members, no_members, member, parse_document, Listen, Server, TopLevel, MaxBody}
+use Rattle.daide_settings.proofs.Common.{MaxDepth, ImSeconds, MaxSessions, Sessions, Turns, IdleSeconds, Words}
+use Rattle.daide_settings.proofs.Common.{StallSeconds, Endless, Allow, MaxPerAddress, Control, ALL, Unknown, Missing}
+use Rattle.daide_settings.proofs.Common.{WrongType, Range, is_in_range, address_of, read_flag, read_number}
+use Rattle.daide_settings.proofs.Common.{judged_members, judged_settings, words_judged, Word, SettingsError}
 use Rattle.toml.proofs.OnLiterals.{toml_on_literals}
-use Rattle.daide_settings.specs.declared.settings.key.Key.TheVariants.{Listen, Server, TopLevel, MaxBody, MaxDepth}
-use Rattle.daide_settings.specs.declared.settings.key.Key.TheVariants.{ImSeconds, MaxSessions, Sessions, Turns, IdleSeconds}
-use Rattle.daide_settings.specs.declared.settings.key.Key.TheVariants.{Words, StallSeconds, Endless, Allow, MaxPerAddress, Control}
 use Rattle.daide_settings.specs.Ranges.{everyone}
-use Rattle.daide_settings.specs.declared.settings.key.TheConstants.Key.{ALL}
-use Rattle.daide_settings.specs.declared.settings.SettingsError.TheVariants.{NotToml, Unknown, Missing}
-use Rattle.daide_settings.specs.declared.settings.SettingsError.TheVariants.{WrongType, Range}
-use Rattle.daide_settings.specs.Settings.{is_in_range, address_of, read_flag, read_number, judged_members}
-use Rattle.daide_settings.specs.Settings.{judged_settings}
-use Rattle.daide_settings.specs.WordSettings.{words_judged}
-use Rattle.std.proofs.Common.{Result}
+use Rattle.daide_settings.specs.declared.settings.SettingsError.TheVariants.{NotToml}
 use Rattle.daide_token.specs.Names.{names, name_of, token_named}
 use Rattle.daide_grammar.specs.declared.level.Level.TheVariants.{L20}
-use Rattle.daide_words.specs.declared.word.Word.{Word}
 use Rattle.daide_words.specs.declared.slot.Slot.TheVariants.{Press}
 use Rattle.daide_words.specs.declared.operand.Operand.TheVariants.{Power}
-use Rattle.daide_settings.specs.declared.settings.SettingsError.{SettingsError}
 
 -- ---- the keys
 

@@ -1,16 +1,12 @@
 -- Entries of words, checked one after the other.
-use Rattle.std.proofs.Common.{◌≡◌, true, false, ◌&&◌, Bool, List, [], ◌∷◌, ◌++◌, Option, Some, None, Result, Ok, Err}
-use Rattle.std.proofs.Common.{option_map, if◌then◌else◌, refl, sym, ap, ◌∙◌, append_assoc, append-nil}
-use Rattle.std.specs.Prelude.{is_ok}
-use Rattle.toml.specs.Data.{Data, Items, no_items, item}
+use Rattle.std.proofs.Common.{option_map, if◌then◌else◌, is_ok}
+use Rattle.daide_settings.proofs.Common.{◌≡◌, true, false, ◌&&◌, Bool, List, [], ◌∷◌, ◌++◌, Option, Some, None, Result}
+use Rattle.daide_settings.proofs.Common.{Ok, Err, refl, sym, ap, ◌∙◌, append_assoc, append-nil, Data, Items, no_items}
+use Rattle.daide_settings.proofs.Common.{item, Word, Words, SettingsError, Range, words_of_entries, accepted_words}
 use Rattle.daide_token.specs.Names.{Named}
-use Rattle.daide_words.specs.declared.word.Word.{Word}
 use Rattle.daide_words.specs.Word.{names_of}
 use Rattle.daide_words.specs.Accepted.{word_fault, are_accepted, are_accepted_after}
-use Rattle.daide_settings.specs.declared.settings.key.Key.TheVariants.{Words}
-use Rattle.daide_settings.specs.declared.settings.SettingsError.{SettingsError}
-use Rattle.daide_settings.specs.declared.settings.SettingsError.TheVariants.{Range}
-use Rattle.daide_settings.specs.WordSettings.{word_of, words_of_entries, one_before, accepted_words}
+use Rattle.daide_settings.specs.WordSettings.{word_of, one_before}
 
 -- the result for some words followed by the words of entries
 abbrev pub further : List Word → Items → Result (List Word) SettingsError

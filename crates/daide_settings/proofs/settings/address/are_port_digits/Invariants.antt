@@ -1,4 +1,4 @@
-use Rattle.std.proofs.Common.{◌≡◌, ◌≤◌, length}
+use Rattle.daide_settings.proofs.Common.{◌≡◌, ◌≤◌, length}
 use Rattle.daide_settings.specs.Addresses.{are_port_digits, most_port}
 use Rattle.daide_settings.proofs.settings.address.are_port_digits.Given as goal
 

@@ -1,4 +1,4 @@
-use Rattle.std.proofs.Common.{◌≡◌, length}
+use Rattle.daide_settings.proofs.Common.{◌≡◌, length}
 use Rattle.daide_settings.specs.Addresses.{ends_in_port}
 use Rattle.daide_settings.proofs.settings.address.ends_in_port.Given as goal
 

@@ -1,4 +1,4 @@
-use Rattle.std.proofs.Common.{◌∙◌}
+use Rattle.daide_settings.proofs.Common.{◌∙◌}
 use Rattle.daide_settings.proofs.RangeItems.{all_texts}
 use Rattle.daide_settings.proofs.settings.allow.are_texts.Goals as goal
 

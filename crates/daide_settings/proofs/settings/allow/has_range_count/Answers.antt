@@ -1,4 +1,4 @@
-use Rattle.std.proofs.Common.{sym, ap, ◌∙◌}
+use Rattle.daide_settings.proofs.Common.{sym, ap, ◌∙◌}
 use Rattle.daide_settings.specs.Ranges.{is_range_count}
 use Rattle.daide_settings.proofs.RangeItems.{counted}
 use Rattle.daide_settings.proofs.settings.allow.has_range_count.Goals as goal

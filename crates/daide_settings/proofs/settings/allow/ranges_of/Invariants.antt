@@ -1,5 +1,4 @@
-use Rattle.std.proofs.Common.{◌≡◌, drop, length}
-use Rattle.toml.specs.View.{items_view}
+use Rattle.daide_settings.proofs.Common.{◌≡◌, drop, length, items_view}
 use Rattle.daide_settings.specs.Ranges.{named_or_range, ranges_of}
 use Rattle.daide_settings.proofs.RangeItems.{further}
 use Rattle.daide_settings.proofs.settings.allow.ranges_of.Given as goal

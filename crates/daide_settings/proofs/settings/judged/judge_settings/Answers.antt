@@ -1,5 +1,4 @@
-use Rattle.std.proofs.Common.{◌∙◌}
-use Rattle.toml.specs.Parse.{parse_document}
+use Rattle.daide_settings.proofs.Common.{◌∙◌, parse_document}
 use Rattle.daide_settings.proofs.JudgedLemmas.{document_right}
 use Rattle.daide_settings.proofs.settings.judged.judge_settings.Goals as goal
 

@@ -1,4 +1,4 @@
-use Rattle.std.proofs.Common.{◌++◌, map, sym, ap, ◌∙◌, append-nil}
+use Rattle.daide_settings.proofs.Common.{◌++◌, map, sym, ap, ◌∙◌, append-nil}
 use Rattle.daide_settings.proofs.ReportLemmas.{unknown_members, unknown_of}
 use Rattle.daide_settings.proofs.settings.judged.unknown_keys.Goals as goal
 

@@ -1,5 +1,5 @@
-use Rattle.std.proofs.Common.{◌≡◌, ◌++◌, map}
 use Rattle.std.specs.BTreeMap.{keys}
+use Rattle.daide_settings.proofs.Common.{◌≡◌, ◌++◌, map}
 use Rattle.daide_settings.proofs.ReportLemmas.{unknown_of}
 use Rattle.daide_settings.proofs.settings.judged.unknown_keys.Given as goal
 

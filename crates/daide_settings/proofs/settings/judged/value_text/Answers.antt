@@ -1,5 +1,6 @@
-use Rattle.std.proofs.Common.{◌≡◌, ◌++◌, IsOk, string_bytes, ap, ◌∙◌, rules}
+use Rattle.std.proofs.Common.{IsOk, rules}
 use Rattle.std.proofs.lemmas.Fmt.{contents_after_writes}
+use Rattle.daide_settings.proofs.Common.{◌≡◌, ◌++◌, string_bytes, ap, ◌∙◌}
 use Rattle.daide_settings.proofs.settings.judged.value_text.Goals as goal
 
 pub returns-in-Ok : goal.returns-in-Ok

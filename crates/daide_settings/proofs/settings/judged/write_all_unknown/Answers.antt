@@ -1,5 +1,4 @@
-use Rattle.std.proofs.lemmas.Result.{on_ok_weaker}
-use Rattle.toml.specs.View.{table_view}
+use Rattle.daide_settings.proofs.Common.{on_ok_weaker, table_view}
 use Rattle.daide_settings.proofs.LineLemmas.{ordered_lines}
 use Rattle.daide_settings.proofs.settings.judged.write_all_unknown.Goals as goal
 

@@ -1,6 +1,5 @@
-use Rattle.std.proofs.Common.{ap, option_map, refl}
-use Rattle.std.proofs.lemmas.Result.{on_ok_weaker}
-use Rattle.toml.specs.View.{view}
+use Rattle.std.proofs.Common.{option_map}
+use Rattle.daide_settings.proofs.Common.{ap, refl, on_ok_weaker, view}
 use Rattle.daide_settings.proofs.LineLemmas.{given_line}
 use Rattle.daide_settings.proofs.settings.judged.write_fault.Goals as goal
 

@@ -1,6 +1,4 @@
-use Rattle.std.proofs.Common.{ap, ◌∙◌}
-use Rattle.std.proofs.lemmas.Result.{on_ok_weaker}
-use Rattle.daide_settings.specs.Parts.{faulty_part, part_value}
+use Rattle.daide_settings.proofs.Common.{ap, ◌∙◌, on_ok_weaker, faulty_part, part_value}
 use Rattle.daide_settings.proofs.LineLemmas.{fault_part}
 use Rattle.daide_settings.proofs.settings.judged.write_fault_of.Goals as goal
 

@@ -1,5 +1,4 @@
-use Rattle.std.proofs.Common.{◌++◌, refl}
-use Rattle.std.proofs.lemmas.Result.{on_ok_weaker}
+use Rattle.daide_settings.proofs.Common.{◌++◌, refl, on_ok_weaker}
 use Rattle.daide_settings.proofs.ReportLemmas.{two_in_sequence}
 use Rattle.daide_settings.proofs.settings.judged.write_faults.Goals as goal
 

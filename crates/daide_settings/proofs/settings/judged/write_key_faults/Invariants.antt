@@ -1,9 +1,4 @@
-use Rattle.std.proofs.Common.{length}
-use Rattle.toml.specs.Data.{get_member}
-use Rattle.toml.specs.View.{table_view}
-use Rattle.daide_settings.specs.Settings.{key_text}
-use Rattle.daide_settings.specs.Judged.{fault_at}
-use Rattle.daide_settings.specs.Report.{IsFaultPart}
+use Rattle.daide_settings.proofs.Common.{length, get_member, table_view, key_text, fault_at, IsFaultPart}
 use Rattle.daide_settings.proofs.ReportLemmas.{IsWithout}
 use Rattle.daide_settings.proofs.settings.judged.write_key_faults.Given as goal
 

@@ -1,5 +1,4 @@
-use Rattle.std.proofs.Common.{refl}
-use Rattle.std.proofs.lemmas.Result.{on_ok_weaker}
+use Rattle.daide_settings.proofs.Common.{refl, on_ok_weaker}
 use Rattle.daide_settings.proofs.settings.judged.write_unknown.Goals as goal
 
 pub returns : goal.returns

@@ -1,5 +1,4 @@
-use Rattle.std.proofs.Common.{arith}
-use Rattle.daide_settings.specs.Report.{IsUnknownLine}
+use Rattle.daide_settings.proofs.Common.{arith, IsUnknownLine}
 use Rattle.daide_settings.proofs.ReportLemmas.{none_written, parts_next, parts_over, shown_parts}
 use Rattle.daide_settings.proofs.settings.judged.write_unknown_lines.Goals as goal
 

@@ -1,5 +1,4 @@
-use Rattle.std.proofs.Common.{length}
-use Rattle.daide_settings.specs.Report.{IsUnknownLine}
+use Rattle.daide_settings.proofs.Common.{length, IsUnknownLine}
 use Rattle.daide_settings.proofs.ReportLemmas.{IsWithout}
 use Rattle.daide_settings.proofs.settings.judged.write_unknown_lines.Given as goal
 

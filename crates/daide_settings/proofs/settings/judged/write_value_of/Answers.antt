@@ -1,10 +1,5 @@
-use Rattle.std.proofs.Common.{◌≡◌, Option, None, refl, arith}
-use Rattle.std.proofs.lemmas.Grind.{common_steps}
-use Rattle.std.proofs.lemmas.Result.{on_ok_weaker}
-use Rattle.toml.specs.Data.{Data, get_member}
-use Rattle.toml.specs.View.{table_view}
-use Rattle.daide_settings.specs.Settings.{key_text}
-use Rattle.daide_settings.specs.Report.{default_line}
+use Rattle.daide_settings.proofs.Common.{◌≡◌, Option, None, refl, arith, common_steps, on_ok_weaker, Data, get_member}
+use Rattle.daide_settings.proofs.Common.{table_view, key_text, default_line}
 use Rattle.daide_settings.proofs.ReportLemmas.{value_line}
 use Rattle.daide_settings.proofs.settings.judged.write_value_of.Goals as goal
 

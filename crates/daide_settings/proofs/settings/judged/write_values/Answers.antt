@@ -1,4 +1,4 @@
-use Rattle.std.proofs.Common.{arith}
+use Rattle.daide_settings.proofs.Common.{arith}
 use Rattle.daide_settings.proofs.ReportLemmas.{none_written, parts_next, parts_over}
 use Rattle.daide_settings.proofs.settings.judged.write_values.Goals as goal
 

@@ -1,8 +1,4 @@
-use Rattle.std.proofs.Common.{length}
-use Rattle.toml.specs.Data.{get_member}
-use Rattle.toml.specs.View.{table_view}
-use Rattle.daide_settings.specs.Settings.{key_text}
-use Rattle.daide_settings.specs.Report.{IsValueLine}
+use Rattle.daide_settings.proofs.Common.{length, get_member, table_view, key_text, IsValueLine}
 use Rattle.daide_settings.proofs.ReportLemmas.{IsWithout}
 use Rattle.daide_settings.proofs.settings.judged.write_values.Given as goal
 

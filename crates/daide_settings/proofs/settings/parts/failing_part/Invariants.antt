@@ -1,5 +1,4 @@
-use Rattle.std.proofs.Common.{◌≡◌, ◌+◌, ◌≤◌, length}
-use Rattle.toml.specs.View.{items_view}
+use Rattle.daide_settings.proofs.Common.{◌≡◌, ◌+◌, ◌≤◌, length, items_view}
 use Rattle.daide_settings.specs.Parts.{failing_part}
 use Rattle.daide_settings.proofs.settings.parts.failing_part.Given as goal
 

@@ -1,8 +1,4 @@
-use Rattle.std.proofs.Common.{ap, sym, ◌∙◌, arith}
-use Rattle.std.proofs.lemmas.Grind.{common_steps}
-use Rattle.toml.specs.View.{view}
-use Rattle.daide_words.specs.Words.{words_of}
-use Rattle.daide_settings.specs.Parts.{added}
+use Rattle.daide_settings.proofs.Common.{ap, sym, ◌∙◌, arith, common_steps, view, words_of, added}
 use Rattle.daide_settings.proofs.PartLemmas.{unfit_next}
 use Rattle.daide_settings.proofs.settings.parts.unfit_part.Goals as goal
 

@@ -1,7 +1,4 @@
-use Rattle.std.proofs.Common.{◌≡◌, ◌+◌, ◌≤◌, [], length}
-use Rattle.toml.specs.View.{items_view}
-use Rattle.daide_words.specs.Words.{words_of}
-use Rattle.daide_settings.specs.Parts.{unfit_part}
+use Rattle.daide_settings.proofs.Common.{◌≡◌, ◌+◌, ◌≤◌, [], length, items_view, words_of, unfit_part}
 use Rattle.daide_settings.proofs.settings.parts.unfit_part.Given as goal
 
 -- the part among the entries left, after the words so far, is that among all

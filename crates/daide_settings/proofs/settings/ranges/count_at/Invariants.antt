@@ -1,4 +1,4 @@
-use Rattle.std.proofs.Common.{◌≡◌, ◌+◌, ◌≤◌, length}
+use Rattle.daide_settings.proofs.Common.{◌≡◌, ◌+◌, ◌≤◌, length}
 use Rattle.daide_settings.specs.Ranges.{count_at}
 use Rattle.daide_settings.proofs.settings.ranges.count_at.Given as goal
 

@@ -1,5 +1,5 @@
-use Rattle.std.proofs.Common.{Some, arith, ◌∙◌}
 use Rattle.std.proofs.lemmas.Str.Pattern.{split_once_first}
+use Rattle.daide_settings.proofs.Common.{Some, arith, ◌∙◌}
 use Rattle.daide_settings.proofs.Named.{range_split}
 use Rattle.daide_settings.proofs.settings.ranges.range_named.Goals as goal
 

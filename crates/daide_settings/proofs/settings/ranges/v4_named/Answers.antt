@@ -1,4 +1,4 @@
-use Rattle.std.proofs.Common.{Some, ap, ◌∙◌}
+use Rattle.daide_settings.proofs.Common.{Some, ap, ◌∙◌}
 use Rattle.daide_settings.proofs.Named.{v4_read, v4_unread}
 use Rattle.daide_settings.proofs.settings.ranges.v4_named.Goals as goal
 

@@ -1,4 +1,4 @@
-use Rattle.std.proofs.Common.{Some, ap, ◌∙◌}
+use Rattle.daide_settings.proofs.Common.{Some, ap, ◌∙◌}
 use Rattle.daide_settings.proofs.Named.{v6_read, v6_unread}
 use Rattle.daide_settings.proofs.settings.ranges.v6_named.Goals as goal
 

@@ -1,6 +1,5 @@
-use Rattle.std.proofs.Common.{◌∙◌}
+use Rattle.daide_settings.proofs.Common.{◌∙◌, is_known}
 use Rattle.daide_settings.proofs.Members.{keys_only}
-use Rattle.daide_settings.specs.Settings.{is_known}
 use Rattle.daide_settings.proofs.settings.reading.has_only_known.Goals as goal
 
 pub returns : goal.returns

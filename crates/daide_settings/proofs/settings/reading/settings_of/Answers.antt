@@ -1,7 +1,6 @@
-use Rattle.std.proofs.Common.{◌∙◌, sym, refl, rules}
-use Rattle.toml.specs.View.{table_view}
+use Rattle.std.proofs.Common.{rules}
+use Rattle.daide_settings.proofs.Common.{◌∙◌, sym, refl, table_view, judged_members}
 use Rattle.daide_settings.proofs.LimitLemmas.{fault_of_key, known_judged}
-use Rattle.daide_settings.specs.Settings.{judged_members}
 use Rattle.daide_settings.proofs.settings.reading.settings_of.Goals as goal
 
 pub returns-then-not-has_only_known-clause-refused : goal.returns-then-not-has_only_known-clause-refused

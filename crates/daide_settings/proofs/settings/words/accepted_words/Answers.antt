@@ -1,14 +1,9 @@
-use Rattle.std.proofs.Common.{◌≡◌, ◌+◌, true, not, List, drop, Ok, Err, Result, sym}
-use Rattle.std.proofs.Common.{ap}
-use Rattle.std.proofs.Common.{◌∙◌, arith}
+use Rattle.std.proofs.Common.{not, OnOk, is_ok}
 use Rattle.std.proofs.lemmas.List.{drop_all}
-use Rattle.std.specs.Prelude.{OnOk, is_ok}
-use Rattle.toml.specs.Data.{Items, item}
-use Rattle.toml.specs.View.{items_view, view}
+use Rattle.daide_settings.proofs.Common.{◌≡◌, ◌+◌, true, List, drop, Ok, Err, Result, sym, ap, ◌∙◌, arith, Items, item}
+use Rattle.daide_settings.proofs.Common.{items_view, view, Word, words_of}
 use Rattle.toml.proofs.Views.{items_view-drop}
-use Rattle.daide_words.specs.declared.word.Word.{Word}
 use Rattle.daide_words.specs.declared.word.WordError.{WordError}
-use Rattle.daide_words.specs.Words.{words_of}
 use Rattle.daide_settings.proofs.WordEntries.{further, further_last, further_next, further_refused}
 use Rattle.daide_settings.proofs.settings.words.accepted_words.Goals as goal
 

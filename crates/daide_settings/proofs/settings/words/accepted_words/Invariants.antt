@@ -1,7 +1,4 @@
-use Rattle.std.proofs.Common.{◌≡◌, drop}
-use Rattle.toml.specs.View.{items_view}
-use Rattle.daide_words.specs.Words.{words_of}
-use Rattle.daide_settings.specs.WordSettings.{accepted_words, words_of_entries}
+use Rattle.daide_settings.proofs.Common.{◌≡◌, drop, items_view, words_of, accepted_words, words_of_entries}
 use Rattle.daide_settings.proofs.WordEntries.{further}
 use Rattle.daide_settings.proofs.settings.words.accepted_words.Given as goal
 

@@ -1,4 +1,4 @@
-use Rattle.std.proofs.Common.{◌∙◌}
+use Rattle.daide_settings.proofs.Common.{◌∙◌}
 use Rattle.daide_settings.proofs.Members.{all_entries}
 use Rattle.daide_settings.proofs.settings.words.are_entries.Goals as goal
 

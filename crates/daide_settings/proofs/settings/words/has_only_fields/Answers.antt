@@ -1,4 +1,4 @@
-use Rattle.std.proofs.Common.{◌∙◌}
+use Rattle.daide_settings.proofs.Common.{◌∙◌}
 use Rattle.daide_settings.proofs.Members.{keys_only}
 use Rattle.daide_settings.specs.WordSettings.{is_field}
 use Rattle.daide_settings.proofs.settings.words.has_only_fields.Goals as goal
