@@ -1,18 +1,15 @@
 -- Allowed prefixes: prefixes of them, and one more token in the terms of a reader's error place.
-use Rattle.std.proofs.Common.{◌≡◌, ℕ, ◌+◌, ◌*◌, ◌≤◌, ◌<◌, ◌==◌, Bool, true, false, List, [], ◌∷◌, ◌++◌, map, length}
-use Rattle.std.proofs.Common.{take, drop, Option, None, Some, MatchOption, IsTrue, is_some, not, ◌↔◌, refl, sym, ◌∙◌, ap, subst}
-use Rattle.std.proofs.Common.{arith, append_assoc, append-nil, if◌then◌else◌}
-use Rattle.std.proofs.lemmas.List.{take_all, take-append-drop}
-use Rattle.daide_token.specs.Token.{bra, ket, prn, tokens_of}
-use Rattle.daide_grammar.specs.Paired.{begins_with_prn}
-use Rattle.daide_grammar.specs.Depth.{excess, prefixes, greatest, depth_of}
+use Rattle.std.proofs.Common.{map, MatchOption, is_some, if◌then◌else◌}
+use Rattle.daide_explain.proofs.Common.{◌≡◌, ℕ, ◌+◌, ◌*◌, ◌≤◌, ◌<◌, ◌==◌, Bool, true, false, List, [], ◌∷◌, ◌++◌}
+use Rattle.daide_explain.proofs.Common.{length, take, drop, Option, None, Some, IsTrue, not, ◌↔◌, refl, sym, ◌∙◌, ap}
+use Rattle.daide_explain.proofs.Common.{subst, arith, append_assoc, append-nil, take_all, take-append-drop, bra, ket}
+use Rattle.daide_explain.proofs.Common.{prn, tokens_of, begins_with_prn, excess, prefixes, greatest, depth_of}
+use Rattle.daide_explain.proofs.Common.{IsAllowedPrefix, IsMessageOf, Words}
 use Rattle.daide_grammar.proofs.Counting.{greatest_prefixes-snoc}
-use Rattle.daide_reader.specs.ErrorPlace.{IsAllowedPrefix, AreAllowed}
-use Rattle.daide_reader.specs.ViablePrefix.{IsMessageOf}
+use Rattle.daide_reader.specs.ErrorPlace.{AreAllowed}
 use Rattle.daide_reader.specs.Reading.{Reading, HasErrorIndex, HasReadPrefix, tokens_read}
 use Rattle.daide_grammar.specs.declared.symbol.Sym.{Sym}
 use Rattle.daide_grammar.specs.declared.predict.Predict.{Ghosts}
-use Rattle.daide_grammar.specs.Words.{Words}
 
 -- the depth of a list is at most that of a longer one
 deeper : (p q : List ℕ) → greatest (map excess (prefixes p)) ≤ greatest (map excess (prefixes (p ++ q)))

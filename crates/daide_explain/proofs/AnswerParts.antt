@@ -1,10 +1,10 @@
 -- The body of an answer as the concatenation of its parts.
-use Rattle.std.proofs.Common.{◌≡◌, ◌≤◌, ◌%◌, ◌*◌, ℕ, take, drop, List, [], ◌++◌, length, arith, ap, ◌∙◌}
-use Rattle.std.proofs.Common.{length-append, append_assoc, append-nil, Result, Ok, Err, IfOk}
+use Rattle.std.proofs.Common.{length-append, Result, Ok, Err, IfOk}
 use Rattle.std.specs.List.{AllZip}
-use Rattle.std.proofs.lemmas.List.{length-take-le, length-drop}
+use Rattle.std.proofs.lemmas.List.{length-drop}
 use Rattle.std.proofs.lemmas.List.Elements.{same_from_all_zip}
-use Rattle.daide_reader.specs.declared.verdict.Verdict.TheVariants.{Relay, Prn, Huh}
+use Rattle.daide_explain.proofs.Common.{◌≡◌, ◌≤◌, ◌%◌, ◌*◌, ℕ, take, drop, List, [], ◌++◌, length, arith, ap, ◌∙◌}
+use Rattle.daide_explain.proofs.Common.{append_assoc, append-nil, length-take-le, Relay, Prn, Huh}
 use Rattle.daide_protocol.specs.Answers.{prn_open, huh_open, err_bytes, close_bytes, answer_body}
 
 copied : (parts copy : List ℕ) → AllZip (λ x y. y ≡ x) parts copy → copy ≡ parts

@@ -1,11 +1,7 @@
 -- Whether the token at a place is BRA while `max_depth` brackets are open before it.
-use Rattle.std.proofs.Common.{◌≡◌, ℕ, zero, suc, ◌+◌, ◌*◌, ◌≤◌, ◌==◌, List, [], ◌∷◌, length, take, drop}
-use Rattle.std.proofs.Common.{IsTrue, ◌↔◌, refl, sym, ◌∙◌, ap, arith}
-use Rattle.std.proofs.lemmas.Bool.{eqb-true, eq-eqb}
-use Rattle.daide_token.specs.Token.{bra, tokens_of}
-use Rattle.daide_grammar.specs.Depth.{open_brackets}
-use Rattle.daide_reader.proofs.BodyLemmas.{tokens_of-length}
-use Rattle.daide_token.proofs.TokenPlaces.{tokens_of-front}
+use Rattle.daide_explain.proofs.Common.{◌≡◌, ℕ, zero, suc, ◌+◌, ◌*◌, ◌≤◌, ◌==◌, List, [], ◌∷◌, length, take, drop}
+use Rattle.daide_explain.proofs.Common.{IsTrue, ◌↔◌, refl, sym, ◌∙◌, ap, arith, eqb-true, eq-eqb, bra, tokens_of}
+use Rattle.daide_explain.proofs.Common.{open_brackets, tokens_of-length, tokens_of-front}
 use Rattle.daide_explain.specs.Explained.{IsTooDeepAt}
 
 none_after : (m : List ℕ) (i : ℕ) → length m ≤ i → drop i m ≡ []

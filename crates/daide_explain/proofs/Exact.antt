@@ -1,22 +1,16 @@
 -- A filtered list of representatives determines for every token whether it is expected.
-use Rattle.std.proofs.Common.{◌≡◌, ℕ, suc, ◌<◌, ◌==◌, ◌||◌, Bool, true, false, List, [], ◌∷◌, ◌++◌, ◌⊎◌, inl, inr}
-use Rattle.std.proofs.Common.{refl, sym, ◌∙◌, subst, arith, ◌↔◌}
-use Rattle.std.proofs.lemmas.Bool.{eqb-true}
 use Rattle.std.specs.List.{list_any}
-use Rattle.daide_token.specs.declared.class.Class.{Class}
+use Rattle.daide_explain.proofs.Common.{◌≡◌, ℕ, suc, ◌<◌, ◌==◌, ◌||◌, Bool, true, false, List, [], ◌∷◌, ◌++◌, ◌⊎◌, inl}
+use Rattle.daide_explain.proofs.Common.{inr, refl, sym, ◌∙◌, subst, arith, ◌↔◌, eqb-true, Class, class_of, Level, Side2}
+use Rattle.daide_explain.proofs.Common.{dialect_from, dialect_of, IsMessageOver, grammar_words, names_of, are_free}
+use Rattle.daide_explain.proofs.Common.{free-codes, keeps, IsAllowedPrefix, IsFilteredBy, IsIn, listed_tokens, codes_of}
+use Rattle.daide_explain.proofs.Common.{representatives}
 use Rattle.daide_token.specs.declared.class.Class.TheVariants.{Word}
-use Rattle.daide_token.specs.Class.{class_of, token_of, is_standard}
+use Rattle.daide_token.specs.Class.{token_of, is_standard}
 use Rattle.daide_token.proofs.ClassLaws.{class_of-token_of, standard_class}
-use Rattle.daide_grammar.specs.declared.level.Level.{Level}
-use Rattle.daide_grammar.specs.declared.side.Side2.{Side2}
 use Rattle.daide_grammar.specs.Classes.{class_number, own_classes}
-use Rattle.daide_grammar.specs.SideMessages.{dialect_from, dialect_of, IsMessageOver}
 use Rattle.daide_words.specs.declared.word.Word as code
-use Rattle.daide_words.specs.Word.{grammar_words, names_of}
-use Rattle.daide_words.specs.Table.OverWords.{are_free}
-use Rattle.daide_words.specs.Proofs.WordDialect.{free-codes, keeps}
-use Rattle.daide_reader.specs.ErrorPlace.{IsAllowedPrefix}
-use Rattle.daide_explain.specs.Listed.{IsFilteredBy, IsIn, listed_tokens, unlisted_tokens, codes_of, representatives}
+use Rattle.daide_explain.specs.Listed.{unlisted_tokens}
 use Rattle.daide_explain.proofs.Likeness.{expected_along}
 
 module _ (P : ℕ → Type 0) where

@@ -1,19 +1,12 @@
 -- Explanations of some messages of docs/PROTOCOL.md, computed from the definitions, so that a wrong row fails to check.
-use Rattle.std.proofs.Common.{◌≡◌, ℕ, ◌<◌, get_or, List, [], ◌∷◌, ◌++◌, codes, refl, sym, ◌∙◌, ap, subst, arith}
 use Rattle.std.specs.Fmt.{digits}
-use Rattle.daide_token.specs.Token.{bra, ket}
-use Rattle.daide_token.specs.Class.{class_of}
-use Rattle.daide_grammar.specs.declared.level.Level.TheVariants.{L0, L10}
-use Rattle.daide_grammar.specs.declared.side.Side2.TheVariants.{Client}
+use Rattle.daide_explain.proofs.Common.{◌≡◌, ℕ, ◌<◌, get_or, List, [], ◌∷◌, ◌++◌, codes, refl, sym, ◌∙◌, ap, subst}
+use Rattle.daide_explain.proofs.Common.{arith, bra, ket, class_of, L0, L10, Client, Relay, Prn, Huh, IsErrorPlace}
+use Rattle.daide_explain.proofs.Common.{HasVerdict, IsRelayed, IsExpected, IsEndExpected, IsExplained}
 use Rattle.daide_grammar.specs.SideMessages.{IsMessage}
 use Rattle.daide_grammar.specs.Table.Symbols.{entries, may_end_of, table_answer}
-use Rattle.daide_reader.specs.declared.verdict.Verdict.TheVariants.{Relay, Prn, Huh}
-use Rattle.daide_reader.specs.ErrorPlace.{IsErrorPlace}
-use Rattle.daide_reader.specs.Verdict.{HasVerdict, IsRelayed}
 use Rattle.daide_reader.proofs.SomeVerdict.{plain_verdict, plain_verdict_right}
 use Rattle.daide_explain.specs.declared.brackets.Unpaired.TheVariants.{Bra}
-use Rattle.daide_explain.specs.Expected.{IsExpected, IsEndExpected}
-use Rattle.daide_explain.specs.Explained.{IsExplained}
 use Rattle.daide_explain.specs.Unpaired.{IsNeverClosed}
 use Rattle.daide_explain.proofs.Relayed.{relay_is}
 

@@ -1,8 +1,8 @@
 -- One more token of a list that is filtered.
-use Rattle.std.proofs.Common.{◌≡◌, ℕ, ◌+◌, ◌<◌, ◌≤◌, length, take, get_or, append_assoc, List, [], ◌∷◌, ◌++◌, inl, inr, refl, sym, ◌∙◌, ap, subst}
-use Rattle.daide_token.specs.Names.{Named}
-use Rattle.std.proofs.lemmas.List.{take_more, take_all, map-append}
-use Rattle.daide_explain.specs.Listed.{IsFilteredBy, IsAppendedIf, codes_of}
+use Rattle.daide_explain.proofs.Common.{◌≡◌, ℕ, ◌+◌, ◌<◌, ◌≤◌, length, take, get_or, append_assoc, List, [], ◌∷◌, ◌++◌}
+use Rattle.daide_explain.proofs.Common.{inl, inr, refl, sym, ◌∙◌, ap, subst, Named, take_all, IsFilteredBy, codes_of}
+use Rattle.std.proofs.lemmas.List.{take_more, map-append}
+use Rattle.daide_explain.specs.Listed.{IsAppendedIf}
 
 module _ (P : ℕ → Type 0) where
   with_it : (ts kept : List ℕ) (t : ℕ) → P t → IsFilteredBy P ts kept → IsFilteredBy P (ts ++ t ∷ []) (kept ++ t ∷ [])

@@ -1,20 +1,16 @@
 -- The items of tokens' classes, in sequence.
-use Rattle.std.proofs.Common.{◌≡◌, ℕ, ◌+◌, ◌*◌, ◌/◌, ◌%◌, ◌<◌, ◌==◌, ◌||◌, ◌&&◌, not, ◌⊎◌, ◌≢◌, inl, inr, Bool, true, false, if◌then◌else◌, List, [], ◌∷◌, ◌++◌, length, take, get_or}
-use Rattle.std.proofs.Common.{codes, Option, None, Some, unwrap_or, refl, sym, ◌∙◌, ap, subst, arith, append_assoc, append-nil}
-use Rattle.std.proofs.lemmas.Bool.{eqb-true}
+use Rattle.std.proofs.Common.{◌/◌, ◌≢◌, if◌then◌else◌, unwrap_or}
 use Rattle.std.proofs.lemmas.List.{take_more}
 use Rattle.std.proofs.lemmas.List.Elements.{filter-append}
-use Rattle.std.specs.Fmt.{decimal}
-use Rattle.daide_token.specs.declared.class.Class.{Class}
-use Rattle.daide_token.specs.Class.{class_of}
+use Rattle.daide_explain.proofs.Common.{◌≡◌, ℕ, ◌+◌, ◌*◌, ◌%◌, ◌<◌, ◌==◌, ◌||◌, ◌&&◌, not, ◌⊎◌, inl, inr, Bool, true}
+use Rattle.daide_explain.proofs.Common.{false, List, [], ◌∷◌, ◌++◌, length, take, get_or, codes, Option, None, Some}
+use Rattle.daide_explain.proofs.Common.{refl, sym, ◌∙◌, ap, subst, arith, append_assoc, append-nil, eqb-true, decimal}
+use Rattle.daide_explain.proofs.Common.{Class, class_of, bra, ket, tokens_of, Named, open_brackets, Word, names_of}
+use Rattle.daide_explain.proofs.Common.{brackets_in, class_items, end_item, expected_line, items}
 use Rattle.daide_token.specs.Text.{text_with}
-use Rattle.daide_token.specs.Token.{bra, ket, tokens_of, token_bytes}
-use Rattle.daide_token.specs.Names.{Named}
-use Rattle.daide_grammar.specs.Depth.{open_brackets}
-use Rattle.daide_words.specs.declared.word.Word.{Word}
-use Rattle.daide_words.specs.Word.{names_of}
+use Rattle.daide_token.specs.Token.{token_bytes}
 use Rattle.daide_explain.specs.Listed.{other_token}
-use Rattle.daide_explain.specs.Explained.{brackets_in, class_items, end_item, expected_line, has_unknown, kind_name, item, items}
+use Rattle.daide_explain.specs.Explained.{has_unknown, kind_name, item}
 
 pub item_other : (words : List Word) (t : ℕ) → t ≡ other_token → item words t ≡ codes "<other>"
 unfolding item

@@ -1,7 +1,5 @@
 -- The levels with press by their index in ascending order.
-use Rattle.std.proofs.Common.{ℕ}
-use Rattle.daide_grammar.specs.declared.level.Level.{Level}
-use Rattle.daide_grammar.specs.declared.level.Level.TheVariants.{L0, L10, L20, L30, L40, L50, L60}
+use Rattle.daide_explain.proofs.Common.{ℕ, Level, L0, L10, L20, L30, L40, L50, L60}
 
 -- the level's index among those with press; L0 is not among them
 abbrev pub level_place : Level → ℕ

@@ -1,3 +1,4 @@
+mod Common
 mod AnswerParts
 pub mod Allowed
 pub mod Relayed

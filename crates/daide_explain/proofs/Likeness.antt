@@ -1,37 +1,27 @@
 -- Replacement of a token by a similar one: by one of the same class, or, for a token of an unknown category, by any
 -- token but a bracket.
-use Rattle.std.proofs.Common.{◌≡◌, ◌≢◌, ℕ, suc, ◌+◌, ◌-◌, ◌≤◌, max, ◌==◌, Bool, true, false, not, ◌&&◌, nat_le, List, []}
-use Rattle.std.proofs.Common.{◌∷◌, ◌++◌, map, cond, refl, sym, ◌∙◌, ap, subst, arith, ◌⊎◌}
-use Rattle.std.proofs.Common.{inl, inr, if◌then◌else◌}
-use Rattle.std.proofs.lemmas.Bool.{eqb-true, eq-eqb}
+use Rattle.std.proofs.Common.{◌≢◌, ◌-◌, max, nat_le, map, cond, if◌then◌else◌}
 use Rattle.std.proofs.lemmas.Bool.Decides.{nat_tests}
-use Rattle.daide_token.specs.declared.class.Class.{Class}
+use Rattle.daide_explain.proofs.Common.{◌≡◌, ℕ, suc, ◌+◌, ◌≤◌, ◌==◌, Bool, true, false, not, ◌&&◌, List, [], ◌∷◌, ◌++◌}
+use Rattle.daide_explain.proofs.Common.{refl, sym, ◌∙◌, ap, subst, arith, ◌⊎◌, inl, inr, eqb-true, eq-eqb, Class, bra}
+use Rattle.daide_explain.proofs.Common.{ket, prn, class_of, Level, L60, Side2, Client, bras, kets, excess, prefixes}
+use Rattle.daide_explain.proofs.Common.{greatest, depth_of, dialect_from, dialect_of, IsMessageOver, Words, is_bra}
+use Rattle.daide_explain.proofs.Common.{is_ket, are_free, free-codes, keeps, laws_over, IsAllowedPrefix}
 use Rattle.daide_token.specs.declared.class.Class.TheVariants.{Bra, Ket, Prn, Alien, Word}
 use Rattle.daide_token.specs.ClassNumbers.{same_class}
-use Rattle.daide_token.specs.Token.{bra, ket, prn}
-use Rattle.daide_token.specs.Class.{class_of}
 use Rattle.daide_token.proofs.ClassLaws.{only_token_of, class_of-prn}
 use Rattle.daide_token.proofs.ClassNumbers.{told-apart}
-use Rattle.daide_grammar.specs.declared.level.Level.{Level}
-use Rattle.daide_grammar.specs.declared.level.Level.TheVariants.{L60}
-use Rattle.daide_grammar.specs.declared.side.Side2.{Side2}
-use Rattle.daide_grammar.specs.declared.side.Side2.TheVariants.{Client, ServerEnd}
+use Rattle.daide_grammar.specs.declared.side.Side2.TheVariants.{ServerEnd}
 use Rattle.daide_grammar.specs.Level.{level_number}
 use Rattle.daide_grammar.specs.Forms.{Dialect, TokenTest, is, any_but_brackets, Accepts, Form, one, never, empty, ◌·◌, ◌∣◌, many, group}
 use Rattle.daide_grammar.specs.Forms.{named, tok, from_level, Nonterminal, Added, Arrangement_name, Flat_name, Fact_name, Press_name}
 use Rattle.daide_grammar.specs.Forms.{Send_name, Request_name, Slot, Press_slot, Arrangement_slot, Flat_slot}
 use Rattle.daide_grammar.specs.Matches.{rule, Matches, token, nothing, both, first, second, no_more, one_more, bracketed, by_name}
 use Rattle.daide_grammar.specs.Paired.{IsPrnWrapped}
-use Rattle.daide_grammar.specs.Depth.{bras, kets, excess, prefixes, greatest, depth_of}
-use Rattle.daide_grammar.specs.SideMessages.{dialect_from, dialect_of, message_form, IsMessageOver}
-use Rattle.daide_grammar.specs.Words.{Words, WordSlot, press_word, arrangement_word, WordOperand}
-use Rattle.daide_grammar.specs.Words.{an_arrangement, operand_in, stands_in, word_form}
+use Rattle.daide_grammar.specs.SideMessages.{message_form}
+use Rattle.daide_grammar.specs.Words.{WordSlot, press_word, arrangement_word, WordOperand, an_arrangement, operand_in}
+use Rattle.daide_grammar.specs.Words.{stands_in, word_form}
 use Rattle.daide_grammar.proofs.Counting.{greatest_prefixes-snoc, bras-snoc, kets-snoc}
-use Rattle.daide_grammar.specs.Table.Brackets.{is_bra, is_ket}
-use Rattle.daide_words.specs.Table.OverWords.{are_free}
-use Rattle.daide_words.specs.Proofs.WordDialect.{free-codes, keeps}
-use Rattle.daide_words.specs.Proofs.WordLaws.{laws_over}
-use Rattle.daide_reader.specs.ErrorPlace.{IsAllowedPrefix}
 
 -- ---- no form names tokens of an unknown category
 

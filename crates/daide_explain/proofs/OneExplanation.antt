@@ -1,29 +1,16 @@
 -- A message and its verdict have one explanation.
-use Rattle.std.proofs.Common.{◌≡◌, ℕ, ◌<◌, Bool, true, false, List, [], ◌∷◌, ◌++◌, take, codes}
-use Rattle.std.proofs.Common.{Option, None, Some, IsTrue, ◌↔◌, ◌⊎◌, inl, inr, refl, sym, ◌∙◌, ap, arith}
-use Rattle.std.specs.Bool.{MatchBool}
-use Rattle.std.specs.Fmt.{decimal}
 use Rattle.std.proofs.lemmas.Bool.{cases_order}
-use Rattle.daide_token.specs.Token.{bra, ket}
-use Rattle.daide_grammar.specs.declared.level.Level.{Level}
-use Rattle.daide_grammar.specs.declared.level.Level.TheVariants.{L0, L10, L20, L30, L40, L50, L60}
-use Rattle.daide_grammar.specs.declared.side.Side2.{Side2}
+use Rattle.daide_explain.proofs.Common.{◌≡◌, ℕ, ◌<◌, Bool, true, false, List, [], ◌∷◌, ◌++◌, take, codes, Option, None}
+use Rattle.daide_explain.proofs.Common.{Some, IsTrue, ◌↔◌, ◌⊎◌, inl, inr, refl, sym, ◌∙◌, ap, arith, MatchBool, decimal}
+use Rattle.daide_explain.proofs.Common.{bra, ket, Level, L0, L10, L20, L30, L40, L50, L60, Side2, begins_with_prn}
+use Rattle.daide_explain.proofs.Common.{IsMessageOver, excess_or_none, Words, Word, grammar_words, Verdict, Relay, Prn}
+use Rattle.daide_explain.proofs.Common.{Huh, IsExplained, expected_line, level_line, side_line, IsExpected}
+use Rattle.daide_explain.proofs.Common.{IsEndExpected, IsFilteredBy, representatives}
 use Rattle.daide_grammar.specs.Level.{level_number, level_of_number}
-use Rattle.daide_grammar.specs.Paired.{begins_with_prn}
-use Rattle.daide_grammar.specs.SideMessages.{IsMessageOver}
-use Rattle.daide_grammar.specs.Table.Brackets.{excess_or_none}
-use Rattle.daide_grammar.specs.Words.{Words}
 use Rattle.daide_grammar.proofs.Counting.{count_on, count_on-append, counted_on}
-use Rattle.daide_words.specs.declared.word.Word.{Word}
-use Rattle.daide_words.specs.Word.{grammar_words}
-use Rattle.daide_reader.specs.declared.verdict.Verdict.{Verdict}
-use Rattle.daide_reader.specs.declared.verdict.Verdict.TheVariants.{Relay, Prn, Huh}
 use Rattle.daide_explain.specs.declared.brackets.Unpaired.{Unpaired}
 use Rattle.daide_explain.specs.declared.brackets.Unpaired.TheVariants.{Ket, Bra, Nothing}
-use Rattle.daide_explain.specs.Explained.{AreElsewhere, IsPlaceCause, IsExpectedLine, IsExplained}
-use Rattle.daide_explain.specs.Explained.{expected_line, level_line, side_line, unpaired_line}
-use Rattle.daide_explain.specs.Expected.{IsExpected, IsEndExpected}
-use Rattle.daide_explain.specs.Listed.{IsFilteredBy, representatives}
+use Rattle.daide_explain.specs.Explained.{AreElsewhere, IsPlaceCause, IsExpectedLine, unpaired_line}
 use Rattle.daide_explain.specs.LowestLevel.{IsLowestAbove}
 use Rattle.daide_explain.specs.Unpaired.{IsFirstKet, IsNeverClosed, IsUnpairedIn}
 use Rattle.daide_explain.proofs.Scans.{none_on, no_value, between, closes_after_bra}

@@ -1,26 +1,19 @@
 -- At an error place nothing is expected only if `max_depth` brackets are open before it.
-use Rattle.std.proofs.Common.{◌≡◌, ℕ, zero, suc, ◌+◌, ◌-◌, ◌≤◌, ◌<◌, max, ◌==◌, ◌||◌, Bool, true, false, cond, List, []}
-use Rattle.std.proofs.Common.{◌∷◌, ◌++◌, map, take, Option, None, Some, ◌⊎◌, inl, inr, refl, sym, ◌∙◌, ap}
-use Rattle.std.proofs.Common.{subst, arith, append_assoc, append-nil, if◌then◌else◌}
-use Rattle.std.proofs.lemmas.Bool.{cases_lt, eqb-true}
-use Rattle.daide_token.specs.Token.{bra, ket, prn}
-use Rattle.daide_grammar.specs.declared.level.Level.{Level}
-use Rattle.daide_grammar.specs.declared.side.Side2.{Side2}
+use Rattle.std.proofs.Common.{◌-◌, max, cond, map, if◌then◌else◌}
+use Rattle.std.proofs.lemmas.Bool.{cases_lt}
+use Rattle.daide_explain.proofs.Common.{◌≡◌, ℕ, zero, suc, ◌+◌, ◌≤◌, ◌<◌, ◌==◌, ◌||◌, Bool, true, false, List, [], ◌∷◌}
+use Rattle.daide_explain.proofs.Common.{◌++◌, take, Option, None, Some, ◌⊎◌, inl, inr, refl, sym, ◌∙◌, ap, subst, arith}
+use Rattle.daide_explain.proofs.Common.{append_assoc, append-nil, eqb-true, bra, ket, prn, Level, Side2, bras, kets}
+use Rattle.daide_explain.proofs.Common.{excess, prefixes, greatest, depth_of, open_brackets, begins_with_prn, IsPaired}
+use Rattle.daide_explain.proofs.Common.{IsMessageOver, excess_or_none, is_bra, is_ket, Word, grammar_words, are_free}
+use Rattle.daide_explain.proofs.Common.{IsAllowedPrefix, IsErrorPlace, IsExpected, AreExpected}
 use Rattle.daide_grammar.specs.Balanced.{IsBalanced}
-use Rattle.daide_grammar.specs.Depth.{bras, kets, excess, prefixes, greatest, has_unmatched_ket, depth_of, open_brackets}
-use Rattle.daide_grammar.specs.Paired.{begins_with_prn, IsPaired}
-use Rattle.daide_grammar.specs.SideMessages.{IsMessageOver}
-use Rattle.daide_grammar.specs.Table.Brackets.{excess_or_none, is_bra, is_ket}
+use Rattle.daide_grammar.specs.Depth.{has_unmatched_ket}
 use Rattle.daide_grammar.proofs.Counting.{balanced_counted, bras-snoc, count_on, count_on-append, counted_on, depth_of-snoc}
 use Rattle.daide_grammar.proofs.Counting.{from_the_end, greatest_prefixes-snoc, kets-snoc}
-use Rattle.daide_words.specs.declared.word.Word.{Word}
-use Rattle.daide_words.specs.Word.{grammar_words}
-use Rattle.daide_words.specs.Table.OverWords.{are_free}
 use Rattle.daide_words.proofs.PairedOverWords.{over-paired}
-use Rattle.daide_reader.specs.ErrorPlace.{IsAllowedPrefix, IsErrorPlace}
 use Rattle.daide_reader.specs.ViablePrefix.{IsViablePrefix}
-use Rattle.daide_explain.specs.Expected.{IsExpected, OnlyDeeper}
-use Rattle.daide_explain.specs.Listed.{AreExpected}
+use Rattle.daide_explain.specs.Expected.{OnlyDeeper}
 use Rattle.daide_explain.proofs.Exact.{exact}
 use Rattle.daide_explain.proofs.Scans.{none_on}
 

@@ -1,7 +1,7 @@
 -- The token at an error place is not expected there.
-use Rattle.std.proofs.Common.{◌≡◌, ℕ, suc, ◌+◌, List, [], ◌∷◌, ◌++◌, length, take, refl, sym, ◌∙◌, ap, subst, arith}
 use Rattle.std.proofs.lemmas.List.{length-append}
-use Rattle.daide_reader.specs.ErrorPlace.{IsAllowedPrefix, IsErrorPlace}
+use Rattle.daide_explain.proofs.Common.{◌≡◌, ℕ, suc, ◌+◌, List, [], ◌∷◌, ◌++◌, length, take, refl, sym, ◌∙◌, ap, subst}
+use Rattle.daide_explain.proofs.Common.{arith, IsAllowedPrefix, IsErrorPlace}
 
 take_place : (a b : List ℕ) (t : ℕ) → take (length a + 1) (a ++ t ∷ b) ≡ a ++ t ∷ []
 take_place [] b t = refl

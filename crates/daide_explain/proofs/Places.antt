@@ -1,15 +1,8 @@
 -- A message with the verdict HUH does not begin with PRN, nor does a prefix of it.
-use Rattle.std.proofs.Common.{◌≡◌, ℕ, ◌≤◌, true, false, List, [], ◌∷◌, take, suc, zero, inl, inr, refl, arith}
-use Rattle.daide_token.specs.Token.{tokens_of}
-use Rattle.daide_grammar.specs.Paired.{begins_with_prn}
-use Rattle.daide_grammar.specs.SideMessages.{IsMessageOver}
-use Rattle.daide_grammar.specs.Words.{Words}
-use Rattle.daide_grammar.specs.declared.level.Level.{Level}
-use Rattle.daide_grammar.specs.declared.side.Side2.{Side2}
-use Rattle.daide_reader.specs.Verdict.{HasVerdict}
-use Rattle.daide_reader.specs.declared.verdict.Verdict.TheVariants.{Huh}
+use Rattle.daide_explain.proofs.Common.{◌≡◌, ℕ, ◌≤◌, true, false, List, [], ◌∷◌, take, suc, zero, inl, inr, refl, arith}
+use Rattle.daide_explain.proofs.Common.{tokens_of, begins_with_prn, IsMessageOver, Words, Level, Side2, HasVerdict, Huh}
+use Rattle.daide_explain.proofs.Common.{depth_of}
 use Rattle.daide_reader.proofs.ErrorPlaceLemmas.{report_begins}
-use Rattle.daide_grammar.specs.Depth.{depth_of}
 
 report_shallow : (max_depth : ℕ) (m : List ℕ) → begins_with_prn m ≡ true → depth_of m ≤ max_depth
 report_shallow max_depth m e = rw e (omega arith)

@@ -1,27 +1,16 @@
 -- The printed items of expected classes are exact.
-use Rattle.std.proofs.Common.{◌≡◌, ◌≢◌, ℕ, ◌==◌, ◌||◌, Bool, true, false, List, [], ◌∷◌, ◌++◌, length, take, drop, IsTrue}
-use Rattle.std.proofs.Common.{◌↔◌, inl, inr, refl, sym, ◌∙◌, ap, subst, arith}
-use Rattle.std.proofs.lemmas.Bool.{eqb-true}
-use Rattle.std.proofs.lemmas.List.{length-take-le, take_all, take-append-drop}
-use Rattle.std.specs.Bool.{MatchBool}
+use Rattle.std.proofs.Common.{◌≢◌}
+use Rattle.daide_explain.proofs.Common.{◌≡◌, ℕ, ◌==◌, ◌||◌, Bool, true, false, List, [], ◌∷◌, ◌++◌, length, take, drop}
+use Rattle.daide_explain.proofs.Common.{IsTrue, ◌↔◌, inl, inr, refl, sym, ◌∙◌, ap, subst, arith, eqb-true}
+use Rattle.daide_explain.proofs.Common.{length-take-le, take_all, take-append-drop, MatchBool, bra, ket, Level, Side2}
+use Rattle.daide_explain.proofs.Common.{dialect_of, IsMessageOver, Word, grammar_words, names_of, are_free, free-codes}
+use Rattle.daide_explain.proofs.Common.{keeps, laws_over, IsErrorPlace, IsRelayed, IsExpected, IsEndExpected}
+use Rattle.daide_explain.proofs.Common.{AreExpected, IsFilteredBy, IsIn, codes_of, listed_tokens, representatives}
 use Rattle.daide_token.specs.declared.class.Class.TheVariants.{Alien}
 use Rattle.daide_token.specs.Class.{token_of}
-use Rattle.daide_token.specs.Token.{bra, ket}
 use Rattle.daide_token.proofs.ClassLaws.{class_of-token_of}
-use Rattle.daide_grammar.specs.declared.level.Level.{Level}
-use Rattle.daide_grammar.specs.declared.side.Side2.{Side2}
-use Rattle.daide_grammar.specs.SideMessages.{dialect_of, IsMessageOver}
-use Rattle.daide_words.specs.declared.word.Word.{Word}
-use Rattle.daide_words.specs.Word.{grammar_words, names_of}
-use Rattle.daide_words.specs.Table.OverWords.{are_free}
-use Rattle.daide_words.specs.Proofs.WordDialect.{free-codes, keeps}
-use Rattle.daide_words.specs.Proofs.WordLaws.{laws_over}
-use Rattle.daide_reader.specs.ErrorPlace.{IsErrorPlace}
-use Rattle.daide_reader.specs.Verdict.{IsRelayed}
-use Rattle.daide_explain.specs.Expected.{IsExpected, IsEndExpected}
 use Rattle.daide_explain.specs.Explained.{has_unknown, IsPrinted}
-use Rattle.daide_explain.specs.Listed.{AreExpected, IsFilteredBy, IsIn, IsListed, codes_of, listed_tokens}
-use Rattle.daide_explain.specs.Listed.{representatives, unknown_token, unlisted_tokens}
+use Rattle.daide_explain.specs.Listed.{IsListed, unknown_token, unlisted_tokens}
 use Rattle.daide_explain.proofs.Exact.{exact, kept_all, kept_holds, in_left}
 use Rattle.daide_explain.proofs.Likeness.{expected_along}
 use Rattle.daide_explain.proofs.PlaceFacts.{not_expected}

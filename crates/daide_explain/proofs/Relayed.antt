@@ -1,9 +1,5 @@
 -- A message is relayed if and only if its verdict is `Relay`.
-use Rattle.std.proofs.Common.{◌≡◌, ℕ, List, refl}
-use Rattle.daide_grammar.specs.Paired.{IsPaired}
-use Rattle.daide_reader.specs.Verdict.{HasVerdict, IsRelayed}
-use Rattle.daide_reader.specs.declared.verdict.Verdict.{Verdict}
-use Rattle.daide_reader.specs.declared.verdict.Verdict.TheVariants.{Relay, Prn, Huh}
+use Rattle.daide_explain.proofs.Common.{◌≡◌, ℕ, List, refl, IsPaired, HasVerdict, IsRelayed, Verdict, Relay, Prn, Huh}
 
 pub relay_is : (message : List ℕ → Type 0) (max_depth : ℕ) (m : List ℕ) (v : Verdict) →
     HasVerdict message max_depth m v → v ≡ Relay → IsRelayed message max_depth m

@@ -1,11 +1,10 @@
 -- A scan for unpaired brackets, one token at a time.
-use Rattle.std.proofs.Common.{◌≡◌, ◌≢◌, ℕ, zero, suc, ◌+◌, ◌-◌, ◌≤◌, ◌<◌, ◌==◌, Bool, true, false, List, [], ◌∷◌, ◌++◌, length, take}
-use Rattle.std.proofs.Common.{drop, Option, None, Some, IsSome, refl, sym, ◌∙◌, ap, subst, arith, append_assoc}
-use Rattle.std.proofs.Common.{◌⊎◌, inl, inr}
-use Rattle.std.proofs.lemmas.Bool.{eqb-true}
-use Rattle.std.proofs.lemmas.List.{take-append-drop, length-take-le, take_all}
-use Rattle.daide_token.specs.Token.{bra, ket}
-use Rattle.daide_grammar.specs.Table.Brackets.{is_bra, is_ket, excess_or_none, count_one}
+use Rattle.std.proofs.Common.{◌≢◌, ◌-◌, IsSome}
+use Rattle.daide_explain.proofs.Common.{◌≡◌, ℕ, zero, suc, ◌+◌, ◌≤◌, ◌<◌, ◌==◌, Bool, true, false, List, [], ◌∷◌, ◌++◌}
+use Rattle.daide_explain.proofs.Common.{length, take, drop, Option, None, Some, refl, sym, ◌∙◌, ap, subst, arith}
+use Rattle.daide_explain.proofs.Common.{append_assoc, ◌⊎◌, inl, inr, eqb-true, take-append-drop, length-take-le}
+use Rattle.daide_explain.proofs.Common.{take_all, bra, ket, is_bra, is_ket, excess_or_none}
+use Rattle.daide_grammar.specs.Table.Brackets.{count_one}
 use Rattle.daide_grammar.proofs.Counting.{count_on, count_on-append, counted_on, excess_or_none-snoc}
 use Rattle.daide_explain.specs.Unpaired.{IsTokenAt, IsFirstKet, IsNeverClosed}
 

@@ -1,4 +1,4 @@
-use Rattle.std.proofs.Common.{◌≡◌, ◌%◌, ℕ, List, length, subst, sym}
+use Rattle.daide_explain.proofs.Common.{◌≡◌, ◌%◌, ℕ, List, length, subst, sym}
 use Rattle.daide_explain.proofs.AnswerParts.{if_ok-more, huh_of_parts, even_huh}
 use Rattle.daide_explain.proofs.answer.answer_huh.Goals as goal
 

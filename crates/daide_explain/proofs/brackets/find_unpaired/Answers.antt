@@ -1,8 +1,5 @@
-use Rattle.std.proofs.Common.{◌≡◌, ◌≤◌, length, take, sym, ◌∙◌, arith, inl, inr}
-use Rattle.std.proofs.lemmas.Bool.{eqb-true, eqb-false}
-use Rattle.std.proofs.lemmas.List.{length-take-le}
-use Rattle.daide_token.specs.Token.{bra, ket, tokens_of}
-use Rattle.daide_reader.proofs.BodyLemmas.{tokens_of-length}
+use Rattle.daide_explain.proofs.Common.{◌≡◌, ◌≤◌, length, take, sym, ◌∙◌, arith, inl, inr, eqb-true, eqb-false}
+use Rattle.daide_explain.proofs.Common.{length-take-le, bra, ket, tokens_of, tokens_of-length}
 use Rattle.daide_explain.proofs.Scans.{scan_bra, scan_ket, scan_plain, scan_all, all_closed, some_open, ket_here}
 use Rattle.daide_explain.proofs.brackets.find_unpaired.Goals as goal
 use Rattle.daide_explain.proofs.brackets.find_unpaired.Goals.{then-is_bra, then-opened-eq0, else-opened-eq0}

@@ -1,5 +1,4 @@
-use Rattle.std.proofs.Common.{◌≤◌, take}
-use Rattle.daide_token.specs.Token.{tokens_of}
+use Rattle.daide_explain.proofs.Common.{◌≤◌, take, tokens_of}
 use Rattle.daide_explain.proofs.Scans.{Scan}
 use Rattle.daide_explain.proofs.brackets.find_unpaired.Given as goal
 

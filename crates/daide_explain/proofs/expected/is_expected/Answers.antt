@@ -1,21 +1,9 @@
-use Rattle.std.proofs.Common.{◌≡◌, ℕ, ◌<◌, ◌==◌, false, [], ◌∷◌, ◌++◌, length, refl, sym, ◌∙◌, ap, subst, arith, inl}
-use Rattle.std.proofs.Common.{IsTrue, ◌↔◌}
-use Rattle.std.proofs.lemmas.Bool.{eqb-true}
 use Rattle.std.proofs.lemmas.Bool.Decides.{nat_tests}
-use Rattle.daide_token.specs.Token.{prn, tokens_of}
-use Rattle.daide_grammar.specs.Paired.{begins_with_prn}
-use Rattle.daide_grammar.specs.SideMessages.{dialect_of, IsMessageOver}
+use Rattle.daide_explain.proofs.Common.{◌≡◌, ℕ, ◌<◌, ◌==◌, false, [], ◌∷◌, ◌++◌, length, refl, sym, ◌∙◌, ap, subst}
+use Rattle.daide_explain.proofs.Common.{arith, inl, IsTrue, ◌↔◌, eqb-true, prn, tokens_of, begins_with_prn, dialect_of}
+use Rattle.daide_explain.proofs.Common.{IsMessageOver, start_symbol_of, Words, grammar_words, words_of, Extended}
+use Rattle.daide_explain.proofs.Common.{spoken_words, spoken, accepted_free, IsMessageOf, IsAllowedPrefix}
 use Rattle.daide_grammar.specs.Table.Languages.{SymbolMatchesIn}
-use Rattle.daide_grammar.specs.Table.Symbols.{start_symbol_of}
-use Rattle.daide_grammar.specs.Words.{Words}
-use Rattle.daide_words.specs.Word.{grammar_words}
-use Rattle.daide_words.specs.Words.{words_of}
-use Rattle.daide_words.specs.declared.extended.Extended.{Extended}
-use Rattle.daide_words.specs.Table.Extended.{spoken_words}
-use Rattle.daide_words.specs.Table.OverWords.{spoken}
-use Rattle.daide_words.proofs.AcceptedCodes.{accepted_free}
-use Rattle.daide_reader.specs.ViablePrefix.{IsMessageOf}
-use Rattle.daide_reader.specs.ErrorPlace.{IsAllowedPrefix}
 use Rattle.daide_explain.proofs.Allowed.{read_nothing, allowed_along, allowed_if_no_place, prn_allowed, plain_more}
 use Rattle.daide_protocol.proofs.WordedVerdicts.{worded_messages}
 use Rattle.daide_explain.proofs.expected.is_expected.Goals as goal

@@ -1,4 +1,4 @@
-use Rattle.std.proofs.Common.{◌≡◌, false, true, refl}
+use Rattle.daide_explain.proofs.Common.{◌≡◌, false, true, refl}
 use Rattle.daide_explain.proofs.Relayed.{relay_is, is_relay}
 use Rattle.daide_explain.proofs.expected.is_relayed.Goals as goal
 

@@ -1,18 +1,7 @@
-use Rattle.std.proofs.Common.{◌≡◌, ◌∙◌, ap, ℕ, subst}
-use Rattle.daide_token.specs.Token.{tokens_of}
-use Rattle.daide_grammar.specs.Table.Symbols.{start_symbol_of}
-use Rattle.daide_grammar.specs.SideMessages.{dialect_of}
+use Rattle.daide_explain.proofs.Common.{◌≡◌, ◌∙◌, ap, ℕ, subst, tokens_of, start_symbol_of, dialect_of, Words}
+use Rattle.daide_explain.proofs.Common.{grammar_words, words_of, Extended, spoken_words, spoken, accepted_free}
+use Rattle.daide_explain.proofs.Common.{IsMessageOf, HasVerdict, place_in}
 use Rattle.daide_grammar.specs.Table.Languages.{SymbolMatchesIn}
-use Rattle.daide_grammar.specs.Words.{Words}
-use Rattle.daide_words.specs.Word.{grammar_words}
-use Rattle.daide_words.specs.Words.{words_of}
-use Rattle.daide_words.specs.declared.extended.Extended.{Extended}
-use Rattle.daide_words.specs.Table.Extended.{spoken_words}
-use Rattle.daide_words.specs.Table.OverWords.{spoken}
-use Rattle.daide_words.proofs.AcceptedCodes.{accepted_free}
-use Rattle.daide_reader.specs.ViablePrefix.{IsMessageOf}
-use Rattle.daide_reader.specs.Verdict.{HasVerdict}
-use Rattle.daide_reader.proofs.BodyLemmas.{place_in}
 use Rattle.daide_protocol.proofs.WordedVerdicts.{worded_verdicts}
 use Rattle.daide_explain.proofs.expected.verdict_of.Goals as goal
 

@@ -1,6 +1,4 @@
-use Rattle.std.proofs.Common.{[], refl, arith}
-use Rattle.daide_grammar.specs.declared.level.Level.TheVariants.{L10}
-use Rattle.daide_grammar.specs.declared.side.Side2.TheVariants.{Client}
+use Rattle.daide_explain.proofs.Common.{[], refl, arith, L10, Client}
 use Rattle.daide_explain.proofs.ExplainedFacts.{gof, try_open, unknown_tried}
 use Rattle.daide_explain.proofs.law_facts.any_at_a_message.Goals as goal
 

@@ -1,8 +1,4 @@
-use Rattle.std.proofs.Common.{[], ◌∷◌, refl}
-use Rattle.daide_token.specs.Token.{bra}
-use Rattle.daide_token.specs.Class.{class_of}
-use Rattle.daide_grammar.specs.declared.level.Level.TheVariants.{L10}
-use Rattle.daide_grammar.specs.declared.side.Side2.TheVariants.{Client}
+use Rattle.daide_explain.proofs.Common.{[], ◌∷◌, refl, bra, class_of, L10, Client}
 use Rattle.daide_explain.proofs.ExplainedFacts.{fra, snd}
 use Rattle.daide_explain.proofs.law_facts.class_at_a_power.Goals as goal
 

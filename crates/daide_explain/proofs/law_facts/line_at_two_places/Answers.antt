@@ -1,7 +1,4 @@
-use Rattle.std.proofs.Common.{◌≡◌, [], ◌∷◌, true, Bool, refl, ap, ◌∙◌}
-use Rattle.daide_grammar.specs.declared.level.Level.TheVariants.{L0}
-use Rattle.daide_grammar.specs.declared.side.Side2.TheVariants.{Client}
-use Rattle.daide_explain.specs.Explained.{expected_line}
+use Rattle.daide_explain.proofs.Common.{◌≡◌, [], ◌∷◌, true, Bool, refl, ap, ◌∙◌, L0, Client, expected_line}
 use Rattle.daide_explain.proofs.ExplainedFacts.{At0, gof, obs, obs_ends, obs_expected, obs_gof_place}
 use Rattle.daide_explain.proofs.PlaceFacts.{not_expected}
 use Rattle.daide_explain.proofs.law_facts.line_at_two_places.Goals as goal

@@ -1,6 +1,4 @@
-use Rattle.std.proofs.Common.{[], ◌∷◌, refl}
-use Rattle.daide_grammar.specs.declared.level.Level.TheVariants.{L0}
-use Rattle.daide_grammar.specs.declared.side.Side2.TheVariants.{Client}
+use Rattle.daide_explain.proofs.Common.{[], ◌∷◌, refl, L0, Client}
 use Rattle.daide_explain.proofs.ExplainedFacts.{At0, gof, obs, obs_expected, obs_gof_place}
 use Rattle.daide_explain.proofs.PlaceFacts.{not_expected}
 use Rattle.daide_explain.proofs.law_facts.list_at_two_places.Goals as goal

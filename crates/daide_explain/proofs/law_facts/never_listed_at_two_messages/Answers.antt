@@ -1,6 +1,4 @@
-use Rattle.std.proofs.Common.{[], ◌∷◌, refl}
-use Rattle.daide_grammar.specs.declared.level.Level.TheVariants.{L0}
-use Rattle.daide_grammar.specs.declared.side.Side2.TheVariants.{Client}
+use Rattle.daide_explain.proofs.Common.{[], ◌∷◌, refl, L0, Client}
 use Rattle.daide_explain.proofs.ExplainedFacts.{gof, obs, obs_gof_place, nothing_place, nothing_is_no_message}
 use Rattle.daide_explain.proofs.law_facts.never_listed_at_two_messages.Goals as goal
 

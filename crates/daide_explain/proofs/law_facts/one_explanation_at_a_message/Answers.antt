@@ -1,8 +1,4 @@
-use Rattle.std.proofs.Common.{[], ◌∷◌, ◌++◌, codes}
-use Rattle.daide_token.specs.Token.{bra}
-use Rattle.daide_grammar.specs.declared.level.Level.TheVariants.{L0}
-use Rattle.daide_grammar.specs.declared.side.Side2.TheVariants.{Client}
-use Rattle.daide_reader.specs.declared.verdict.Verdict.TheVariants.{Prn}
+use Rattle.daide_explain.proofs.Common.{[], ◌∷◌, ◌++◌, codes, bra, L0, Client, Prn}
 use Rattle.daide_explain.proofs.ExplainedFacts.{gof, gof_open}
 use Rattle.daide_explain.proofs.law_facts.one_explanation_at_a_message.Goals as goal
 

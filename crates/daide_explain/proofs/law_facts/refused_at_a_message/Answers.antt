@@ -1,6 +1,4 @@
-use Rattle.std.proofs.Common.{[], ◌∷◌}
-use Rattle.daide_grammar.specs.declared.level.Level.TheVariants.{L0}
-use Rattle.daide_grammar.specs.declared.side.Side2.TheVariants.{Client}
+use Rattle.daide_explain.proofs.Common.{[], ◌∷◌, L0, Client}
 use Rattle.daide_explain.proofs.ExplainedFacts.{gof, obs, obs_gof_place}
 use Rattle.daide_explain.proofs.law_facts.refused_at_a_message.Goals as goal
 

@@ -1,4 +1,4 @@
-use Rattle.daide_words.proofs.AcceptedCodes.{accepted_free}
+use Rattle.daide_explain.proofs.Common.{accepted_free}
 use Rattle.daide_explain.proofs.Printed.{any_expected}
 use Rattle.daide_explain.proofs.laws.any_is_each_token_but_brackets.Goals as goal
 

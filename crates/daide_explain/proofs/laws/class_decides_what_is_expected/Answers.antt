@@ -1,6 +1,4 @@
-use Rattle.std.proofs.Common.{inl}
-use Rattle.daide_words.specs.Word.{grammar_words}
-use Rattle.daide_words.proofs.AcceptedCodes.{accepted_free}
+use Rattle.daide_explain.proofs.Common.{inl, grammar_words, accepted_free}
 use Rattle.daide_explain.proofs.Likeness.{expected_along}
 use Rattle.daide_explain.proofs.laws.class_decides_what_is_expected.Goals as goal
 

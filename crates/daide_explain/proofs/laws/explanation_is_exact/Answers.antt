@@ -1,4 +1,4 @@
-use Rattle.daide_words.proofs.AcceptedCodes.{accepted_free}
+use Rattle.daide_explain.proofs.Common.{accepted_free}
 use Rattle.daide_explain.proofs.Printed.{printed}
 use Rattle.daide_explain.proofs.laws.explanation_is_exact.Goals as goal
 

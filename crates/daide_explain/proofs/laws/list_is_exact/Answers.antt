@@ -1,4 +1,4 @@
-use Rattle.daide_words.proofs.AcceptedCodes.{accepted_free}
+use Rattle.daide_explain.proofs.Common.{accepted_free}
 use Rattle.daide_explain.proofs.Exact.{exact}
 use Rattle.daide_explain.proofs.laws.list_is_exact.Goals as goal
 

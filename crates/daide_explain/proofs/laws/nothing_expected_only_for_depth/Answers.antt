@@ -1,4 +1,4 @@
-use Rattle.daide_words.proofs.AcceptedCodes.{accepted_free}
+use Rattle.daide_explain.proofs.Common.{accepted_free}
 use Rattle.daide_explain.proofs.OnlyDepth.{nothing_at}
 use Rattle.daide_explain.proofs.laws.nothing_expected_only_for_depth.Goals as goal
 

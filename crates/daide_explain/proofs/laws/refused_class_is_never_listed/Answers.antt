@@ -1,7 +1,4 @@
-use Rattle.std.proofs.Common.{take}
-use Rattle.daide_grammar.specs.SideMessages.{IsMessageOver}
-use Rattle.daide_words.specs.Word.{grammar_words}
-use Rattle.daide_words.proofs.AcceptedCodes.{accepted_free}
+use Rattle.daide_explain.proofs.Common.{take, IsMessageOver, grammar_words, accepted_free}
 use Rattle.daide_explain.proofs.Printed.{never_listed, no_end, refused_there}
 use Rattle.daide_explain.proofs.laws.refused_class_is_never_listed.Goals as goal
 

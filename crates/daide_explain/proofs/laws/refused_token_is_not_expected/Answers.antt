@@ -1,5 +1,4 @@
-use Rattle.daide_grammar.specs.SideMessages.{IsMessageOver}
-use Rattle.daide_words.specs.Word.{grammar_words}
+use Rattle.daide_explain.proofs.Common.{IsMessageOver, grammar_words}
 use Rattle.daide_explain.proofs.PlaceFacts.{not_expected}
 use Rattle.daide_explain.proofs.laws.refused_token_is_not_expected.Goals as goal
 

@@ -1,8 +1,4 @@
-use Rattle.std.proofs.Common.{◌<◌}
-use Rattle.daide_token.specs.Token.{tokens_of}
-use Rattle.daide_grammar.specs.declared.level.Level.{Level}
-use Rattle.daide_words.specs.Word.{grammar_words}
-use Rattle.daide_words.specs.Words.{words_of}
+use Rattle.daide_explain.proofs.Common.{◌<◌, tokens_of, Level, grammar_words, words_of}
 use Rattle.daide_explain.specs.LowestLevel.{IsBelow, IsRelayedAt}
 use Rattle.daide_explain.proofs.LevelPlaces.{level_place}
 use Rattle.daide_explain.proofs.levels.lowest_level.Given as goal

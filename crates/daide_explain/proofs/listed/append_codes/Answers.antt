@@ -1,4 +1,4 @@
-use Rattle.std.proofs.Common.{arith}
+use Rattle.daide_explain.proofs.Common.{arith}
 use Rattle.daide_explain.proofs.Filtered.{one_more_at, all_taken}
 use Rattle.daide_explain.proofs.listed.append_codes.Goals as goal
 

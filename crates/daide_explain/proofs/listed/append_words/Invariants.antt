@@ -1,10 +1,5 @@
-use Rattle.std.proofs.Common.{ℕ, List, ◌++◌, take}
-use Rattle.daide_token.specs.Token.{tokens_of}
-use Rattle.daide_grammar.specs.SideMessages.{IsMessageOver}
-use Rattle.daide_words.specs.Word.{grammar_words}
-use Rattle.daide_words.specs.Words.{words_of}
-use Rattle.daide_explain.specs.Expected.{IsExpected}
-use Rattle.daide_explain.specs.Listed.{IsFilteredBy, codes_of}
+use Rattle.daide_explain.proofs.Common.{ℕ, List, ◌++◌, take, tokens_of, IsMessageOver, grammar_words, words_of}
+use Rattle.daide_explain.proofs.Common.{IsExpected, IsFilteredBy, codes_of}
 use Rattle.daide_explain.proofs.listed.append_words.Given as goal
 
 -- the first `named-index` names were filtered

@@ -1,7 +1,4 @@
-use Rattle.std.proofs.Common.{[], ◌++◌}
-use Rattle.daide_words.specs.Word.{names_of}
-use Rattle.daide_words.specs.Words.{words_of}
-use Rattle.daide_explain.specs.Listed.{listed_tokens, codes_of}
+use Rattle.daide_explain.proofs.Common.{[], ◌++◌, names_of, words_of, listed_tokens, codes_of}
 use Rattle.daide_explain.proofs.Filtered.{filtered_none}
 use Rattle.daide_explain.proofs.listed.list_expected.Goals as goal
 

@@ -1,6 +1,4 @@
-use Rattle.std.proofs.Common.{◌≡◌, false, true, sym, ◌∙◌}
-use Rattle.std.proofs.lemmas.Bool.{eqb-true}
-use Rattle.daide_token.specs.Token.{bra}
+use Rattle.daide_explain.proofs.Common.{◌≡◌, false, true, sym, ◌∙◌, eqb-true, bra}
 use Rattle.daide_explain.proofs.Deep.{after_the_end, deep_if_full}
 use Rattle.daide_explain.proofs.text.is_too_deep.Goals as goal
 

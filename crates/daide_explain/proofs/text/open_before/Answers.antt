@@ -1,4 +1,4 @@
-use Rattle.daide_token.specs.Token.{tokens_of}
+use Rattle.daide_explain.proofs.Common.{tokens_of}
 use Rattle.daide_explain.proofs.Allowed.{read_nothing}
 use Rattle.daide_explain.proofs.text.open_before.Goals as goal
 

@@ -1,7 +1,4 @@
-use Rattle.std.proofs.Common.{◌≡◌, ◌⊎◌, sym, ap, ◌∙◌, inl, inr}
-use Rattle.std.proofs.lemmas.Bool.{eqb-true, eqb-false}
-use Rattle.daide_token.specs.Token.{bra, ket}
-use Rattle.daide_words.specs.Words.{words_of}
+use Rattle.daide_explain.proofs.Common.{◌≡◌, ◌⊎◌, sym, ap, ◌∙◌, inl, inr, eqb-true, eqb-false, bra, ket, words_of}
 use Rattle.daide_explain.proofs.Items.{items_none, bracket_next, no_bracket_next}
 use Rattle.daide_explain.proofs.text.write_brackets.Goals as goal
 use Rattle.daide_explain.proofs.text.write_brackets.Goals.{then-is_bra+in_ok-write_all+in_ok-write_item}

@@ -1,6 +1,4 @@
-use Rattle.std.proofs.Common.{◌≡◌, ◌++◌, take}
-use Rattle.daide_words.specs.Words.{words_of}
-use Rattle.daide_explain.specs.Explained.{brackets_in, items}
+use Rattle.daide_explain.proofs.Common.{◌≡◌, ◌++◌, take, words_of, brackets_in, items}
 use Rattle.daide_explain.proofs.text.write_brackets.Given as goal
 
 -- the brackets among the first `token-index` tokens were written

@@ -1,9 +1,5 @@
-use Rattle.std.proofs.Common.{◌≡◌, List, ℕ, subst, true, false, sym, ◌∙◌}
-use Rattle.std.proofs.lemmas.Result.{on_ok_weaker}
-use Rattle.daide_grammar.specs.SideMessages.{IsMessageOver}
-use Rattle.daide_words.specs.Word.{grammar_words}
-use Rattle.daide_words.specs.Words.{words_of}
-use Rattle.daide_token.proofs.TokenPlaces.{tokens_of-front}
+use Rattle.daide_explain.proofs.Common.{◌≡◌, List, ℕ, subst, true, false, sym, ◌∙◌, on_ok_weaker, IsMessageOver}
+use Rattle.daide_explain.proofs.Common.{grammar_words, words_of, tokens_of-front}
 use Rattle.daide_explain.specs.Explained.{IsExpectedLine}
 use Rattle.daide_explain.proofs.text.write_cause.Goals as goal
 

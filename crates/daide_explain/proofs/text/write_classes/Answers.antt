@@ -1,7 +1,5 @@
-use Rattle.std.proofs.Common.{◌++◌, List, ℕ, sym, ◌∙◌, ap, codes, append_assoc}
-use Rattle.std.proofs.lemmas.Result.{on_ok_weaker}
-use Rattle.daide_words.specs.Words.{words_of}
-use Rattle.daide_explain.specs.Explained.{brackets_in, items}
+use Rattle.daide_explain.proofs.Common.{◌++◌, List, ℕ, sym, ◌∙◌, ap, codes, append_assoc, on_ok_weaker, words_of}
+use Rattle.daide_explain.proofs.Common.{brackets_in, items}
 use Rattle.daide_explain.proofs.Items.{with_unknown, without_unknown}
 use Rattle.daide_explain.proofs.text.write_classes.Goals as goal
 

@@ -1,11 +1,6 @@
-use Rattle.std.proofs.Common.{◌++◌, List, ℕ, IsTrue, ◌↔◌, refl, ap, ◌∙◌, append_assoc, subst}
-use Rattle.std.proofs.lemmas.Result.{on_ok_weaker}
-use Rattle.daide_token.specs.Token.{tokens_of}
-use Rattle.daide_grammar.specs.declared.side.Side2.{Side2}
-use Rattle.daide_words.specs.Word.{grammar_words}
-use Rattle.daide_words.specs.Words.{words_of}
+use Rattle.daide_explain.proofs.Common.{◌++◌, List, ℕ, IsTrue, ◌↔◌, refl, ap, ◌∙◌, append_assoc, subst, on_ok_weaker}
+use Rattle.daide_explain.proofs.Common.{tokens_of, Side2, grammar_words, words_of, level_line, side_line}
 use Rattle.daide_explain.specs.LowestLevel.{IsRelayedAt}
-use Rattle.daide_explain.specs.Explained.{level_line, side_line}
 use Rattle.daide_explain.proofs.text.write_elsewhere.Goals as goal
 
 pub returns : goal.returns

@@ -1,8 +1,4 @@
-use Rattle.std.proofs.Common.{◌++◌, List, ℕ, refl, ap, ◌∙◌}
-use Rattle.std.proofs.lemmas.Result.{on_ok_weaker}
-use Rattle.daide_token.specs.Token.{tokens_of}
-use Rattle.daide_words.specs.Words.{words_of}
-use Rattle.daide_explain.specs.Explained.{expected_line}
+use Rattle.daide_explain.proofs.Common.{◌++◌, List, ℕ, refl, ap, ◌∙◌, on_ok_weaker, tokens_of, words_of, expected_line}
 use Rattle.daide_explain.proofs.text.write_expected.Goals as goal
 
 pub returns : goal.returns

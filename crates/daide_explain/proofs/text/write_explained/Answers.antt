@@ -1,14 +1,5 @@
-use Rattle.std.proofs.Common.{◌*◌, [], subst, sym, refl, append-nil}
-use Rattle.std.proofs.lemmas.Result.{on_ok_weaker}
-use Rattle.daide_reader.specs.declared.verdict.Verdict.{Verdict}
-use Rattle.daide_explain.specs.Explained.{IsExplained}
-use Rattle.daide_token.specs.Token.{tokens_of}
-use Rattle.daide_grammar.specs.SideMessages.{IsMessageOver}
-use Rattle.daide_words.specs.Word.{grammar_words}
-use Rattle.daide_words.specs.Words.{words_of}
-use Rattle.daide_reader.specs.declared.verdict.Verdict.TheVariants.{Huh}
-use Rattle.daide_reader.specs.Verdict.{HasVerdict}
-use Rattle.daide_reader.proofs.BodyLemmas.{place_in}
+use Rattle.daide_explain.proofs.Common.{◌*◌, [], subst, sym, refl, append-nil, on_ok_weaker, Verdict, IsExplained}
+use Rattle.daide_explain.proofs.Common.{tokens_of, IsMessageOver, grammar_words, words_of, Huh, HasVerdict, place_in}
 use Rattle.daide_explain.proofs.Places.{huh_plain, front_plain}
 use Rattle.daide_explain.proofs.text.write_explained.Goals as goal
 

@@ -1,6 +1,4 @@
-use Rattle.std.proofs.Common.{◌++◌, List, ℕ, sym, ◌∙◌, ap}
-use Rattle.std.proofs.lemmas.Result.{on_ok_weaker}
-use Rattle.daide_words.specs.Words.{words_of}
+use Rattle.daide_explain.proofs.Common.{◌++◌, List, ℕ, sym, ◌∙◌, ap, on_ok_weaker, words_of}
 use Rattle.daide_explain.proofs.Items.{item_other, item_kind, item_name}
 use Rattle.daide_explain.proofs.text.write_item.Goals as goal
 

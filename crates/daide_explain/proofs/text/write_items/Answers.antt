@@ -1,4 +1,4 @@
-use Rattle.daide_words.specs.Words.{words_of}
+use Rattle.daide_explain.proofs.Common.{words_of}
 use Rattle.daide_explain.proofs.Items.{items_none, item_next}
 use Rattle.daide_explain.proofs.text.write_items.Goals as goal
 

@@ -1,6 +1,4 @@
-use Rattle.std.proofs.Common.{◌≡◌, ◌++◌, take}
-use Rattle.daide_words.specs.Words.{words_of}
-use Rattle.daide_explain.specs.Explained.{items}
+use Rattle.daide_explain.proofs.Common.{◌≡◌, ◌++◌, take, words_of, items}
 use Rattle.daide_explain.proofs.text.write_items.Given as goal
 
 -- the items of the first `token-index` tokens were written

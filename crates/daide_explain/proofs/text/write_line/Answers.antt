@@ -1,8 +1,5 @@
-use Rattle.std.proofs.Common.{◌≡◌, ℕ, ◌++◌, ◌==◌, ◌&&◌, not, false, List, codes, length, sym, ◌∙◌, ap}
-use Rattle.std.proofs.lemmas.Result.{on_ok_weaker}
-use Rattle.daide_token.specs.Token.{tokens_of}
-use Rattle.daide_words.specs.Words.{words_of}
-use Rattle.daide_explain.specs.Explained.{class_items, end_item}
+use Rattle.daide_explain.proofs.Common.{◌≡◌, ℕ, ◌++◌, ◌==◌, ◌&&◌, not, false, List, codes, length, sym, ◌∙◌, ap}
+use Rattle.daide_explain.proofs.Common.{on_ok_weaker, tokens_of, words_of, class_items, end_item}
 use Rattle.daide_explain.proofs.Items.{end_there, nothing_line, some_line, three, tokens_there}
 use Rattle.daide_explain.proofs.text.write_line.Goals as goal
 use Rattle.daide_explain.proofs.text.write_line.Goals.{else-is_empty-via-then-is_empty+else-not-ends, else-is_empty-via-else-is_empty}

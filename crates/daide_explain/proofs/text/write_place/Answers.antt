@@ -1,5 +1,4 @@
-use Rattle.std.proofs.Common.{◌++◌, List, ℕ, refl, ap, ◌∙◌, append_assoc}
-use Rattle.std.proofs.lemmas.Result.{on_ok_weaker}
+use Rattle.daide_explain.proofs.Common.{◌++◌, List, ℕ, refl, ap, ◌∙◌, append_assoc, on_ok_weaker}
 use Rattle.daide_explain.proofs.text.write_place.Goals as goal
 
 pub returns : goal.returns
