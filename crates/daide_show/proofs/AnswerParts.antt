@@ -1,10 +1,6 @@
 -- A verdict's name, followed by the answer.
-use Rattle.std.proofs.Common.{◌≡◌, ℕ, false, List, ◌++◌, refl, ap, ◌∙◌, append_assoc}
-use Rattle.daide_token.specs.Token.{tokens_of}
-use Rattle.daide_words.specs.declared.word.Word.{Word}
-use Rattle.daide_reader.specs.declared.verdict.Verdict.{Verdict}
-use Rattle.daide_reader.specs.declared.verdict.Verdict.TheVariants.{Relay, Prn, Huh}
-use Rattle.daide_protocol.specs.Answers.{answer_body}
+use Rattle.daide_show.proofs.Common.{◌≡◌, ℕ, false, List, ◌++◌, refl, ap, ◌∙◌, append_assoc, tokens_of, Word, Verdict}
+use Rattle.daide_show.proofs.Common.{Relay, Prn, Huh, answer_body}
 use Rattle.daide_show.specs.Shown.{is_relay, line, printed, verdict_lines, verdict_name}
 
 pub answered : (words : List Word) (verdict : Verdict) (body old named answer text : List ℕ) →

@@ -1,15 +1,15 @@
 -- Of an input of digits and blanks alone the blanks are dropped, and nothing else.
-use Rattle.std.proofs.Common.{◌≡◌, ℕ, Bool, true, false, if◌then◌else◌, List, [], ◌∷◌, ◌++◌, filter, ap, refl, subst, ◌∙◌}
-use Rattle.std.specs.Prelude.{◌||◌, ◌&&◌, ◌==◌, not}
+use Rattle.std.proofs.Common.{if◌then◌else◌, filter, ◌||◌, ◌&&◌, ◌==◌}
 use Rattle.std.specs.List.{list_all}
 use Rattle.std.proofs.lemmas.Bool.{eqb-true}
-use Rattle.daide_show.specs.declared.frame_view.places.Place.{Place}
+use Rattle.daide_show.proofs.Common.{◌≡◌, ℕ, Bool, true, false, List, [], ◌∷◌, ◌++◌, ap, refl, subst, ◌∙◌, not, Place}
+use Rattle.daide_show.proofs.Common.{digits_from, is_blank}
 use Rattle.daide_show.specs.declared.frame_view.places.Place.TheVariants.{Outside, After}
 use Rattle.daide_show.specs.declared.frame_view.places.InputByte.{InputByte}
 use Rattle.daide_show.specs.declared.frame_view.places.InputByte.TheVariants.{Nothing, Kept}
-use Rattle.daide_show.specs.Input.{are_pairs, first_byte_passes, digits_after_x, digits_from, digits_of_input_byte, is_blank, is_digit_or_blank}
-use Rattle.daide_show.specs.Input.{is_quote, is_separator, is_x, next_place, opens_bare, opens_escape, opens_prefix}
-use Rattle.daide_show.specs.Input.{opens_quoted, input_byte, following_place}
+use Rattle.daide_show.specs.Input.{are_pairs, first_byte_passes, digits_after_x, digits_of_input_byte}
+use Rattle.daide_show.specs.Input.{is_digit_or_blank, is_quote, is_separator, is_x, next_place, opens_bare}
+use Rattle.daide_show.specs.Input.{opens_escape, opens_prefix, opens_quoted, input_byte, following_place}
 use Rattle.hex.specs.Hex.{is_hex_digit}
 
 both : (a b : Bool) → (a && b) ≡ true → (a ≡ true) × (b ≡ true)

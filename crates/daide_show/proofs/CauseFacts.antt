@@ -1,13 +1,11 @@
 -- The values that are right for each field, and the body up to a fault, worked out from docs/PROTOCOL.md.
-use Rattle.std.proofs.Common.{◌≡◌, true, false, [], ◌∷◌, ◌++◌, codes, map, replicate, refl}
-use Rattle.std.specs.List.{range_with_len}
+use Rattle.daide_show.proofs.Common.{◌≡◌, true, false, [], ◌∷◌, ◌++◌, codes, map, replicate, refl, range_with_len, Im}
+use Rattle.daide_show.proofs.Common.{Em, longest_body}
 use Rattle.daide_token.specs.Class.{is_known_category}
 use Rattle.daide_frame.specs.declared.code.Code.TheVariants.{WrongEndian, WrongMagic, WrongVersion, UnknownMessage}
 use Rattle.daide_frame.specs.declared.code.Code.TheVariants.{WrongLength, InvalidToken}
 use Rattle.daide_frame.specs.Frames.{is_alien}
 use Rattle.daide_frame.specs.Head.{has_right_length}
-use Rattle.daide_frame.specs.declared.head.Kind.TheVariants.{Im, Em}
-use Rattle.daide_protocol.specs.Bounds.{longest_body}
 use Rattle.daide_io.specs.declared.fault_field.FaultField.TheVariants.{Kind, Length, Version, MagicNumber, Token}
 use Rattle.daide_show.specs.Cause.{expected_value, faulty_body}
 

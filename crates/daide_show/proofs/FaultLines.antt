@@ -1,7 +1,6 @@
 -- The lines of a fault, from the parts of the bytes.
-use Rattle.std.proofs.Common.{◌≡◌, ℕ, ◌≤◌, List, length, take, drop, refl, sym}
 use Rattle.std.proofs.lemmas.List.{take_all}
-use Rattle.daide_frame.specs.declared.code.Code.{Code}
+use Rattle.daide_show.proofs.Common.{◌≡◌, ℕ, ◌≤◌, List, length, take, drop, refl, sym, Code}
 use Rattle.daide_show.specs.Cause.{faulty_body}
 use Rattle.daide_show.specs.Shown.{cause_lines, frame_fault_lines}
 

@@ -1,10 +1,8 @@
 -- What is dropped, kept and refused of an input, over all bytes and for each form, written from docs/FORMATS.md, so that
 -- a byte mistaken for its neighbour fails to check.
-use Rattle.std.proofs.Common.{◌≡◌, ℕ, true, false, Bool, List, [], ◌∷◌, ◌++◌, codes, map, replicate, refl}
-use Rattle.std.specs.Prelude.{is_ok, not, Ok}
-use Rattle.std.specs.List.{range_with_len}
-use Rattle.hex.specs.Hex.{decode_pairs}
-use Rattle.daide_show.specs.Input.{limit, is_blank, parse_hex}
+use Rattle.std.proofs.Common.{is_ok}
+use Rattle.daide_show.proofs.Common.{◌≡◌, ℕ, true, false, Bool, List, [], ◌∷◌, ◌++◌, codes, map, replicate, refl, not}
+use Rattle.daide_show.proofs.Common.{Ok, range_with_len, decode_pairs, limit, is_blank, parse_hex}
 
 -- tab and line feed, carriage return and space; not a vertical tab, a form feed or any other byte
 blanks : map is_blank (range_with_len 0 256)

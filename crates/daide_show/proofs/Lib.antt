@@ -1,3 +1,4 @@
+mod Common
 pub mod Reading
 pub mod Outcomes
 pub mod AnswerParts

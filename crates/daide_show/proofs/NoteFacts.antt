@@ -1,10 +1,8 @@
 -- Notes and odd groups of small inputs, worked out from docs/FORMATS.md.
-use Rattle.std.proofs.Common.{◌≡◌, [], ◌∷◌, codes, Some, None, refl}
-use Rattle.std.specs.Fmt.{digits}
+use Rattle.daide_show.proofs.Common.{◌≡◌, [], ◌∷◌, codes, Some, None, refl, digits, odd_group_of}
 use Rattle.daide_show.specs.declared.notes.InputNote.TheVariants.{BadByte, OpenQuote, OddDigits, ShortHeader}
 use Rattle.daide_show.specs.declared.notes.InputNote.TheVariants.{ShortBody, AnotherFrame}
 use Rattle.daide_show.specs.Note.{byte_text, digits_note, frame_note, note_text}
-use Rattle.daide_show.specs.Groups.{odd_group_of}
 
 -- the seventh byte is the letter O; blanks are counted
 letter_for_digit : digits_note (codes "02 00 O0") ≡ BadByte 7 79

@@ -1,18 +1,13 @@
 -- The note of an input belongs to its fault.
-use Rattle.std.proofs.Common.{◌≡◌, ℕ, Bool, true, false, ltb, List, [], ◌∷◌, length, ◌+◌, Some, None, Result, Ok, Err}
-use Rattle.std.proofs.Common.{if◌then◌else◌, ap, sym, refl, ◌∙◌}
-use Rattle.std.specs.Prelude.{option_map, unwrap_or}
-use Rattle.std.specs.Bool.{MatchBool}
-use Rattle.hex.specs.declared.error.FromHexError.{FromHexError}
-use Rattle.daide_protocol.specs.Bounds.{longest_body}
-use Rattle.daide_show.specs.declared.frame_view.ShowFault.{ShowFault}
-use Rattle.daide_show.specs.declared.frame_view.ShowFault.TheVariants.{TooLong, NotHex, NotOneFrame}
-use Rattle.daide_show.specs.declared.frame_view.places.Place.{Place}
+use Rattle.std.proofs.Common.{ltb, if◌then◌else◌, option_map}
+use Rattle.daide_show.proofs.Common.{◌≡◌, ℕ, Bool, true, false, List, [], ◌∷◌, length, ◌+◌, Some, None, Result, Ok, Err}
+use Rattle.daide_show.proofs.Common.{ap, sym, refl, ◌∙◌, unwrap_or, MatchBool, FromHexError, longest_body, ShowFault}
+use Rattle.daide_show.proofs.Common.{TooLong, NotHex, NotOneFrame, Place, limit, digits_of, parse_hex}
 use Rattle.daide_show.specs.declared.frame_view.places.Place.TheVariants.{Outside}
 use Rattle.daide_show.specs.declared.notes.InputNote.{InputNote}
 use Rattle.daide_show.specs.declared.notes.InputNote.TheVariants.{BadByte, OpenQuote, OddDigits, ShortHeader, ShortBody}
 use Rattle.daide_show.specs.declared.notes.InputNote.TheVariants.{AnotherFrame}
-use Rattle.daide_show.specs.Input.{limit, digits_of, may_end_at, next_place, parse_hex, input_byte}
+use Rattle.daide_show.specs.Input.{may_end_at, next_place, input_byte}
 use Rattle.daide_show.specs.Shown.{ShowRequest, Shown, OneFrame, faulty, whole, not_one, parse_frame, IsOneShownAs, IsShownAs}
 use Rattle.daide_show.specs.Note.{is_bad, refusal_from, announced_length, note_of_frame}
 use Rattle.daide_show.specs.Note.{note_of_bytes, input_note_of, fault_of_note, noted_fault}

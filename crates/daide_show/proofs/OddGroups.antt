@@ -1,8 +1,9 @@
 -- The first odd group, found part by part.
-use Rattle.std.proofs.Common.{◌≡◌, ℕ, ◌+◌, ◌<◌, ◌≤◌, ◌==◌, Bool, true, false, not, if◌then◌else◌, List, ◌∷◌, length}
-use Rattle.std.proofs.Common.{drop, get_or, filter, Option, Some, None, refl, sym, ap, ◌∙◌, add-one}
+use Rattle.std.proofs.Common.{◌<◌, ◌==◌, if◌then◌else◌, filter, add-one}
 use Rattle.std.proofs.Math.ListN.{drop_of_length-le}
 use Rattle.std.proofs.Math.Seq.{drop-cons}
+use Rattle.daide_show.proofs.Common.{◌≡◌, ℕ, ◌+◌, ◌≤◌, Bool, true, false, not, List, ◌∷◌, length, drop, get_or, Option}
+use Rattle.daide_show.proofs.Common.{Some, None, refl, sym, ap, ◌∙◌}
 use Rattle.daide_show.specs.declared.groups.OddGroup.{OddGroup}
 use Rattle.daide_show.specs.Groups.{is_some_bytes, is_odd_group, odd_among}
 

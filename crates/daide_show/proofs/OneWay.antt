@@ -1,20 +1,9 @@
 -- What is shown of an input is unique.
-use Rattle.std.proofs.Common.{◌≡◌, ℕ, Bool, true, false, ltb, List, [], length, Result, Ok, Err, ap, sym, subst, ◌∙◌}
-use Rattle.std.specs.Prelude.{MatchResult}
-use Rattle.std.specs.Bool.{MatchBool}
-use Rattle.hex.specs.declared.error.FromHexError.{FromHexError}
-use Rattle.daide_token.specs.Token.{tokens_of}
-use Rattle.daide_frame.specs.declared.head.Kind.{Kind}
-use Rattle.daide_frame.specs.declared.head.Kind.TheVariants.{Im, Rm, Dm, Fm, Em}
-use Rattle.daide_grammar.specs.SideMessages.{IsMessageOver}
-use Rattle.daide_words.specs.Word.{grammar_words}
-use Rattle.daide_reader.specs.declared.verdict.Verdict.{Verdict}
-use Rattle.daide_reader.proofs.VerdictLemmas.{verdict_is_one}
-use Rattle.daide_protocol.specs.Bounds.{longest_body, greatest_depth}
-use Rattle.daide_show.specs.declared.frame_view.ShowFault.{ShowFault}
-use Rattle.daide_show.specs.declared.frame_view.ShowFault.TheVariants.{TooLong, NotHex}
-use Rattle.daide_show.specs.Input.{limit, parse_hex}
-use Rattle.daide_protocol.specs.Machine.{side2_of}
+use Rattle.std.proofs.Common.{ltb, MatchResult}
+use Rattle.daide_show.proofs.Common.{◌≡◌, ℕ, Bool, true, false, List, [], length, Result, Ok, Err, ap, sym, subst, ◌∙◌}
+use Rattle.daide_show.proofs.Common.{MatchBool, FromHexError, tokens_of, Kind, Im, Rm, Dm, Fm, Em, IsMessageOver}
+use Rattle.daide_show.proofs.Common.{grammar_words, Verdict, verdict_is_one, longest_body, greatest_depth, ShowFault}
+use Rattle.daide_show.proofs.Common.{TooLong, NotHex, limit, parse_hex, side2_of}
 use Rattle.daide_explain.specs.Explained.{IsExplained}
 use Rattle.daide_show.specs.Shown.{ShowRequest, Shown, OneFrame, faulty, whole, not_one, parse_frame, message_shown}
 use Rattle.daide_show.specs.Shown.{AreLines, IsMessageShownAs, IsFrameShownAs, IsOneShownAs, AreShownAs, IsShownAs}

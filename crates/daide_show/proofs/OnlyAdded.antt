@@ -1,28 +1,14 @@
 -- An explanation only adds lines to what is shown without it.
-use Rattle.std.proofs.Common.{◌≡◌, ℕ, Bool, true, false, ltb, List, [], ◌++◌, length, Result, Ok, Err, ap, sym, subst, refl}
-use Rattle.std.proofs.Common.{◌∙◌, append-nil, codes}
-use Rattle.std.specs.Bool.{MatchBool}
-use Rattle.hex.specs.declared.error.FromHexError.{FromHexError}
-use Rattle.daide_token.specs.Token.{tokens_of}
+use Rattle.std.proofs.Common.{ltb}
+use Rattle.daide_show.proofs.Common.{◌≡◌, ℕ, Bool, true, false, List, [], ◌++◌, length, Result, Ok, Err, ap, sym, subst}
+use Rattle.daide_show.proofs.Common.{refl, ◌∙◌, append-nil, codes, MatchBool, FromHexError, tokens_of, Code, Kind, Im}
+use Rattle.daide_show.proofs.Common.{Rm, Dm, Fm, Em, Level, IsMessageOver, Word, grammar_words, Verdict, Relay, Prn}
+use Rattle.daide_show.proofs.Common.{Huh, verdict_is_one, longest_body, greatest_depth, side2_of, ShowFault, TooLong}
+use Rattle.daide_show.proofs.Common.{NotHex, NotOneFrame, limit, parse_hex}
 use Rattle.daide_frame.specs.declared.side.Side.{Side}
-use Rattle.daide_frame.specs.declared.code.Code.{Code}
 use Rattle.daide_frame.specs.Code.{code_digits}
-use Rattle.daide_frame.specs.declared.head.Kind.{Kind}
-use Rattle.daide_frame.specs.declared.head.Kind.TheVariants.{Im, Rm, Dm, Fm, Em}
 use Rattle.daide_frame.specs.InitialMessage.{im_of}
-use Rattle.daide_grammar.specs.declared.level.Level.{Level}
-use Rattle.daide_grammar.specs.SideMessages.{IsMessageOver}
-use Rattle.daide_words.specs.declared.word.Word.{Word}
-use Rattle.daide_words.specs.Word.{grammar_words}
-use Rattle.daide_reader.specs.declared.verdict.Verdict.{Verdict}
-use Rattle.daide_reader.specs.declared.verdict.Verdict.TheVariants.{Relay, Prn, Huh}
-use Rattle.daide_reader.proofs.VerdictLemmas.{verdict_is_one}
-use Rattle.daide_protocol.specs.Bounds.{longest_body, greatest_depth}
-use Rattle.daide_protocol.specs.Machine.{side2_of}
 use Rattle.daide_explain.specs.Explained.{IsExplained}
-use Rattle.daide_show.specs.declared.frame_view.ShowFault.{ShowFault}
-use Rattle.daide_show.specs.declared.frame_view.ShowFault.TheVariants.{TooLong, NotHex, NotOneFrame}
-use Rattle.daide_show.specs.Input.{limit, parse_hex}
 use Rattle.daide_show.specs.Shown.{ShowRequest, Shown, OneFrame, faulty, whole, not_one, parse_frame}
 use Rattle.daide_show.specs.Shown.{kind_line, line, printed, verdict_lines, is_relay, message_shown, im_shown}
 use Rattle.daide_show.specs.Shown.{cause_lines, frame_fault_lines, relayed_shown, fault_shown, OnlyAdds, IsMessageShownAs, IsFrameShownAs}

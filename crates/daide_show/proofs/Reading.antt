@@ -1,9 +1,10 @@
 -- The bytes that a reader returned, over all reads.
-use Rattle.std.proofs.Common.{◌≡◌, ℕ, zero, suc, ◌+◌, ◌<◌, ◌≤◌, take, List, [], ◌∷◌, ◌++◌, length, Option, Some, None}
-use Rattle.std.proofs.Common.{IfSome, append-nil, append_assoc, length-append, arith, refl, subst, ap, sym, ◌∙◌}
-use Rattle.std.proofs.lemmas.List.{length-take-le, take-append-le}
+use Rattle.std.proofs.Common.{zero, suc, ◌<◌, IfSome}
 use Rattle.std.specs.Io.KnownBytes.{Consumes, Keeps, IsAtEnd}
-use Rattle.daide_show.specs.Input.{limit, IsPartlyRead}
+use Rattle.daide_show.proofs.Common.{◌≡◌, ℕ, ◌+◌, ◌≤◌, take, List, [], ◌∷◌, ◌++◌, length, Option, Some, None}
+use Rattle.daide_show.proofs.Common.{append-nil, append_assoc, length-append, arith, refl, subst, ap, sym, ◌∙◌}
+use Rattle.daide_show.proofs.Common.{length-take-le, take-append-le, limit}
+use Rattle.daide_show.specs.Input.{IsPartlyRead}
 
 -- a prefix is at most as long as requested
 pub front_few : (n : ℕ) (l : List ℕ) → length (take n l) ≤ n

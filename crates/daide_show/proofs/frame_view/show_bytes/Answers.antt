@@ -1,4 +1,4 @@
-use Rattle.std.proofs.Common.{arith}
+use Rattle.daide_show.proofs.Common.{arith}
 use Rattle.daide_show.proofs.OneFrame.{fault_has_header, right_frame}
 use Rattle.daide_show.proofs.frame_view.show_bytes.Goals as goal
 

@@ -1,9 +1,8 @@
-use Rattle.std.proofs.Common.{◌+◌, ℕ, length, ap, sym, ◌∙◌, arith, rules, tests}
+use Rattle.std.proofs.Common.{tests}
 use Rattle.std.proofs.lemmas.Iterator.Splits.{YieldsList-from_slice_split}
 use Rattle.std.proofs.lemmas.Iterator.Consumers.{YieldsList-turn, YieldsList-end, YieldsList-at}
 use Rattle.std.proofs.lemmas.List.{length_push}
-use Rattle.std.specs.List.{slice_split}
-use Rattle.daide_show.specs.Input.{is_blank}
+use Rattle.daide_show.proofs.Common.{◌+◌, ℕ, length, ap, sym, ◌∙◌, arith, rules, slice_split, is_blank}
 use Rattle.daide_show.proofs.OddGroups.{odd_from, empty_part, even_part, odd_part, no_part}
 use Rattle.daide_show.proofs.groups.odd_group.Goals as goal
 

@@ -1,7 +1,4 @@
-use Rattle.std.proofs.Common.{◌≡◌, ◌≤◌, length}
-use Rattle.std.specs.List.{slice_split}
-use Rattle.daide_show.specs.Input.{is_blank}
-use Rattle.daide_show.specs.Groups.{odd_group_of}
+use Rattle.daide_show.proofs.Common.{◌≡◌, ◌≤◌, length, slice_split, is_blank, odd_group_of}
 use Rattle.daide_show.proofs.OddGroups.{odd_from}
 use Rattle.daide_show.proofs.groups.odd_group.Given as goal
 

@@ -1,8 +1,6 @@
-use Rattle.std.proofs.Common.{[], ◌∷◌, refl, ◌∙◌}
-use Rattle.std.specs.Fmt.{digits}
+use Rattle.daide_show.proofs.Common.{[], ◌∷◌, refl, ◌∙◌, digits, Huh}
 use Rattle.daide_token.specs.Names.{name_of, names}
 use Rattle.daide_token.specs.Text.{text_with}
-use Rattle.daide_reader.specs.declared.verdict.Verdict.TheVariants.{Huh}
 use Rattle.daide_show.proofs.law_facts.answer_at_a_message.Goals as goal
 
 pub returns : goal.returns

@@ -1,6 +1,4 @@
-use Rattle.std.proofs.Common.{◌++◌, [], ℕ, List, Ok, codes, refl, ◌∙◌, ap}
-use Rattle.daide_frame.specs.declared.side.Side.TheVariants.{Bot}
-use Rattle.daide_grammar.specs.declared.level.Level.TheVariants.{L0}
+use Rattle.daide_show.proofs.Common.{◌++◌, [], ℕ, List, Ok, codes, refl, ◌∙◌, ap, Bot, L0}
 use Rattle.daide_show.proofs.FrameFacts.{fm, fm_shown}
 use Rattle.daide_show.proofs.law_facts.explanation_at_a_relayed_frame.Goals as goal
 

@@ -1,9 +1,6 @@
-use Rattle.std.proofs.Common.{codes, sym}
-use Rattle.hex.specs.Hex.{decode_pairs}
-use Rattle.daide_frame.specs.declared.side.Side.TheVariants.{Bot}
+use Rattle.daide_show.proofs.Common.{codes, sym, decode_pairs, Bot, L0}
 use Rattle.daide_frame.specs.Frames.{first_items}
 use Rattle.daide_frame.specs.Head.{parse_head}
-use Rattle.daide_grammar.specs.declared.level.Level.TheVariants.{L0}
 use Rattle.daide_show.specs.Shown.{parse_frame, plain_request}
 use Rattle.daide_show.proofs.law_facts.note_at_two_inputs.Goals as goal
 

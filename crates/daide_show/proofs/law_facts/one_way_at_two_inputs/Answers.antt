@@ -1,7 +1,4 @@
-use Rattle.std.proofs.Common.{Ok, Err, codes}
-use Rattle.daide_frame.specs.declared.side.Side.TheVariants.{Bot}
-use Rattle.daide_grammar.specs.declared.level.Level.TheVariants.{L0}
-use Rattle.daide_show.specs.declared.frame_view.ShowFault.TheVariants.{NotHex}
+use Rattle.daide_show.proofs.Common.{Ok, Err, codes, Bot, L0, NotHex}
 use Rattle.daide_show.specs.Shown.{plain_request}
 use Rattle.daide_show.proofs.FrameFacts.{fm, fm_shown, letter}
 use Rattle.daide_show.proofs.law_facts.one_way_at_two_inputs.Goals as goal

@@ -1,5 +1,4 @@
-use Rattle.daide_protocol.specs.Bounds.{greatest_depth}
-use Rattle.daide_protocol.specs.Machine.{side2_of}
+use Rattle.daide_show.proofs.Common.{greatest_depth, side2_of}
 use Rattle.daide_show.proofs.OneWay.{shown_is_one}
 use Rattle.daide_show.proofs.laws.input_is_shown_in_one_way.Goals as goal
 

@@ -1,9 +1,5 @@
-use Rattle.std.proofs.Common.{◌≡◌, ◌++◌, ℕ, false, List, refl}
-use Rattle.daide_token.specs.Token.{tokens_of}
-use Rattle.daide_words.specs.declared.word.Word.{Word}
-use Rattle.daide_reader.specs.declared.verdict.Verdict.{Verdict}
-use Rattle.daide_reader.specs.declared.verdict.Verdict.TheVariants.{Relay, Prn, Huh}
-use Rattle.daide_protocol.specs.Answers.{answer_body}
+use Rattle.daide_show.proofs.Common.{◌≡◌, ◌++◌, ℕ, false, List, refl, tokens_of, Word, Verdict, Relay, Prn, Huh}
+use Rattle.daide_show.proofs.Common.{answer_body}
 use Rattle.daide_show.specs.Shown.{is_relay, line, printed, verdict_lines, verdict_name}
 use Rattle.daide_show.proofs.laws.shown_answers_are_those_sent.Goals as goal
 

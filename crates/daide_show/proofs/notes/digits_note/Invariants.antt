@@ -1,4 +1,4 @@
-use Rattle.std.proofs.Common.{◌≡◌, ◌≤◌, ◌+◌, ◌-◌, length}
+use Rattle.daide_show.proofs.Common.{◌≡◌, ◌≤◌, ◌+◌, ◌-◌, length}
 use Rattle.daide_show.specs.declared.frame_view.places.Place.TheVariants.{Outside}
 use Rattle.daide_show.specs.Note.{refusal_from}
 use Rattle.daide_show.proofs.notes.digits_note.Given as goal

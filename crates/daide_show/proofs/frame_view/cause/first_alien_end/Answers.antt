@@ -1,5 +1,4 @@
-use Rattle.std.proofs.Common.{◌≡◌, ◌+◌, ◌*◌, true, false, get_or, Option, ℕ, sym, ap, ◌∙◌, arith}
-use Rattle.std.specs.Prelude.{not, unwrap_or}
+use Rattle.daide_show.proofs.Common.{◌≡◌, ◌+◌, ◌*◌, true, false, get_or, Option, ℕ, sym, ap, ◌∙◌, arith, not, unwrap_or}
 use Rattle.daide_token.specs.Class.{has_known_category}
 use Rattle.daide_frame.specs.Frames.{first_alien, is_alien}
 use Rattle.daide_frame.proofs.AlienLemmas.{is_alien-is, first_alien-here, first_alien-next, first_alien-none, shifted_place-zero}

@@ -1,4 +1,4 @@
-use Rattle.std.proofs.Common.{◌≡◌, ◌*◌, drop}
+use Rattle.daide_show.proofs.Common.{◌≡◌, ◌*◌, drop}
 use Rattle.daide_frame.specs.Frames.{shifted_place, first_alien}
 use Rattle.daide_show.proofs.frame_view.cause.first_alien_end.Given as goal
 

@@ -1,5 +1,4 @@
-use Rattle.std.proofs.Common.{◌≡◌, ◌++◌, length}
-use Rattle.daide_show.specs.Input.{digits_from, digits_of}
+use Rattle.daide_show.proofs.Common.{◌≡◌, ◌++◌, length, digits_from, digits_of}
 use Rattle.daide_show.proofs.frame_view.input.digits_of.Given as goal
 
 -- the digits so far, followed by those of the rest from its place on, are those of the input

@@ -1,8 +1,6 @@
-use Rattle.std.proofs.Common.{rules, take, ◌++◌, length-append, arith}
-use Rattle.std.proofs.lemmas.List.{length-take-le}
+use Rattle.daide_show.proofs.Common.{rules, take, ◌++◌, length-append, arith, length-take-le, limit}
 use Rattle.daide_show.proofs.Reading.{front_few, kept_more, none_more, none_read, read_more}
 use Rattle.daide_show.proofs.Reading.{longer_input, turn_more, whole_input}
-use Rattle.daide_show.specs.Input.{limit}
 use Rattle.daide_show.proofs.frame_view.input.read_input.Goals as goal
 
 pub returns-in-Ok-eq0-clause-whole : goal.returns-in-Ok-eq0-clause-whole

@@ -1,4 +1,4 @@
-use Rattle.std.proofs.Common.{◌≡◌, ℕ, length, List, ◌++◌, arith, ap, ◌∙◌, sym, append_assoc}
+use Rattle.daide_show.proofs.Common.{◌≡◌, ℕ, length, List, ◌++◌, arith, ap, ◌∙◌, sym, append_assoc}
 use Rattle.daide_frame.specs.Frames.{fed, fed_items, missing}
 use Rattle.daide_show.proofs.OneFrame.{found_short, room_of_header, header_found, header_begun, body_found}
 use Rattle.daide_show.proofs.OneFrame.{nothing_left}

@@ -1,4 +1,4 @@
-use Rattle.std.proofs.Common.{arith}
+use Rattle.daide_show.proofs.Common.{arith}
 use Rattle.daide_show.proofs.FaultLines.{all_in_front}
 use Rattle.daide_show.proofs.frame_view.text.front.Goals as goal
 

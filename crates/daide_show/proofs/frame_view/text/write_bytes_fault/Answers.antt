@@ -1,6 +1,4 @@
-use Rattle.std.proofs.Common.{ℕ, List, arith, subst}
-use Rattle.std.specs.Prelude.{IfOk}
-use Rattle.daide_protocol.specs.Bounds.{longest_body}
+use Rattle.daide_show.proofs.Common.{ℕ, List, arith, subst, IfOk, longest_body}
 use Rattle.daide_show.specs.Shown.{WritesShown, fault_shown, lines_if}
 use Rattle.daide_show.proofs.FaultLines.{lines_of_parts}
 use Rattle.daide_show.proofs.frame_view.text.write_bytes_fault.Goals as goal

@@ -1,6 +1,4 @@
-use Rattle.std.proofs.Common.{◌≡◌, ◌⊎◌, inl, inr, List, ℕ, refl}
-use Rattle.daide_frame.specs.declared.head.Kind.{Kind}
-use Rattle.daide_frame.specs.declared.head.Kind.TheVariants.{Im, Rm, Dm, Fm, Em}
+use Rattle.daide_show.proofs.Common.{◌≡◌, ◌⊎◌, inl, inr, List, ℕ, refl, Kind, Im, Rm, Dm, Fm, Em}
 use Rattle.daide_show.specs.Shown.{ShowRequest, request_of, IsFrameShownAs, relayed_shown}
 use Rattle.daide_show.proofs.Outcomes.{if_ok-more}
 use Rattle.daide_show.proofs.frame_view.text.write_frame.Goals as goal

@@ -1,13 +1,7 @@
-use Rattle.std.proofs.Common.{◌≡◌, ◌++◌, List, ℕ, ap, refl, ◌∙◌, append_assoc, subst}
-use Rattle.daide_token.specs.Token.{tokens_of}
-use Rattle.daide_frame.specs.declared.head.Kind.{Kind}
+use Rattle.daide_show.proofs.Common.{◌≡◌, ◌++◌, List, ℕ, ap, refl, ◌∙◌, append_assoc, subst, tokens_of, Kind, Level}
+use Rattle.daide_show.proofs.Common.{IsMessageOver, grammar_words, words_of, Verdict}
 use Rattle.daide_grammar.specs.declared.side.Side2.{Side2}
-use Rattle.daide_grammar.specs.declared.level.Level.{Level}
-use Rattle.daide_grammar.specs.SideMessages.{IsMessageOver}
 use Rattle.daide_words.specs.declared.words.Words.{Words}
-use Rattle.daide_words.specs.Word.{grammar_words}
-use Rattle.daide_words.specs.Words.{words_of}
-use Rattle.daide_reader.specs.declared.verdict.Verdict.{Verdict}
 use Rattle.daide_reader.specs.Verdict.{HasVerdict}
 use Rattle.daide_show.specs.Shown.{message_shown, kind_line, line, printed, verdict_lines}
 use Rattle.daide_show.proofs.frame_view.text.write_message.Goals as goal

@@ -1,8 +1,6 @@
-use Rattle.std.proofs.Common.{◌≡◌, ◌++◌, ◌%◌, ◌∙◌, false, length, ℕ, List, sym, subst, refl, ap}
-use Rattle.daide_reader.specs.declared.verdict.Verdict.{Verdict}
-use Rattle.daide_reader.specs.declared.verdict.Verdict.TheVariants.{Prn, Huh}
-use Rattle.daide_words.specs.Words.{words_of}
-use Rattle.daide_protocol.specs.Answers.{answer_body}
+use Rattle.std.proofs.Common.{◌%◌}
+use Rattle.daide_show.proofs.Common.{◌≡◌, ◌++◌, ◌∙◌, false, length, ℕ, List, sym, subst, refl, ap, Verdict, Prn, Huh}
+use Rattle.daide_show.proofs.Common.{words_of, answer_body}
 use Rattle.daide_show.specs.Shown.{is_relay, verdict_lines}
 use Rattle.daide_show.proofs.AnswerParts.{answered}
 use Rattle.daide_show.proofs.frame_view.text.write_verdict.Goals as goal

@@ -1,5 +1,5 @@
-use Rattle.std.proofs.Common.{append_assoc, refl}
 use Rattle.std.proofs.Output.{has_written_append, has_written_of_eq}
+use Rattle.daide_show.proofs.Common.{append_assoc, refl}
 use Rattle.daide_show.proofs.groups.OddGroupDisplay.fmt.Goals as goal
 
 pub returns-clause-writes : goal.returns-clause-writes
