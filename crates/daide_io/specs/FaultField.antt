@@ -126,14 +126,14 @@ label_after WrongVersion field = codes " "
 label_after code field = label_of field
 
 -- the name of a fault; a message of an unknown length is too long
-abbrev pub name_by_field : Code → FaultField → List ℕ
-name_by_field UnknownMessage (Length value) = codes "body above max_body"
-name_by_field code field = code_name code
+abbrev pub cause_name : Code → Option FaultField → List ℕ
+cause_name UnknownMessage (Some (Length value)) = codes "body above max_body"
+cause_name code field = code_name code
 
 -- the name of a fault, and the field that it is about: `invalid token 6000 at byte 6`
 abbrev pub cause_text : Code → Option FaultField → List ℕ
 cause_text code None = code_name code
-cause_text code (Some field) = name_by_field code field ++ label_after code field ++ field_text field
+cause_text code (Some field) = cause_name code (Some field) ++ label_after code field ++ field_text field
 
 -- ---- the field of a session's fault
 

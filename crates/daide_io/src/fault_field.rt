@@ -9,7 +9,7 @@ ghost use Rattle.daide_frame.specs.Head.{kind_of};
 ghost use Rattle.daide_protocol.specs.Bounds.{longest_body};
 ghost use Rattle.daide_io.specs.FaultField.{fault_field, type_field, length_field, version_field, magic_field, token_field};
 ghost use Rattle.daide_io.specs.FaultField.{byte_order_field, unknown_field, two_bytes_at, has_known_type, place_of};
-ghost use Rattle.daide_io.specs.FaultField.{cause_text, field_text, label_after, name_by_field};
+ghost use Rattle.daide_io.specs.FaultField.{cause_name, cause_text, field_text, label_after};
 
 use daide_frame::code::Code;
 use std::fmt;
@@ -213,13 +213,15 @@ fn label_after(code: Code, field: FaultField) -> &'static str
     }
 }
 
-/// Returns the name of a fault that is about a field.
-fn name_by_field(code: Code, field: FaultField) -> &'static str
-    ensures { result.now ≡ name_by_field code field }
-{
-    match (code, field) {
-        (Code::UnknownMessage, FaultField::Length(_)) => "body above max_body",
-        _ => code.name(),
+impl FaultCause {
+    /// Returns the name of the fault: that of its code, except for a body above the cap.
+    pub fn name(self) -> &'static str
+        ensures { result.now ≡ cause_name self.code self.field }
+    {
+        match (self.code, self.field) {
+            (Code::UnknownMessage, Some(FaultField::Length(_))) => "body above max_body",
+            _ => self.code.name(),
+        }
     }
 }
 
@@ -231,7 +233,7 @@ impl fmt::Display for FaultCause {
         let Some(field) = self.field else {
             return f.write_str(self.code.name());
         };
-        let name = name_by_field(self.code, field);
+        let name = self.name();
         let label = label_after(self.code, field);
         write!(f, "{name}{label}{field}")
     }

@@ -22,6 +22,7 @@ pub mod ReadLemmas
 pub mod MatchLogFacts
 pub mod SevenLinesFacts
 pub mod CutFacts
+pub mod FaultLineFacts
 pub mod EventLines
 pub mod RecordLines
 pub mod RecordHead

@@ -631,7 +631,11 @@ module _ (config : Config) (words : List Word) (old : SessionView) (side : Side)
           AreLinesBy words config.max_depth side note new lines →
           ExplainsMove words side f.before (Comes side f.byte) note lines
       of_bytes Notes.Nothing piece f e run held l = l
-      of_bytes (Notes.Fault code) piece f e run held l = l ∙ ap (fault_lines code) held
+      of_bytes (Notes.Fault code) piece f e run held l =
+          let same = limits_before (bytes_come side piece) (made.move ∷ []) f.front f.before run f.first in
+          l ∙ ap (λ (b : List ℕ). fault_lines new.state.limits.cap code b) held
+          ∙ ap (λ (m : Limits). fault_lines m.cap code ((coming f.before side).pending ++ f.byte ∷ []))
+          (under.limits ∙ sym same)
       of_bytes Notes.Stopped piece f e run held l = l
       of_bytes (Notes.Frame head deed) piece f e run held l =
           of_asked (is_dm head.kind) head deed f.before f.after (Comes side f.byte) refl
@@ -642,7 +646,10 @@ module _ (config : Config) (words : List Word) (old : SessionView) (side : Side)
           (holding new side).held ≡ (coming old.state side).pending → AreLinesBy words config.max_depth side note new lines →
           ExplainsMove words side old.state ImTimerExpired note lines
       of_timer Notes.Nothing e run held l = l
-      of_timer (Notes.Fault code) e run held l = l ∙ ap (fault_lines code) held
+      of_timer (Notes.Fault code) e run held l =
+          l ∙ ap (λ (b : List ℕ). fault_lines new.state.limits.cap code b) held
+          ∙ ap (λ (m : Limits). fault_lines m.cap code (coming old.state side).pending)
+          (runs_limits (ImTimerExpired ∷ []) old.state new.state (made.move ∷ []) run)
       of_timer Notes.Stopped e run held l = l
       of_timer (Notes.Frame head deed) e run held l =
           absurd (timer_reported old.state made.move new.state head deed run e)

@@ -2,7 +2,7 @@
 -- was judged, its answer and the reason; the name and the bytes of each fault; the comments of the log; and at the end
 -- each incomplete frame. All these lines but the comments begin with four spaces. (own)
 use Rattle.std.specs.Prelude.{◌≡◌, ℕ, ◌+◌, ◌-◌, ◌/◌, ◌==◌, nat_lt, Bool, true, false, if◌then◌else◌, List, [], ◌∷◌, ◌++◌}
-use Rattle.std.specs.Prelude.{codes, length, drop, Option, Some, None}
+use Rattle.std.specs.Prelude.{codes, length, take, drop, Option, Some, None, is_some}
 use Rattle.std.specs.Fmt.{decimal}
 use Rattle.daide_token.specs.Token.{tokens_of}
 use Rattle.daide_token.specs.HexDigits.{digits_of_byte}
@@ -10,8 +10,8 @@ use Rattle.daide_token.specs.Text.{text_with}
 use Rattle.daide_frame.specs.declared.side.Side.{Side}
 use Rattle.daide_frame.specs.declared.side.Side.TheVariants.{Bot, Server}
 use Rattle.daide_frame.specs.declared.code.Code.{Code}
-use Rattle.daide_frame.specs.Code.{code_name, code_number}
-use Rattle.daide_frame.specs.Frames.{announced}
+use Rattle.daide_frame.specs.Code.{code_number}
+use Rattle.daide_frame.specs.Frames.{announced, head_in}
 use Rattle.daide_grammar.specs.Level.{level_number}
 use Rattle.daide_grammar.specs.declared.level.Level.{Level}
 use Rattle.daide_grammar.specs.declared.side.Side2.{Side2}
@@ -20,6 +20,7 @@ use Rattle.daide_words.specs.Word.{names_of}
 use Rattle.daide_reader.specs.declared.verdict.Verdict.{Verdict}
 use Rattle.daide_reader.specs.declared.verdict.Verdict.TheVariants.{Relay, Prn, Huh}
 use Rattle.daide_explain.specs.Explained.{IsExplained}
+use Rattle.daide_io.specs.FaultField.{cause_name, fault_field}
 use Rattle.daide_protocol.specs.declared.note.Deed.{Deed}
 use Rattle.daide_protocol.specs.declared.note.Deed.TheVariants as Deeds
 use Rattle.daide_protocol.specs.declared.note.Note.{Note}
@@ -107,9 +108,16 @@ abbrev pub bytes_line : List ℕ → List ℕ
 bytes_line [] = []
 bytes_line (byte ∷ bytes) = with_line_feed (codes "bytes: " ++ pairs (byte ∷ bytes))
 
-abbrev pub fault_lines : Code → List ℕ → List ℕ
-fault_lines code bytes =
-    with_line_feed (code_name code) ++ (if code_number code == 0x0E then token_line bytes else bytes_line bytes)
+-- the name of a fault: that of its code, except for a body above the cap
+abbrev pub fault_name : ℕ → Code → List ℕ → List ℕ
+fault_name cap code bytes =
+    cause_name code (fault_field code (is_some (head_in cap bytes)) (take 4 bytes) (drop 4 bytes))
+
+abbrev pub faulty_bytes : Code → List ℕ → List ℕ
+faulty_bytes code bytes = if code_number code == 0x0E then token_line bytes else bytes_line bytes
+
+abbrev pub fault_lines : ℕ → Code → List ℕ → List ℕ
+fault_lines cap code bytes = with_line_feed (fault_name cap code bytes) ++ faulty_bytes code bytes
 
 -- ---- a move
 
@@ -126,7 +134,8 @@ abbrev pub ExplainsMove : List Word → Side → SessionState → Event → Note
 ExplainsMove words side before event Notes.Nothing lines = lines ≡ []
 ExplainsMove words side before event (Notes.Frame head deed) lines =
     ExplainsFrame words before.limits.max_depth (question before event) (drop 4 (bytes_at before side event)) deed lines
-ExplainsMove words side before event (Notes.Fault code) lines = lines ≡ fault_lines code (bytes_at before side event)
+ExplainsMove words side before event (Notes.Fault code) lines =
+    lines ≡ fault_lines before.limits.cap code (bytes_at before side event)
 ExplainsMove words side before event Notes.Stopped lines = lines ≡ []
 
 -- ---- the entries

@@ -49,7 +49,8 @@ AreLinesBy words max_depth side (Notes.Frame head deed) new lines =
     (AreMessageLines words (side2_of side) (coming new.state side).noted max_depth (drop 4 (holding new side).held)
     (verdict_by deed) lines)
     (lines ≡ [])
-AreLinesBy words max_depth side (Notes.Fault code) new lines = lines ≡ fault_lines code (holding new side).held
+AreLinesBy words max_depth side (Notes.Fault code) new lines =
+    lines ≡ fault_lines new.state.limits.cap code (holding new side).held
 AreLinesBy words max_depth side Notes.Stopped new lines = lines ≡ []
 
 -- ---- incomplete frames

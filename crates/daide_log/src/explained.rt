@@ -11,7 +11,8 @@ ghost use Rattle.daide_words.specs.Words.{words_of};
 ghost use Rattle.daide_reader.specs.Verdict.{HasVerdict, IsPlaceIn};
 ghost use Rattle.daide_log_lines.specs.Output.{IsSameWriter, all_of};
 ghost use Rattle.daide_log_lines.specs.Reader.{silent};
-ghost use Rattle.daide_log.specs.Explained.{explained, is_remark, with_line_feed, message_text, pairs, token_line, bytes_line, fault_lines};
+ghost use Rattle.daide_log.specs.Explained.{explained, is_remark, with_line_feed, message_text, pairs, token_line, bytes_line};
+ghost use Rattle.daide_log.specs.Explained.{fault_name, faulty_bytes, fault_lines};
 ghost use Rattle.daide_log.specs.Explained.{cut_count, cut_text, part_text};
 ghost use Rattle.daide_log.specs.Report.{texts_of};
 ghost use Rattle.daide_log.specs.Explained.{AreRefusedLines, AreMessageLines, is_at_fault, verdict_by as verdict_of_deed};
@@ -37,6 +38,7 @@ use crate::report_builder::ReportBuilder;
 use crate::style::Style;
 use daide_explain::{Rules, answer_of, write_explained};
 use daide_frame::{Code, Head, Kind, Side};
+use daide_io::{FaultCause, FaultField};
 use daide_log_lines::LogFault;
 use daide_log_lines::block::Block;
 use daide_log_lines::input::Input;
@@ -183,16 +185,27 @@ fn write_bytes<B: Allocator>(bytes: &[u8], text: &mut Vec<u8, B>) -> io::Result<
     text.write_all(b"\n")
 }
 
-/// Writes the lines for a fault, from the bytes since the last complete frame.
-fn write_fault<B: Allocator>(code: Code, bytes: &[u8], text: &mut Vec<u8, B>) -> io::Result<()>
-    ensures { OnOk result (text.new.items ≡ text.old.items ++ fault_lines code bytes.now) }
+/// Writes the bytes since the last complete frame for a fault with this code.
+fn write_faulty_bytes<B: Allocator>(
+    code: Code,
+    bytes: &[u8],
+    text: &mut Vec<u8, B>,
+) -> io::Result<()>
+    ensures { OnOk result (text.new.items ≡ text.old.items ++ faulty_bytes code bytes.now) }
 {
-    let name = code.name();
-    writeln!(text, "{name}")?;
     match code {
         Code::InvalidToken => write_token(bytes, text),
         _ => write_bytes(bytes, text),
     }
+}
+
+/// Returns the name of a side's fault, whose frame the session still holds.
+fn fault_name<A: Allocator>(session: &Session<A>, side: Side, code: Code) -> &'static str
+    ensures { result.now ≡ fault_name session.now.state.limits.cap code (holding session.now side).held }
+{
+    let is_good = session.head(side).is_some();
+    let field = FaultField::of(code, is_good, session.header(side), session.body(side));
+    FaultCause { code, field }.name()
 }
 
 /// Returns whether a frame is a message.
@@ -241,11 +254,14 @@ fn write_faulty<A: Allocator, B: Allocator + Copy>(
     code: Code,
     text: &mut Vec<u8, B>,
 ) -> io::Result<()>
-    ensures { OnOk result (text.new.items ≡ text.old.items ++ fault_lines code (holding session.now side).held) }
+    ensures { OnOk result (text.new.items ≡ text.old.items
+        ++ fault_lines session.now.state.limits.cap code (holding session.now side).held) }
 {
+    let name = fault_name(session, side, code);
+    writeln!(text, "{name}")?;
     let parts: [&[u8]; 2] = [session.header(side), session.body(side)];
     let bytes = parts.concat(*text.allocator())?;
-    write_fault(code, bytes.as_slice(), text)
+    write_faulty_bytes(code, bytes.as_slice(), text)
 }
 
 /// Writes the lines that explain a side's move, from the frame that the session still holds.

@@ -8,7 +8,7 @@ use Rattle.std.specs.Fmt.{decimal}
 use Rattle.daide_token.specs.Token.{tokens_of}
 use Rattle.daide_frame.specs.declared.side.Side.{Side}
 use Rattle.daide_frame.specs.declared.code.Code.{Code}
-use Rattle.daide_frame.specs.Code.{code_name, code_number}
+use Rattle.daide_frame.specs.Code.{code_number}
 use Rattle.daide_grammar.specs.Depth.{open_brackets}
 use Rattle.daide_grammar.specs.Level.{level_number}
 use Rattle.daide_grammar.specs.Paired.{begins_with_prn}
@@ -32,7 +32,7 @@ use Rattle.daide_protocol.specs.Events.{Event}
 use Rattle.daide_protocol.specs.Machine.{SessionState, Question, question, side2_of}
 use Rattle.daide_log.specs.Explained.{AreRefusedLines, AreMessageLines, ExplainsFrame, ExplainsMove, with_line_feed, message_text}
 use Rattle.daide_log.specs.Explained.{verdict_by, bytes_at}
-use Rattle.daide_log.specs.Explained.{token_line, bytes_line, fault_lines, pairs}
+use Rattle.daide_log.specs.Explained.{token_line, bytes_line, fault_lines, fault_name, faulty_bytes, pairs}
 use Rattle.daide_protocol.specs.Answers.{answer_body}
 use Rattle.daide_log_laws.proofs.AddedLines.{IsEnded, IsWhole, ended_behind, both_whole}
 
@@ -133,10 +133,10 @@ bytes_whole : (bytes : List ℕ) → IsWhole (bytes_line bytes)
 bytes_whole [] = inl refl
 bytes_whole (byte ∷ bytes) = inr (codes "bytes: " ++ pairs (byte ∷ bytes), refl)
 
-fault_whole : (code : Code) (bytes : List ℕ) → IsWhole (fault_lines code bytes)
-fault_whole code bytes =
-    both_whole (with_line_feed (code_name code)) (if code_number code == 0x0E then token_line bytes else bytes_line bytes)
-    (whole_line (code_name code))
+fault_whole : (cap : ℕ) (code : Code) (bytes : List ℕ) → IsWhole (fault_lines cap code bytes)
+fault_whole cap code bytes =
+    both_whole (with_line_feed (fault_name cap code bytes)) (faulty_bytes code bytes)
+    (whole_line (fault_name cap code bytes))
     (either_whole (code_number code == 0x0E) (token_line bytes) (bytes_line bytes)
     (inr (codes "bytes: " ++ pairs (drop (length bytes - 2) bytes) ++ codes " at token " ++ decimal ((length bytes - 6) / 2), refl))
     (bytes_whole bytes))
@@ -147,5 +147,5 @@ lines_whole words side before event Notes.Nothing lines e = inl e
 lines_whole words side before event (Notes.Frame head deed) lines h =
     frame_whole words before.limits.max_depth (question before event) (drop 4 (bytes_at before side event)) deed lines h
 lines_whole words side before event (Notes.Fault code) lines e =
-    subst IsWhole (sym e) (fault_whole code (bytes_at before side event))
+    subst IsWhole (sym e) (fault_whole before.limits.cap code (bytes_at before side event))
 lines_whole words side before event Notes.Stopped lines e = inl e
