@@ -246,6 +246,14 @@ def examples_of_the_help_work(program):
             same((done.returncode, done.stderr), (status, b""), f"the status of '{line}', and standard error")
 
 
+def digit_that_is_too_much_has_its_column(program):
+    """Checks the column of the first digit after the 2,048 that a line may have."""
+    log = b"daide-log 1\nconfig 60 1024 16\nbot " + b"00" * 1_025 + b"\n"
+    with Folder(program) as folder:
+        wanted = ("", "line 3 is not a log line/column 2053: a line has 2 to 2048 digits", "1")
+        check_ran(folder.run(["check"], log), wanted, "check of 2,050 digits")
+
+
 # A frame of the longest body: `GOF`, repeated.
 LONGEST = b"0200FFF6" + b"4803" * 32_763
 
@@ -330,6 +338,7 @@ def without_a_descriptor_for_its_table_it_cannot_listen(program):
 TESTS = [
     shown_frames,
     checked_logs,
+    digit_that_is_too_much_has_its_column,
     framed_messages,
     typed_input_is_not_waited_for,
     words_of_a_frame_are_joined,

@@ -39,8 +39,8 @@ pub use daide_session::{Session, SessionError};
 // The event loop, and the commands on their inputs.
 pub use daide_event_loop::{ServeFault, Service, quota_ports, serve, serving};
 pub use daide_log::{
-    Comment, LogFault, LogReader, Moment, Record, RecordEnd, Recording, Sink, check_log,
-    check_stream, record,
+    Comment, LineProblem, LineReason, LogFault, LogReader, Moment, Record, RecordEnd, Recording,
+    Sink, check_log, check_stream, record,
 };
 pub use daide_settings::{Address, Key, Settings, SettingsError, read_settings, settings};
 pub use daide_show::{

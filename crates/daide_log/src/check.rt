@@ -21,6 +21,7 @@ ghost use Rattle.daide_log_lines.specs.Reader.{Reader, silent};
 
 use crate::heading::{Preamble, Version};
 use crate::judge::{LineContext, judge_line, read_reported};
+use crate::line_reason::LineReason;
 use crate::opening::{open_sessions, read_preamble};
 use crate::page::{Unreported, put_summary};
 use crate::report_builder::ReportBuilder;
@@ -181,7 +182,7 @@ fn report<A: Allocator + Copy, R: LogReader, W: Write, S: Style>(
     ensures same_reader { IsSameReader input.old input.new }
     ensures same_writer { IsSameWriter account.old.output account.new.output }
 {
-    let opened = match read_preamble::<S, R, W>(input, &mut account.output) {
+    let opened = match read_preamble::<S, R, W>(input, &mut account.refused, &mut account.output) {
         Ok(opened) => opened,
         Err(fault) => return Err(fault),
     };
@@ -243,11 +244,14 @@ pub(crate) fn report_whole<A: Allocator + Copy, R: LogReader, W: Write, S: Style
 ///
 /// Premise: a `LogReader` that records its reads and sees the writer at each.
 ///
+/// After `BadLine`, `refused` says why the line is none, for people.
+///
 /// Not said: that no read is made after one that gave nothing.
 pub fn check_stream<A: Allocator + Copy, R: LogReader, W: Write>(
     alloc: A,
     reader: &mut R,
     writer: &mut W,
+    refused: &mut Option<LineReason>,
 ) -> Result<Summary, LogFault>
     ensures report { IfOk result (λ summary. Reported plain (R.reader_view reader.old) (R.reader_view reader.new)
         (W.contents writer.old) (W.contents writer.new) summary) }
@@ -266,9 +270,12 @@ pub fn check_stream<A: Allocator + Copy, R: LogReader, W: Write>(
             writer,
         },
         head: Preamble::new(),
+        refused: None,
         style: &mut PlainStyle,
     };
-    report_whole(alloc, &mut input, &mut account)
+    let answer = report_whole(alloc, &mut input, &mut account);
+    *refused = account.refused;
+    answer
 }
 
 /// Reads a log, and writes its report: a line for each frame that became whole, each fault and each end, and the counts
@@ -299,5 +306,5 @@ pub fn check_log<A: Allocator + Copy, R: Read, W: Write>(
     ensures refused { IfErr result (λ fault. IsFaultAfter plain (silent (R.remaining reader.old))
         (silent (R.remaining reader.new)) (W.contents writer.old) (W.contents writer.new) fault) }
 {
-    check_stream(alloc, reader, writer)
+    check_stream(alloc, reader, writer, &mut None)
 }

@@ -30,6 +30,7 @@ ghost use Rattle.daide_log.specs.Proofs.Lawful.{explained_lawful};
 
 use crate::check::report_whole;
 use crate::heading::{Preamble, Version};
+use crate::line_reason::LineReason;
 use crate::page::{
     Unreported, put_byte, put_cut_line, put_indented, put_message, put_part, put_text,
 };
@@ -552,6 +553,7 @@ fn explain_over<A: Allocator + Copy, R: LogReader, W: Write>(
     style: &mut Explaining<A>,
     reader: &mut R,
     writer: &mut W,
+    refused: &mut Option<LineReason>,
 ) -> Result<Explained, LogFault>
     ensures { (words : List Word) × IsAnswered (explained words) (R.reader_view reader.old) (R.reader_view reader.new)
         (W.contents writer.old) (W.contents writer.new) result }
@@ -568,17 +570,21 @@ fn explain_over<A: Allocator + Copy, R: LogReader, W: Write>(
             writer,
         },
         head: Preamble::new(),
+        refused: None,
         style,
     };
-    report_whole(alloc, &mut input, &mut account)
+    let answer = report_whole(alloc, &mut input, &mut account);
+    *refused = account.refused;
+    answer
 }
 
 /// Reads a log, and writes its report with explanations, as `explain_log` does. Each read is made in time, as for
-/// `check_stream`.
+/// `check_stream`, which also says what `refused` is.
 pub fn explain_stream<A: Allocator + Copy, R: LogReader, W: Write>(
     alloc: A,
     reader: &mut R,
     writer: &mut W,
+    refused: &mut Option<LineReason>,
 ) -> Result<Explained, LogFault>
     ensures { (words : List Word) × IsAnswered (explained words) (R.reader_view reader.old) (R.reader_view reader.new)
         (W.contents writer.old) (W.contents writer.new) result }
@@ -586,7 +592,7 @@ pub fn explain_stream<A: Allocator + Copy, R: LogReader, W: Write>(
     let mut style = Explaining {
         text: Vec::new(alloc),
     };
-    explain_over(alloc, &mut style, reader, writer)
+    explain_over(alloc, &mut style, reader, writer, refused)
 }
 
 /// Reads a log and writes its report with explanations.
@@ -605,5 +611,5 @@ pub fn explain_log<A: Allocator + Copy, R: Read, W: Write>(
     ensures { (words : List Word) × IsAnswered (explained words) (silent (R.remaining reader.old))
         (silent (R.remaining reader.new)) (W.contents writer.old) (W.contents writer.new) result }
 {
-    explain_stream(alloc, reader, writer)
+    explain_stream(alloc, reader, writer, &mut None)
 }

@@ -15,6 +15,7 @@ ghost use Rattle.daide_log_lines.specs.ParsedMatchEvents.{IsMatchWithin, match_e
 ghost use Rattle.daide_log.specs.Progress.{Judges, states_of};
 
 use crate::heading::Version;
+use crate::line_reason::line_reason;
 use crate::page::Unreported;
 use crate::play::{apply, feed_all, report_move};
 use crate::report::ReportKey;
@@ -133,7 +134,7 @@ fn quote<W: Write, S: Style>(
 
 /// Judges a line by the session that it names. Decodes a side's bytes into the buffer.
 ///
-/// Fails with `BadLine` if the line has no allowed form, and else with the faults of writing the report.
+/// Fails with `BadLine` if the line has no allowed form, and records why; and else with the faults of writing the report.
 #[inline(always)]
 pub fn judge_line<A: Allocator, W: Write, S: Style>(
     sessions: &mut Vec<Session<A>, A>,
@@ -161,7 +162,10 @@ pub fn judge_line<A: Allocator, W: Write, S: Style>(
 {
     let count = sessions.len() as u16;
     match read_reported(origin.version, line, count, bytes) {
-        None => Err(LogFault::BadLine(origin.line)),
+        None => {
+            account.refused = Some(line_reason(origin.version, count, line));
+            Err(LogFault::BadLine(origin.line))
+        }
         Some(ParsedMatchEvent::Quiet) => quote(line, account),
         Some(ParsedMatchEvent::Of(session, reported)) => {
             quote(line, account)?;

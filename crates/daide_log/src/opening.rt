@@ -1,19 +1,20 @@
 //! The opening of a log: its head is read, then its sessions are created.
 
-ghost use Rattle.std.specs.Prelude.{◌≡◌, ◌≢◌, ◌+◌, ◌≤◌, [], All, replicate, IfOk, IfErr, OnOk};
+ghost use Rattle.std.specs.Prelude.{◌≡◌, ◌≢◌, ◌+◌, ◌≤◌, [], All, option_map, replicate, IfOk, IfErr, IfSome, OnOk};
 ghost use Rattle.std.specs.Io.KnownBytes.{Keeps};
 ghost use Rattle.daide_log_lines.specs.Input.{IsSameReader};
 ghost use Rattle.daide_log_lines.specs.Output.{IsSameWriter, all_of};
 ghost use Rattle.daide_protocol.specs.Machine.{initial_state};
 ghost use Rattle.daide_protocol.specs.Config.{limits_with};
 ghost use Rattle.daide_words.specs.Words.{words_of};
-ghost use Rattle.daide_log.specs.Heading.{HasSessions};
+ghost use Rattle.daide_log.specs.Heading.{HasSessions, heading_after};
 ghost use Rattle.daide_log_lines.specs.LogLine.{most_lines};
-ghost use Rattle.daide_log.specs.PreambleKnown.{preamble_after, at_last, whole_preamble, after_line};
+ghost use Rattle.daide_log.specs.PreambleKnown.{IsPreambleKnown, heading_of, preamble_after, at_last, whole_preamble, after_line};
 ghost use Rattle.daide_log.specs.Progress.{AreOpened, states_of};
 ghost use Rattle.daide_log.specs.Reporting.{IsReady};
 
 use crate::heading::{Heading, Preamble};
+use crate::line_reason::{LineReason, head_reason};
 use crate::style::Style;
 use daide_log_lines::fault::LogFault;
 use daide_log_lines::input::Input;
@@ -90,9 +91,27 @@ fn after_line(
     }
 }
 
-/// Reads the head of a log, line by line.
+/// Adds the next line to a head, as `Heading::with_line` does. `refused` says why that line is not a log line or is missing,
+/// or that the line after it is missing.
+fn with_next(
+    heading: Heading,
+    found: Result<LineEnd, LogFault>,
+    line: &[u8],
+    refused: &mut Option<LineReason>,
+) -> Option<Heading>
+    requires { IsPreambleKnown heading }
+    ensures within { IfSome result IsPreambleKnown }
+    ensures heading { option_map heading_of result ≡ heading_after (heading_of heading) line.now }
+{
+    let more = heading.with_line(line);
+    *refused = head_reason(&heading, found, more.is_some(), line);
+    more
+}
+
+/// Reads the head of a log, line by line. If a line is not a log line or is missing, `refused` says why.
 pub fn read_preamble<S: Style, R: LogReader, W: Write>(
     input: &mut Input<'_, R>,
+    refused: &mut Option<LineReason>,
     output: &mut Output<'_, W>,
 ) -> Result<Opened, LogFault>
     requires { input.old.block ≡ [] }
@@ -109,7 +128,7 @@ pub fn read_preamble<S: Style, R: LogReader, W: Write>(
     let mut count = 0;
     'lines: loop {
         let found = next_line(input, count, output);
-        let more = heading.with_line(input.text.as_slice());
+        let more = with_next(heading, found, input.text.as_slice(), refused);
         match after_line(found, more, count) {
             Err(fault) => return Err(fault),
             Ok(PreambleProgress::Done(opened)) => return Ok(opened),

@@ -5,32 +5,56 @@ ghost use Rattle.daide_tools.specs.Endings.{check_status, explained_status, Chec
 
 use crate::faults::{CLEAN, FAULT, NOT_RELAYED, tell};
 use daide_command_line::arguments::CheckOrder;
-use daide_log::{Explained, LogFault, check_log, explain_log};
+use daide_log::{Explained, LineReason, LogFault, check_stream, explain_stream};
 use daide_protocol::Summary;
 use std::alloc::Allocator;
 use std::io::{Read, Write};
 use std::rt::Files;
 use std::{fs, io};
 
-/// Reports a fault of a log on standard error. Returns the status.
-fn end_check<E: Write>(answer: Result<Summary, LogFault>, errors: &mut E) -> io::Result<u8>
+/// Reports a fault of a log on standard error, and what is wrong with a line that is not a log line. Returns the status.
+/// A failure to write the latter has no effect.
+fn tell_fault<E: Write>(
+    fault: LogFault,
+    refused: Option<LineReason>,
+    errors: &mut E,
+) -> io::Result<u8>
+    ensures { IfOk result (λ status. status ≡ 1) }
+{
+    let status = tell(errors, fault, FAULT)?;
+    if let (LogFault::BadLine(_), Some(reason)) = (fault, refused) {
+        let _ = writeln!(errors, "daide-gate: {reason}");
+    }
+    Ok(status)
+}
+
+/// Reports the fault of a log, if it has one. Returns the status.
+fn end_check<E: Write>(
+    answer: Result<Summary, LogFault>,
+    refused: Option<LineReason>,
+    errors: &mut E,
+) -> io::Result<u8>
     ensures { IfOk result (λ status. status ≡ check_status answer) }
 {
     match answer {
         Ok(counts) if counts.is_clean() => Ok(CLEAN),
         Ok(_counts) => Ok(NOT_RELAYED),
-        Err(fault) => tell(errors, fault, FAULT),
+        Err(fault) => tell_fault(fault, refused, errors),
     }
 }
 
 /// Does the same for a report with explanations, in which an incomplete frame is a fault too.
-fn end_explained<E: Write>(answer: Result<Explained, LogFault>, errors: &mut E) -> io::Result<u8>
+fn end_explained<E: Write>(
+    answer: Result<Explained, LogFault>,
+    refused: Option<LineReason>,
+    errors: &mut E,
+) -> io::Result<u8>
     ensures { IfOk result (λ status. status ≡ explained_status answer) }
 {
     match answer {
         Ok(report) if report.counts.is_clean() && report.unfinished == 0 => Ok(CLEAN),
         Ok(_report) => Ok(NOT_RELAYED),
-        Err(fault) => tell(errors, fault, FAULT),
+        Err(fault) => tell_fault(fault, refused, errors),
     }
 }
 
@@ -45,12 +69,13 @@ fn check_read<A: Allocator + Copy, I: Read, O: Write, E: Write>(
     ensures { IfOk result (ReportEnds is_explained (I.remaining input.old) (I.remaining input.new)
         (O.contents output.old) (O.contents output.new)) }
 {
+    let mut refused = None;
     if is_explained {
-        let answer = explain_log(alloc, input, output);
-        return end_explained(answer, errors);
+        let answer = explain_stream(alloc, input, output, &mut refused);
+        return end_explained(answer, refused, errors);
     }
-    let answer = check_log(alloc, input, output);
-    end_check(answer, errors)
+    let answer = check_stream(alloc, input, output, &mut refused);
+    end_check(answer, refused, errors)
 }
 
 /// Writes the report of the log at a path, or of standard input. No contract is about the contents of a file.

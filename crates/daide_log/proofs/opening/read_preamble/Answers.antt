@@ -33,9 +33,9 @@ returns-in-Err-clause-opened g c =
     let new = g.R.LogReader.reader_view c.next_line-found.new.input.reader.now in
     subst (IsPreambleProgress g.S.Style.form (all_of g.W.Write.contents c.args.output.now) old new c.next_line-found.new.input.block c.lines.count) (sym c.after_line.ensures ∙ c.in-Err.is)
     (head_judged g.S.Style.form g.met.S.Style.lawful (all_of g.W.Write.contents c.args.output.now) (all_of g.W.Write.contents c.lines.output) old now new c.lines.input.block c.next_line-found.new.input.text.items c.next_line-found.new.input.block c.lines.count
-    c.next_line-found.result c.lines.heading c.with_line-more.result c.lines.invariant.0.has_read c.lines.invariant.0.kept
+    c.next_line-found.result c.lines.heading c.with_next-more.result c.lines.invariant.0.has_read c.lines.invariant.0.kept
     c.next_line-found.ensures.found
-    (c.with_line-more.ensures.heading ∙ ap (heading_after (heading_of c.lines.heading)) c.as_slice.ensures.value))
+    (c.with_next-more.ensures.heading ∙ ap (heading_after (heading_of c.lines.heading)) c.as_slice.ensures.value))
 
 pub returns-in-Err-clause-kept_at_fault : goal.returns-in-Err-clause-kept_at_fault
 returns-in-Err-clause-kept_at_fault g c other =
@@ -43,7 +43,7 @@ returns-in-Err-clause-kept_at_fault g c other =
     let mid = all_of g.W.Write.contents c.lines.output in
     let last = all_of g.W.Write.contents c.next_line-found.new.output in
     keeps_more first mid last c.lines.invariant.0.kept
-    (fault_keeps c.next_line-found.result c.with_line-more.result c.lines.count c.in-Err.fault _
+    (fault_keeps c.next_line-found.result c.with_next-more.result c.lines.count c.in-Err.fault _
     (sym c.after_line.ensures ∙ c.in-Err.is) c.next_line-found.ensures.kept c.next_line-found.ensures.kept_at_fault other)
 
 pub returns-in-Ok-Done-clause-opened : goal.returns-in-Ok-Done-clause-opened
@@ -54,9 +54,9 @@ returns-in-Ok-Done-clause-opened g c =
     subst (IsPreambleProgress g.S.Style.form (all_of g.W.Write.contents c.args.output.now) old new c.next_line-found.new.input.block c.lines.count)
     (sym c.after_line.ensures ∙ c.in-Ok-Done.is ∙ ap Ok c.in-Ok-Done.field-0-is)
     (head_judged g.S.Style.form g.met.S.Style.lawful (all_of g.W.Write.contents c.args.output.now) (all_of g.W.Write.contents c.lines.output) old now new c.lines.input.block c.next_line-found.new.input.text.items c.next_line-found.new.input.block c.lines.count
-    c.next_line-found.result c.lines.heading c.with_line-more.result c.lines.invariant.0.has_read c.lines.invariant.0.kept
+    c.next_line-found.result c.lines.heading c.with_next-more.result c.lines.invariant.0.has_read c.lines.invariant.0.kept
     c.next_line-found.ensures.found
-    (c.with_line-more.ensures.heading ∙ ap (heading_after (heading_of c.lines.heading)) c.as_slice.ensures.value))
+    (c.with_next-more.ensures.heading ∙ ap (heading_after (heading_of c.lines.heading)) c.as_slice.ensures.value))
 
 pub lines-preserved : goal.lines-preserved
 lines-preserved g c =
@@ -70,17 +70,17 @@ lines-preserved g c =
     let step : IsPreambleProgress g.S.Style.form (all_of g.W.Write.contents c.args.output.now) old new c.next_line-found.new.input.block c.lines.count (Ok (More c.in-Ok-More.next)) =
     subst (IsPreambleProgress g.S.Style.form (all_of g.W.Write.contents c.args.output.now) old new c.next_line-found.new.input.block c.lines.count) is
     (head_judged g.S.Style.form g.met.S.Style.lawful (all_of g.W.Write.contents c.args.output.now) (all_of g.W.Write.contents c.lines.output) old now new c.lines.input.block c.next_line-found.new.input.text.items c.next_line-found.new.input.block c.lines.count
-    c.next_line-found.result c.lines.heading c.with_line-more.result c.lines.invariant.0.has_read c.lines.invariant.0.kept
+    c.next_line-found.result c.lines.heading c.with_next-more.result c.lines.invariant.0.has_read c.lines.invariant.0.kept
     c.next_line-found.ensures.found
-    (c.with_line-more.ensures.heading ∙ ap (heading_after (heading_of c.lines.heading)) c.as_slice.ensures.value)) in (
+    (c.with_next-more.ensures.heading ∙ ap (heading_after (heading_of c.lines.heading)) c.as_slice.ensures.value)) in (
       record {
         has_read = step.0;
-        held_well = next_held c.with_line-more.result c.in-Ok-More.next
-            (next_is c.next_line-found.result c.with_line-more.result c.lines.count c.in-Ok-More.next is)
-            c.with_line-more.ensures.within;
+        held_well = next_held c.with_next-more.result c.in-Ok-More.next
+            (next_is c.next_line-found.result c.with_next-more.result c.lines.count c.in-Ok-More.next is)
+            c.with_next-more.ensures.within;
         fits = omega (arith, step.1);
         kept = keeps_more first mid last c.lines.invariant.0.kept
-            (step_kept c.next_line-found.result c.with_line-more.result c.lines.count (More c.in-Ok-More.next) _ is
+            (step_kept c.next_line-found.result c.with_next-more.result c.lines.count (More c.in-Ok-More.next) _ is
             c.next_line-found.ensures.kept);
       },
       c.next_line-found.ensures.same_reader ∙ c.lines.invariant.1,
