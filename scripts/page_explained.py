@@ -149,10 +149,12 @@ class Explainer:
         said = "PRN" if verdict == "prn" else f"HUH at {verdict[4:]}"
         return [*lines, said, self.answer(verdict, tokens), *self.explained(side, level, tokens)]
 
-    def reported(self, side, level, tokens):
-        """Returns the lines of `check --explain` after the report's line on a message, without their four spaces."""
+    def reported(self, side, level, tokens, announced=None):
+        """Returns the lines of `check --explain` after the report's line on a message, without their four spaces. The level
+        that the server announced is given if the highest level capped it."""
         verdict = self.verdict(side, level, tokens)
         if verdict == "relay":
             return [self.text(tokens)]
         answer = self.answer(verdict, tokens)
-        return [self.text(tokens), f"judged at level {level}", answer, *self.explained(side, level, tokens)]
+        judged = f"judged at level {level}" + ("" if announced is None else f", capped from {announced}")
+        return [self.text(tokens), judged, answer, *self.explained(side, level, tokens)]

@@ -114,16 +114,17 @@ module _ {Answer : Type 0} (form : ReportForm Answer) where
   -- ---- one line
 
   -- a session got the event of a line
-  pub session_judged : (words : List Word) → IsWritableForm words form → (version : Version) (number session : ℕ) (event : LogEvent)
+  pub session_judged : (knew knows : form.Context → Type 0) (words : List Word) → IsWritableForm words form → (version : Version) (number session : ℕ) (event : LogEvent)
       (line : List ℕ) (items : List SessionView) (old new : SessionView) (source : ReportKey) (s t : Summary)
       (a b c : Option (List ℕ)) (quoted : List ℕ) →
       event_in version (length items) line ≡ Some (Of session event) → 0 < session → session ≤ length items →
       old ≡ get_or items (session - 1) old → source ≡ source_in version number session →
       IsQuietWith form line quoted → Appends a b quoted →
-      ReportsEvents form source (side_of event) old.state (events_of_line event) new.state s t b c →
-      Judges form version number (states_of items) line (states_of (set items (session - 1) new)) s t a c
-  session_judged words lawful version number session event line items old new source s t a b c quoted is_event some few read
-      is_source quiet written reported = (
+      ReportsEvents form knew knows source (side_of event) old.state (events_of_line event) new.state s t b c →
+      Judges form knew knows version number (states_of items) line (states_of (set items (session - 1) new)) s t a c
+  session_judged knew knows words lawful version number session event line items old new source s t a b c quoted is_event some
+      few read is_source quiet written all context known =
+      let reported = all context known in (
         quiet.0 ++ reported.1,
         (
           Of session event,
@@ -137,8 +138,8 @@ module _ {Answer : Type 0} (form : ReportForm Answer) where
                 ∙ ap (option_map (λ (g : SessionView). g.state))
                 (slice_get_read items (length items) (session - 1) old refl (omega arith) read),
             reported.2,
-            subst (λ (k : ReportKey). form.line line k event old.state reported.0 new.state (quiet.0 ++ reported.1)) is_source
-                (lawful.of_line line source event old.state reported.0 new.state quiet.0 reported.1 quiet.1 reported.3),
+            subst (λ (k : ReportKey). form.line context line k event old.state reported.0 new.state (quiet.0 ++ reported.1)) is_source
+                (lawful.of_line context line source event old.state reported.0 new.state quiet.0 reported.1 quiet.1 reported.3),
             map-set (λ (g : SessionView). g.state) items (session - 1) new,
           ),
           refl,
@@ -147,14 +148,17 @@ module _ {Answer : Type 0} (form : ReportForm Answer) where
         subst (Appends a c)
             (ap (λ (l : List ℕ). l ++ texts_of form.text reported.1) (sym quiet.2) ∙ sym (texts_of-append form.text quiet.0 reported.1))
             (appends_more a b c quoted (texts_of form.text reported.1) written reported.5),
+        subst knows
+            (sym (lawful.next_more context quiet.0 reported.1
+            ∙ ap (λ (now : form.Context). form.next now reported.1) (lawful.next_quiet context line quiet.0 quiet.1))) reported.6,
       )
 
   -- a line without an event
-  pub nothing_judged : (version : Version) (number : ℕ) (line : List ℕ) (items : List SessionView) (s : Summary)
+  pub nothing_judged : (knows : form.Context → Type 0) (words : List Word) → IsWritableForm words form → (version : Version) (number : ℕ) (line : List ℕ) (items : List SessionView) (s : Summary)
       (a b : Option (List ℕ)) (quoted : List ℕ) → event_in version (length items) line ≡ Some Quiet →
       IsQuietWith form line quoted → Appends a b quoted →
-      Judges form version number (states_of items) line (states_of items) s s a b
-  nothing_judged version number line items s a b quoted is_event quiet written = (
+      Judges form knows knows version number (states_of items) line (states_of items) s s a b
+  nothing_judged knows words lawful version number line items s a b quoted is_event quiet written context known = (
     quiet.0,
     (
       Quiet,
@@ -165,32 +169,40 @@ module _ {Answer : Type 0} (form : ReportForm Answer) where
     ),
     sym (quiet.3 s),
     subst (Appends a b) (sym quiet.2) written,
+    subst knows (sym (lawful.next_quiet context line quiet.0 quiet.1)) known,
   )
 
   -- ---- between two lines
 
   -- a property that does not depend on earlier lines, and the progress of the log
-  pub record Plays (P : SessionView → Type 0) (start : Reader → Option (List ℕ) → Type 0) (now : Reader) (held : List ℕ) (number : ℕ) (version : Version)
+  pub record Plays (P : SessionView → Type 0) (knows : form.Context → Type 0) (start : Reader → Option (List ℕ) → Type 0) (now : Reader) (held : List ℕ) (number : ℕ) (version : Version)
       (sessions : List SessionView) (count : ℕ) (summary : Summary) (after : Option (List ℕ)) : Type 0 where
     pub ready : All P sessions
     pub size : length sessions ≡ count
     pub few : IsMoreBy (1024 * number) nothing_counted summary
     pub fits : number ≤ most_lines
     pub playing : (origin : Reader) (before : Option (List ℕ)) → start origin before →
-        IsPlaying form origin now held number version (states_of sessions) summary before after
+        IsPlaying form knows origin now held number version (states_of sessions) summary before after
 
-  pub plays_first : (P : SessionView → Type 0) (now : Reader) (held : List ℕ) (number : ℕ) (version : Version) (sessions : List SessionView)
+  pub plays_first : (P : SessionView → Type 0) (knows : form.Context → Type 0) (words : List Word) →
+      IsWritableForm words form → (now : Reader) (held : List ℕ) (number : ℕ) (version : Version) (sessions : List SessionView)
       (summary : Summary) (a : Option (List ℕ)) → All P sessions → number ≤ most_lines → summary ≡ nothing_counted →
-      Plays P (StartsReport form now held number version (states_of sessions) a) now held number version sessions (length sessions) summary
+      knows form.fresh → Plays P knows (StartsReport form now held number version (states_of sessions) a) now held number version sessions (length sessions) summary
       a
-  plays_first P now held number version sessions summary a ready fits e = record {
+  plays_first P knows words lawful now held number version sessions summary a ready fits e known = record {
     ready = ready;
     size = refl;
     few = subst (IsMoreBy (1024 * number) nothing_counted) (sym e)
         (no_more (1024 * number) nothing_counted);
     fits = fits;
     playing = λ origin before h.
-        record { reported = []; has_read = h.0; counts = e; written = keeps_appends before a h.1 };
+        record {
+          reported = [];
+          has_read = h.0;
+          counts = e;
+          written = keeps_appends before a h.1;
+          known = subst knows (sym (lawful.next_none form.fresh)) known;
+        };
   }
 
   more_few : (n : ℕ) (s t : Summary) → IsMoreBy (1024 * n) nothing_counted s → IsMoreBy 1024 s t →
@@ -210,77 +222,82 @@ module _ {Answer : Type 0} (form : ReportForm Answer) where
       subst (Appends a c) (sym (texts_of-append form.text reported more)) (appends_more a b c (texts_of form.text reported) (texts_of form.text more) h k)
 
   -- a line was judged
-  pub plays_more : (P : SessionView → Type 0) (start : Reader → Option (List ℕ) → Type 0) (now new : Reader) (held rest line : List ℕ) (n : ℕ)
+  pub plays_more : (P : SessionView → Type 0) (knows later : form.Context → Type 0) (words : List Word) →
+      IsWritableForm words form → (start : Reader → Option (List ℕ) → Type 0) (now new : Reader) (held rest line : List ℕ) (n : ℕ)
       (version : Version) (sessions next : List SessionView) (count : ℕ) (s t : Summary) (all b c : Option (List ℕ)) →
-      Plays P start now held n version sessions count s all → IsFound all now held n (Ok Line) line new rest → Keeps all b →
-      Judges form version (n + 1) (states_of sessions) line (states_of next) s t b c → IsMoreBy 1024 s t → All P next →
-      length next ≡ length sessions → Plays P start new rest (n + 1) version next count t c
-  plays_more P start now new held rest line n version sessions next count s t all b c p f k j few ready same = record {
-    ready = ready;
-    size = same ∙ p.size;
-    few = more_few n s t p.few few;
-    fits = omega (arith, f.4);
-    playing = λ origin before h. let q = p.playing origin before h in record {
-      reported = q.reported ++ j.0;
-      has_read = line_read form before all origin now new held rest line n q.reported j.0 (Playing version (states_of sessions))
-          (Playing version (states_of next)) q.has_read q.written f j.1;
-      counts = more_counts q.reported j.0 s t q.counts j.2;
-      written = more_text q.reported j.0 before b c (appends_and_keeps before all b (texts_of form.text q.reported) q.written k) j.3;
-    };
-  }
+      Plays P knows start now held n version sessions count s all → IsFound all now held n (Ok Line) line new rest → Keeps all b →
+      Judges form knows later version (n + 1) (states_of sessions) line (states_of next) s t b c → IsMoreBy 1024 s t → All P next →
+      length next ≡ length sessions → Plays P later start new rest (n + 1) version next count t c
+  plays_more P knows later words lawful start now new held rest line n version sessions next count s t all b c p f k judges few ready
+      same = record {
+        ready = ready;
+        size = same ∙ p.size;
+        few = more_few n s t p.few few;
+        fits = omega (arith, f.4);
+        playing = λ origin before h. let q = p.playing origin before h in let j = judges (form.next form.fresh q.reported) q.known in record {
+          reported = q.reported ++ j.0;
+          has_read = line_read form before all origin now new held rest line n q.reported j.0 (Playing version (states_of sessions))
+              (Playing version (states_of next)) q.has_read q.written f j.1;
+          counts = more_counts q.reported j.0 s t q.counts j.2;
+          written = more_text q.reported j.0 before b c (appends_and_keeps before all b (texts_of form.text q.reported) q.written k) j.3;
+          known = subst later (sym (lawful.next_more form.fresh q.reported j.0)) j.4;
+        };
+      }
 
   -- ---- the end
 
-  pub finished_at_end : (P : SessionView → Type 0) (start : Reader → Option (List ℕ) → Type 0) (now new : Reader) (held rest line : List ℕ) (n : ℕ)
+  pub finished_at_end : (P : SessionView → Type 0) (knows : form.Context → Type 0) (start : Reader → Option (List ℕ) → Type 0) (now new : Reader) (held rest line : List ℕ) (n : ℕ)
       (version : Version) (sessions : List SessionView) (count : ℕ) (s : Summary) (all b c : Option (List ℕ))
-      (result : Result Answer LogFault) → Plays P start now held n version sessions count s all →
+      (result : Result Answer LogFault) → Plays P knows start now held n version sessions count s all →
       IsFound all now held n (Ok End) line new rest → Keeps all b →
       IfOk result (λ answer. IsFinished form None version (states_of sessions) s b c answer) →
       (origin : Reader) (before : Option (List ℕ)) → start origin before →
       IfOk result (λ answer. Reported form origin new before c answer)
-  finished_at_end P start now new held rest line n version sessions count s all b c result p f k r origin before h =
+  finished_at_end P knows start now new held rest line n version sessions count s all b c result p f k r origin before h =
       let q = p.playing origin before h in
       finished form origin new n q.reported version (states_of sessions) s before b c result
       (end_read form before all origin now new held rest line n q.reported (Playing version (states_of sessions)) q.has_read q.written f)
       q.counts (appends_and_keeps before all b (texts_of form.text q.reported) q.written k) r
 
-  pub finished_at_last : (P : SessionView → Type 0) (start : Reader → Option (List ℕ) → Type 0) (now new : Reader) (held rest line : List ℕ) (n : ℕ)
+  pub finished_at_last : (P : SessionView → Type 0) (knows later : form.Context → Type 0) (start : Reader → Option (List ℕ) → Type 0) (now new : Reader) (held rest line : List ℕ) (n : ℕ)
       (version : Version) (sessions next : List SessionView) (count : ℕ) (s t : Summary) (all b c d : Option (List ℕ))
-      (result : Result Answer LogFault) → Plays P start now held n version sessions count s all →
+      (result : Result Answer LogFault) → Plays P knows start now held n version sessions count s all →
       IsFound all now held n (Ok Last) line new rest → Keeps all b →
-      Judges form version (n + 1) (states_of sessions) line (states_of next) s t b c →
+      Judges form knows later version (n + 1) (states_of sessions) line (states_of next) s t b c →
       IfOk result (λ answer. IsFinished form None version (states_of next) t c d answer) →
       (origin : Reader) (before : Option (List ℕ)) → start origin before →
       IfOk result (λ answer. Reported form origin new before d answer)
-  finished_at_last P start now new held rest line n version sessions next count s t all b c d result p f k j r origin before h =
+  finished_at_last P knows later start now new held rest line n version sessions next count s t all b c d result p f k judges r origin
+      before h =
       let q = p.playing origin before h in
+      let j = judges (form.next form.fresh q.reported) q.known in
       finished form origin new (n + 1) (q.reported ++ j.0) version (states_of next) t before c d result
       (last_read form before all origin now new held rest line n q.reported j.0 (Playing version (states_of sessions))
       (Playing version (states_of next)) q.has_read q.written f j.1)
       (more_counts q.reported j.0 s t q.counts j.2)
       (more_text q.reported j.0 before b c (appends_and_keeps before all b (texts_of form.text q.reported) q.written k) j.3) r
 
-  pub finished_at_cut : (P : SessionView → Type 0) (start : Reader → Option (List ℕ) → Type 0) (now new : Reader) (held rest line : List ℕ) (n : ℕ)
+  pub finished_at_cut : (P : SessionView → Type 0) (knows : form.Context → Type 0) (start : Reader → Option (List ℕ) → Type 0) (now new : Reader) (held rest line : List ℕ) (n : ℕ)
       (version : Version) (sessions : List SessionView) (count : ℕ) (s : Summary) (all b c : Option (List ℕ))
-      (result : Result Answer LogFault) → Plays P start now held n version sessions count s all →
+      (result : Result Answer LogFault) → Plays P knows start now held n version sessions count s all →
       IsFound all now held n (Ok Last) line new rest → Keeps all b → event_in version (length sessions) line ≡ None →
       form.cuts ≡ true → IfOk result (λ answer. IsFinished form (Some (n + 1)) version (states_of sessions) s b c answer) →
       (origin : Reader) (before : Option (List ℕ)) → start origin before →
       IfOk result (λ answer. Reported form origin new before c answer)
-  finished_at_cut P start now new held rest line n version sessions count s all b c result p f k wrong cuts r origin before h =
+  finished_at_cut P knows start now new held rest line n version sessions count s all b c result p f k wrong cuts r origin before h =
       let q = p.playing origin before h in
       finished_cut form before all origin now new held rest line n q.reported version (states_of sessions) s b c result q.has_read
       q.written f (ap (λ (k : ℕ). event_in version k line) (length-map sessions (λ (g : SessionView). g.state)) ∙ wrong) cuts
       q.counts (appends_and_keeps before all b (texts_of form.text q.reported) q.written k) r
 
   -- the counts could not be written
-  pub unfinished : (P : SessionView → Type 0) (start : Reader → Option (List ℕ) → Type 0) (now new : Reader) (held rest line : List ℕ) (n : ℕ)
+  pub unfinished : (P : SessionView → Type 0) (knows : form.Context → Type 0) (start : Reader → Option (List ℕ) → Type 0) (now new : Reader) (held rest line : List ℕ) (n : ℕ)
       (version : Version) (sessions : List SessionView) (count : ℕ) (s : Summary) (all c : Option (List ℕ)) (found : LineEnd)
-      (result : Result Answer LogFault) → Plays P start now held n version sessions count s all →
+      (result : Result Answer LogFault) → Plays P knows start now held n version sessions count s all →
       IsFound all now held n (Ok found) line new rest → IfErr result (IsLateFault form) →
       (origin : Reader) (before : Option (List ℕ)) → start origin before →
       IfErr result (IsFaultAfter form origin new before c)
-  unfinished P start now new held rest line n version sessions count s all c found result p f e origin before h =
+  unfinished P knows start now new held rest line n version sessions count s all c found result p f e origin before h =
       let q = p.playing origin before h in
       write_failed form origin new before c result
       (found_given form before all origin now new held rest line n q.reported (Playing version (states_of sessions)) found q.has_read
@@ -289,12 +306,12 @@ module _ {Answer : Type 0} (form : ReportForm Answer) where
 
   -- ---- faults
 
-  pub fault_in_play : (P : SessionView → Type 0) (start : Reader → Option (List ℕ) → Type 0) (now new : Reader) (held rest line : List ℕ) (n : ℕ)
+  pub fault_in_play : (P : SessionView → Type 0) (knows : form.Context → Type 0) (start : Reader → Option (List ℕ) → Type 0) (now new : Reader) (held rest line : List ℕ) (n : ℕ)
       (version : Version) (sessions : List SessionView) (count : ℕ) (s : Summary) (all c : Option (List ℕ)) (fault : LogFault) →
-      Plays P start now held n version sessions count s all → IsFound all now held n (Err fault) line new rest →
+      Plays P knows start now held n version sessions count s all → IsFound all now held n (Err fault) line new rest →
       (fault ≢ Faults.Write → Keeps all c) → (origin : Reader) (before : Option (List ℕ)) → start origin before →
       IsFaultAfter form origin new before c fault
-  fault_in_play P start now new held rest line n version sessions count s all c fault p f k origin before h =
+  fault_in_play P knows start now new held rest line n version sessions count s all c fault p f k origin before h =
       let q = p.playing origin before h in
       fault_after form origin new q.reported before c fault
       (fault_found form before all origin now new held rest line n q.reported (Playing version (states_of sessions)) fault q.has_read
@@ -318,21 +335,21 @@ module _ {Answer : Type 0} (form : ReportForm Answer) where
       subst (IsFaultAfter form origin new before c) (sym e) (h origin before begins)
 
   -- a line without an allowed form, or a failed write
-  pub bad_in_play : (P : SessionView → Type 0) (start : Reader → Option (List ℕ) → Type 0) (now new : Reader) (held rest line : List ℕ) (n : ℕ)
+  pub bad_in_play : (P : SessionView → Type 0) (knows : form.Context → Type 0) (start : Reader → Option (List ℕ) → Type 0) (now new : Reader) (held rest line : List ℕ) (n : ℕ)
       (version : Version) (sessions : List SessionView) (count : ℕ) (s : Summary) (all b c : Option (List ℕ)) (found : LineEnd)
-      (fault : LogFault) → Plays P start now held n version sessions count s all →
+      (fault : LogFault) → Plays P knows start now held n version sessions count s all →
       IsFound all now held n (Ok found) line new rest → is_end_of_log found ≡ false → Keeps all b →
       (is_last_line found ≡ true → event_in version (length sessions) line ≡ None → form.cuts ≡ false) →
       IsLateFault form fault ⊎ ((fault ≡ Faults.BadLine (n + 1)) × (event_in version (length sessions) line ≡ None)
       × (c ≡ b)) → (origin : Reader) (before : Option (List ℕ)) → start origin before →
       IsFaultAfter form origin new before c fault
-  bad_in_play P start now new held rest line n version sessions count s all b c found fault p f other k uncut (inl e) origin before h =
+  bad_in_play P knows start now new held rest line n version sessions count s all b c found fault p f other k uncut (inl e) origin before h =
       let q = p.playing origin before h in
       late_fault form origin new before c fault
       (found_given form before all origin now new held rest line n q.reported (Playing version (states_of sessions)) found q.has_read
       q.written f)
       e
-  bad_in_play P start now new held rest line n version sessions count s all b c found fault p f other k uncut (inr r) origin before h =
+  bad_in_play P knows start now new held rest line n version sessions count s all b c found fault p f other k uncut (inr r) origin before h =
       subst (IsFaultAfter form origin new before c) (sym r.0) (
         q.reported,
         is_fault found f other (λ last. uncut last r.1),
@@ -340,7 +357,7 @@ module _ {Answer : Type 0} (form : ReportForm Answer) where
             (appends_and_keeps before all b (texts_of form.text q.reported) q.written k),
       )
     where
-      q : IsPlaying form origin now held n version (states_of sessions) s before all
+      q : IsPlaying form knows origin now held n version (states_of sessions) s before all
       q = p.playing origin before h
 
       is_bad : event_in version (length (states_of sessions)) line ≡ None

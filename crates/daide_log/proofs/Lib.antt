@@ -23,6 +23,7 @@ pub mod MatchLogFacts
 pub mod SevenLinesFacts
 pub mod CutFacts
 pub mod FaultLineFacts
+pub mod CappedFacts
 pub mod EventLines
 pub mod RecordLines
 pub mod RecordHead

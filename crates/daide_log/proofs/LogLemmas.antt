@@ -117,7 +117,8 @@ module _ {Answer : Type 0} (form : ReportForm Answer) where
 
   pub line_read : (before all : Option (List ℕ)) (old now new : Reader) (held rest line : List ℕ) (n : ℕ) (reported more : List form.Entry)
       (stage after : LogState) → HasRead form before old now held n reported stage → Appends before all (texts_of form.text reported) →
-      IsFound all now held n (Ok Line) line new rest → GoesOnBy form (n + 1) stage line more after →
+      IsFound all now held n (Ok Line) line new rest →
+      GoesOnBy form (form.next form.fresh reported) (n + 1) stage line more after →
       HasRead form before old new rest (n + 1) (reported ++ more) after
   line_read before all old now new held rest line n reported more stage after h w f on = record {
     given = h.given ++ f.1.0;
@@ -125,12 +126,13 @@ module _ {Answer : Type 0} (form : ReportForm Answer) where
     bytes = h.bytes ++ f.0 ++ 10 ∷ [];
     whole = looked before all old now new held (f.0 ++ 10 ∷ []) rest n reported stage h f.1 ∙ simp append_assoc;
     reports = ReportsBy.line h.bytes n reported stage h.reports f.0 more after f.4 f.2 f.3
-        (subst (λ (l : List ℕ). GoesOnBy form (n + 1) stage l more after) f.5 on);
+        (subst (λ (l : List ℕ). GoesOnBy form (form.next form.fresh reported) (n + 1) stage l more after) f.5 on);
   }
 
   pub last_read : (before all : Option (List ℕ)) (old now new : Reader) (held rest line : List ℕ) (n : ℕ) (reported more : List form.Entry)
       (stage after : LogState) → HasRead form before old now held n reported stage → Appends before all (texts_of form.text reported) →
-      IsFound all now held n (Ok Last) line new rest → GoesOnBy form (n + 1) stage line more after →
+      IsFound all now held n (Ok Last) line new rest →
+      GoesOnBy form (form.next form.fresh reported) (n + 1) stage line more after →
       HasReadAll form before old new (n + 1) (reported ++ more) after
   last_read before all old now new held rest line n reported more stage after h w f on = record {
     given = h.bytes ++ line;

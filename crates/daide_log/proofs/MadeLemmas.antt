@@ -52,9 +52,11 @@ use Rattle.daide_protocol.proofs.WireLemmas.{bytes_come-append}
 use Rattle.daide_log.specs.declared.report.ReportKey.{ReportKey}
 use Rattle.daide_log.specs.Report.{move_line, texts_of, counted_over}
 use Rattle.daide_log.specs.Explained.{ExplainedEntry, Moved, AreShownBy, ExplainsMove, ExplainsFrame, AreMessageLines, bytes_at}
-use Rattle.daide_log.specs.Explained.{fault_lines, indented, shown_text, shown_counted}
+use Rattle.daide_log.specs.Explained.{fault_lines, indented, shown_text, shown_counted, announced_after, announced_at, announced_if}
+use Rattle.daide_log.specs.Explained.{announced_levels, capped_from, level_announced, place_of_session}
+use Rattle.std.specs.Prelude.{slice_set}
 use Rattle.daide_log.specs.Proofs.Lawful.{silent, in_a_row}
-use Rattle.daide_log.specs.Explaining.{IsRightFate, IsRightlyReported, AreLinesBy}
+use Rattle.daide_log.specs.Explaining.{IsRightFate, IsRightlyReported, AreLinesBy, announced_by_held}
 use Rattle.daide_log.proofs.PlayLemmas.{room_is_missing}
 use Rattle.daide_log.proofs.LimitBounds.{depth_within, body_within}
 use Rattle.daide_log.specs.Explained.{verdict_by}
@@ -529,45 +531,55 @@ module _ (config : Config) (words : List Word) (old : SessionView) (side : Side)
 
   -- ---- the entries of a move
 
-  abbrev shown_as : ReportKey → Effect → List ℕ → List ExplainedEntry
-  shown_as source move lines = Moved (record { source = source; side = side; reported = move.reported }) (indented lines) ∷ []
+  abbrev shown_as : ReportKey → Effect → List ℕ → Level → List ExplainedEntry
+  shown_as source move lines announced =
+      Moved (record { source = source; side = side; reported = move.reported }) (indented lines) announced ∷ []
+
+  -- the level that the server announced by then, at the event that caused the move
+  abbrev level_at : List Level → ReportKey → SessionState → Event → Effect → Level
+  level_at levels source before event move =
+      announced_after move.reported (question before event) (level_announced levels source)
 
   -- a move that one byte of a piece caused
-  shown_by_bytes : (source : ReportKey) (piece : List ℕ) (move : Effect) (lines : List ℕ) →
+  shown_by_bytes : (levels : List Level) (source : ReportKey) (piece : List ℕ) (move : Effect) (lines : List ℕ) →
       (f : Found old.state side piece move new.state) →
-      ExplainsMove words side f.before (Comes side f.byte) move.reported lines →
-      AreShownBy words source side old.state (bytes_come side piece) (move ∷ []) new.state (shown_as source move lines)
-  shown_by_bytes source piece move lines f are =
-      subst (λ (p : List ℕ). AreShownBy words source side old.state (bytes_come side p) (move ∷ []) new.state
-      (shown_as source move lines)) (sym f.whole)
-      (subst (λ (es : List Event). AreShownBy words source side old.state es (move ∷ []) new.state
-      (shown_as source move lines)) (sym (bytes_come-append side f.front (f.byte ∷ f.back)))
-      (in_a_row words source side old.state f.before new.state (bytes_come side f.front)
-      (Comes side f.byte ∷ bytes_come side f.back) [] (move ∷ []) [] (shown_as source move lines)
-      (silent words source side old.state f.before (bytes_come side f.front) f.first) (
+      ExplainsMove words (level_announced levels source) side f.before (Comes side f.byte) move.reported lines →
+      AreShownBy words levels source side old.state (bytes_come side piece) (move ∷ []) new.state
+      (shown_as source move lines (level_at levels source f.before (Comes side f.byte) move))
+  shown_by_bytes levels source piece move lines f are =
+      let shown = shown_as source move lines (level_at levels source f.before (Comes side f.byte) move) in
+      subst (λ (p : List ℕ). AreShownBy words levels source side old.state (bytes_come side p) (move ∷ []) new.state shown)
+      (sym f.whole)
+      (subst (λ (es : List Event). AreShownBy words levels source side old.state es (move ∷ []) new.state shown)
+      (sym (bytes_come-append side f.front (f.byte ∷ f.back)))
+      (in_a_row words source side levels old.state f.before new.state (bytes_come side f.front)
+      (Comes side f.byte ∷ bytes_come side f.back) [] (move ∷ []) [] shown
+      (silent words source side levels old.state f.before (bytes_come side f.front) f.first) (
         f.after,
         move ∷ [],
         [],
-        shown_as source move lines,
+        shown,
         [],
         f.step,
         (lines, [], are, refl, refl),
-        silent words source side f.after new.state (bytes_come side f.back) f.rest,
+        silent words source side (announced_levels levels shown) f.after new.state (bytes_come side f.back) f.rest,
         refl,
         refl,
       )))
 
   -- or one single event
-  shown_by_one : (source : ReportKey) (event : Event) (move : Effect) (lines : List ℕ) →
-      Runs old.state (event ∷ []) (move ∷ []) new.state → ExplainsMove words side old.state event move.reported lines →
-      AreShownBy words source side old.state (event ∷ []) (move ∷ []) new.state (shown_as source move lines)
-  shown_by_one source event move lines run are =
+  shown_by_one : (levels : List Level) (source : ReportKey) (event : Event) (move : Effect) (lines : List ℕ) →
+      Runs old.state (event ∷ []) (move ∷ []) new.state →
+      ExplainsMove words (level_announced levels source) side old.state event move.reported lines →
+      AreShownBy words levels source side old.state (event ∷ []) (move ∷ []) new.state
+      (shown_as source move lines (level_at levels source old.state event move))
+  shown_by_one levels source event move lines run are =
       let only : run.1 ≡ move ∷ [] =
       sym (append-nil run.1) ∙ ap (λ (m : List Effect). run.1 ++ m) (sym run.4.0) ∙ sym run.5 in (
         run.0,
         move ∷ [],
         [],
-        shown_as source move lines,
+        shown_as source move lines (level_at levels source old.state event move),
         [],
         subst (λ (m : List Effect). Transition old.state event m run.0) only run.3,
         (lines, [], are, refl, refl),
@@ -576,51 +588,82 @@ module _ (config : Config) (words : List Word) (old : SessionView) (side : Side)
         refl,
       )
 
-  text_as : (source : ReportKey) (move : Effect) (reported : Note) (lines : List ℕ) → move.reported ≡ reported →
-      texts_of shown_text (shown_as source move lines) ≡ move_line source side reported ++ indented lines
-  text_as source move reported lines e =
+  text_as : (source : ReportKey) (move : Effect) (reported : Note) (lines : List ℕ) (announced : Level) →
+      move.reported ≡ reported →
+      texts_of shown_text (shown_as source move lines announced) ≡ move_line source side reported ++ indented lines
+  text_as source move reported lines announced e =
       append-nil (move_line source side move.reported ++ indented lines)
       ∙ ap (λ (n : Note). move_line source side n ++ indented lines) e
 
   -- the lines for a held frame are the ones that follow its move
-  pub reported_with : (events : List Event) (reported : Note) (lines : List ℕ) (source : ReportKey) →
-      (made : IsMade old events side reported new) → AreLinesBy words config.max_depth side reported new lines →
-      (entries : List ExplainedEntry) × AreShownBy words source side old.state events (made.move ∷ []) new.state entries
+  pub reported_with : (levels : List Level) (events : List Event) (reported : Note) (lines : List ℕ) (source : ReportKey) →
+      (made : IsMade old events side reported new) →
+      AreLinesBy words (limits_with config words) (level_announced levels source) side reported new lines →
+      (entries : List ExplainedEntry) × AreShownBy words levels source side old.state events (made.move ∷ []) new.state entries
       × (texts_of shown_text entries ≡ move_line source side reported ++ indented lines)
       × ((before : Summary) → counted_over shown_counted entries before ≡ count_note reported before)
-  reported_with events reported lines source made are = (
-    shown_as source made.move lines,
+      × (announced_levels levels entries ≡ slice_set levels (place_of_session source.session)
+      (announced_by_held side reported new (level_announced levels source)))
+  reported_with levels events reported lines source made are = (
+    shown_as source made.move lines heard,
     by_cause made.caused,
-    text_as source made.move reported lines made.same,
-    λ before. ap (λ (n : Note). count_note n before) made.same,
+    text_as source made.move reported lines heard made.same,
+    (λ before. ap (λ (n : Note). count_note n before) made.same),
+    refl,
   )
     where
+      level : Level
+      level = level_announced levels source
+
+      heard : Level
+      heard = announced_by_held side reported new level
+
       of_asked : (k : Bool) (head : Head) (deed : Deed) (before after : SessionState) (event : Event) →
           is_dm head.kind ≡ k →
           before.limits ≡ limits_with config words → after ≡ new.state →
           (holding new side).held ≡ held_after (Notes.Frame head deed) (bytes_at before side event) →
           MatchBool k (IsFate before side (bytes_at before side event) (question before event) (coming after side).noted deed)
           (question before event ≡ None) →
-          MatchBool k (AreMessageLines words (side2_of side) (coming new.state side).noted config.max_depth
+          MatchBool k (AreMessageLines words (side2_of side) (coming new.state side).noted
+          (capped_from (limits_with config words).top_level level (coming new.state side).noted) config.max_depth
           (drop 4 (holding new side).held) (verdict_by deed) lines) (lines ≡ []) →
-          ExplainsMove words side before event (Notes.Frame head deed) lines
+          ExplainsMove words level side before event (Notes.Frame head deed) lines
       of_asked false head deed before after event k limits same held h l =
-          subst (λ (q : Option Question). ExplainsFrame words before.limits.max_depth q
+          subst (λ (q : Option Question). ExplainsFrame words before.limits level q
           (drop 4 (bytes_at before side event)) deed lines) (sym h) l
       of_asked true head deed before after event k limits same held h l =
           let bytes = bytes_at before side event in
           let frame_outcome : (holding new side).held ≡ bytes =
           held ∙ ap (λ (d : Deed). held_after (Notes.Frame head d) bytes) h.made ∙ kept_by head h.by bytes in
-          subst (λ (q : Option Question). ExplainsFrame words before.limits.max_depth q (drop 4 bytes) deed lines)
+          subst (λ (q : Option Question). ExplainsFrame words before.limits level q (drop 4 bytes) deed lines)
           (sym h.asked) (
             refl,
-            subst (λ (n : ℕ). AreMessageLines words (side2_of side) (coming after side).noted n (drop 4 bytes)
-                (verdict_by deed) lines) (sym (ap (λ (m : Limits). m.max_depth) limits))
-                (subst (λ (s : SessionState). AreMessageLines words (side2_of side) (coming s side).noted config.max_depth
+            subst (λ (m : Limits). AreMessageLines words (side2_of side) (coming after side).noted
+                (capped_from m.top_level level (coming after side).noted) m.max_depth (drop 4 bytes) (verdict_by deed) lines)
+                (sym limits)
+                (subst (λ (s : SessionState). AreMessageLines words (side2_of side) (coming s side).noted
+                (capped_from (limits_with config words).top_level level (coming s side).noted) config.max_depth
                 (drop 4 bytes) (verdict_by deed) lines) (sym same)
-                (subst (λ (b : List ℕ). AreMessageLines words (side2_of side) (coming new.state side).noted config.max_depth
+                (subst (λ (b : List ℕ). AreMessageLines words (side2_of side) (coming new.state side).noted
+                (capped_from (limits_with config words).top_level level (coming new.state side).noted) config.max_depth
                 (drop 4 b) (verdict_by deed) lines) frame_outcome l)),
           )
+
+      -- the level that the held frame announces is the one that the judged message announces
+      heard_asked : (k : Bool) (head : Head) (deed : Deed) (before after : SessionState) (event : Event) →
+          (holding new side).held ≡ held_after (Notes.Frame head deed) (bytes_at before side event) →
+          MatchBool k (IsFate before side (bytes_at before side event) (question before event) (coming after side).noted deed)
+          (question before event ≡ None) →
+          announced_at (question before event) (verdict_by deed) level
+          ≡ cond k (announced_if (verdict_by deed) side (tokens_of (drop 4 (holding new side).held)) level) level
+      heard_asked false head deed before after event held h =
+          ap (λ (q : Option Question). announced_at q (verdict_by deed) level) h
+      heard_asked true head deed before after event held h =
+          let bytes = bytes_at before side event in
+          let frame_outcome : (holding new side).held ≡ bytes =
+          held ∙ ap (λ (d : Deed). held_after (Notes.Frame head d) bytes) h.made ∙ kept_by head h.by bytes in
+          ap (λ (q : Option Question). announced_at q (verdict_by deed) level) h.asked
+          ∙ ap (λ (b : List ℕ). announced_if (verdict_by deed) side (tokens_of (drop 4 b)) level) (sym frame_outcome)
 
       Run : List Event → Type 0
       Run es = Runs old.state es (made.move ∷ []) new.state
@@ -628,8 +671,8 @@ module _ (config : Config) (words : List Word) (old : SessionView) (side : Side)
       of_bytes : (note : Note) (piece : List ℕ) (f : Found old.state side piece made.move new.state) → made.move.reported ≡ note →
           Runs old.state (bytes_come side piece) (made.move ∷ []) new.state →
           (holding new side).held ≡ held_after note ((coming f.before side).pending ++ f.byte ∷ []) →
-          AreLinesBy words config.max_depth side note new lines →
-          ExplainsMove words side f.before (Comes side f.byte) note lines
+          AreLinesBy words (limits_with config words) level side note new lines →
+          ExplainsMove words level side f.before (Comes side f.byte) note lines
       of_bytes Notes.Nothing piece f e run held l = l
       of_bytes (Notes.Fault code) piece f e run held l =
           let same = limits_before (bytes_come side piece) (made.move ∷ []) f.front f.before run f.first in
@@ -642,9 +685,21 @@ module _ (config : Config) (words : List Word) (old : SessionView) (side : Side)
           (limits_before (bytes_come side piece) (made.move ∷ []) f.front f.before run f.first) (sym f.last) held
           (frame_asked f.before f.after side f.byte made.move head deed f.step e) l
 
+      heard_of_bytes : (note : Note) (piece : List ℕ) (f : Found old.state side piece made.move new.state) →
+          made.move.reported ≡ note →
+          (holding new side).held ≡ held_after note ((coming f.before side).pending ++ f.byte ∷ []) →
+          announced_after note (question f.before (Comes side f.byte)) level ≡ announced_by_held side note new level
+      heard_of_bytes Notes.Nothing piece f e held = refl
+      heard_of_bytes (Notes.Fault code) piece f e held = refl
+      heard_of_bytes Notes.Stopped piece f e held = refl
+      heard_of_bytes (Notes.Frame head deed) piece f e held =
+          heard_asked (is_dm head.kind) head deed f.before f.after (Comes side f.byte) held
+          (frame_asked f.before f.after side f.byte made.move head deed f.step e)
+
       of_timer : (note : Note) → made.move.reported ≡ note → Runs old.state (ImTimerExpired ∷ []) (made.move ∷ []) new.state →
-          (holding new side).held ≡ (coming old.state side).pending → AreLinesBy words config.max_depth side note new lines →
-          ExplainsMove words side old.state ImTimerExpired note lines
+          (holding new side).held ≡ (coming old.state side).pending →
+          AreLinesBy words (limits_with config words) level side note new lines →
+          ExplainsMove words level side old.state ImTimerExpired note lines
       of_timer Notes.Nothing e run held l = l
       of_timer (Notes.Fault code) e run held l =
           l ∙ ap (λ (b : List ℕ). fault_lines new.state.limits.cap code b) held
@@ -655,7 +710,8 @@ module _ (config : Config) (words : List Word) (old : SessionView) (side : Side)
           absurd (timer_reported old.state made.move new.state head deed run e)
 
       of_end : (note : Note) → made.move.reported ≡ note → Runs old.state (Ends side ∷ []) (made.move ∷ []) new.state →
-          AreLinesBy words config.max_depth side note new lines → ExplainsMove words side old.state (Ends side) note lines
+          AreLinesBy words (limits_with config words) level side note new lines →
+          ExplainsMove words level side old.state (Ends side) note lines
       of_end Notes.Nothing e run l = l
       of_end Notes.Stopped e run l = l
       of_end (Notes.Fault code) e run l =
@@ -665,39 +721,73 @@ module _ (config : Config) (words : List Word) (old : SessionView) (side : Side)
           let none : Notes.Nothing ≡ Notes.Frame head deed = sym (end_reported old.state side made.move new.state run) ∙ e in
           absurd (cc)
 
-      of_stop : (note : Note) → note ≡ Notes.Stopped → AreLinesBy words config.max_depth side note new lines →
-          ExplainsMove words side old.state OperatorStops note lines
+      of_stop : (note : Note) → note ≡ Notes.Stopped → AreLinesBy words (limits_with config words) level side note new lines →
+          ExplainsMove words level side old.state OperatorStops note lines
       of_stop Notes.Nothing e l = absurd (cc)
       of_stop Notes.Stopped e l = l
       of_stop (Notes.Fault code) e l = absurd (cc)
       of_stop (Notes.Frame head deed) e l = absurd (cc)
 
-      own : (event : Event) (state : SessionState) → ExplainsMove words side state event reported lines →
-          ExplainsMove words side state event made.move.reported lines
-      own event state l = subst (λ (n : Note). ExplainsMove words side state event n lines) (sym made.same) l
+      -- an event without bytes judges no message
+      heard_of_one : (note : Note) (event : Event) → question old.state event ≡ None →
+          ((head : Head) (deed : Deed) → note ≡ Notes.Frame head deed → ⊥) →
+          announced_after note (question old.state event) level ≡ announced_by_held side note new level
+      heard_of_one Notes.Nothing event none other = refl
+      heard_of_one (Notes.Fault code) event none other = refl
+      heard_of_one Notes.Stopped event none other = refl
+      heard_of_one (Notes.Frame head deed) event none other = absurd (other head deed refl)
+
+      own : (event : Event) (state : SessionState) → ExplainsMove words level side state event reported lines →
+          ExplainsMove words level side state event made.move.reported lines
+      own event state l = subst (λ (n : Note). ExplainsMove words level side state event n lines) (sym made.same) l
+
+      -- the entry has the level that the held frame announces
+      as_heard : (es : List Event) (before : SessionState) (event : Event) →
+          announced_after reported (question before event) level ≡ heard →
+          AreShownBy words levels source side old.state es (made.move ∷ []) new.state
+          (shown_as source made.move lines (level_at levels source before event made.move)) →
+          AreShownBy words levels source side old.state es (made.move ∷ []) new.state (shown_as source made.move lines heard)
+      as_heard es before event e h =
+          subst (λ (l : Level). AreShownBy words levels source side old.state es (made.move ∷ []) new.state
+          (shown_as source made.move lines l))
+          (ap (λ (n : Note). announced_after n (question before event) level) made.same ∙ e) h
 
       by_cause : IsCaused old events side reported new →
-          AreShownBy words source side old.state events (made.move ∷ []) new.state (shown_as source made.move lines)
+          AreShownBy words levels source side old.state events (made.move ∷ []) new.state (shown_as source made.move lines heard)
       by_cause (IsCaused.by_bytes piece e room tied takes) =
           let run = subst Run e made.run in
           let f = move_found piece old.state side made.move new.state (room_is_missing old side (length piece) room) run in
-          subst (λ (es : List Event). AreShownBy words source side old.state es (made.move ∷ []) new.state
-          (shown_as source made.move lines)) (sym e)
-          (shown_by_bytes source piece made.move lines f
-          (own (Comes side f.byte) f.before (of_bytes reported piece f made.same run
-          (takes.bytes ∙ ap (held_after reported) (ap (λ (b : List ℕ). fed old.state.limits.cap b piece) tied ∙ f.held)) are)))
+          let held = takes.bytes ∙ ap (held_after reported) (ap (λ (b : List ℕ). fed old.state.limits.cap b piece) tied ∙ f.held) in
+          subst (λ (es : List Event). AreShownBy words levels source side old.state es (made.move ∷ []) new.state
+          (shown_as source made.move lines heard)) (sym e)
+          (as_heard (bytes_come side piece) f.before (Comes side f.byte) (heard_of_bytes reported piece f made.same held)
+          (shown_by_bytes levels source piece made.move lines f
+          (own (Comes side f.byte) f.before (of_bytes reported piece f made.same run held are))))
       by_cause (IsCaused.by_end e) =
           let run = subst Run e made.run in
-          subst (λ (es : List Event). AreShownBy words source side old.state es (made.move ∷ []) new.state
-          (shown_as source made.move lines)) (sym e)
-          (shown_by_one source (Ends side) made.move lines run (own (Ends side) old.state (of_end reported made.same run are)))
+          let is = end_reported old.state side made.move new.state run in
+          subst (λ (es : List Event). AreShownBy words levels source side old.state es (made.move ∷ []) new.state
+          (shown_as source made.move lines heard)) (sym e)
+          (as_heard (Ends side ∷ []) old.state (Ends side)
+          (heard_of_one reported (Ends side) refl
+          (λ head deed same. let none : Notes.Nothing ≡ Notes.Frame head deed = sym is ∙ made.same ∙ same in absurd (cc)))
+          (shown_by_one levels source (Ends side) made.move lines run
+          (own (Ends side) old.state (of_end reported made.same run are))))
       by_cause (IsCaused.by_timer e bot held) =
           let run = subst Run e made.run in
-          subst (λ (es : List Event). AreShownBy words source side old.state es (made.move ∷ []) new.state
-          (shown_as source made.move lines)) (sym e)
-          (shown_by_one source ImTimerExpired made.move lines run (own ImTimerExpired old.state (of_timer reported made.same run held are)))
+          subst (λ (es : List Event). AreShownBy words levels source side old.state es (made.move ∷ []) new.state
+          (shown_as source made.move lines heard)) (sym e)
+          (as_heard (ImTimerExpired ∷ []) old.state ImTimerExpired
+          (heard_of_one reported ImTimerExpired refl
+          (λ head deed same. timer_reported old.state made.move new.state head deed run (made.same ∙ same)))
+          (shown_by_one levels source ImTimerExpired made.move lines run
+          (own ImTimerExpired old.state (of_timer reported made.same run held are))))
       by_cause (IsCaused.by_stop e is) =
           let run = subst Run e made.run in
-          subst (λ (es : List Event). AreShownBy words source side old.state es (made.move ∷ []) new.state
-          (shown_as source made.move lines)) (sym e)
-          (shown_by_one source OperatorStops made.move lines run (own OperatorStops old.state (of_stop reported is are)))
+          subst (λ (es : List Event). AreShownBy words levels source side old.state es (made.move ∷ []) new.state
+          (shown_as source made.move lines heard)) (sym e)
+          (as_heard (OperatorStops ∷ []) old.state OperatorStops
+          (heard_of_one reported OperatorStops refl
+          (λ head deed same. let none : Notes.Stopped ≡ Notes.Frame head deed = sym is ∙ same in absurd (cc)))
+          (shown_by_one levels source OperatorStops made.move lines run
+          (own OperatorStops old.state (of_stop reported is are))))

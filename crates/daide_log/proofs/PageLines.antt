@@ -21,7 +21,8 @@ use Rattle.daide_words.specs.declared.word.Word.{Word}
 use Rattle.daide_words.specs.declared.word.WordError.{WordError}
 use Rattle.daide_words.specs.declared.word.WordError.TheVariants as faults
 use Rattle.daide_reader.specs.declared.verdict.Verdict.TheVariants.{Relay}
-use Rattle.daide_protocol.specs.Machine.{is_dm}
+use Rattle.daide_grammar.specs.declared.level.Level.{Level}
+use Rattle.daide_protocol.specs.Machine.{Limits, is_dm}
 use Rattle.daide_protocol.specs.Wires.{SessionView, holding}
 use Rattle.daide_protocol.specs.declared.config.Config.{Config}
 use Rattle.daide_protocol.specs.declared.note.Deed.{Deed}
@@ -89,10 +90,10 @@ message_line words tokens e =
 
 -- ---- a message for which only its text is written
 
-pub text_alone : (words : List Word) (max_depth : ℕ) (side : Side) (head : Head) (deed : Deed) (new : SessionView)
+pub text_alone : (words : List Word) (limits : Limits) (announced : Level) (side : Side) (head : Head) (deed : Deed) (new : SessionView)
     (body : List ℕ) → is_dm head.kind ≡ true → verdict_by deed ≡ Relay → body ≡ drop 4 (holding new side).held →
-    AreLinesBy words max_depth side (Notes.Frame head deed) new (with_line_feed (message_text words (tokens_of body)))
-text_alone words max_depth side head deed new body k v b =
+    AreLinesBy words limits announced side (Notes.Frame head deed) new (with_line_feed (message_text words (tokens_of body)))
+text_alone words limits announced side head deed new body k v b =
     rw k (rw v (ap (λ (l : List ℕ). with_line_feed (message_text words (tokens_of l))) b))
 
 pub body_even : (words : List Word) (config : Config) (side : Side) (head : Head) (deed : Deed) (new : SessionView)

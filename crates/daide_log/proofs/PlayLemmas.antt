@@ -29,7 +29,7 @@ use Rattle.daide_log.specs.ReportForm.{ReportForm, IsWritableForm}
 use Rattle.daide_log.specs.Report.{move_line, texts_of, counted_over}
 use Rattle.daide_protocol.specs.Summary.{HasRoom, IsMoreBy}
 use Rattle.daide_protocol.proofs.GrowthLemmas.{no_more, more_by, more_then, less_room, room_after}
-use Rattle.daide_log.specs.Reporting.{IsIdle, IsOneEffect, ReportsEvents, IsMade, IsReportedWith, IsReady, IsUnder}
+use Rattle.daide_log.specs.Reporting.{IsIdle, IsOneEffect, ReportsEvents, ReportsMove, IsMade, IsReady, IsUnder}
 use Rattle.daide_log.specs.Reporting.{IsBare, IsCaused, Moves, note_of_move}
 use Rattle.daide_log.proofs.OneMove.{one_move_a_piece, one_move_a_timer, one_move_a_stop}
 
@@ -251,72 +251,94 @@ idle_free g side idle = rw (idle.bot, idle.server) refl
 
 module _ {Answer : Type 0} (form : ReportForm Answer) where
   -- consecutive events
-  pub tells_more : (words : List Word) → IsWritableForm words form → (source : ReportKey) (side : Side) (old mid new : SessionState)
-      (events more : List Event) (r s t : Summary) (a b c : Option (List ℕ)) → ReportsEvents form source side old events mid r s a b →
-      ReportsEvents form source side mid more new s t b c → ReportsEvents form source side old (events ++ more) new r t a c
-  tells_more words lawful source side old mid new events more r s t a b c h k = (
-    h.0 ++ k.0,
-    h.1 ++ k.1,
-    runs_join events more old mid new h.0 k.0 h.2 k.2,
-    lawful.more source side old mid new events more h.0 k.0 h.1 k.1 h.3 k.3,
-    k.4 ∙ ap (counted_over form.counted k.1) h.4 ∙ sym (counted_over-append form.counted h.1 k.1 r),
-    subst (Appends a c) (sym (texts_of-append form.text h.1 k.1))
-        (appends_more a b c (texts_of form.text h.1) (texts_of form.text k.1) h.5 k.5),
-  )
+  pub tells_more : (knew knows later : form.Context → Type 0) (words : List Word) → IsWritableForm words form →
+      (source : ReportKey) (side : Side) (old mid new : SessionState)
+      (events more : List Event) (r s t : Summary) (a b c : Option (List ℕ)) →
+      ReportsEvents form knew knows source side old events mid r s a b →
+      ReportsEvents form knows later source side mid more new s t b c →
+      ReportsEvents form knew later source side old (events ++ more) new r t a c
+  tells_more knew knows later words lawful source side old mid new events more r s t a b c first second context known =
+      let h = first context known in
+      let k = second (form.next context h.1) h.6 in (
+        h.0 ++ k.0,
+        h.1 ++ k.1,
+        runs_join events more old mid new h.0 k.0 h.2 k.2,
+        lawful.more context source side old mid new events more h.0 k.0 h.1 k.1 h.3 k.3,
+        k.4 ∙ ap (counted_over form.counted k.1) h.4 ∙ sym (counted_over-append form.counted h.1 k.1 r),
+        subst (Appends a c) (sym (texts_of-append form.text h.1 k.1))
+            (appends_more a b c (texts_of form.text h.1) (texts_of form.text k.1) h.5 k.5),
+        subst later (sym (lawful.next_more context h.1 k.1)) k.6,
+      )
 
   -- without a move there is no entry
-  pub tells_none : (words : List Word) → IsWritableForm words form → (source : ReportKey) (side : Side) (old new : SessionState)
+  pub tells_none : (knows : form.Context → Type 0) (words : List Word) → IsWritableForm words form →
+      (source : ReportKey) (side : Side) (old new : SessionState)
       (events : List Event) (s : Summary) (a : Option (List ℕ)) → Runs old events [] new →
-      ReportsEvents form source side old events new s s a a
-  tells_none words lawful source side old new events s a run =
-      ([], [], run, lawful.silent source side old new events run, refl, appends_none a)
+      ReportsEvents form knows knows source side old events new s s a a
+  tells_none knows words lawful source side old new events s a run context known = (
+    [],
+    [],
+    run,
+    lawful.silent context source side old new events run,
+    refl,
+    appends_none a,
+    subst knows (sym (lawful.next_none context)) known,
+  )
 
   -- a move was reported
-  pub tells_one : (source : ReportKey) (old : SessionView) (events : List Event) (side : Side) (reported : Note) (mid : SessionView)
-      (new : SessionState) (added : List ℕ) (before after : Summary) (a b : Option (List ℕ)) →
-      IsMade old events side reported mid → new ≡ mid.state → IsReportedWith form side reported mid added →
-      after ≡ count_note reported before → Appends a b (move_line source side reported ++ added) →
-      ReportsEvents form source side old.state events new before after a b
-  tells_one source old events side reported mid new added before after a b made same with c w =
-      let entries = with source old events made in (
+  pub tells_one : (knew knows : form.Context → Type 0) (source : ReportKey) (old : SessionView) (events : List Event)
+      (side : Side) (reported : Note) (mid : SessionView)
+      (new : SessionState) (before after : Summary) (a b : Option (List ℕ)) →
+      IsMade old events side reported mid → new ≡ mid.state →
+      ReportsMove form knew knows source side reported mid (λ added. move_line source side reported ++ added) a b →
+      after ≡ count_note reported before → ReportsEvents form knew knows source side old.state events new before after a b
+  tells_one knew knows source old events side reported mid new before after a b made same moved c context known =
+      let with = moved context known in
+      let entries = with.1 old events made in (
         made.move ∷ [],
         entries.0,
         subst (λ (s : SessionState). Runs old.state events (made.move ∷ []) s) (sym same) made.run,
-        subst (λ (s : SessionState). form.tells source side old.state events (made.move ∷ []) s entries.0) (sym same) entries.1,
+        subst (λ (s : SessionState). form.tells context source side old.state events (made.move ∷ []) s entries.0) (sym same)
+            entries.1,
         c ∙ sym (entries.3 before),
-        subst (Appends a b) (sym entries.2) w,
+        subst (Appends a b) (sym entries.2) with.2,
+        entries.4,
       )
 
   -- ---- bytes in pieces
 
   -- the bytes so far were fed, and their moves reported
-  pub record HasFed (config : Config) (words : List Word) (source : ReportKey) (side : Side) (bytes rest : List ℕ)
+  pub record HasFed (knew knows : form.Context → Type 0) (config : Config) (words : List Word) (source : ReportKey)
+      (side : Side) (bytes rest : List ℕ)
       (old : SessionState) (new : SessionView) (before after : Summary) (a b : Option (List ℕ)) : Type 0 where
     pub done : List ℕ
     pub whole : done ++ rest ≡ bytes
     pub ready : IsReady config words new
     pub room : HasRoom (length rest) after
     pub few : IsMoreBy (length done) before after
-    pub reported : ReportsEvents form source side old (bytes_come side done) new.state before after a b
+    pub reported : ReportsEvents form knew knows source side old (bytes_come side done) new.state before after a b
 
-  pub nothing_fed : (config : Config) (words : List Word) → IsWritableForm words form → (source : ReportKey) (side : Side)
-      (bytes : List ℕ) (g : SessionView) (s : Summary) (a : Option (List ℕ)) →
-      IsReady config words g → HasRoom (length bytes) s → HasFed config words source side bytes bytes g.state g s s a a
-  nothing_fed config words lawful source side bytes g s a ready room = record {
+  pub nothing_fed : (knows : form.Context → Type 0) (config : Config) (words : List Word) → IsWritableForm words form →
+      (source : ReportKey) (side : Side) (bytes : List ℕ) (g : SessionView) (s : Summary) (a : Option (List ℕ)) →
+      IsReady config words g → HasRoom (length bytes) s →
+      HasFed knows knows config words source side bytes bytes g.state g s s a a
+  nothing_fed knows config words lawful source side bytes g s a ready room = record {
     done = [];
     whole = refl;
     ready = ready;
     room = room;
     few = no_more 0 s;
-    reported = tells_none words lawful source side g.state g.state [] s a (refl, refl);
+    reported = tells_none knows words lawful source side g.state g.state [] s a (refl, refl);
   }
 
-  pub piece_fed : (config : Config) (words : List Word) → IsWritableForm words form → (source : ReportKey) (side : Side)
+  pub piece_fed : (knew knows later : form.Context → Type 0) (config : Config) (words : List Word) →
+      IsWritableForm words form → (source : ReportKey) (side : Side)
       (bytes rest piece more : List ℕ) (old : SessionState) (mid new : SessionView)
-      (r s t : Summary) (a b c : Option (List ℕ)) → HasFed config words source side bytes rest old mid r s a b →
-      rest ≡ piece ++ more → 0 < length piece → ReportsEvents form source side mid.state (bytes_come side piece) new.state s t b c →
-      IsReady config words new → IsMoreBy 1 s t → HasFed config words source side bytes more old new r t a c
-  piece_fed config words lawful source side bytes rest piece more old mid new r s t a b c h split some tells ready one =
+      (r s t : Summary) (a b c : Option (List ℕ)) → HasFed knew knows config words source side bytes rest old mid r s a b →
+      rest ≡ piece ++ more → 0 < length piece →
+      ReportsEvents form knows later source side mid.state (bytes_come side piece) new.state s t b c →
+      IsReady config words new → IsMoreBy 1 s t → HasFed knew later config words source side bytes more old new r t a c
+  piece_fed knew knows later config words lawful source side bytes rest piece more old mid new r s t a b c h split some tells ready one =
       let size = ap length split ∙ length-append piece more in
       let room = h.room in
       let few = h.few in
@@ -330,22 +352,23 @@ module _ {Answer : Type 0} (form : ReportForm Answer) where
             (more_by 1 (length piece) s t one some);
         few = more_by (length h.done + 1) (length (h.done ++ piece)) r t (more_then (length h.done) 1 r s t few one)
             (omega (arith, longer, some));
-        reported = subst (λ (es : List Event). ReportsEvents form source side old es new.state r t a c)
+        reported = subst (λ (es : List Event). ReportsEvents form knew later source side old es new.state r t a c)
             (sym (bytes_come-append side h.done piece))
-            (tells_more words lawful source side old mid.state new.state (bytes_come side h.done) (bytes_come side piece)
+            (tells_more knew knows later words lawful source side old mid.state new.state (bytes_come side h.done) (bytes_come side piece)
             r s t a b c h.reported tells);
       }
 
   -- all bytes were fed, or the session is over and the rest changes nothing
-  pub all_fed : (config : Config) (words : List Word) → IsWritableForm words form → (source : ReportKey) (side : Side)
-      (bytes rest : List ℕ) (old : SessionState) (new : SessionView) (r s : Summary)
-      (a b : Option (List ℕ)) → HasFed config words source side bytes rest old new r s a b →
-      (length rest ≡ 0) ⊎ (is_over new.state.phase ≡ true) → ReportsEvents form source side old (bytes_come side bytes) new.state r s a b
-  all_fed config words lawful source side bytes rest old new r s a b h end =
-      subst (λ (es : List Event). ReportsEvents form source side old es new.state r s a b)
+  pub all_fed : (knew knows : form.Context → Type 0) (config : Config) (words : List Word) → IsWritableForm words form →
+      (source : ReportKey) (side : Side) (bytes rest : List ℕ) (old : SessionState) (new : SessionView) (r s : Summary)
+      (a b : Option (List ℕ)) → HasFed knew knows config words source side bytes rest old new r s a b →
+      (length rest ≡ 0) ⊎ (is_over new.state.phase ≡ true) →
+      ReportsEvents form knew knows source side old (bytes_come side bytes) new.state r s a b
+  all_fed knew knows config words lawful source side bytes rest old new r s a b h end =
+      subst (λ (es : List Event). ReportsEvents form knew knows source side old es new.state r s a b)
       (sym (bytes_come-append side h.done rest) ∙ ap (bytes_come side) h.whole)
-      (tells_more words lawful source side old new.state new.state (bytes_come side h.done) (bytes_come side rest) r s s a b b
-      h.reported (tells_none words lawful source side new.state new.state (bytes_come side rest) s b (left rest end)))
+      (tells_more knew knows knows words lawful source side old new.state new.state (bytes_come side h.done) (bytes_come side rest) r s s a b b
+      h.reported (tells_none knows words lawful source side new.state new.state (bytes_come side rest) s b (left rest end)))
     where
       left : (l : List ℕ) → (length l ≡ 0) ⊎ (is_over new.state.phase ≡ true) → Runs new.state (bytes_come side l) [] new.state
       left [] end = (refl, refl)
@@ -353,17 +376,17 @@ module _ {Answer : Type 0} (form : ReportForm Answer) where
       left (x ∷ l) (inr e) = over_stays new.state (bytes_come side (x ∷ l)) e
 
   -- the counts grew by at most the number of bytes
-  pub fed_few : (config : Config) (words : List Word) (source : ReportKey) (side : Side) (bytes rest : List ℕ)
+  pub fed_few : (knew knows : form.Context → Type 0) (config : Config) (words : List Word) (source : ReportKey) (side : Side) (bytes rest : List ℕ)
       (old : SessionState) (new : SessionView) (r s : Summary)
-      (a b : Option (List ℕ)) → HasFed config words source side bytes rest old new r s a b → IsMoreBy (length bytes) r s
-  fed_few config words source side bytes rest old new r s a b h =
+      (a b : Option (List ℕ)) → HasFed knew knows config words source side bytes rest old new r s a b → IsMoreBy (length bytes) r s
+  fed_few knew knows config words source side bytes rest old new r s a b h =
       more_by (length h.done) (length bytes) r s h.few (omega (arith, ap length h.whole, length-append h.done rest))
 
   -- nor after one more move, while a byte is left
-  pub reported_few : (config : Config) (words : List Word) (source : ReportKey) (side : Side) (bytes rest : List ℕ)
+  pub reported_few : (knew knows : form.Context → Type 0) (config : Config) (words : List Word) (source : ReportKey) (side : Side) (bytes rest : List ℕ)
       (old : SessionState) (new : SessionView)
-      (r s t : Summary) (a b : Option (List ℕ)) → HasFed config words source side bytes rest old new r s a b →
+      (r s t : Summary) (a b : Option (List ℕ)) → HasFed knew knows config words source side bytes rest old new r s a b →
       0 < length rest → IsMoreBy 1 s t → IsMoreBy (length bytes) r t
-  reported_few config words source side bytes rest old new r s t a b h some k =
+  reported_few knew knows config words source side bytes rest old new r s t a b h some k =
       let size : length h.done + length rest ≡ length bytes = sym (length-append h.done rest) ∙ ap length h.whole in
       more_by (length h.done + 1) (length bytes) r t (more_then (length h.done) 1 r s t h.few k) (omega (arith, size, some))

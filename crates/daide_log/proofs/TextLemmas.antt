@@ -1,5 +1,5 @@
 -- Lines of an explanation, in order.
-use Rattle.std.proofs.Common.{◌≡◌, ℕ, List, [], ◌++◌, take, drop, refl, ap, ◌∙◌, append_assoc, append-nil}
+use Rattle.std.proofs.Common.{◌≡◌, ℕ, List, [], ◌++◌, Option, take, drop, refl, ap, ◌∙◌, append_assoc, append-nil}
 use Rattle.std.specs.List.{AllZip}
 use Rattle.std.proofs.lemmas.List.{take-append-drop}
 use Rattle.std.proofs.lemmas.List.Elements.{same_from_all_zip}
@@ -16,12 +16,17 @@ four_lines old a b c d t u v w e f g h =
     h ∙ ap (λ (l : List ℕ). l ++ d) (g ∙ ap (λ (l : List ℕ). l ++ c) (f ∙ ap (λ (l : List ℕ). l ++ b) e))
     ∙ simp append_assoc
 
-pub as_message : (words : List Word) (end : Side2) (level : Level) (max_depth : ℕ) (body : List ℕ) (verdict : Verdict)
-    (lines : List ℕ) → (verdict ≡ Relay → ⊥) → AreRefusedLines words end level max_depth body verdict lines →
-    AreMessageLines words end level max_depth body verdict lines
-as_message words end level max_depth body Relay lines other h = absurd (other refl)
-as_message words end level max_depth body Prn lines other h = h
-as_message words end level max_depth body (Huh place) lines other h = h
+pub three_parts : (old a b c t u v : List ℕ) → t ≡ old ++ a → u ≡ t ++ b → v ≡ u ++ c → v ≡ old ++ ((a ++ b) ++ c)
+three_parts old a b c t u v e f g =
+    g ∙ ap (λ (l : List ℕ). l ++ c) (f ∙ ap (λ (l : List ℕ). l ++ b) e) ∙ simp append_assoc
+
+pub as_message : (words : List Word) (end : Side2) (level : Level) (capped : Option Level) (max_depth : ℕ) (body : List ℕ)
+    (verdict : Verdict) (lines : List ℕ) → (verdict ≡ Relay → ⊥) →
+    AreRefusedLines words end level capped max_depth body verdict lines →
+    AreMessageLines words end level capped max_depth body verdict lines
+as_message words end level capped max_depth body Relay lines other h = absurd (other refl)
+as_message words end level capped max_depth body Prn lines other h = h
+as_message words end level capped max_depth body (Huh place) lines other h = h
 
 -- the header and the body are the held bytes
 pub held_of_parts : (held header body bytes : List ℕ) → header ≡ take 4 held → body ≡ drop 4 held →

@@ -1,7 +1,7 @@
 -- The report of a log with explanations. It has the text of each message; for a refused one also the level at which it
 -- was judged, its answer and the reason; the name and the bytes of each fault; the comments of the log; and at the end
 -- each incomplete frame. All these lines but the comments begin with four spaces. (own)
-use Rattle.std.specs.Prelude.{◌≡◌, ℕ, ◌+◌, ◌-◌, ◌/◌, ◌==◌, nat_lt, Bool, true, false, if◌then◌else◌, List, [], ◌∷◌, ◌++◌}
+use Rattle.std.specs.Prelude.{◌≡◌, ℕ, ◌+◌, ◌-◌, ◌/◌, ◌==◌, ◌&&◌, nat_lt, get_or, replicate, slice_set, Bool, true, false, if◌then◌else◌, List, [], ◌∷◌, ◌++◌}
 use Rattle.std.specs.Prelude.{codes, length, take, drop, Option, Some, None, is_some}
 use Rattle.std.specs.Fmt.{decimal}
 use Rattle.daide_token.specs.Token.{tokens_of}
@@ -14,6 +14,7 @@ use Rattle.daide_frame.specs.Code.{code_number}
 use Rattle.daide_frame.specs.Frames.{announced, head_in}
 use Rattle.daide_grammar.specs.Level.{level_number}
 use Rattle.daide_grammar.specs.declared.level.Level.{Level}
+use Rattle.daide_grammar.specs.declared.level.Level.TheVariants.{L0, L60}
 use Rattle.daide_grammar.specs.declared.side.Side2.{Side2}
 use Rattle.daide_words.specs.declared.word.Word.{Word}
 use Rattle.daide_words.specs.Word.{names_of}
@@ -30,7 +31,9 @@ use Rattle.daide_protocol.specs.declared.ending.Ending.TheVariants as Endings
 use Rattle.daide_protocol.specs.declared.summary.Summary.{Summary}
 use Rattle.daide_protocol.specs.Answers.{answer_body}
 use Rattle.daide_protocol.specs.Events.{Event, Comes, Ends, Loses, ImTimerExpired, OperatorStops}
-use Rattle.daide_protocol.specs.Machine.{SessionState, Effect, Question, Transition, coming, question, side2_of, ending_in}
+use Rattle.daide_protocol.specs.Bounds.{most_sessions}
+use Rattle.daide_protocol.specs.HloLevel.{level_reported}
+use Rattle.daide_protocol.specs.Machine.{Limits, SessionState, Effect, Question, Transition, coming, question, side2_of, ending_in}
 use Rattle.daide_protocol.specs.Summary.{count_note}
 use Rattle.daide_frame.specs.Side.{same_side}
 use Rattle.daide_log.specs.declared.explained.Explained.{Explained}
@@ -69,25 +72,65 @@ verdict_by (Deeds.Huh place) = Huh place
 abbrev pub message_text : List Word → List ℕ → List ℕ
 message_text words tokens = text_with (names_of words) tokens
 
+-- the level that the server announced, if a message was judged at the highest level, and that is below it
+abbrev pub capped_from : Level → Level → Level → Option Level
+capped_from top announced level =
+    if (level_number level == level_number top) && nat_lt (level_number top) (level_number announced) then Some announced
+    else None
+
+abbrev pub capped_text : Option Level → List ℕ
+capped_text None = []
+capped_text (Some announced) = codes ", capped from " ++ decimal (level_number announced)
+
+-- the level at which a message was judged, and the level that the server announced if the highest level capped it
+abbrev pub level_text : Level → Option Level → List ℕ
+level_text level capped = codes "judged at level " ++ decimal (level_number level) ++ capped_text capped
+
 -- the lines for a refused message: its text, its level, the answer to its sender, and the reason
-abbrev pub AreRefusedLines : List Word → Side2 → Level → ℕ → List ℕ → Verdict → List ℕ → Type 0
-AreRefusedLines words end level max_depth body verdict lines =
+abbrev pub AreRefusedLines : List Word → Side2 → Level → Option Level → ℕ → List ℕ → Verdict → List ℕ → Type 0
+AreRefusedLines words end level capped max_depth body verdict lines =
     (why : List ℕ) × IsExplained words end level max_depth (tokens_of body) verdict why
-    × (lines ≡ with_line_feed (message_text words (tokens_of body)) ++ with_line_feed (codes "judged at level " ++ decimal (level_number level))
+    × (lines ≡ with_line_feed (message_text words (tokens_of body)) ++ with_line_feed (level_text level capped)
     ++ with_line_feed (message_text words (tokens_of (answer_body body verdict))) ++ why)
 
-abbrev pub AreMessageLines : List Word → Side2 → Level → ℕ → List ℕ → Verdict → List ℕ → Type 0
-AreMessageLines words end level max_depth body Relay lines = lines ≡ with_line_feed (message_text words (tokens_of body))
-AreMessageLines words end level max_depth body Prn lines = AreRefusedLines words end level max_depth body Prn lines
-AreMessageLines words end level max_depth body (Huh place) lines =
-    AreRefusedLines words end level max_depth body (Huh place) lines
+abbrev pub AreMessageLines : List Word → Side2 → Level → Option Level → ℕ → List ℕ → Verdict → List ℕ → Type 0
+AreMessageLines words end level capped max_depth body Relay lines =
+    lines ≡ with_line_feed (message_text words (tokens_of body))
+AreMessageLines words end level capped max_depth body Prn lines =
+    AreRefusedLines words end level capped max_depth body Prn lines
+AreMessageLines words end level capped max_depth body (Huh place) lines =
+    AreRefusedLines words end level capped max_depth body (Huh place) lines
 
--- the lines for a frame: none, unless it is a message
-abbrev pub ExplainsFrame : List Word → ℕ → Option Question → List ℕ → Deed → List ℕ → Type 0
-ExplainsFrame words max_depth None body deed lines = lines ≡ []
-ExplainsFrame words max_depth (Some q) body deed lines =
+-- the lines for a frame by the level that the server announced: none, unless it is a message
+abbrev pub ExplainsFrame : List Word → Limits → Level → Option Question → List ℕ → Deed → List ℕ → Type 0
+ExplainsFrame words limits announced None body deed lines = lines ≡ []
+ExplainsFrame words limits announced (Some q) body deed lines =
     (q.message ≡ tokens_of body)
-    × AreMessageLines words (side2_of q.side) q.level max_depth body (verdict_by deed) lines
+    × AreMessageLines words (side2_of q.side) q.level (capped_from limits.top_level announced q.level) limits.max_depth body
+    (verdict_by deed) lines
+
+-- ---- the level that the server announced
+
+-- a relayed HLO of the server announces the level that it would set without a highest one
+abbrev pub announced_in : Side → List ℕ → Level → Level
+announced_in Bot tokens level = level
+announced_in Server tokens level = level_reported L60 tokens level
+
+abbrev pub announced_if : Verdict → Side → List ℕ → Level → Level
+announced_if Relay side tokens level = announced_in side tokens level
+announced_if Prn side tokens level = level
+announced_if (Huh place) side tokens level = level
+
+abbrev pub announced_at : Option Question → Verdict → Level → Level
+announced_at None verdict level = level
+announced_at (Some q) verdict level = announced_if verdict q.side q.message level
+
+-- the level that the server announced last, after a move with this note
+abbrev pub announced_after : Note → Option Question → Level → Level
+announced_after Notes.Nothing q level = level
+announced_after (Notes.Frame head deed) q level = announced_at q (verdict_by deed) level
+announced_after (Notes.Fault code) q level = level
+announced_after Notes.Stopped q level = level
 
 -- ---- a fault
 
@@ -130,45 +173,69 @@ bytes_at state side ImTimerExpired = (coming state side).pending
 bytes_at state side OperatorStops = (coming state side).pending
 
 -- the lines that explain a side's move, which this event caused in this state
-abbrev pub ExplainsMove : List Word → Side → SessionState → Event → Note → List ℕ → Type 0
-ExplainsMove words side before event Notes.Nothing lines = lines ≡ []
-ExplainsMove words side before event (Notes.Frame head deed) lines =
-    ExplainsFrame words before.limits.max_depth (question before event) (drop 4 (bytes_at before side event)) deed lines
-ExplainsMove words side before event (Notes.Fault code) lines =
+abbrev pub ExplainsMove : List Word → Level → Side → SessionState → Event → Note → List ℕ → Type 0
+ExplainsMove words announced side before event Notes.Nothing lines = lines ≡ []
+ExplainsMove words announced side before event (Notes.Frame head deed) lines =
+    ExplainsFrame words before.limits announced (question before event) (drop 4 (bytes_at before side event)) deed lines
+ExplainsMove words announced side before event (Notes.Fault code) lines =
     lines ≡ fault_lines before.limits.cap code (bytes_at before side event)
-ExplainsMove words side before event Notes.Stopped lines = lines ≡ []
+ExplainsMove words announced side before event Notes.Stopped lines = lines ≡ []
 
 -- ---- the entries
 
--- a move with the lines after it, or a comment of the log
+-- a move with the lines after it, and the level that its session's server announced by then; or a comment of the log
 pub data ExplainedEntry : Type 0 where
-  Moved : (entry : ReportEntry) → (added : List ℕ) → ExplainedEntry
+  Moved : (entry : ReportEntry) → (added : List ℕ) → (announced : Level) → ExplainedEntry
   Remark : (comment : List ℕ) → ExplainedEntry
 
 abbrev pub shown_text : ExplainedEntry → List ℕ
-shown_text (Moved entry added) = move_line entry.source entry.side entry.reported ++ added
+shown_text (Moved entry added announced) = move_line entry.source entry.side entry.reported ++ added
 shown_text (Remark comment) = with_line_feed comment
 
 abbrev pub shown_counted : ExplainedEntry → Summary → Summary
-shown_counted (Moved entry added) before = count_note entry.reported before
+shown_counted (Moved entry added announced) before = count_note entry.reported before
 shown_counted (Remark comment) before = before
 
+-- the place of a session in a list, from 0; a log of version 1 has one
+abbrev pub place_of_session : Option ℕ → ℕ
+place_of_session None = 0
+place_of_session (Some session) = session - 1
+
+-- the level that the server of each session announced last, after these entries
+abbrev pub announced_levels : List Level → List ExplainedEntry → List Level
+announced_levels levels [] = levels
+announced_levels levels (Moved entry added announced ∷ shown) =
+    announced_levels (slice_set levels (place_of_session entry.source.session) announced) shown
+announced_levels levels (Remark comment ∷ shown) = announced_levels levels shown
+
+abbrev pub level_announced : List Level → ReportKey → Level
+level_announced levels source = get_or levels (place_of_session source.session) L0
+
+-- the entry for a move
+abbrev pub entry_of : List Level → ReportKey → Side → SessionState → Event → Note → List ℕ → ExplainedEntry
+entry_of levels source side before event reported lines =
+    Moved (record { source = source; side = side; reported = reported }) (indented lines)
+    (announced_after reported (question before event) (level_announced levels source))
+
 -- the entries for the moves of one event
-abbrev pub AreShown : List Word → ReportKey → Side → SessionState → Event → List Effect → List ExplainedEntry → Type 0
-AreShown words source side before event [] shown = shown ≡ []
-AreShown words source side before event (move ∷ moves) shown =
-    (lines : List ℕ) × (more : List ExplainedEntry) × ExplainsMove words side before event move.reported lines
-    × AreShown words source side before event moves more
-    × (shown ≡ Moved (record { source = source; side = side; reported = move.reported }) (indented lines) ∷ more)
+abbrev pub AreShown : List Word → List Level → ReportKey → Side → SessionState → Event → List Effect → List ExplainedEntry → Type 0
+AreShown words levels source side before event [] shown = shown ≡ []
+AreShown words levels source side before event (move ∷ moves) shown =
+    (lines : List ℕ) × (more : List ExplainedEntry)
+    × ExplainsMove words (level_announced levels source) side before event move.reported lines
+    × AreShown words (announced_levels levels (entry_of levels source side before event move.reported lines ∷ [])) source side
+    before event moves more
+    × (shown ≡ entry_of levels source side before event move.reported lines ∷ more)
 
 -- These events, one after the other, take the state to the new one with these moves, which have these entries.
-abbrev pub AreShownBy : List Word → ReportKey → Side → SessionState → List Event → List Effect → SessionState → List ExplainedEntry →
-    Type 0
-AreShownBy words source side old [] moves new shown = (moves ≡ []) × (new ≡ old) × (shown ≡ [])
-AreShownBy words source side old (event ∷ events) moves new shown =
+abbrev pub AreShownBy : List Word → List Level → ReportKey → Side → SessionState → List Event → List Effect → SessionState →
+    List ExplainedEntry → Type 0
+AreShownBy words levels source side old [] moves new shown = (moves ≡ []) × (new ≡ old) × (shown ≡ [])
+AreShownBy words levels source side old (event ∷ events) moves new shown =
     (mid : SessionState) × (first : List Effect) × (rest : List Effect) × (here : List ExplainedEntry) × (later : List ExplainedEntry)
-    × Transition old event first mid × AreShown words source side old event first here
-    × AreShownBy words source side mid events rest new later × (moves ≡ first ++ rest) × (shown ≡ here ++ later)
+    × Transition old event first mid × AreShown words levels source side old event first here
+    × AreShownBy words (announced_levels levels here) source side mid events rest new later × (moves ≡ first ++ rest)
+    × (shown ≡ here ++ later)
 
 -- a comment is copied to the report
 abbrev pub is_remark : List ℕ → Bool
@@ -241,11 +308,14 @@ cut_count (Some number) = 1
 abbrev pub explained : List Word → ReportForm Explained
 explained words = record {
   Entry = ExplainedEntry;
+  Context = List Level;
+  fresh = replicate most_sessions L0;
+  next = announced_levels;
   text = shown_text;
   counted = shown_counted;
   tells = AreShownBy words;
-  line = λ line source event before moves after shown.
-      (later : List ExplainedEntry) × AreShownBy words source (side_of event) before (events_of_line event) moves after later
+  line = λ levels line source event before moves after shown.
+      (later : List ExplainedEntry) × AreShownBy words levels source (side_of event) before (events_of_line event) moves after later
       × (shown ≡ remarks line ++ later);
   quiet = λ line shown. shown ≡ remarks line;
   opens = λ heading shown. (shown ≡ []) × HasWords words heading;

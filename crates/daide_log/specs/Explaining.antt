@@ -12,13 +12,14 @@ use Rattle.daide_protocol.specs.declared.config.Config.{Config}
 use Rattle.daide_protocol.specs.declared.note.Deed.{Deed}
 use Rattle.daide_protocol.specs.declared.note.Note.{Note}
 use Rattle.daide_protocol.specs.declared.note.Note.TheVariants as Notes
-use Rattle.daide_protocol.specs.Machine.{coming, is_dm, side2_of}
+use Rattle.daide_grammar.specs.declared.level.Level.{Level}
+use Rattle.daide_protocol.specs.Machine.{Limits, coming, is_dm, side2_of}
 use Rattle.daide_protocol.specs.Wires.{SessionView, holding}
 use Rattle.std.specs.Prelude.{Option, Some, None, ◌∷◌, ◌+◌, ◌==◌, ◌||◌, nat_lt, Bool, if◌then◌else◌}
 use Rattle.std.specs.Io.KnownBytes.{Appends}
 use Rattle.daide_log.specs.declared.report.Part as reports
 use Rattle.daide_log.specs.Report.{texts_of}
-use Rattle.daide_log.specs.Explained.{AreMessageLines, Part, fault_lines, part_text, verdict_by}
+use Rattle.daide_log.specs.Explained.{AreMessageLines, Part, announced_if, capped_from, fault_lines, part_text, verdict_by}
 
 -- the limits are valid, and the body consists of whole tokens
 pub record IsRuled (max_depth : ℕ) (body : List ℕ) : Type 0 where
@@ -42,16 +43,25 @@ IsRightlyReported words config side (Notes.Fault code) new = ⊤
 IsRightlyReported words config side Notes.Stopped new = ⊤
 
 -- the lines for a move, from the held frame
-abbrev pub AreLinesBy : List Word → ℕ → Side → Note → SessionView → List ℕ → Type 0
-AreLinesBy words max_depth side Notes.Nothing new lines = lines ≡ []
-AreLinesBy words max_depth side (Notes.Frame head deed) new lines =
+abbrev pub AreLinesBy : List Word → Limits → Level → Side → Note → SessionView → List ℕ → Type 0
+AreLinesBy words limits announced side Notes.Nothing new lines = lines ≡ []
+AreLinesBy words limits announced side (Notes.Frame head deed) new lines =
     MatchBool (is_dm head.kind)
-    (AreMessageLines words (side2_of side) (coming new.state side).noted max_depth (drop 4 (holding new side).held)
+    (AreMessageLines words (side2_of side) (coming new.state side).noted
+    (capped_from limits.top_level announced (coming new.state side).noted) limits.max_depth (drop 4 (holding new side).held)
     (verdict_by deed) lines)
     (lines ≡ [])
-AreLinesBy words max_depth side (Notes.Fault code) new lines =
+AreLinesBy words limits announced side (Notes.Fault code) new lines =
     lines ≡ fault_lines new.state.limits.cap code (holding new side).held
-AreLinesBy words max_depth side Notes.Stopped new lines = lines ≡ []
+AreLinesBy words limits announced side Notes.Stopped new lines = lines ≡ []
+
+-- the level that the server announced last, from the held frame
+abbrev pub announced_by_held : Side → Note → SessionView → Level → Level
+announced_by_held side Notes.Nothing new level = level
+announced_by_held side (Notes.Frame head deed) new level =
+    if is_dm head.kind then announced_if (verdict_by deed) side (tokens_of (drop 4 (holding new side).held)) level else level
+announced_by_held side (Notes.Fault code) new level = level
+announced_by_held side Notes.Stopped new level = level
 
 -- ---- incomplete frames
 

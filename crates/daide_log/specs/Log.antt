@@ -51,10 +51,13 @@ IsPlayed =
 abbrev pub plain : ReportForm Summary
 plain = record {
   Entry = ReportEntry;
+  Context = Unit {0};
+  fresh = tt;
+  next = λ context entries. context;
   text = λ entry. move_line entry.source entry.side entry.reported;
   counted = λ entry before. count_note entry.reported before;
-  tells = λ source side before events moves after reported. reported ≡ entries_of source side moves;
-  line = λ line source event before moves after reported. reported ≡ entries_of source (side_of event) moves;
+  tells = λ context source side before events moves after reported. reported ≡ entries_of source side moves;
+  line = λ context line source event before moves after reported. reported ≡ entries_of source (side_of event) moves;
   quiet = λ line reported. reported ≡ [];
   opens = λ heading reported. reported ≡ [];
   cuts = false;
@@ -80,19 +83,19 @@ stage_at Unnamed = Opening Unnamed
 stage_at (Named version) = Opening (Named version)
 stage_at (Headed head) = if has_all_words head then state_after_preamble head else Opening (Headed head)
 
--- the line of this number takes the log to its next state, with these entries
-abbrev pub GoesOnBy : {Answer : Type 0} → (form : ReportForm Answer) → ℕ → LogState → List ℕ → List form.Entry → LogState →
-    Type 0
-GoesOnBy form number (Opening old) line reported new =
+-- the line of this number takes the log to its next state, with these entries after earlier ones
+abbrev pub GoesOnBy : {Answer : Type 0} → (form : ReportForm Answer) → form.Context → ℕ → LogState → List ℕ →
+    List form.Entry → LogState → Type 0
+GoesOnBy form context number (Opening old) line reported new =
     (heading : Heading) × (heading_after old line ≡ Some heading) × form.opens heading reported × (new ≡ stage_at heading)
-GoesOnBy form number (Playing version old) line reported new =
+GoesOnBy form context number (Playing version old) line reported new =
     (event : MatchEvent) × (event_in version (length old) line ≡ Some event)
     × (sessions : List SessionState)
-    × IsPlayedAs (form.quiet line) (form.line line) version number event old reported sessions
+    × IsPlayedAs (form.quiet line) (form.line context line) version number event old reported sessions
     × (new ≡ Playing version sessions)
 
 abbrev pub AdvancesByLine : ℕ → LogState → List ℕ → List ReportEntry → LogState → Type 0
-AdvancesByLine = GoesOnBy plain
+AdvancesByLine = GoesOnBy plain tt
 
 -- the line has none of the forms allowed here
 abbrev pub IsBad : LogState → List ℕ → Type 0
@@ -119,7 +122,7 @@ module _ {Answer : Type 0} (form : ReportForm Answer) where
     line : (bytes : List ℕ) (number : ℕ) (reported : List form.Entry) (old : LogState) → ReportsBy bytes number reported old →
         (line : List ℕ) (more : List form.Entry) (new : LogState) →
         number < most_lines → IsUnbroken line → length line ≤ longest_line →
-        GoesOnBy form (number + 1) old (without_cr line) more new →
+        GoesOnBy form (form.next form.fresh reported) (number + 1) old (without_cr line) more new →
         ReportsBy (bytes ++ line ++ 10 ∷ []) (number + 1) (reported ++ more) new
 
   -- the same for all lines of a log, the last of which may lack its line feed
@@ -129,7 +132,7 @@ module _ {Answer : Type 0} (form : ReportForm Answer) where
     unended : (bytes : List ℕ) (number : ℕ) (reported : List form.Entry) (old : LogState) → ReportsBy bytes number reported old →
         (line : List ℕ) (more : List form.Entry) (new : LogState) →
         number < most_lines → 0 < length line → IsUnbroken line → length line ≤ longest_line →
-        GoesOnBy form (number + 1) old line more new → ReportsAllBy (bytes ++ line) (number + 1) (reported ++ more) new
+        GoesOnBy form (form.next form.fresh reported) (number + 1) old line more new → ReportsAllBy (bytes ++ line) (number + 1) (reported ++ more) new
 
   -- ---- the whole log
 

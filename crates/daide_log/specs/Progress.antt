@@ -193,19 +193,22 @@ module _ {Answer : Type 0} (form : ReportForm Answer) where
       HasRead before origin now held number [] (Playing version states) × Keeps before all
 
   -- a line after the head moves the sessions; its entries are counted, and their text written
-  abbrev pub Judges : Version → ℕ → List SessionState → List ℕ → List SessionState → Summary → Summary →
-      Option (List ℕ) → Option (List ℕ) → Type 0
-  Judges version number old line new before after written_before written_after =
-      (reported : List form.Entry) × GoesOnBy form number (Playing version old) line reported (Playing version new)
+  abbrev pub Judges : (form.Context → Type 0) → (form.Context → Type 0) → Version → ℕ → List SessionState → List ℕ →
+      List SessionState → Summary → Summary → Option (List ℕ) → Option (List ℕ) → Type 0
+  Judges knew knows version number old line new before after written_before written_after =
+      (context : form.Context) → knew context →
+      (reported : List form.Entry) × GoesOnBy form context number (Playing version old) line reported (Playing version new)
       × (after ≡ counted_over form.counted reported before) × Appends written_before written_after (texts_of form.text reported)
+      × knows (form.next context reported)
 
   -- between two lines after the head
-  pub record IsPlaying (old new : Reader) (held : List ℕ) (number : ℕ) (version : Version)
+  pub record IsPlaying (knows : form.Context → Type 0) (old new : Reader) (held : List ℕ) (number : ℕ) (version : Version)
       (sessions : List SessionState) (summary : Summary) (before after : Option (List ℕ)) : Type 0 where
     pub reported : List form.Entry
     pub has_read : HasRead before old new held number reported (Playing version sessions)
     pub counts : summary ≡ counted_over form.counted reported nothing_counted
     pub written : Appends before after (texts_of form.text reported)
+    pub known : knows (form.next form.fresh reported)
 
   -- the end of the report was written, and this is the result, by the number of the last line if it is cut
   abbrev pub IsFinished : Option ℕ → Version → List SessionState → Summary → Option (List ℕ) → Option (List ℕ) → Answer →

@@ -36,13 +36,16 @@ IsOneEffect [] reported = reported ≡ Notes.Nothing
 IsOneEffect (move ∷ []) reported = (move.reported ≡ reported) × (reported ≢ Notes.Nothing)
 IsOneEffect (move ∷ another ∷ moves) reported = ⊥
 
--- These events move the session; its moves are counted, and their entries written.
-abbrev pub ReportsEvents : {Answer : Type 0} → ReportForm Answer → ReportKey → Side → SessionState → List Event → SessionState → Summary →
-    Summary → Option (List ℕ) → Option (List ℕ) → Type 0
-ReportsEvents form source side old events new before after written_before written_after =
+-- These events move the session; its moves are counted, and their entries written. `knew` and `knows` say what was known
+-- of earlier entries before and after it.
+abbrev pub ReportsEvents : {Answer : Type 0} → (form : ReportForm Answer) → (form.Context → Type 0) → (form.Context → Type 0) →
+    ReportKey → Side → SessionState → List Event → SessionState → Summary → Summary → Option (List ℕ) → Option (List ℕ) →
+    Type 0
+ReportsEvents form knew knows source side old events new before after written_before written_after =
+    (context : form.Context) → knew context →
     (moves : List Effect) × (reported : List form.Entry) × Runs old events moves new
-    × form.tells source side old events moves new reported × (after ≡ counted_over form.counted reported before)
-    × Appends written_before written_after (texts_of form.text reported)
+    × form.tells context source side old events moves new reported × (after ≡ counted_over form.counted reported before)
+    × Appends written_before written_after (texts_of form.text reported) × knows (form.next context reported)
 
 -- ---- one move
 
@@ -84,12 +87,21 @@ IsBare ParsedEvents.StopLine = ⊤
 IsBare ParsedEvents.Silence = ⊤
 
 -- the lines after the line of a move, so that both together are the move's entries
-abbrev pub IsReportedWith : {Answer : Type 0} → ReportForm Answer → Side → Note → SessionView → List ℕ → Type 0
-IsReportedWith form side reported new added =
-    (source : ReportKey) (old : SessionView) (events : List Event) → (made : IsMade old events side reported new) →
-    (entries : List form.Entry) × form.tells source side old.state events (made.move ∷ []) new.state entries
+abbrev pub IsReportedWith : {Answer : Type 0} → (form : ReportForm Answer) → form.Context → (form.Context → Type 0) →
+    ReportKey → Side → Note → SessionView → List ℕ → Type 0
+IsReportedWith form context knows source side reported new added =
+    (old : SessionView) (events : List Event) → (made : IsMade old events side reported new) →
+    (entries : List form.Entry) × form.tells context source side old.state events (made.move ∷ []) new.state entries
     × (texts_of form.text entries ≡ move_line source side reported ++ added)
     × ((before : Summary) → counted_over form.counted entries before ≡ count_note reported before)
+    × knows (form.next context entries)
+
+-- what a style knew of earlier entries: these lines follow the line of a move, and were written
+abbrev pub ReportsMove : {Answer : Type 0} → (form : ReportForm Answer) → (form.Context → Type 0) → (form.Context → Type 0) →
+    ReportKey → Side → Note → SessionView → (List ℕ → List ℕ) → Option (List ℕ) → Option (List ℕ) → Type 0
+ReportsMove form knew knows source side reported new whole before after =
+    (context : form.Context) → knew context →
+    (added : List ℕ) × IsReportedWith form context knows source side reported new added × Appends before after (whole added)
 
 -- the entries of a line without an event, which are not counted
 abbrev pub IsQuietWith : {Answer : Type 0} → ReportForm Answer → List ℕ → List ℕ → Type 0

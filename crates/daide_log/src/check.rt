@@ -129,6 +129,8 @@ fn play<A: Allocator, R: LogReader, W: Write, S: Style>(
     requires ready { All (IsReady account.old.head.limits.config (words_of account.old.head.words)) sessions.old.items }
     requires lines { lines ≤ most_lines }
     requires nothing { account.old.summary ≡ nothing_counted }
+    requires fresh { S.knows (words_of account.old.head.words) account.old.style.now
+        (S.form (words_of account.old.head.words)).fresh }
     ensures answered { (first : Reader) (before : Option (List ℕ)) →
         StartsReport (S.form (words_of account.old.head.words)) (R.reader_view input.old.reader.now) input.old.block
         lines account.old.head.version (states_of sessions.old.items) (all_of W.contents account.old.output) first before →
@@ -176,6 +178,7 @@ fn report<A: Allocator + Copy, R: LogReader, W: Write, S: Style>(
 ) -> Result<S::Answer, LogFault>
     requires unread { input.old.block ≡ [] }
     requires nothing { account.old.summary ≡ nothing_counted }
+    requires fresh { (words : List Word) → S.knows words account.old.style.now (S.form words).fresh }
     ensures reported { (words : List Word) × IsAnswered (S.form words) (R.reader_view input.old.reader.now)
         (R.reader_view input.new.reader.now) (all_of W.contents account.old.output) (all_of W.contents account.new.output)
         result }
@@ -226,6 +229,7 @@ pub(crate) fn report_whole<A: Allocator + Copy, R: LogReader, W: Write, S: Style
     requires unread { input.old.block ≡ [] }
     requires nothing { account.old.summary ≡ nothing_counted }
     requires none_held { account.old.output.page.items ≡ [] }
+    requires fresh { (words : List Word) → S.knows words account.old.style.now (S.form words).fresh }
     ensures reported { (words : List Word) × IsAnswered (S.form words) (R.reader_view input.old.reader.now)
         (R.reader_view input.new.reader.now) (W.contents account.old.output.writer.now)
         (W.contents account.new.output.writer.now) result }

@@ -1,6 +1,6 @@
 //! The report of a log with explanations.
 
-ghost use Rattle.std.specs.Prelude.{◌≡◌, ◌+◌, ◌*◌, ◌≤◌, ℕ, ◌++◌, ◌%◌, false, All, List, Option, drop, length, IfOk, IfSome, OnOk};
+ghost use Rattle.std.specs.Prelude.{◌≡◌, ◌+◌, ◌*◌, ◌≤◌, ℕ, ◌++◌, ◌%◌, false, All, replicate, List, Option, drop, length, IfOk, IfSome, OnOk};
 ghost use Rattle.std.specs.Io.KnownBytes.{Appends};
 ghost use Rattle.daide_token.specs.Token.{tokens_of};
 ghost use Rattle.daide_token.specs.HexDigits.{digits_of_byte as digits_in};
@@ -12,7 +12,9 @@ ghost use Rattle.daide_reader.specs.Verdict.{HasVerdict, IsPlaceIn};
 ghost use Rattle.daide_log_lines.specs.Output.{IsSameWriter, all_of};
 ghost use Rattle.daide_log_lines.specs.Reader.{silent};
 ghost use Rattle.daide_log.specs.Explained.{explained, is_remark, with_line_feed, message_text, pairs, token_line, bytes_line};
-ghost use Rattle.daide_log.specs.Explained.{fault_name, faulty_bytes, fault_lines};
+ghost use Rattle.daide_log.specs.Explained.{fault_name, faulty_bytes, fault_lines, capped_text, level_text, capped_from as spec_capped_from};
+ghost use Rattle.daide_grammar.specs.declared.level.Level.{Level};
+ghost use Rattle.daide_grammar.specs.declared.level.Level.TheVariants.{L0};
 ghost use Rattle.daide_log.specs.Explained.{cut_count, cut_text, part_text};
 ghost use Rattle.daide_log.specs.Report.{texts_of};
 ghost use Rattle.daide_log.specs.Explained.{AreRefusedLines, AreMessageLines, is_at_fault, verdict_by as verdict_of_deed};
@@ -20,7 +22,8 @@ ghost use Rattle.daide_log.specs.Explained.{part_of as spec_part_of, unfinished_
 ghost use Rattle.daide_log.specs.Explaining.{part_by, part_with, HasPut};
 ghost use Rattle.daide_frame.specs.Frames.{announced_by};
 ghost use Rattle.daide_protocol.specs.Bounds.{longest_body, most_sessions};
-ghost use Rattle.daide_protocol.specs.Machine.{coming, is_dm, side2_of, ending_in};
+ghost use Rattle.daide_protocol.specs.Config.{limits_with};
+ghost use Rattle.daide_protocol.specs.Machine.{Limits, coming, is_dm, side2_of, ending_in};
 ghost use Rattle.daide_protocol.specs.declared.config.Config.{Config};
 ghost use Rattle.daide_protocol.specs.Wires.{holding, is_awaited, queued};
 ghost use Rattle.daide_log.specs.Explaining.{IsRuled, IsRightFate, IsRightlyReported, AreLinesBy};
@@ -28,17 +31,19 @@ ghost use Rattle.daide_log.specs.Progress.{IsAnswered, states_of};
 ghost use Rattle.daide_log.specs.Reporting.{IsIdle};
 ghost use Rattle.daide_log.specs.Proofs.Lawful.{explained_lawful};
 
+use crate::announced::{announced_after, capped_from, level_announced, record_level, top_level};
 use crate::check::report_whole;
 use crate::heading::{Preamble, Version};
 use crate::line_reason::LineReason;
 use crate::page::{
     Unreported, put_byte, put_cut_line, put_indented, put_message, put_part, put_text,
 };
-use crate::report::Part;
+use crate::report::{Part, ReportKey};
 use crate::report_builder::ReportBuilder;
 use crate::style::Style;
 use daide_explain::{Rules, answer_of, write_explained};
 use daide_frame::{Code, Head, Kind, Side};
+use daide_grammar::Level;
 use daide_io::{FaultCause, FaultField};
 use daide_log_lines::LogFault;
 use daide_log_lines::block::Block;
@@ -48,7 +53,7 @@ use daide_log_lines::page::Page;
 use daide_log_lines::reader::LogReader;
 use daide_log_lines::text::Text;
 use daide_protocol::transitions::side2_of;
-use daide_protocol::{Deed, Note, Summary};
+use daide_protocol::{Deed, MAX_SESSIONS, Note, Summary};
 use daide_reader::Verdict;
 use daide_session::{Ending, Session};
 use daide_token::{digits_of_byte, write_text_with};
@@ -72,6 +77,8 @@ pub struct Explained {
 #[derive(Drop)]
 struct Explaining<B: Allocator> {
     text: Vec<u8, B>,
+    /// The level that the server of each session announced last.
+    announced: [Level; MAX_SESSIONS],
 }
 
 /// Writes tokens on a line of their own, with the operator's words by their names.
@@ -84,10 +91,36 @@ fn write_tokens<B: Allocator>(words: &Words, tokens: &[u8], text: &mut Vec<u8, B
     text.write_all(b"\n")
 }
 
+/// Writes the level that the server announced, if the highest level capped it.
+fn write_capped<B: Allocator>(capped: Option<Level>, text: &mut Vec<u8, B>) -> io::Result<()>
+    ensures { OnOk result (text.new.items ≡ text.old.items ++ capped_text capped) }
+{
+    let Some(announced) = capped else {
+        return Ok(());
+    };
+    let number = announced.number();
+    write!(text, ", capped from {number}")
+}
+
+/// Writes the level at which a message was judged, and the one that the server announced if the highest level capped it.
+fn write_level<B: Allocator>(
+    level: Level,
+    capped: Option<Level>,
+    text: &mut Vec<u8, B>,
+) -> io::Result<()>
+    ensures { OnOk result (text.new.items ≡ text.old.items ++ with_line_feed (level_text level capped)) }
+{
+    let number = level.number();
+    write!(text, "judged at level {number}")?;
+    write_capped(capped, text)?;
+    text.write_all(b"\n")
+}
+
 /// Writes the text of a refused message, its level, its answer and the reason.
 fn write_refused<B: Allocator + Copy>(
     alloc: B,
     rules: &Rules<'_>,
+    capped: Option<Level>,
     verdict: Verdict,
     body: &[u8],
     text: &mut Vec<u8, B>,
@@ -97,13 +130,12 @@ fn write_refused<B: Allocator + Copy>(
     requires verdict { HasVerdict (IsMessageOver (grammar_words (words_of rules.now.words.now)) rules.now.end
         rules.now.level) rules.now.max_depth (tokens_of body.now) verdict }
     ensures { OnOk result ((lines : List ℕ) × AreRefusedLines (words_of rules.now.words.now) rules.now.end
-        rules.now.level rules.now.max_depth body.now verdict lines
+        rules.now.level capped rules.now.max_depth body.now verdict lines
         × (text.new.items ≡ text.old.items ++ lines)) }
 {
     let answer = answer_of(alloc, verdict, body)?;
     write_tokens(rules.words, body, text)?;
-    let level = rules.level.number();
-    writeln!(text, "judged at level {level}")?;
+    write_level(rules.level, capped, text)?;
     write_tokens(rules.words, answer.as_slice(), text)?;
     write_explained(alloc, rules, verdict, body, text)
 }
@@ -112,6 +144,7 @@ fn write_refused<B: Allocator + Copy>(
 fn write_message<B: Allocator + Copy>(
     alloc: B,
     rules: &Rules<'_>,
+    capped: Option<Level>,
     verdict: Verdict,
     body: &[u8],
     text: &mut Vec<u8, B>,
@@ -121,18 +154,18 @@ fn write_message<B: Allocator + Copy>(
     requires verdict { HasVerdict (IsMessageOver (grammar_words (words_of rules.now.words.now)) rules.now.end
         rules.now.level) rules.now.max_depth (tokens_of body.now) verdict }
     ensures { OnOk result ((lines : List ℕ) × AreMessageLines (words_of rules.now.words.now) rules.now.end
-        rules.now.level rules.now.max_depth body.now verdict lines
+        rules.now.level capped rules.now.max_depth body.now verdict lines
         × (text.new.items ≡ text.old.items ++ lines)) }
 {
     match verdict {
         Verdict::Relay => write_tokens(rules.words, body, text),
-        Verdict::Prn => write_refused(alloc, rules, verdict, body, text),
-        Verdict::Huh(_) => write_refused(alloc, rules, verdict, body, text),
+        Verdict::Prn => write_refused(alloc, rules, capped, verdict, body, text),
+        Verdict::Huh(_) => write_refused(alloc, rules, capped, verdict, body, text),
     }
 }
 
 /// Returns the verdict that corresponds to a deed.
-fn verdict_by(deed: Deed) -> Verdict
+pub(crate) fn verdict_by(deed: Deed) -> Verdict
     ensures { result ≡ verdict_of_deed deed }
 {
     match deed {
@@ -210,7 +243,7 @@ fn fault_name<A: Allocator>(session: &Session<A>, side: Side, code: Code) -> &'s
 }
 
 /// Returns whether a frame is a message.
-fn is_message(kind: Kind) -> bool
+pub(crate) fn is_message(kind: Kind) -> bool
     ensures { result ≡ is_dm kind }
 {
     match kind {
@@ -223,6 +256,7 @@ fn is_message(kind: Kind) -> bool
 fn write_held<A: Allocator, B: Allocator + Copy>(
     head: &Preamble,
     session: &Session<A>,
+    announced: Level,
     side: Side,
     deed: Deed,
     text: &mut Vec<u8, B>,
@@ -230,7 +264,8 @@ fn write_held<A: Allocator, B: Allocator + Copy>(
     requires right { IsRightFate (words_of head.now.words) head.now.limits.config side deed session.now }
     ensures { OnOk result ((lines : List ℕ)
         × AreMessageLines (words_of head.now.words) (side2_of side) (coming session.now.state side).noted
-        head.now.limits.config.max_depth (drop 4 (holding session.now side).held) (verdict_of_deed deed) lines
+        (spec_capped_from (limits_with head.now.limits.config (words_of head.now.words)).top_level announced
+        (coming session.now.state side).noted) head.now.limits.config.max_depth (drop 4 (holding session.now side).held) (verdict_of_deed deed) lines
         × (text.new.items ≡ text.old.items ++ lines)) }
 {
     let rules = Rules {
@@ -239,9 +274,11 @@ fn write_held<A: Allocator, B: Allocator + Copy>(
         level: session.noted(side),
         max_depth: head.limits.config.max_depth,
     };
+    let top = top_level(head.limits.config);
     write_message(
         *text.allocator(),
         &rules,
+        capped_from(top, announced, rules.level),
         verdict_by(deed),
         session.body(side),
         text,
@@ -269,20 +306,22 @@ fn write_faulty<A: Allocator, B: Allocator + Copy>(
 fn write_lines<A: Allocator, B: Allocator + Copy>(
     head: &Preamble,
     session: &Session<A>,
+    announced: Level,
     side: Side,
     reported: Note,
     text: &mut Vec<u8, B>,
 ) -> io::Result<()>
     requires right { IsRightlyReported (words_of head.now.words) head.now.limits.config side reported session.now }
     ensures { OnOk result ((lines : List ℕ)
-        × AreLinesBy (words_of head.now.words) head.now.limits.config.max_depth side reported session.now lines
+        × AreLinesBy (words_of head.now.words) (limits_with head.now.limits.config (words_of head.now.words)) announced side
+        reported session.now lines
         × (text.new.items ≡ text.old.items ++ lines)) }
 {
     match reported {
         Note::Nothing | Note::Stopped => Ok(()),
         Note::Frame(frame, deed) => {
             if is_message(frame.kind) {
-                return write_held(head, session, side, deed, text);
+                return write_held(head, session, announced, side, deed, text);
             }
             Ok(())
         }
@@ -292,8 +331,8 @@ fn write_lines<A: Allocator, B: Allocator + Copy>(
 
 /// Returns the message of a side's move, if its text is all that is written about the move.
 fn message_alone<A: Allocator>(session: &Session<A>, side: Side, reported: Note) -> Option<&[u8]>
-    ensures alone { IfSome result (λ body. (words : List Word) → (max_depth : ℕ) →
-        AreLinesBy words max_depth side reported session.now (with_line_feed (message_text words (tokens_of body.now)))) }
+    ensures alone { IfSome result (λ body. (words : List Word) → (limits : Limits) → (announced : Level) →
+        AreLinesBy words limits announced side reported session.now (with_line_feed (message_text words (tokens_of body.now)))) }
     ensures even { IfSome result (λ body. (words : List Word) → (config : Config) →
         IsRightlyReported words config side reported session.now → length body.now % 2 ≡ 0) }
 {
@@ -493,26 +532,32 @@ impl<B: Allocator + Copy> Style for Explaining<B> {
 
     ghost form = { λ words. explained words };
 
+    ghost knows = { λ words style levels. levels ≡ style.announced };
+
     fn explain<A: Allocator, W: Write>(
         &mut self,
         head: &Preamble,
         session: &Session<A>,
+        source: ReportKey,
         side: Side,
         reported: Note,
         output: &mut Output<'_, W>,
     ) -> Result<(), Unreported> {
+        let announced = level_announced(&self.announced, source);
+        let after = announced_after(session, side, reported, announced);
+        record_level(&mut self.announced, source, after);
         if let Some(body) = message_alone(session, side, reported) {
             return put_message(&head.words, body, output);
         }
         self.text.clear();
-        let Ok(()) = write_lines(head, session, side, reported, &mut self.text) else {
+        let Ok(()) = write_lines(head, session, announced, side, reported, &mut self.text) else {
             return Err(Unreported::Memory);
         };
         put_indented(self.text.as_slice(), output)
     }
 
     fn quote<W: Write>(
-        &mut self,
+        &self,
         _head: &Preamble,
         line: &[u8],
         output: &mut Output<'_, W>,
@@ -555,6 +600,7 @@ fn explain_over<A: Allocator + Copy, R: LogReader, W: Write>(
     writer: &mut W,
     refused: &mut Option<LineReason>,
 ) -> Result<Explained, LogFault>
+    requires fresh { style.old.announced ≡ replicate most_sessions L0 }
     ensures { (words : List Word) × IsAnswered (explained words) (R.reader_view reader.old) (R.reader_view reader.new)
         (W.contents writer.old) (W.contents writer.new) result }
 {
@@ -591,6 +637,7 @@ pub fn explain_stream<A: Allocator + Copy, R: LogReader, W: Write>(
 {
     let mut style = Explaining {
         text: Vec::new(alloc),
+        announced: [Level::L0; MAX_SESSIONS],
     };
     explain_over(alloc, &mut style, reader, writer, refused)
 }

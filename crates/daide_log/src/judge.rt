@@ -54,7 +54,10 @@ pub fn judge<A: Allocator, W: Write, S: Style>(
     requires room { HasRoom longest_piece account.old.summary }
     ensures ready { IsReady account.old.head.limits.config (words_of account.old.head.words) session.new }
     ensures few { IsMoreBy longest_piece account.old.summary account.new.summary }
-    ensures judged { OnOk result (ReportsEvents (S.form (words_of account.old.head.words)) source (side_of (event_reported bytes.now reported)) session.old.state
+    ensures judged { OnOk result (ReportsEvents (S.form (words_of account.old.head.words))
+        (S.knows (words_of account.old.head.words) account.old.style.now)
+        (S.knows (words_of account.old.head.words) account.new.style.now) source
+        (side_of (event_reported bytes.now reported)) session.old.state
         (events_of_line (event_reported bytes.now reported)) session.new.state
         account.old.summary account.new.summary (all_of W.contents account.old.output)
         (all_of W.contents account.new.output)) }
@@ -123,6 +126,7 @@ fn quote<W: Write, S: Style>(
     ensures refused { IfErr result (IsLateFault (S.form (words_of account.old.head.words))) }
     ensures same_head { account.new.head ≡ account.old.head }
     ensures same_summary { account.new.summary ≡ account.old.summary }
+    ensures same_style { account.new.style.now ≡ account.old.style.now }
     ensures same_writer { IsSameWriter account.old.output account.new.output }
 {
     as_fault(
@@ -150,7 +154,10 @@ pub fn judge_line<A: Allocator, W: Write, S: Style>(
     ensures same { length sessions.new.items ≡ length sessions.old.items }
     ensures ready { All (IsReady account.old.head.limits.config (words_of account.old.head.words)) sessions.new.items }
     ensures few { IsMoreBy longest_piece account.old.summary account.new.summary }
-    ensures judged { OnOk result (Judges (S.form (words_of account.old.head.words)) origin.version origin.line (states_of sessions.old.items) line.now
+    ensures judged { OnOk result (Judges (S.form (words_of account.old.head.words))
+        (S.knows (words_of account.old.head.words) account.old.style.now)
+        (S.knows (words_of account.old.head.words) account.new.style.now) origin.version origin.line
+        (states_of sessions.old.items) line.now
         (states_of sessions.new.items) account.old.summary account.new.summary
         (all_of W.contents account.old.output)
         (all_of W.contents account.new.output)) }

@@ -5,6 +5,7 @@
 //! session's queues are emptied at once.
 #![tactic(auto)]
 
+mod announced;
 pub mod check;
 pub mod comment;
 pub mod config_line;

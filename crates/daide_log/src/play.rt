@@ -12,7 +12,7 @@ ghost use Rattle.daide_protocol.specs.Summary.{HasRoom, IsMoreBy};
 ghost use Rattle.daide_words.specs.Words.{words_of};
 ghost use Rattle.daide_log_lines.specs.ParsedEvents.{event_reported};
 ghost use Rattle.daide_log.specs.Report.{events_of_line, move_line, side_of};
-ghost use Rattle.daide_log.specs.Reporting.{IsBare, IsIdle, IsMade, IsReady, IsUnder, IsReportedWith, IsCauseIn, Moves, ReportsEvents, note_of_move};
+ghost use Rattle.daide_log.specs.Reporting.{IsBare, IsIdle, IsMade, IsReady, IsUnder, IsCauseIn, Moves, ReportsEvents, ReportsMove, note_of_move};
 
 use crate::page::{Unreported, put_move};
 use crate::report::ReportKey;
@@ -49,17 +49,25 @@ fn tell<A: Allocator, W: Write, S: Style>(
     requires room { HasRoom 1 account.old.summary }
     ensures few { IsMoreBy 1 account.old.summary account.new.summary }
     ensures counted { account.new.summary ≡ count_note reported account.old.summary }
-    ensures text { OnOk result ((added : List ℕ)
-        × IsReportedWith (S.form (words_of account.old.head.words)) side reported session.now added
-        × Appends (all_of W.contents account.old.output) (all_of W.contents account.new.output)
-        (move_line source side reported ++ added)) }
+    ensures text { OnOk result (ReportsMove (S.form (words_of account.old.head.words))
+        (S.knows (words_of account.old.head.words) account.old.style.now)
+        (S.knows (words_of account.old.head.words) account.new.style.now) source side reported session.now
+        (λ added. move_line source side reported ++ added) (all_of W.contents account.old.output)
+        (all_of W.contents account.new.output)) }
     ensures refused { IfErr result (IsCauseIn (S.form (words_of account.old.head.words))) }
     ensures same_head { account.new.head ≡ account.old.head }
     ensures same_writer { IsSameWriter account.old.output account.new.output }
 {
     account.summary.count(reported);
     put_move(source, side, reported, &mut account.output)?;
-    account.style.explain(&account.head, session, side, reported, &mut account.output)
+    account.style.explain(
+        &account.head,
+        session,
+        source,
+        side,
+        reported,
+        &mut account.output,
+    )
 }
 
 /// Reports the last move of a session, if there was one, and drops the frames queued for both sides.
@@ -77,7 +85,8 @@ pub fn report_move<A: Allocator, W: Write, S: Style>(
     ensures ready { IsReady account.old.head.limits.config (words_of account.old.head.words) session.new }
     ensures few { IsMoreBy 1 account.old.summary account.new.summary }
     ensures reported { OnOk result ((old : SessionView) → (events : List Event) → Moves old events side reported session.old →
-        ReportsEvents (S.form (words_of account.old.head.words)) source side old.state events session.new.state
+        ReportsEvents (S.form (words_of account.old.head.words)) (S.knows (words_of account.old.head.words) account.old.style.now)
+        (S.knows (words_of account.old.head.words) account.new.style.now) source side old.state events session.new.state
         account.old.summary account.new.summary (all_of W.contents account.old.output)
         (all_of W.contents account.new.output)) }
     ensures refused { IfErr result (IsCauseIn (S.form (words_of account.old.head.words))) }
@@ -110,7 +119,9 @@ fn feed_piece<A: Allocator, W: Write, S: Style>(
     requires room { HasRoom 1 account.old.summary }
     ensures ready { IsReady account.old.head.limits.config (words_of account.old.head.words) session.new }
     ensures few { IsMoreBy 1 account.old.summary account.new.summary }
-    ensures reported { OnOk result (ReportsEvents (S.form (words_of account.old.head.words)) source side session.old.state
+    ensures reported { OnOk result (ReportsEvents (S.form (words_of account.old.head.words))
+        (S.knows (words_of account.old.head.words) account.old.style.now)
+        (S.knows (words_of account.old.head.words) account.new.style.now) source side session.old.state
         (bytes_come side piece.now) session.new.state account.old.summary account.new.summary
         (all_of W.contents account.old.output) (all_of W.contents account.new.output)) }
     ensures refused { IfErr result (IsCauseIn (S.form (words_of account.old.head.words))) }
@@ -137,7 +148,10 @@ fn feed_pieces<A: Allocator, W: Write, S: Style>(
     requires room { HasRoom (length bytes.now) account.old.summary }
     ensures ready { IsReady account.old.head.limits.config (words_of account.old.head.words) session.new }
     ensures few { IsMoreBy (length bytes.now) account.old.summary account.new.summary }
-    ensures reported { OnOk result (ReportsEvents (S.form (words_of account.old.head.words)) source side session.old.state (bytes_come side bytes.now) session.new.state
+    ensures reported { OnOk result (ReportsEvents (S.form (words_of account.old.head.words))
+        (S.knows (words_of account.old.head.words) account.old.style.now)
+        (S.knows (words_of account.old.head.words) account.new.style.now) source side session.old.state
+        (bytes_come side bytes.now) session.new.state
         account.old.summary account.new.summary (all_of W.contents account.old.output)
         (all_of W.contents account.new.output)) }
     ensures refused { IfErr result (IsCauseIn (S.form (words_of account.old.head.words))) }
@@ -167,7 +181,10 @@ pub fn feed_all<A: Allocator, W: Write, S: Style>(
     requires room { HasRoom (length bytes.now) account.old.summary }
     ensures ready { IsReady account.old.head.limits.config (words_of account.old.head.words) session.new }
     ensures few { IsMoreBy (length bytes.now) account.old.summary account.new.summary }
-    ensures reported { OnOk result (ReportsEvents (S.form (words_of account.old.head.words)) source side session.old.state (bytes_come side bytes.now) session.new.state
+    ensures reported { OnOk result (ReportsEvents (S.form (words_of account.old.head.words))
+        (S.knows (words_of account.old.head.words) account.old.style.now)
+        (S.knows (words_of account.old.head.words) account.new.style.now) source side session.old.state
+        (bytes_come side bytes.now) session.new.state
         account.old.summary account.new.summary (all_of W.contents account.old.output)
         (all_of W.contents account.new.output)) }
     ensures refused { IfErr result (IsCauseIn (S.form (words_of account.old.head.words))) }

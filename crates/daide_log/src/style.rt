@@ -1,6 +1,6 @@
 //! How a report presents the moves of a log's sessions: plainly, or with explanations (`explained`).
 
-ghost use Rattle.std.specs.Prelude.{◌≡◌, ◌≤◌, ℕ, All, List, length, IfOk, IfErr, OnOk};
+ghost use Rattle.std.specs.Prelude.{◌≡◌, ◌≤◌, ⊤, ℕ, All, List, length, IfOk, IfErr, OnOk};
 ghost use Rattle.std.specs.Io.KnownBytes.{Appends};
 ghost use Rattle.daide_words.specs.declared.word.Word.{Word};
 ghost use Rattle.daide_words.specs.Words.{words_of};
@@ -12,11 +12,12 @@ ghost use Rattle.daide_protocol.specs.declared.summary.Summary.{Summary};
 ghost use Rattle.daide_log.specs.ReportForm.{ReportForm, IsWritableForm};
 ghost use Rattle.daide_log.specs.Log.{plain};
 ghost use Rattle.daide_log.specs.Progress.{states_of};
-ghost use Rattle.daide_log.specs.Reporting.{IsMade, IsReady, IsUnder, IsReportedWith, IsQuietWith, IsCauseIn};
+ghost use Rattle.daide_log.specs.Reporting.{IsMade, IsReady, IsUnder, IsQuietWith, IsCauseIn, ReportsMove};
 ghost use Rattle.daide_log.specs.Proofs.Lawful.{plain_lawful};
 
 use crate::heading::Preamble;
 use crate::page::Unreported;
+use crate::report::ReportKey;
 use daide_frame::Side;
 use daide_log_lines::output::Output;
 use daide_protocol::{Note, Summary};
@@ -31,26 +32,30 @@ pub trait Style {
 
     ghost form: { List Word → ReportForm Self.Answer };
 
+    /// What the style knows of earlier entries.
+    ghost knows: { (words : List Word) → Self → (form words).Context → Type 0 };
+
     /// Writes the lines that follow the line of a side's move. The session still holds the frame that caused it.
     fn explain<A: Allocator, W: Write>(
         &mut self,
         head: &Preamble,
         session: &Session<A>,
+        source: ReportKey,
         side: Side,
         reported: Note,
         output: &mut Output<'_, W>,
     ) -> Result<(), Unreported>
         requires under { IsUnder head.now.limits.config (words_of head.now.words) session.now }
         requires made { (old : SessionView) × (events : List Event) × IsMade old events side reported session.now }
-        ensures text { OnOk result ((added : List ℕ)
-            × IsReportedWith (form (words_of head.now.words)) side reported session.now added
-            × Appends (all_of W.contents output.old) (all_of W.contents output.new) added) }
+        ensures text { OnOk result (ReportsMove (form (words_of head.now.words)) (knows (words_of head.now.words) self.old)
+            (knows (words_of head.now.words) self.new) source side reported session.now (λ added. added)
+            (all_of W.contents output.old) (all_of W.contents output.new)) }
         ensures refused { IfErr result (IsCauseIn (form (words_of head.now.words))) }
         ensures same_writer { IsSameWriter output.old output.new };
 
     /// Writes what the report has for a line itself, apart from the moves of a session.
     fn quote<W: Write>(
-        &mut self,
+        &self,
         head: &Preamble,
         line: &[u8],
         output: &mut Output<'_, W>,
@@ -95,11 +100,14 @@ impl Style for PlainStyle {
 
     ghost form = { λ words. plain };
 
+    ghost knows = { λ words style context. ⊤ };
+
     #[inline(always)]
     fn explain<A: Allocator, W: Write>(
         &mut self,
         _head: &Preamble,
         _session: &Session<A>,
+        _source: ReportKey,
         _side: Side,
         _reported: Note,
         _output: &mut Output<'_, W>,
@@ -109,7 +117,7 @@ impl Style for PlainStyle {
 
     #[inline(always)]
     fn quote<W: Write>(
-        &mut self,
+        &self,
         _head: &Preamble,
         _line: &[u8],
         _output: &mut Output<'_, W>,

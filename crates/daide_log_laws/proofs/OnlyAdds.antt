@@ -24,6 +24,11 @@ use Rattle.daide_log.specs.Log.{LogState, Opening, Playing, AdvancesByLine, Goes
 use Rattle.daide_log.specs.Log.{ReportsAll, ReportsAllBy}
 use Rattle.daide_log.specs.Log.{IsReport, IsReportBy, plain, source_in}
 use Rattle.daide_log.specs.Explained.{ExplainedEntry, Moved, Remark, shown_text, shown_counted, AreShown, AreShownBy, explained}
+use Rattle.std.specs.Prelude.{replicate}
+use Rattle.daide_grammar.specs.declared.level.Level.{Level}
+use Rattle.daide_grammar.specs.declared.level.Level.TheVariants.{L0}
+use Rattle.daide_protocol.specs.Bounds.{most_sessions}
+use Rattle.daide_log.specs.Explained.{announced_levels, entry_of, level_announced}
 use Rattle.daide_log.specs.Explained.{indented, is_remark, remarks, Part, part_text, parts_from, cut_text}
 use Rattle.daide_log.specs.Proofs.Lawful.{entries_of-append}
 use Rattle.daide_log.proofs.SomeReport.{plain_uncut}
@@ -38,17 +43,17 @@ use Rattle.daide_log_laws.proofs.MoveLines.{move_stays, part_goes, cut_goes, sum
 -- the moves among them
 abbrev moves_in : List ExplainedEntry → List ReportEntry
 moves_in [] = []
-moves_in (Moved entry added ∷ shown) = entry ∷ moves_in shown
+moves_in (Moved entry added announced ∷ shown) = entry ∷ moves_in shown
 moves_in (Remark comment ∷ shown) = moves_in shown
 
 moves_in-append : (a b : List ExplainedEntry) → moves_in (a ++ b) ≡ moves_in a ++ moves_in b
 moves_in-append [] b = refl
-moves_in-append (Moved entry added ∷ a) b = ap (λ (l : List ReportEntry). entry ∷ l) (moves_in-append a b)
+moves_in-append (Moved entry added announced ∷ a) b = ap (λ (l : List ReportEntry). entry ∷ l) (moves_in-append a b)
 moves_in-append (Remark comment ∷ a) b = moves_in-append a b
 
 -- a move adds whole lines after four spaces, and a comment adds one line
 abbrev IsAdding : ExplainedEntry → Type 0
-IsAdding (Moved entry added) = (lines : List ℕ) × IsWhole lines × (added ≡ indented lines)
+IsAdding (Moved entry added announced) = (lines : List ℕ) × IsWhole lines × (added ≡ indented lines)
 IsAdding (Remark comment) = IsUnbroken comment × (is_remark comment ≡ true)
 
 abbrev AreAdding : List ExplainedEntry → Type 0
@@ -75,7 +80,7 @@ move_text_of entry = move_line entry.source entry.side entry.reported
 shown_goes : (shown : List ExplainedEntry) (tail : List ℕ) → AreAdding shown →
     without_added (texts_of shown_text shown ++ tail) ≡ lines_of (moves_in shown) ++ without_added tail
 shown_goes [] tail h = refl
-shown_goes (Moved entry added ∷ shown) tail h =
+shown_goes (Moved entry added announced ∷ shown) tail h =
     let text = move_text_of entry in
     let later = texts_of shown_text shown in
     ap without_added (append_assoc (text ++ added) later tail ∙ append_assoc text added (later ++ tail))
@@ -106,7 +111,7 @@ parts_go (part ∷ parts) tail =
 
 same_counts : (shown : List ExplainedEntry) (s : Summary) → counted_over shown_counted shown s ≡ counted_all (moves_in shown) s
 same_counts [] s = refl
-same_counts (Moved entry added ∷ shown) s = same_counts shown (count_note entry.reported s)
+same_counts (Moved entry added announced ∷ shown) s = same_counts shown (count_note entry.reported s)
 same_counts (Remark comment ∷ shown) s = same_counts shown s
 
 -- ---- the entries of a line
@@ -116,27 +121,28 @@ module _ (words : List Word) where
   abbrev AreOf : ReportKey → Side → List Effect → List ExplainedEntry → Type 0
   AreOf source side moves shown = (moves_in shown ≡ entries_of source side moves) × AreAdding shown
 
-  here_adds : (source : ReportKey) (side : Side) (before : SessionState) (event : Event) (moves : List Effect)
-      (shown : List ExplainedEntry) → AreShown words source side before event moves shown → AreOf source side moves shown
-  here_adds source side before event [] shown e =
+  here_adds : (levels : List Level) (source : ReportKey) (side : Side) (before : SessionState) (event : Event) (moves : List Effect)
+      (shown : List ExplainedEntry) → AreShown words levels source side before event moves shown → AreOf source side moves shown
+  here_adds levels source side before event [] shown e =
       subst (λ (l : List ExplainedEntry). AreOf source side [] l) (sym e) (refl, tt)
-  here_adds source side before event (move ∷ moves) shown h =
-      let later = here_adds source side before event moves h.1 h.3 in
+  here_adds levels source side before event (move ∷ moves) shown h =
+      let later = here_adds (announced_levels levels (entry_of levels source side before event move.reported h.0 ∷ [])) source side
+      before event moves h.1 h.3 in
       let entry : ReportEntry = record { source = source; side = side; reported = move.reported } in
       subst (λ (l : List ExplainedEntry). AreOf source side (move ∷ moves) l) (sym h.4) (
         ap (λ (l : List ReportEntry). entry ∷ l) later.0,
-        ((h.0, lines_whole words side before event move.reported h.0 h.2, refl), later.1),
+        ((h.0, lines_whole words (level_announced levels source) side before event move.reported h.0 h.2, refl), later.1),
       )
 
-  all_add : (source : ReportKey) (side : Side) (old : SessionState) (events : List Event) (moves : List Effect)
-      (new : SessionState) (shown : List ExplainedEntry) → AreShownBy words source side old events moves new shown →
+  all_add : (levels : List Level) (source : ReportKey) (side : Side) (old : SessionState) (events : List Event) (moves : List Effect)
+      (new : SessionState) (shown : List ExplainedEntry) → AreShownBy words levels source side old events moves new shown →
       AreOf source side moves shown
-  all_add source side old [] moves new shown h =
+  all_add levels source side old [] moves new shown h =
       subst (λ (l : List ExplainedEntry). AreOf source side moves l) (sym h.2)
       (subst (λ (m : List Effect). AreOf source side m []) (sym h.0) (refl, tt))
-  all_add source side old (event ∷ events) moves new shown h =
-      let first = here_adds source side old event h.1 h.3 h.6 in
-      let later = all_add source side h.0 events h.2 new h.4 h.7 in
+  all_add levels source side old (event ∷ events) moves new shown h =
+      let first = here_adds levels source side old event h.1 h.3 h.6 in
+      let later = all_add (announced_levels levels h.3) source side h.0 events h.2 new h.4 h.7 in
       subst (λ (l : List ExplainedEntry). AreOf source side moves l) (sym h.9)
       (subst (λ (m : List Effect). AreOf source side m (h.3 ++ h.4)) (sym h.8) (
         moves_in-append h.3 h.4 ∙ ap (λ (l : List ReportEntry). l ++ moves_in h.4) first.0
@@ -158,20 +164,20 @@ module _ (words : List Word) where
   abbrev GoesOnWith : ℕ → LogState → List ℕ → List ExplainedEntry → LogState → Type 0
   GoesOnWith number old line shown new = AdvancesByLine number old line (moves_in shown) new × AreAdding shown
 
-  played_adds : (version : Version) (number : ℕ) (event : MatchEvent) (line : List ℕ) (old new : List SessionState)
+  played_adds : (levels : List Level) (version : Version) (number : ℕ) (event : MatchEvent) (line : List ℕ) (old new : List SessionState)
       (shown : List ExplainedEntry) → IsUnbroken line →
-      IsPlayedAs ((explained words).quiet line) ((explained words).line line) version number event old shown new →
-      IsPlayedAs (plain.quiet line) (plain.line line) version number event old (moves_in shown) new × AreAdding shown
-  played_adds version number Quiet line old new shown whole h =
+      IsPlayedAs ((explained words).quiet line) ((explained words).line levels line) version number event old shown new →
+      IsPlayedAs (plain.quiet line) (plain.line tt line) version number event old (moves_in shown) new × AreAdding shown
+  played_adds levels version number Quiet line old new shown whole h =
       let own = remarks_add line whole in (
         (ap moves_in h.0 ∙ own.0, h.1),
         subst AreAdding (sym h.0) own.1,
       )
-  played_adds version number (Of session event) line old new shown whole h =
+  played_adds levels version number (Of session event) line old new shown whole h =
       let reported = h.5 in
       let source : ReportKey = source_in version number session in
       let own = remarks_add line whole in
-      let moves = all_add source (side_of event) h.0 (events_of_line event) h.2 h.1 reported.0 reported.1 in (
+      let moves = all_add levels source (side_of event) h.0 (events_of_line event) h.2 h.1 reported.0 reported.1 in (
         (
           h.0,
           h.1,
@@ -185,12 +191,12 @@ module _ (words : List Word) where
         subst AreAdding (sym reported.2) (both_adding (remarks line) reported.0 own.1 moves.1),
       )
 
-  goes_on : (number : ℕ) (old : LogState) (line : List ℕ) (shown : List ExplainedEntry) (new : LogState) → IsUnbroken line →
-      GoesOnBy (explained words) number old line shown new → GoesOnWith number old line shown new
-  goes_on number (Opening heading) line shown new whole h =
+  goes_on : (levels : List Level) (number : ℕ) (old : LogState) (line : List ℕ) (shown : List ExplainedEntry) (new : LogState) → IsUnbroken line →
+      GoesOnBy (explained words) levels number old line shown new → GoesOnWith number old line shown new
+  goes_on levels number (Opening heading) line shown new whole h =
       ((h.0, h.1, ap moves_in h.2.0, h.3), subst AreAdding (sym h.2.0) tt)
-  goes_on number (Playing version old) line shown new whole h =
-      let played = played_adds version number h.0 line old h.2 shown whole h.3 in
+  goes_on levels number (Playing version old) line shown new whole h =
+      let played = played_adds levels version number h.0 line old h.2 shown whole h.3 in
       ((h.0, h.1, h.2, played.0, h.4), played.1)
 
   taken : (n : ℕ) (line : List ℕ) → IsUnbroken line → IsUnbroken (take n line)
@@ -213,7 +219,8 @@ module _ (words : List Word) where
   lines_reported bytes number shown stage ReportsBy.none = (ReportsBy.none, tt)
   lines_reported bytes number shown stage (ReportsBy.line before count first old reports line more new few whole short on) =
       let ahead = lines_reported before count first old reports in
-      let now = goes_on (count + 1) old (without_cr line) more new (still_unbroken line whole) on in (
+      let now = goes_on (announced_levels (replicate most_sessions L0) first) (count + 1) old (without_cr line) more new
+      (still_unbroken line whole) on in (
         subst (λ (l : List ReportEntry). Reports (before ++ line ++ 10 ∷ []) (count + 1) l new) (sym (moves_in-append first more))
             (ReportsBy.line before count (moves_in first) old ahead.0 line (moves_in more) new few whole short now.0),
         both_adding first more ahead.1 now.1,
@@ -228,7 +235,7 @@ module _ (words : List Word) where
   all_reported bytes number shown stage
       (ReportsAllBy.unended before count first old reports line more new few some whole short on) =
       let ahead = lines_reported before count first old reports in
-      let now = goes_on (count + 1) old line more new whole on in (
+      let now = goes_on (announced_levels (replicate most_sessions L0) first) (count + 1) old line more new whole on in (
         subst (λ (l : List ReportEntry). ReportsAll (before ++ line) (count + 1) l new) (sym (moves_in-append first more))
             (ReportsAllBy.unended before count (moves_in first) old ahead.0 line (moves_in more) new few some whole short now.0),
         both_adding first more ahead.1 now.1,

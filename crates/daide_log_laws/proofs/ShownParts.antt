@@ -29,9 +29,9 @@ use Rattle.daide_protocol.specs.declared.note.Deed.{Deed}
 use Rattle.daide_protocol.specs.declared.note.Note.{Note}
 use Rattle.daide_protocol.specs.declared.note.Note.TheVariants as Notes
 use Rattle.daide_protocol.specs.Events.{Event}
-use Rattle.daide_protocol.specs.Machine.{SessionState, Question, question, side2_of}
+use Rattle.daide_protocol.specs.Machine.{Limits, SessionState, Question, question, side2_of}
 use Rattle.daide_log.specs.Explained.{AreRefusedLines, AreMessageLines, ExplainsFrame, ExplainsMove, with_line_feed, message_text}
-use Rattle.daide_log.specs.Explained.{verdict_by, bytes_at}
+use Rattle.daide_log.specs.Explained.{verdict_by, bytes_at, capped_from, level_text}
 use Rattle.daide_log.specs.Explained.{token_line, bytes_line, fault_lines, fault_name, faulty_bytes, pairs}
 use Rattle.daide_protocol.specs.Answers.{answer_body}
 use Rattle.daide_log_laws.proofs.AddedLines.{IsEnded, IsWhole, ended_behind, both_whole}
@@ -105,29 +105,29 @@ explained_whole words end level max_depth m (Huh place) text h =
 
 -- ---- the lines of a move
 
-refused_whole : (words : List Word) (end : Side2) (level : Level) (max_depth : ℕ) (body : List ℕ) (verdict : Verdict)
-    (lines : List ℕ) → AreRefusedLines words end level max_depth body verdict lines → IsWhole lines
-refused_whole words end level max_depth body verdict lines h =
+refused_whole : (words : List Word) (end : Side2) (level : Level) (capped : Option Level) (max_depth : ℕ) (body : List ℕ) (verdict : Verdict)
+    (lines : List ℕ) → AreRefusedLines words end level capped max_depth body verdict lines → IsWhole lines
+refused_whole words end level capped max_depth body verdict lines h =
     let message = message_text words (tokens_of body) in
-    let judged = codes "judged at level " ++ decimal (level_number level) in
+    let judged = level_text level capped in
     let answer = message_text words (tokens_of (answer_body body verdict)) in
     subst IsWhole (sym h.2)
     (both_whole (with_line_feed message ++ with_line_feed judged ++ with_line_feed answer) h.0
     (inr (ended_behind (with_line_feed message ++ with_line_feed judged) (with_line_feed answer) (answer, refl)))
     (explained_whole words end level max_depth (tokens_of body) verdict h.0 h.1))
 
-message_whole : (words : List Word) (end : Side2) (level : Level) (max_depth : ℕ) (body : List ℕ) (verdict : Verdict)
-    (lines : List ℕ) → AreMessageLines words end level max_depth body verdict lines → IsWhole lines
-message_whole words end level max_depth body Relay lines e = inr (message_text words (tokens_of body), e)
-message_whole words end level max_depth body Prn lines h = refused_whole words end level max_depth body Prn lines h
-message_whole words end level max_depth body (Huh place) lines h =
-    refused_whole words end level max_depth body (Huh place) lines h
+message_whole : (words : List Word) (end : Side2) (level : Level) (capped : Option Level) (max_depth : ℕ) (body : List ℕ) (verdict : Verdict)
+    (lines : List ℕ) → AreMessageLines words end level capped max_depth body verdict lines → IsWhole lines
+message_whole words end level capped max_depth body Relay lines e = inr (message_text words (tokens_of body), e)
+message_whole words end level capped max_depth body Prn lines h = refused_whole words end level capped max_depth body Prn lines h
+message_whole words end level capped max_depth body (Huh place) lines h =
+    refused_whole words end level capped max_depth body (Huh place) lines h
 
-frame_whole : (words : List Word) (max_depth : ℕ) (q : Option Question) (body : List ℕ) (deed : Deed) (lines : List ℕ) →
-    ExplainsFrame words max_depth q body deed lines → IsWhole lines
-frame_whole words max_depth None body deed lines e = inl e
-frame_whole words max_depth (Some q) body deed lines h =
-    message_whole words (side2_of q.side) q.level max_depth body (verdict_by deed) lines h.1
+frame_whole : (words : List Word) (limits : Limits) (announced : Level) (q : Option Question) (body : List ℕ) (deed : Deed) (lines : List ℕ) →
+    ExplainsFrame words limits announced q body deed lines → IsWhole lines
+frame_whole words limits announced None body deed lines e = inl e
+frame_whole words limits announced (Some q) body deed lines h =
+    message_whole words (side2_of q.side) q.level (capped_from limits.top_level announced q.level) limits.max_depth body (verdict_by deed) lines h.1
 
 bytes_whole : (bytes : List ℕ) → IsWhole (bytes_line bytes)
 bytes_whole [] = inl refl
@@ -141,11 +141,11 @@ fault_whole cap code bytes =
     (inr (codes "bytes: " ++ pairs (drop (length bytes - 2) bytes) ++ codes " at token " ++ decimal ((length bytes - 6) / 2), refl))
     (bytes_whole bytes))
 
-pub lines_whole : (words : List Word) (side : Side) (before : SessionState) (event : Event) (note : Note)
-    (lines : List ℕ) → ExplainsMove words side before event note lines → IsWhole lines
-lines_whole words side before event Notes.Nothing lines e = inl e
-lines_whole words side before event (Notes.Frame head deed) lines h =
-    frame_whole words before.limits.max_depth (question before event) (drop 4 (bytes_at before side event)) deed lines h
-lines_whole words side before event (Notes.Fault code) lines e =
+pub lines_whole : (words : List Word) (announced : Level) (side : Side) (before : SessionState) (event : Event) (note : Note)
+    (lines : List ℕ) → ExplainsMove words announced side before event note lines → IsWhole lines
+lines_whole words announced side before event Notes.Nothing lines e = inl e
+lines_whole words announced side before event (Notes.Frame head deed) lines h =
+    frame_whole words before.limits announced (question before event) (drop 4 (bytes_at before side event)) deed lines h
+lines_whole words announced side before event (Notes.Fault code) lines e =
     subst IsWhole (sym e) (fault_whole before.limits.cap code (bytes_at before side event))
-lines_whole words side before event Notes.Stopped lines e = inl e
+lines_whole words announced side before event Notes.Stopped lines e = inl e

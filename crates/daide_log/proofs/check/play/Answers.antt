@@ -31,10 +31,12 @@ room_left number s more fits = record {
 
 pub lines-init : goal.lines-init
 lines-init g c = (
-  plays_first (g.S.Style.form (words_of c.args.account.now.head.words)) (IsReady c.args.account.now.head.limits.config (words_of c.args.account.now.head.words)) (g.R.LogReader.reader_view c.args.input.now.reader.now) c.args.input.now.block c.args.lines
+  plays_first (g.S.Style.form (words_of c.args.account.now.head.words)) (IsReady c.args.account.now.head.limits.config (words_of c.args.account.now.head.words))
+      (g.S.Style.knows (words_of c.args.account.now.head.words) c.args.account.now.style.now)
+      (words_of c.args.account.now.head.words) (g.met.S.Style.lawful (words_of c.args.account.now.head.words)) (g.R.LogReader.reader_view c.args.input.now.reader.now) c.args.input.now.block c.args.lines
       c.args.account.now.head.version
       c.args.sessions.now.items c.args.account.now.summary (all_of g.W.Write.contents c.args.account.now.output)
-      c.requires.ready c.requires.lines c.requires.nothing,
+      c.requires.ready c.requires.lines c.requires.nothing c.requires.fresh,
   refl,
   refl,
   refl,
@@ -47,7 +49,7 @@ returns-in_err-found-clause-answered g c = λ first before starts. (
       fault_handed_on (g.S.Style.form (words_of c.args.account.now.head.words)) _ (g.R.LogReader.reader_view c.find_line.new.input.reader.now)
       (all_of g.W.Write.contents c.find_line.new.output) c.in_err-found.field-0.0 c.from_residual.result
       c.from_residual.ensures.1
-      (fault_in_play (g.S.Style.form (words_of c.args.account.now.head.words)) (IsReady c.args.account.now.head.limits.config (words_of c.args.account.now.head.words)) _ (g.R.LogReader.reader_view c.lines.input.reader.now)
+      (fault_in_play (g.S.Style.form (words_of c.args.account.now.head.words)) (IsReady c.args.account.now.head.limits.config (words_of c.args.account.now.head.words)) _ _ (g.R.LogReader.reader_view c.lines.input.reader.now)
       (g.R.LogReader.reader_view c.find_line.new.input.reader.now) c.lines.input.block c.find_line.new.input.block
       c.find_line.new.input.text.items c.lines.count c.args.account.now.head.version c.lines.sessions.items
       (length c.args.sessions.now.items) c.lines.account.summary (all_of g.W.Write.contents c.lines.account.output)
@@ -62,7 +64,7 @@ returns-in_err-judge_line-clause-answered g c = λ first before starts. (
       fault_handed_on (g.S.Style.form (words_of c.args.account.now.head.words)) _ (g.R.LogReader.reader_view c.find_line.new.input.reader.now)
       (all_of g.W.Write.contents c.judge_line.new.account.output) c.in_err-judge_line.field-0.0
       c.from_residual-in_err-judge_line.result c.from_residual-in_err-judge_line.ensures.1
-      (bad_in_play (g.S.Style.form (words_of c.args.account.now.head.words)) (IsReady c.args.account.now.head.limits.config (words_of c.args.account.now.head.words)) _ (g.R.LogReader.reader_view c.lines.input.reader.now) (g.R.LogReader.reader_view c.find_line.new.input.reader.now)
+      (bad_in_play (g.S.Style.form (words_of c.args.account.now.head.words)) (IsReady c.args.account.now.head.limits.config (words_of c.args.account.now.head.words)) _ _ (g.R.LogReader.reader_view c.lines.input.reader.now) (g.R.LogReader.reader_view c.find_line.new.input.reader.now)
       c.lines.input.block (rest_after c.in_ok-found.found c.find_line.new.input.block)
       (line_at c.in_ok-found.found c.find_line.new.input.block c.find_line.new.input.text.items) c.lines.count
       c.args.account.now.head.version
@@ -91,7 +93,7 @@ returns-in_err-judge_line-clause-answered g c = λ first before starts. (
 pub returns-then-is_end-clause-answered : goal.returns-then-is_end-clause-answered
 returns-then-is_end-clause-answered g c = λ first before starts. (
   (
-      finished_at_end (g.S.Style.form (words_of c.args.account.now.head.words)) (IsReady c.args.account.now.head.limits.config (words_of c.args.account.now.head.words)) _ (g.R.LogReader.reader_view c.lines.input.reader.now) (g.R.LogReader.reader_view c.find_line.new.input.reader.now)
+      finished_at_end (g.S.Style.form (words_of c.args.account.now.head.words)) (IsReady c.args.account.now.head.limits.config (words_of c.args.account.now.head.words)) _ _ (g.R.LogReader.reader_view c.lines.input.reader.now) (g.R.LogReader.reader_view c.find_line.new.input.reader.now)
       c.lines.input.block c.find_line.new.input.block c.find_line.new.input.text.items c.lines.count
       c.args.account.now.head.version
       c.lines.sessions.items (length c.args.sessions.now.items) c.lines.account.summary
@@ -106,7 +108,7 @@ returns-then-is_end-clause-answered g c = λ first before starts. (
       (states_of c.lines.sessions.items) c.lines.account.summary (all_of g.W.Write.contents c.find_line.new.output)
       (all_of g.W.Write.contents c.finish.new.account.output) answer)) c.lines.invariant.3 (rw c.deref.ensures.value at c.finish.ensures.written))) first before starts,
   (
-      unfinished (g.S.Style.form (words_of c.args.account.now.head.words)) (IsReady c.args.account.now.head.limits.config (words_of c.args.account.now.head.words)) _ (g.R.LogReader.reader_view c.lines.input.reader.now) (g.R.LogReader.reader_view c.find_line.new.input.reader.now)
+      unfinished (g.S.Style.form (words_of c.args.account.now.head.words)) (IsReady c.args.account.now.head.limits.config (words_of c.args.account.now.head.words)) _ _ (g.R.LogReader.reader_view c.lines.input.reader.now) (g.R.LogReader.reader_view c.find_line.new.input.reader.now)
       c.lines.input.block (rest_after c.in_ok-found.found c.find_line.new.input.block)
       (line_at c.in_ok-found.found c.find_line.new.input.block c.find_line.new.input.text.items) c.lines.count
       c.args.account.now.head.version c.lines.sessions.items (length c.args.sessions.now.items) c.lines.account.summary
@@ -120,7 +122,8 @@ pub returns-then-is_last-clause-answered : goal.returns-then-is_last-clause-answ
 returns-then-is_last-clause-answered g c = λ first before starts. (
   (
       let line = line_at c.in_ok-found.found c.find_line.new.input.block c.find_line.new.input.text.items in
-      finished_at_last (g.S.Style.form (words_of c.args.account.now.head.words)) (IsReady c.args.account.now.head.limits.config (words_of c.args.account.now.head.words)) _ (g.R.LogReader.reader_view c.lines.input.reader.now) (g.R.LogReader.reader_view c.find_line.new.input.reader.now)
+      finished_at_last (g.S.Style.form (words_of c.args.account.now.head.words)) (IsReady c.args.account.now.head.limits.config (words_of c.args.account.now.head.words)) _
+      (g.S.Style.knows (words_of c.args.account.now.head.words) c.judge_line.new.account.style.now) _ (g.R.LogReader.reader_view c.lines.input.reader.now) (g.R.LogReader.reader_view c.find_line.new.input.reader.now)
       c.lines.input.block c.find_line.new.input.block c.find_line.new.input.text.items c.lines.count
       c.args.account.now.head.version
       c.lines.sessions.items c.judge_line.new.sessions.items (length c.args.sessions.now.items) c.lines.account.summary
@@ -132,11 +135,14 @@ returns-then-is_last-clause-answered g c = λ first before starts. (
       (g.R.LogReader.reader_view c.find_line.new.input.reader.now) (rest_after f c.find_line.new.input.block))
       (at_last_line c.in_ok-found.found (sym c.is_last.ensures ∙ c.if-is_last.true)) c.in_ok-found.ensures.found)
       c.in_ok-found.ensures.kept
-      (subst (λ (h : Preamble). Judges (g.S.Style.form (words_of h.words)) h.version (c.lines.count + 1)
+      (subst (λ (h : Preamble). Judges (g.S.Style.form (words_of h.words)) (g.S.Style.knows (words_of h.words) c.lines.account.style.now)
+      (g.S.Style.knows (words_of h.words) c.judge_line.new.account.style.now) h.version (c.lines.count + 1)
       (states_of c.lines.sessions.items) c.find_line.new.input.text.items
       (states_of c.judge_line.new.sessions.items) c.lines.account.summary c.judge_line.new.account.summary
       (all_of g.W.Write.contents c.find_line.new.output) (all_of g.W.Write.contents c.judge_line.new.account.output)) c.lines.invariant.3
-      (subst (λ (l : List ℕ). Judges (g.S.Style.form (words_of c.lines.account.head.words)) c.lines.account.head.version
+      (subst (λ (l : List ℕ). Judges (g.S.Style.form (words_of c.lines.account.head.words))
+      (g.S.Style.knows (words_of c.lines.account.head.words) c.lines.account.style.now)
+      (g.S.Style.knows (words_of c.lines.account.head.words) c.judge_line.new.account.style.now) c.lines.account.head.version
       (c.lines.count + 1) (states_of c.lines.sessions.items) l
       (states_of c.judge_line.new.sessions.items) c.lines.account.summary c.judge_line.new.account.summary
       (all_of g.W.Write.contents c.find_line.new.output) (all_of g.W.Write.contents c.judge_line.new.account.output))
@@ -149,7 +155,7 @@ returns-then-is_last-clause-answered g c = λ first before starts. (
       (all_of g.W.Write.contents c.judge_line.new.account.output) (all_of g.W.Write.contents c.finish-then-is_last.new.account.output) answer))
       (c.judge_line.ensures.same_head ∙ c.lines.invariant.3) (rw c.deref-then-is_last.ensures.value at c.finish-then-is_last.ensures.written))) first before starts,
   (
-      unfinished (g.S.Style.form (words_of c.args.account.now.head.words)) (IsReady c.args.account.now.head.limits.config (words_of c.args.account.now.head.words)) _ (g.R.LogReader.reader_view c.lines.input.reader.now) (g.R.LogReader.reader_view c.find_line.new.input.reader.now)
+      unfinished (g.S.Style.form (words_of c.args.account.now.head.words)) (IsReady c.args.account.now.head.limits.config (words_of c.args.account.now.head.words)) _ _ (g.R.LogReader.reader_view c.lines.input.reader.now) (g.R.LogReader.reader_view c.find_line.new.input.reader.now)
       c.lines.input.block (rest_after c.in_ok-found.found c.find_line.new.input.block)
       (line_at c.in_ok-found.found c.find_line.new.input.block c.find_line.new.input.text.items) c.lines.count
       c.args.account.now.head.version
@@ -165,7 +171,7 @@ returns-then-is_cut-clause-answered g c = λ first before starts. (
   (
       let cut = c.is_cut.ensures.cut c.if-is_cut.true in
       let last = at_last_line c.in_ok-found.found cut.0 in
-      finished_at_cut (g.S.Style.form (words_of c.args.account.now.head.words)) (IsReady c.args.account.now.head.limits.config (words_of c.args.account.now.head.words)) _ (g.R.LogReader.reader_view c.lines.input.reader.now) (g.R.LogReader.reader_view c.find_line.new.input.reader.now)
+      finished_at_cut (g.S.Style.form (words_of c.args.account.now.head.words)) (IsReady c.args.account.now.head.limits.config (words_of c.args.account.now.head.words)) _ _ (g.R.LogReader.reader_view c.lines.input.reader.now) (g.R.LogReader.reader_view c.find_line.new.input.reader.now)
       c.lines.input.block c.find_line.new.input.block c.find_line.new.input.text.items c.lines.count
       c.args.account.now.head.version
       c.lines.sessions.items (length c.args.sessions.now.items) c.lines.account.summary
@@ -187,7 +193,7 @@ returns-then-is_cut-clause-answered g c = λ first before starts. (
       (all_of g.W.Write.contents c.find_line.new.output) (all_of g.W.Write.contents c.finish-then-is_cut.new.account.output) answer))
       c.lines.invariant.3 (rw c.deref-then-is_cut.ensures.value at c.finish-then-is_cut.ensures.written))) first before starts,
   (
-      unfinished (g.S.Style.form (words_of c.args.account.now.head.words)) (IsReady c.args.account.now.head.limits.config (words_of c.args.account.now.head.words)) _ (g.R.LogReader.reader_view c.lines.input.reader.now) (g.R.LogReader.reader_view c.find_line.new.input.reader.now)
+      unfinished (g.S.Style.form (words_of c.args.account.now.head.words)) (IsReady c.args.account.now.head.limits.config (words_of c.args.account.now.head.words)) _ _ (g.R.LogReader.reader_view c.lines.input.reader.now) (g.R.LogReader.reader_view c.find_line.new.input.reader.now)
       c.lines.input.block (rest_after c.in_ok-found.found c.find_line.new.input.block)
       (line_at c.in_ok-found.found c.find_line.new.input.block c.find_line.new.input.text.items) c.lines.count
       c.args.account.now.head.version c.lines.sessions.items (length c.args.sessions.now.items) c.lines.account.summary
@@ -228,7 +234,9 @@ lines-preserved g c =
     let now = g.R.LogReader.reader_view c.lines.input.reader.now in
     let new = g.R.LogReader.reader_view c.find_line.new.input.reader.now in
     let line = line_at c.in_ok-found.found c.find_line.new.input.block c.find_line.new.input.text.items in (
-      plays_more (g.S.Style.form (words_of c.args.account.now.head.words)) (IsReady c.args.account.now.head.limits.config (words_of c.args.account.now.head.words)) _ now new c.lines.input.block c.pass_line.new.block line c.lines.count
+      plays_more (g.S.Style.form (words_of c.args.account.now.head.words)) (IsReady c.args.account.now.head.limits.config (words_of c.args.account.now.head.words)) _
+          (g.S.Style.knows (words_of c.args.account.now.head.words) c.judge_line.new.account.style.now)
+          (words_of c.args.account.now.head.words) (g.met.S.Style.lawful (words_of c.args.account.now.head.words)) _ now new c.lines.input.block c.pass_line.new.block line c.lines.count
           c.args.account.now.head.version
           c.lines.sessions.items c.judge_line.new.sessions.items (length c.args.sessions.now.items)
           c.lines.account.summary c.judge_line.new.account.summary (all_of g.W.Write.contents c.lines.account.output)
@@ -239,11 +247,14 @@ lines-preserved g c =
           c.in_ok-found.found (sym c.is_end.ensures ∙ c.if-is_end.false) (sym c.is_last.ensures ∙ c.if-is_last.false)
           c.in_ok-found.ensures.found))
           c.in_ok-found.ensures.kept
-          (subst (λ (h : Preamble). Judges (g.S.Style.form (words_of h.words)) h.version (c.lines.count + 1)
+          (subst (λ (h : Preamble). Judges (g.S.Style.form (words_of h.words)) (g.S.Style.knows (words_of h.words) c.lines.account.style.now)
+          (g.S.Style.knows (words_of h.words) c.judge_line.new.account.style.now) h.version (c.lines.count + 1)
           (states_of c.lines.sessions.items) line
           (states_of c.judge_line.new.sessions.items) c.lines.account.summary c.judge_line.new.account.summary
           (all_of g.W.Write.contents c.find_line.new.output) (all_of g.W.Write.contents c.judge_line.new.account.output)) c.lines.invariant.3
-          (subst (λ (l : List ℕ). Judges (g.S.Style.form (words_of c.lines.account.head.words)) c.lines.account.head.version
+          (subst (λ (l : List ℕ). Judges (g.S.Style.form (words_of c.lines.account.head.words))
+          (g.S.Style.knows (words_of c.lines.account.head.words) c.lines.account.style.now)
+          (g.S.Style.knows (words_of c.lines.account.head.words) c.judge_line.new.account.style.now) c.lines.account.head.version
           (c.lines.count + 1) (states_of c.lines.sessions.items) l
           (states_of c.judge_line.new.sessions.items) c.lines.account.summary c.judge_line.new.account.summary
           (all_of g.W.Write.contents c.find_line.new.output)

@@ -12,6 +12,7 @@ abbrev pub invariant-lines : goal.invariant-lines
 invariant-lines g l =
     Plays (g.S.Style.form (words_of l.fn.account.head.words))
     (IsReady l.fn.account.head.limits.config (words_of l.fn.account.head.words))
+    (g.S.Style.knows (words_of l.fn.account.head.words) l.account.style.now)
     (StartsReport (g.S.Style.form (words_of l.fn.account.head.words)) (g.R.LogReader.reader_view l.fn.input.reader.now) l.fn.input.block
     l.lines l.fn.account.head.version (states_of l.fn.sessions.items) (all_of g.W.Write.contents l.fn.account.output))
     (g.R.LogReader.reader_view l.input.reader.now) l.input.block l.count l.fn.account.head.version l.sessions.items

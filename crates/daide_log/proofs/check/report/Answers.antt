@@ -105,3 +105,6 @@ returns-clause-reported g c =
       words,
       c.play.ensures.answered old first (read, c.in-Ok.ensures.kept),
     )
+
+pub play-requires-clause-fresh : goal.play-requires-clause-fresh
+play-requires-clause-fresh g c = c.requires.fresh (words_of c.in-Ok.opened.head.words)

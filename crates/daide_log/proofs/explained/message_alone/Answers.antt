@@ -3,8 +3,8 @@ use Rattle.daide_log.proofs.PageLines.{body_even, text_alone}
 use Rattle.daide_log.proofs.explained.message_alone.Goals as goal
 
 pub returns-in-Relay-clause-alone : goal.returns-in-Relay-clause-alone
-returns-in-Relay-clause-alone g c = λ words max_depth.
-    rw c.in-Frame.is (text_alone words max_depth c.args.side c.in-Frame.frame c.in-Frame.deed c.args.session.now
+returns-in-Relay-clause-alone g c = λ words limits announced.
+    rw c.in-Frame.is (text_alone words limits announced c.args.side c.in-Frame.frame c.in-Frame.deed c.args.session.now
     c.body.result.now (sym c.is_message.ensures ∙ c.if-not-is_message.false) (sym c.verdict_by.ensures ∙ c.in-Relay.is)
     c.body.ensures.value)
 

@@ -1,3 +1,4 @@
+use Rattle.daide_words.specs.Words.{words_of}
 use Rattle.daide_log.proofs.explained.write_held.Goals as goal
 
 pub write_message-requires-clause-ruled : goal.write_message-requires-clause-ruled
@@ -12,4 +13,11 @@ write_message-requires-clause-verdict g c =
 
 pub returns : goal.returns
 returns g c =
-    rw (c.side2_of.ensures, c.noted.ensures, c.verdict_by.ensures, c.body.ensures.value) at c.write_message.ensures
+    rw (
+      c.side2_of.ensures,
+      c.verdict_by.ensures,
+      c.body.ensures.value,
+      c.capped_from.ensures,
+      c.top_level-top.ensures (words_of c.args.head.now.words),
+      c.noted.ensures,
+    ) at c.write_message.ensures

@@ -11,7 +11,7 @@ returns-in-Prn g c =
     (λ t. (
       t.0,
       as_message (words_of c.args.rules.now.words.now) c.args.rules.now.end c.args.rules.now.level
-          c.args.rules.now.max_depth c.args.body.now c.args.verdict t.0 (λ e. absurd (cc)) t.1,
+          c.args.capped c.args.rules.now.max_depth c.args.body.now c.args.verdict t.0 (λ e. absurd (cc)) t.1,
       t.2,
     ))
 
@@ -22,6 +22,6 @@ returns-in-Huh g c =
     (λ t. (
       t.0,
       as_message (words_of c.args.rules.now.words.now) c.args.rules.now.end c.args.rules.now.level
-          c.args.rules.now.max_depth c.args.body.now c.args.verdict t.0 (λ e. absurd (cc)) t.1,
+          c.args.capped c.args.rules.now.max_depth c.args.body.now c.args.verdict t.0 (λ e. absurd (cc)) t.1,
       t.2,
     ))

@@ -1,10 +1,8 @@
-use Rattle.std.proofs.Common.{◌++◌, ◌∙◌, ℕ, List, ap, refl, codes}
-use Rattle.std.specs.Fmt.{decimal}
+use Rattle.std.proofs.Common.{◌++◌, ◌∙◌, ℕ, List, ap, refl}
 use Rattle.daide_token.specs.Token.{tokens_of}
 use Rattle.daide_words.specs.Words.{words_of}
-use Rattle.daide_grammar.specs.Level.{level_number}
 use Rattle.daide_protocol.specs.Answers.{answer_body}
-use Rattle.daide_log.specs.Explained.{with_line_feed, message_text}
+use Rattle.daide_log.specs.Explained.{with_line_feed, level_text, message_text}
 use Rattle.daide_log.proofs.EventLemmas.{on_ok}
 use Rattle.daide_log.proofs.TextLemmas.{four_lines}
 use Rattle.daide_log.proofs.explained.write_refused.Goals as goal
@@ -14,19 +12,18 @@ returns g c =
     let words = words_of c.args.rules.now.words.now in
     let body = c.args.body.now in
     let text = with_line_feed (message_text words (tokens_of body)) in
-    let level = with_line_feed (codes "judged at level " ++ decimal (level_number c.args.rules.now.level)) in
+    let level = with_line_feed (level_text c.args.rules.now.level c.args.capped) in
     let answer = with_line_feed (message_text words (tokens_of (answer_body body c.args.verdict))) in
     on_ok c.write_explained.result _ _ c.write_explained.ensures
     (λ why. (
       text ++ level ++ answer ++ why.0,
       (why.0, why.1, refl),
-      four_lines c.args.text.now.items text level answer why.0 c.write_tokens.new.text.items c.writeln.new.self.items
+      four_lines c.args.text.now.items text level answer why.0 c.write_tokens.new.text.items c.write_level.new.text.items
           c.write_tokens-2.new.text.items c.write_explained.new.text.items
           c.in_ok-write_tokens.ensures
-          (c.in_ok-writeln.ensures.bytes
-          ∙ ap (λ (n : ℕ). c.write_tokens.new.text.items ++ with_line_feed (codes "judged at level " ++ decimal n)) c.number-level.ensures)
+          c.in_ok-write_level.ensures
           (c.in_ok-write_tokens-2.ensures
-          ∙ ap (λ (l : List ℕ). c.writeln.new.self.items ++ with_line_feed (message_text words (tokens_of l)))
+          ∙ ap (λ (l : List ℕ). c.write_level.new.text.items ++ with_line_feed (message_text words (tokens_of l)))
           (c.as_slice.ensures.value ∙ c.in_ok-answer.ensures.body))
           why.2,
     ))

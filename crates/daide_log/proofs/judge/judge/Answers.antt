@@ -39,7 +39,9 @@ returns-clause-judged g c =
     let events = events_of_line (event_reported bytes c.args.reported) in
     as_reported c.report_move.result c.as_fault-2.result _ c.as_fault-2.ensures
     (on_ok c.report_move.result _ _ c.report_move.ensures.reported
-    (λ reports. subst (λ (side : Side). ReportsEvents (g.S.Style.form (words_of c.args.account.now.head.words)) c.args.source side
+    (λ reports. subst (λ (side : Side). ReportsEvents (g.S.Style.form (words_of c.args.account.now.head.words))
+    (g.S.Style.knows (words_of c.args.account.now.head.words) c.args.account.now.style.now)
+    (g.S.Style.knows (words_of c.args.account.now.head.words) c.report_move.new.account.style.now) c.args.source side
     c.args.session.now.state events c.report_move.new.session.state c.args.account.now.summary
     c.report_move.new.account.summary (all_of g.W.Write.contents c.args.account.now.output)
     (all_of g.W.Write.contents c.report_move.new.account.output)) (c.apply-side.ensures.side bytes)

@@ -19,15 +19,18 @@ returns-in-Some-Quiet-clause-judged g c =
     omega (arith, c.len-count.ensures, c.args.sessions.now.ok.0) in
     on_ok c.quote.result _ _ c.quote.ensures.text
     (λ t.
-    subst (λ (s : Summary). Judges (g.S.Style.form words) c.args.origin.version c.args.origin.line
+    rw c.quote.ensures.same_style
+    (subst (λ (s : Summary). Judges (g.S.Style.form words) (g.S.Style.knows words c.args.account.now.style.now)
+    (g.S.Style.knows words c.args.account.now.style.now) c.args.origin.version c.args.origin.line
     (states_of c.args.sessions.now.items) c.args.line.now (states_of c.args.sessions.now.items) c.args.account.now.summary s
     (all_of g.W.Write.contents c.args.account.now.output) (all_of g.W.Write.contents c.quote.new.account.output))
     (sym c.quote.ensures.same_summary)
-    (nothing_judged (g.S.Style.form words) c.args.origin.version c.args.origin.line c.args.line.now c.args.sessions.now.items
+    (nothing_judged (g.S.Style.form words) (g.S.Style.knows words c.args.account.now.style.now) words
+    (g.met.S.Style.lawful words) c.args.origin.version c.args.origin.line c.args.line.now c.args.sessions.now.items
     c.args.account.now.summary (all_of g.W.Write.contents c.args.account.now.output)
     (all_of g.W.Write.contents c.quote.new.account.output) t.0
     (ap (λ (n : ℕ). event_in c.args.origin.version n c.args.line.now) count
-    ∙ sym (rw c.in-Some-Quiet.field-0-is at c.in-Some-Quiet.ensures.reported)) t.1 t.2))
+    ∙ sym (rw c.in-Some-Quiet.field-0-is at c.in-Some-Quiet.ensures.reported)) t.1 t.2)))
 
 pub returns-in_ok-quote-in-Some-Of-clause-judged : goal.returns-in_ok-quote-in-Some-Of-clause-judged
 returns-in_ok-quote-in-Some-Of-clause-judged g c =
@@ -38,7 +41,8 @@ returns-in_ok-quote-in-Some-Of-clause-judged g c =
     let quoted = c.in_ok-quote-in-Some-Of.ensures.text in
     on_ok c.judge.result _ _ c.judge.ensures.judged
     (λ reported.
-    session_judged (g.S.Style.form words) words (g.met.S.Style.lawful words) c.args.origin.version c.args.origin.line
+    session_judged (g.S.Style.form words) (g.S.Style.knows words c.args.account.now.style.now)
+    (g.S.Style.knows words c.judge.new.account.style.now) words (g.met.S.Style.lawful words) c.args.origin.version c.args.origin.line
     c.in-Some-Of.session
     (event_reported c.read_reported.new.bytes c.in-Some-Of.reported) c.args.line.now c.args.sessions.now.items c.index_mut.result.now
     c.judge.new.session c.source-source.result c.args.account.now.summary c.judge.new.account.summary
@@ -48,7 +52,7 @@ returns-in_ok-quote-in-Some-Of-clause-judged g c =
     (ap (λ (n : ℕ). event_in c.args.origin.version n c.args.line.now) count
     ∙ sym (rw c.in-Some-Of.field-0-is at c.in-Some-Of.ensures.reported))
     within.0 (omega (arith, within.1, count)) c.index_mut.ensures.value c.source-source.ensures quoted.1 quoted.2
-    (rw (c.quote-in-Some-Of.ensures.same_head, c.quote-in-Some-Of.ensures.same_summary) at reported))
+    (rw (c.quote-in-Some-Of.ensures.same_head, c.quote-in-Some-Of.ensures.same_summary, c.quote-in-Some-Of.ensures.same_style) at reported))
 
 pub returns-in-None-clause-same : goal.returns-in-None-clause-same
 returns-in-None-clause-same g c = refl

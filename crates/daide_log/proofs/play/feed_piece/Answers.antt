@@ -21,7 +21,7 @@ returns-in-Nothing-clause-few g c = no_more 1 c.args.account.now.summary
 pub returns-in-Nothing-clause-reported : goal.returns-in-Nothing-clause-reported
 returns-in-Nothing-clause-reported g c =
     let words = words_of c.args.account.now.head.words in
-    tells_none (g.S.Style.form words) words (g.met.S.Style.lawful words) c.args.source c.args.side c.args.session.now.state
+    tells_none (g.S.Style.form words) (g.S.Style.knows words c.args.account.now.style.now) words (g.met.S.Style.lawful words) c.args.source c.args.side c.args.session.now.state
     c.feed-reported.new.self.state (bytes_come c.args.side c.args.piece.now) c.args.account.now.summary
     (all_of g.W.Write.contents c.args.account.now.output)
     (piece_silent c.args.session.now c.feed-reported.new.self c.args.side c.args.piece.now c.feed-reported.result c.requires.few

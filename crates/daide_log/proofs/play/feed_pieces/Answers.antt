@@ -15,7 +15,7 @@ pub loop-session-init : goal.loop-session-init
 loop-session-init g c =
     let head = c.args.account.now.head in
     let words = words_of head.words in (
-      nothing_fed (g.S.Style.form words) head.limits.config words (g.met.S.Style.lawful words) c.args.source c.args.side
+      nothing_fed (g.S.Style.form words) (g.S.Style.knows words c.args.account.now.style.now) head.limits.config words (g.met.S.Style.lawful words) c.args.source c.args.side
           c.args.bytes.now c.args.session.now c.args.account.now.summary
           (all_of g.W.Write.contents c.args.account.now.output) c.requires.ready c.requires.room,
       refl,
@@ -51,7 +51,9 @@ loop-session-preserved g c =
     let words = words_of head.words in
     let live = sym c.is_over.ensures ∙ c.if-not-is_over.true in
     let room = c.room.ensures.waited_for live (idle_free c.loop-session.session c.args.side c.loop-session.invariant.0.ready.idle) in (
-      piece_fed (g.S.Style.form words) head.limits.config words (g.met.S.Style.lawful words) c.args.source c.args.side
+      piece_fed (g.S.Style.form words) (g.S.Style.knows words c.args.account.now.style.now)
+          (g.S.Style.knows words c.loop-session.account.style.now) (g.S.Style.knows words c.feed_piece.new.account.style.now)
+          head.limits.config words (g.met.S.Style.lawful words) c.args.source c.args.side
           c.args.bytes.now c.loop-session.rest.now c.split_at.result.0.now
           c.split_at.result.1.now c.args.session.now.state c.loop-session.session c.feed_piece.new.session
           c.args.account.now.summary c.loop-session.account.summary c.feed_piece.new.account.summary
@@ -61,7 +63,9 @@ loop-session-preserved g c =
           c.loop-session.invariant.0
           (rw (c.split_at.ensures.front, c.split_at.ensures.back) (sym (take-append-drop _ c.loop-session.rest.now)))
           (omega (arith, not_empty _ (sym c.is_empty.ensures ∙ c.loop-session-test.true), room, c.split_at.ensures.front_len, c.min.ensures))
-          (subst (λ (h : Preamble). ReportsEvents (g.S.Style.form (words_of h.words)) c.args.source c.args.side
+          (subst (λ (h : Preamble). ReportsEvents (g.S.Style.form (words_of h.words))
+          (g.S.Style.knows (words_of h.words) c.loop-session.account.style.now)
+          (g.S.Style.knows (words_of h.words) c.feed_piece.new.account.style.now) c.args.source c.args.side
           c.loop-session.session.state (bytes_come c.args.side c.split_at.result.0.now) c.feed_piece.new.session.state
           c.loop-session.account.summary c.feed_piece.new.account.summary
           (all_of g.W.Write.contents c.loop-session.account.output)
@@ -78,7 +82,8 @@ pub returns-in_err-feed_piece-clause-few : goal.returns-in_err-feed_piece-clause
 returns-in_err-feed_piece-clause-few g c =
     let head = c.args.account.now.head in
     let words = words_of head.words in
-    reported_few (g.S.Style.form words) head.limits.config words c.args.source c.args.side c.args.bytes.now
+    reported_few (g.S.Style.form words) (g.S.Style.knows words c.args.account.now.style.now)
+    (g.S.Style.knows words c.loop-session.account.style.now) head.limits.config words c.args.source c.args.side c.args.bytes.now
     c.loop-session.rest.now c.args.session.now.state
     c.loop-session.session c.args.account.now.summary c.loop-session.account.summary c.feed_piece.new.account.summary
     (all_of g.W.Write.contents c.args.account.now.output)
@@ -94,7 +99,8 @@ pub returns-else-not-is_over-clause-reported : goal.returns-else-not-is_over-cla
 returns-else-not-is_over-clause-reported g c =
     let head = c.args.account.now.head in
     let words = words_of head.words in
-    all_fed (g.S.Style.form words) head.limits.config words (g.met.S.Style.lawful words) c.args.source c.args.side
+    all_fed (g.S.Style.form words) (g.S.Style.knows words c.args.account.now.style.now)
+    (g.S.Style.knows words c.loop-session.account.style.now) head.limits.config words (g.met.S.Style.lawful words) c.args.source c.args.side
     c.args.bytes.now c.loop-session.rest.now c.args.session.now.state
     c.loop-session.session c.args.account.now.summary c.loop-session.account.summary
     (all_of g.W.Write.contents c.args.account.now.output)
@@ -105,7 +111,8 @@ pub returns-else-not-is_over-clause-few : goal.returns-else-not-is_over-clause-f
 returns-else-not-is_over-clause-few g c =
     let head = c.args.account.now.head in
     let words = words_of head.words in
-    fed_few (g.S.Style.form words) head.limits.config words c.args.source c.args.side c.args.bytes.now
+    fed_few (g.S.Style.form words) (g.S.Style.knows words c.args.account.now.style.now)
+    (g.S.Style.knows words c.loop-session.account.style.now) head.limits.config words c.args.source c.args.side c.args.bytes.now
     c.loop-session.rest.now c.args.session.now.state
     c.loop-session.session c.args.account.now.summary c.loop-session.account.summary
     (all_of g.W.Write.contents c.args.account.now.output)
@@ -118,7 +125,8 @@ pub returns-after-loop-session-clause-reported : goal.returns-after-loop-session
 returns-after-loop-session-clause-reported g c =
     let head = c.args.account.now.head in
     let words = words_of head.words in
-    all_fed (g.S.Style.form words) head.limits.config words (g.met.S.Style.lawful words) c.args.source c.args.side
+    all_fed (g.S.Style.form words) (g.S.Style.knows words c.args.account.now.style.now)
+    (g.S.Style.knows words c.loop-session.account.style.now) head.limits.config words (g.met.S.Style.lawful words) c.args.source c.args.side
     c.args.bytes.now c.loop-session.rest.now c.args.session.now.state
     c.loop-session.session c.args.account.now.summary c.loop-session.account.summary
     (all_of g.W.Write.contents c.args.account.now.output)
@@ -129,7 +137,8 @@ pub returns-after-loop-session-clause-few : goal.returns-after-loop-session-clau
 returns-after-loop-session-clause-few g c =
     let head = c.args.account.now.head in
     let words = words_of head.words in
-    fed_few (g.S.Style.form words) head.limits.config words c.args.source c.args.side c.args.bytes.now
+    fed_few (g.S.Style.form words) (g.S.Style.knows words c.args.account.now.style.now)
+    (g.S.Style.knows words c.loop-session.account.style.now) head.limits.config words c.args.source c.args.side c.args.bytes.now
     c.loop-session.rest.now c.args.session.now.state
     c.loop-session.session c.args.account.now.summary c.loop-session.account.summary
     (all_of g.W.Write.contents c.args.account.now.output)

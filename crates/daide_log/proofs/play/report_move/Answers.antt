@@ -17,11 +17,13 @@ pub returns-clause-reported : goal.returns-clause-reported
 returns-clause-reported g c =
     on_ok c.tell-written.result _ _ c.tell-written.ensures.text
     (λ t old events moved.
-    tells_one (g.S.Style.form (words_of c.args.account.now.head.words)) c.args.source old events c.args.side
-    c.in-Some.reported c.args.session.now c.take_answers-2.new.session.state t.0 c.args.account.now.summary
+    tells_one (g.S.Style.form (words_of c.args.account.now.head.words))
+    (g.S.Style.knows (words_of c.args.account.now.head.words) c.args.account.now.style.now)
+    (g.S.Style.knows (words_of c.args.account.now.head.words) c.tell-written.new.account.style.now) c.args.source old events
+    c.args.side c.in-Some.reported c.args.session.now c.take_answers-2.new.session.state c.args.account.now.summary
     c.tell-written.new.account.summary (all_of g.W.Write.contents c.args.account.now.output)
     (all_of g.W.Write.contents c.tell-written.new.account.output) (rw c.in-Some.is at moved)
-    c.take_answers-2.ensures.state t.1 c.tell-written.ensures.counted t.2)
+    c.take_answers-2.ensures.state t c.tell-written.ensures.counted)
 
 pub returns-in_default-clause-ready : goal.returns-in_default-clause-ready
 returns-in_default-clause-ready g c =
@@ -34,6 +36,6 @@ returns-in_default-clause-few g c = no_more 1 c.args.account.now.summary
 pub returns-in_default-clause-reported : goal.returns-in_default-clause-reported
 returns-in_default-clause-reported g c = λ old events moved.
     let words = words_of c.args.account.now.head.words in
-    tells_none (g.S.Style.form words) words (g.met.S.Style.lawful words) c.args.source c.args.side old.state
+    tells_none (g.S.Style.form words) (g.S.Style.knows words c.args.account.now.style.now) words (g.met.S.Style.lawful words) c.args.source c.args.side old.state
     c.take_answers.new.session.state events c.args.account.now.summary
     (all_of g.W.Write.contents c.args.account.now.output) (rw c.take_answers.ensures.state (rw (is_none c.args.reported c.in_default.not-Some) at moved))

@@ -7,7 +7,7 @@ use Rattle.daide_log.proofs.play.tell.Goals as goal
 pub returns-clause-text : goal.returns-clause-text
 returns-clause-text g c =
     on_ok c.explain.result _ _ c.explain.ensures.text
-    (λ t. (
+    (λ moved context known. let t = moved context known in (
       t.0,
       t.1,
       appends_more (all_of g.W.Write.contents c.args.account.now.output) (all_of g.W.Write.contents c.put_move.new.output)
