@@ -102,10 +102,6 @@ WORD_IS_UNKNOWN = [
 # A bot without a server counts as served.
 NOBODY_SERVES = [Comes(), HearsEnd(Bot(0)), Comes(), HearsEnd(Bot(1))]
 
-# An address at which no server can be: a name that nobody knows, since its first part has more than 63 letters, so that
-# nobody is asked for it.
-UNKNOWN_NAME = f"{'n' * 64}.invalid:16714"
-
 # A server with a full queue does not answer at all. The connect is given up after its timeout, and the run goes on.
 NEVER_ANSWERS = [Comes(), HearsEnd(Bot(0))]
 
@@ -265,10 +261,6 @@ SCENES = [
     Scene("word_of_the_settings_goes_on_to_the_bot", WORD_COMES_FROM_THE_SERVER, WITH_XYZ),
     Scene("word_that_no_settings_have_gets_huh", WORD_IS_UNKNOWN),
     Scene("nobody_listens_at_the_server", NOBODY_SERVES, "sessions = 2", UNREACHED * 2, server=silent_door),
-    Scene(
-        "server_whose_name_is_unknown_is_told_for_each_bot", NOBODY_SERVES, "sessions = 2", UNREACHED * 2,
-        server=silent_door, address=UNKNOWN_NAME,
-    ),
     Scene("server_that_never_answers_is_given_up", NEVER_ANSWERS, told=UNREACHED, server=full_listener, waits=True),
     Scene("end_that_comes_with_the_last_bytes_is_heard", ENDS_WITH_ITS_LAST),
     Scene("two_sessions_at_once", TWO_AT_ONCE, "sessions = 2"),

@@ -115,8 +115,9 @@ def play(program, room, words, wanted):
     output.
 
     A run does without the memory that `collect` reserves before it adds an element that does not fit. If the
-    reservation is refused, `collect` requests the memory again as it adds the element. gdb found two callers and no
-    others: `words` of the program, for its arguments, and `digits_of` of `daide_show`, for the digits of an input."""
+    reservation is refused, `collect` requests the memory again as it adds the element. Three callers
+    do so: `words` of the program, for its arguments, `digits_of` of `daide_show`, for the digits of an input, and
+    `looked_up` of `daide_sockets`, for the addresses of a name."""
     fatal = 0
     for growth in range(1, MOST_GROWTHS):
         seen, was_refused = run_refusing(program, room, words, growth)

@@ -72,9 +72,8 @@ class Conditions:
 
     # The lines of settings that follow both addresses.
     settings: str = ""
-    # Returns the socket at the server's address; and that address, if it is not the socket's.
+    # Returns the socket at the server's address.
     server: object = None
-    address: str = ""
     # The arguments before the settings, and the words before the program, of a watcher.
     words: tuple = ()
     watcher: tuple = ()
@@ -326,7 +325,7 @@ def silent_door():
 def begun(program, conditions):
     """Creates a stage beside a run that listens, under these conditions. Releases all of them afterwards."""
     listener = conditions.server()
-    address = conditions.address or f"{HOST}:{listener.getsockname()[1]}"
+    address = f"{HOST}:{listener.getsockname()[1]}"
     with tempfile.TemporaryDirectory() as room:
         folder = pathlib.Path(room) / conditions.folder
         if conditions.files:
@@ -352,9 +351,8 @@ class Scene:
     settings: str = ""
     # The expected text on standard error, with `{0}` for the port of the first bot.
     told: str = ""
-    # The socket at the server's address; and that address in the settings, if it is not the socket's.
+    # The socket at the server's address.
     server: object = field(default=open_listener)
-    address: str = ""
     # The standard error of the program.
     errors: object = field(default=ErrorsFile)
     # Whether the run uses almost no CPU time, because it waits.
@@ -378,7 +376,7 @@ class Scene:
     def conditions(self, watcher=()):
         """Returns the conditions of the run, with the words of a watcher."""
         return Conditions(
-            self.settings, self.server, self.address, self.words(), tuple(watcher), self.folder,
+            self.settings, self.server, self.words(), tuple(watcher), self.folder,
             tuple(record_names(self.there, self.first)), self.errors,
         )
 

@@ -65,6 +65,18 @@ lettered_is_taken : fault_of gate_app lettered ≡ []
 unfolding clap_on_literals
 lettered_is_taken = refl
 
+-- settings whose addresses are tried
+abbrev tried : List Text
+tried = codes "daide-gate" ∷ codes "settings" ∷ codes "--try" ∷ codes "a.toml" ∷ []
+
+tried_is_tried : option_map (λ p. is_set (codes "try") p.1) (subcommand_of gate_app tried) ≡ Some true
+unfolding clap_on_literals
+tried_is_tried = refl
+
+tried_is_taken : fault_of gate_app tried ≡ []
+unfolding clap_on_literals
+tried_is_taken = refl
+
 -- no command; a run without settings; an unknown option
 nothing_asked : subcommand_of gate_app (codes "daide-gate" ∷ []) ≡ None
 unfolding clap_on_literals

@@ -70,7 +70,7 @@ abbrev pub frame_app : App
 frame_app = with_rules (codes "frame") (option_rule (codes "words") ∷ words_rule (codes "TEXT") ∷ [])
 
 abbrev pub settings_app : App
-settings_app = with_rules (codes "settings") (word_rule (codes "FILE") true ∷ [])
+settings_app = with_rules (codes "settings") (flag_rule (codes "try") ∷ word_rule (codes "FILE") true ∷ [])
 
 abbrev pub run_app : App
 run_app = with_rules (codes "run")
@@ -155,7 +155,9 @@ IsFrameOrder rows order =
 
 -- the order of `settings`
 abbrev pub IsSettingsOrder : List Row → SettingsOrder → Type 0
-IsSettingsOrder rows order = order.path.now ≡ unwrap_or (first_of (codes "FILE") rows) (codes "-")
+IsSettingsOrder rows order =
+    (order.path.now ≡ unwrap_or (first_of (codes "FILE") rows) (codes "-"))
+    × (order.is_tried ≡ is_set (codes "try") rows)
 
 -- the order of `show`, by the named side and level; a bad side is refused before a bad level
 abbrev pub IsShowOrder : Option Side → Option Level → List Row → Order → Type 0

@@ -81,6 +81,8 @@ pub struct FrameOrder<'m, 'a> {
 pub struct SettingsOrder<'a> {
     /// The path of the settings, or `-` for standard input.
     pub path: &'a str,
+    /// Whether their addresses are tried.
+    pub is_tried: bool,
 }
 
 /// The order to serve.
@@ -256,6 +258,7 @@ fn settings_order<'a>(settings: &ArgMatches<'a>) -> SettingsOrder<'a>
 {
     SettingsOrder {
         path: value_of(settings, "FILE").unwrap_or("-"),
+        is_tried: is_given(settings, "try"),
     }
 }
 

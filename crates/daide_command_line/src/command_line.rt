@@ -103,10 +103,12 @@ const SETTINGS_NOTES: &str = "\
 It prints each fault: its line, the key, the value and what the value must be, and for an unknown key the known one
 that is nearest. For a file without a fault it prints the value of each key, which is a file of settings again, and
 then the memory and the descriptors that its run needs. For '-' it reads standard input.
-The exit status is 0 if 'run' accepts the settings, and else 1.
+With '--try' it also looks up both names, listens once on 'listen', connects once to 'server', and listens once at the
+path of 'control', for settings without a fault. Nothing is accepted or sent. It prints what passed, and what failed.
+The exit status is 0 if 'run' accepts the settings and nothing that was tried failed, and else 1.
 
 Examples:
-  daide-gate settings examples/settings.toml
+  daide-gate settings --try examples/settings.toml
   daide-gate settings examples/tournament.toml";
 
 /// The help on the output of `run`, with examples and exit statuses.
@@ -221,11 +223,18 @@ const COMMANDS: &[CommandRow] = &[
         name: "settings",
         about: "Judges a file of settings, without a run",
         notes: SETTINGS_NOTES,
-        arguments: &[Argument {
-            name: "FILE",
-            takes: Takes::RequiredWord,
-            help: "The file of settings; for '-', standard input is read",
-        }],
+        arguments: &[
+            Argument {
+                name: "try",
+                takes: Takes::Nothing,
+                help: "Listen once on 'listen', and connect once to 'server'",
+            },
+            Argument {
+                name: "FILE",
+                takes: Takes::RequiredWord,
+                help: "The file of settings; for '-', standard input is read",
+            },
+        ],
         takes_numbers: false,
     },
     CommandRow {

@@ -1,5 +1,6 @@
 //! The lines of a fault of a run: the fault, and, if `--verbose` requests that, the folder or the value that it is about,
-//! with the system's error. A fault of the settings is the first line of their report, or all its lines.
+//! with the system's error. A fault of the settings is the first line of their report, or all its lines. An unknown
+//! name is in one line with its key and its address.
 
 ghost use Rattle.std.specs.Prelude.{◌≡◌, IfOk};
 ghost use Rattle.daide_commands.specs.FaultSubject.{subject_of_settings, subject_by};
@@ -20,6 +21,8 @@ use thiserror::Error;
 pub(crate) enum FaultSubject {
     /// The folder of the records, with the system's error.
     Folder(ErrorKind),
+    /// The name in the value of this key.
+    Name(Key),
     /// The value of this key, with the system's error.
     Value(Key, ErrorKind),
     /// The text of the settings, whose faults the judgement of `settings` has.
@@ -54,6 +57,7 @@ fn subject_of(fault: RunFault) -> FaultSubject
     match fault {
         RunFault::Settings(fault) => subject_of_settings(fault),
         RunFault::Record(cause) => FaultSubject::Folder(cause),
+        RunFault::Gateway(GatewayFault::Name(key)) => FaultSubject::Name(key),
         RunFault::Gateway(GatewayFault::Listen(key, cause)) => FaultSubject::Value(key, cause),
         RunFault::Memory | RunFault::Gateway(GatewayFault::Memory | GatewayFault::Serve(_)) => {
             FaultSubject::Memory
@@ -85,6 +89,25 @@ fn tell_value<E: Write>(alloc: Global, text: &str, key: Key, cause: ErrorKind, e
     }
 }
 
+/// Reports the fault of a name, with its key and its address from the text of the settings. Returns the status.
+fn tell_name<E: Write>(
+    alloc: Global,
+    text: &str,
+    key: Key,
+    fault: RunFault,
+    errors: &mut E,
+) -> io::Result<u8>
+    ensures { IfOk result (λ status. status ≡ FAULT) }
+{
+    match read_settings(alloc, text) {
+        Ok(settings) => {
+            let address = value_at(&settings, key);
+            tell(errors, format_args!("{key} {address}: {fault}"), FAULT)
+        }
+        Err(_) => tell(errors, RunFault::Memory, FAULT),
+    }
+}
+
 /// Writes the first fault of a text of settings, or all of them, each in a line. Returns the status.
 fn tell_faults<E: Write>(alloc: Global, text: &str, are_all: bool, errors: &mut E) -> io::Result<u8>
     ensures { IfOk result (λ status. status ≡ FAULT) }
@@ -113,8 +136,10 @@ pub(crate) fn end_failed<E: Write>(
     ensures { IfOk result (λ status. status ≡ FAULT) }
 {
     let subject = subject_of(fault);
-    if matches!(subject, FaultSubject::Text) {
-        return tell_faults(alloc, text, order.is_verbose, errors);
+    match subject {
+        FaultSubject::Text => return tell_faults(alloc, text, order.is_verbose, errors),
+        FaultSubject::Name(key) => return tell_name(alloc, text, key, fault, errors),
+        FaultSubject::Folder(_) | FaultSubject::Value(..) | FaultSubject::Memory => {}
     }
     let status = tell(errors, fault, FAULT)?;
     if order.is_verbose {
@@ -126,7 +151,7 @@ pub(crate) fn end_failed<E: Write>(
                 );
             }
             FaultSubject::Value(key, cause) => tell_value(alloc, text, key, cause, errors),
-            FaultSubject::Text | FaultSubject::Memory => {}
+            FaultSubject::Text | FaultSubject::Name(_) | FaultSubject::Memory => {}
         }
     }
     Ok(status)

@@ -75,6 +75,7 @@ module _ {P S T : Type 0} (to_give taken : S → Option (List ℕ)) (calls : S �
       (h.0, runs settings.stall_seconds (IsWholeRun transition settings) begun h.1 none (h.2, h.3, h.4))
   run_ends settings failed before after begun (Err (Gateway (gateway_faults.Serve fault))) h none =
       (h.0, runs settings.stall_seconds (GivesUp (λ n. Unit {0}) transition settings fault) begun h.1 none (h.2, h.3, h.4))
+  run_ends settings failed before after begun (Err (Gateway (gateway_faults.Name key))) h none = absurd h
   run_ends settings failed before after begun (Err (Gateway (gateway_faults.Listen key cause))) h none = absurd h
   run_ends settings failed before after begun (Err (Gateway gateway_faults.Memory)) h none = absurd h
   run_ends settings failed before after begun (Err run_faults.Memory) h none = absurd h

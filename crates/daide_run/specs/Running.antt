@@ -14,6 +14,7 @@ use Rattle.daide_event_loop.specs.declared.serving.ServeFault.{ServeFault}
 use Rattle.daide_event_loop.specs.Served.{IsWholeRun}
 use Rattle.daide_event_loop.specs.Serving.{GivesUp}
 use Rattle.daide_io.specs.Streams.{StreamCall}
+use Rattle.daide_sockets.specs.Addresses.{MayBeUnknown}
 use Rattle.daide_sockets.specs.Lingering.{no_closing}
 use Rattle.daide_sockets.specs.Pairing.{Paired, RunSockets, Transits}
 use Rattle.daide_sockets.specs.Times.{IsIdleTime}
@@ -51,6 +52,7 @@ RunsOn {P} {T} transition port_transition settings failed old new begun (Ok done
 RunsOn {P} {T} transition port_transition settings failed old new begun (Err (Gateway (gateway_faults.Serve fault))) =
     Announces failed old new × (last : T) × (answers : List (SystemCall P)) × TransitsBy transition begun answers last
     × GivesUp (λ n. Unit {0}) port_transition settings fault answers
+RunsOn transition port_transition settings failed old new begun (Err (Gateway (gateway_faults.Name key))) = ⊥
 RunsOn transition port_transition settings failed old new begun (Err (Gateway (gateway_faults.Listen key cause))) = ⊥
 RunsOn transition port_transition settings failed old new begun (Err (Gateway gateway_faults.Memory)) = ⊥
 RunsOn transition port_transition settings failed old new begun (Err Memory) = ⊥
@@ -58,7 +60,8 @@ RunsOn transition port_transition settings failed old new begun (Err (Record cau
 RunsOn transition port_transition settings failed old new begun (Err (run_faults.Settings fault)) = ⊥
 
 -- The end of a run of settings. If all bots were served, it printed `listening`, and its calls are a whole run of these
--- settings. If it was given up, they are the calls until then. Before that nothing is written.
+-- settings. If it was given up, they are the calls until then. Before that nothing is written, and an address in digits
+-- is never called unknown.
 abbrev pub RunEnds : {P S : Type 0} → (S → Option (List ℕ)) → (S → Option (List ℕ)) →
     (S → Option (List StreamCall)) → (P → Paired S) →
     (P → PortCall → P → Type 0) → Settings → Type 0 → Option (List ℕ) → Option (List ℕ) →
@@ -68,6 +71,8 @@ RunEnds to_give taken calls pair transition settings failed old new (Ok done) =
 RunEnds to_give taken calls pair transition settings failed old new (Err (Gateway (gateway_faults.Serve fault))) =
     Announces failed old new × RunsBy to_give taken calls pair settings.stall_seconds
     (GivesUp (λ n. Unit {0}) transition settings fault)
+RunEnds to_give taken calls pair transition settings failed old new (Err (Gateway (gateway_faults.Name key))) =
+    (new ≡ old) × MayBeUnknown settings key
 RunEnds to_give taken calls pair transition settings failed old new (Err (Gateway (gateway_faults.Listen key cause))) = new ≡ old
 RunEnds to_give taken calls pair transition settings failed old new (Err (Gateway gateway_faults.Memory)) = new ≡ old
 RunEnds to_give taken calls pair transition settings failed old new (Err Memory) = new ≡ old

@@ -16,34 +16,51 @@ use daide_sockets::bound_sockets::{BindError, BoundSockets, bind_sockets};
 use daide_sockets::control_listener::bind_control;
 use daide_sockets::os_network::OsNetwork;
 use daide_status::VERSION;
+use std::fmt::Display;
 use std::io::{ErrorKind, Write};
-use std::net::Net;
+use std::net::{Net, SocketAddr};
 use std::rt::{Clock, Files};
 use thiserror::Error;
 
-/// Logs the beginning of a run if its sessions are logged: its addresses, as in the settings, and how many sessions it
-/// serves at once. The run goes on if the line cannot be written.
-pub(crate) fn log_beginning<E: Write>(is_verbose: bool, settings: &Settings, errors: &mut E) {
-    if !is_verbose {
-        return;
-    }
+/// Logs where a run listens, its server, and how many sessions it serves at once.
+fn log_run<E: Write>(listen: impl Display + Drop, settings: &Settings, errors: &mut E) {
     let _ = writeln!(
         errors,
-        "daide-gate: listening on {}, server {}, {} sessions, version {VERSION}",
-        settings.listen.as_str(),
+        "daide-gate: listening on {listen}, server {}, {} sessions, version {VERSION}",
         settings.server.as_str(),
         settings.max_sessions,
     );
 }
 
+/// Logs the beginning of a run if its sessions are logged, with its addresses as in the settings. If the system chose
+/// the port, the address with that port is logged in any case. The run goes on if the line cannot be written.
+pub(crate) fn log_beginning<E: Write>(
+    is_verbose: bool,
+    chosen: Option<SocketAddr>,
+    settings: &Settings,
+    errors: &mut E,
+) {
+    match (is_verbose, chosen) {
+        (true, None) => log_run(settings.listen.as_str(), settings, errors),
+        (true, Some(address)) => log_run(address, settings, errors),
+        (false, Some(address)) => {
+            let _ = writeln!(errors, "daide-gate: listening on {address}");
+        }
+        (false, None) => {}
+    }
+}
+
 /// Why a gateway does not begin, or ends early.
 #[derive(Clone, Copy, Debug, Error)]
 pub enum GatewayFault {
+    /// The system knows no address of the host of this key.
+    #[error("unknown name")]
+    Name(Key),
     /// The value of this key, an address or the path of the control socket, cannot be bound, or the system has no
     /// descriptor for the network. With the system's error.
     #[error("cannot listen")]
     Listen(Key, ErrorKind),
-    /// The allocator refused the server's addresses or the table of sockets.
+    /// The allocator refused the addresses or the table of sockets.
     #[error("out of memory")]
     Memory,
     /// The run ended before all its bots were served.
@@ -53,10 +70,10 @@ pub enum GatewayFault {
 
 /// Converts an error of the sockets to a fault of the gateway.
 fn fault_of(fault: BindError) -> GatewayFault
-    ensures before { IsBeforeServing result }
-    ensures cause { result ≡ fault_by fault }
+    ensures { result ≡ fault_by fault }
 {
     match fault {
+        BindError::Name(key) => GatewayFault::Name(key),
         BindError::Listen(cause) => GatewayFault::Listen(Key::Listen, cause),
         BindError::Memory => GatewayFault::Memory,
     }
@@ -68,7 +85,7 @@ fn add_control<R: Files + Clock + Net>(
     settings: &Settings,
     network: &mut OsNetwork<'_, R>,
 ) -> Result<(), GatewayFault>
-    ensures { IfErr result IsBeforeServing }
+    ensures { IfErr result (IsBeforeServing settings.now) }
 {
     let Some(path) = &settings.control else {
         return Ok(());
@@ -82,13 +99,13 @@ fn add_control<R: Files + Clock + Net>(
     }
 }
 
-/// Binds the address of the settings, resolves the server's, and creates the table of sockets. Then binds the control
+/// Looks up the addresses of the settings, listens at one, and creates the table of sockets. Then binds the control
 /// socket, if the settings have one. Serves no bot yet.
 pub fn bind<'r, R: AllocGlobal + Files + Clock + Net>(
     rt: &'r R,
     settings: &Settings,
 ) -> Result<BoundSockets<'r, R>, GatewayFault>
-    ensures { IfErr result IsBeforeServing }
+    ensures { IfErr result (IsBeforeServing settings.now) }
 {
     let mut bound = match bind_sockets(rt, settings) {
         Ok(bound) => bound,

@@ -222,13 +222,14 @@ fn serve_bound<
 fn begin<R: Clock + Net, F: Files, E: Write>(
     settings: &Settings,
     reports: &SessionReports<'_, F>,
+    chosen: Option<SocketAddr>,
     network: &mut OsNetwork<'_, R>,
     errors: &mut E,
 ) {
     if reports.folder.is_some() {
         network.set_recorded();
     }
-    log_beginning(reports.is_verbose, settings, errors);
+    log_beginning(reports.is_verbose, chosen, settings, errors);
 }
 
 /// Serves over sockets at the addresses of the settings: binds, and serves on what is bound (`serve_bound`). The file of
@@ -261,11 +262,12 @@ fn serve_sockets<
     let _file = control_file(rt, settings);
     let BoundSockets {
         mut network,
+        chosen,
         servers,
         table,
         pool,
     } = bound;
-    begin(settings, &reports, &mut network, errors);
+    begin(settings, &reports, chosen, &mut network, errors);
     let ground = (network, servers.as_slice(), table, &pool);
     serve_bound(rt, settings, reports, ground, output, errors)
 }
@@ -281,9 +283,9 @@ fn serve_sockets<
 ///
 /// `untouched`: if the text gives no settings, it returns their fault, and output and standard error are unchanged.
 ///
-/// Not said: which sockets and calls they are, since the run opens its sockets itself. Two causes depend on the
-/// operating system: that the address can't be listened on if `Listen` is returned, and that memory was refused if
-/// `Memory` is.
+/// Not said: which sockets and calls they are, since the run opens its sockets itself. Three causes depend on the
+/// operating system: that a name is unknown if `Name` is returned, which it never is for addresses in digits, that the
+/// address can't be listened on if `Listen` is, and that memory was refused if `Memory` is.
 pub fn run_text<R: AllocGlobal + Files + Clock + Net, O: Sink, E: Write>(
     rt: &R,
     text: &str,

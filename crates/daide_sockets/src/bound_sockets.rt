@@ -1,10 +1,12 @@
 //! The resources of a run: its listener, the addresses of the server, and the table of its sockets.
 
-ghost use Rattle.std.specs.Prelude.{◌≡◌, ◌+◌, ◌*◌, ◌^◌, ◌<◌, IfOk, IfSome, false, []};
+ghost use Rattle.std.specs.Prelude.{◌≡◌, ◌≢◌, ◌+◌, ◌*◌, ◌^◌, ◌<◌, IfErr, IfOk, IfSome, false, []};
+ghost use Rattle.daide_sockets.specs.Addresses.{AreAddressesOf, IsBindCause, IsLookUpError};
 ghost use Rattle.daide_sockets.specs.Lingering.{no_closing};
 ghost use Rattle.daide_sockets.specs.Rows.{AreRowsOf, control_keys, keys_of_run};
 ghost use Rattle.daide_sockets.specs.Times.{IsSeconds, IsIdleTime};
 
+use crate::addresses::{AddressFault, listener_on, looked_up};
 use crate::control::MOST_CONTROLS;
 use crate::lingering_close::MOST_CLOSING;
 use crate::os_network::{NetworkError, OsNetwork};
@@ -13,60 +15,69 @@ use crate::system::{Sockets, most_sockets};
 use crate::table::SocketTable;
 use daide_buffered_io::pool::Pool;
 use daide_io::network::Network;
-use daide_settings::Settings;
+use daide_settings::{Key, Settings};
 use mio::net::TcpListener;
-use std::alloc::{AllocError, Global};
+use std::alloc::Global;
 use std::io::{ErrorKind, Write};
-use std::net::{Net, SocketAddr, ToSocketAddrs};
+use std::net::{Net, SocketAddr};
 use std::rt::Clock;
 use std::time::Duration;
 use thiserror::Error;
 
 /// The deadline of a connect to the server, in seconds.
-const CONNECT_SECONDS: u64 = 5;
+pub(crate) const CONNECT_SECONDS: u64 = 5;
 
 /// Why the resources of a run could not be created.
 #[derive(Clone, Copy, Debug, Error)]
 pub enum BindError {
+    /// The system knows no address of the host of this key.
+    #[error("unknown name")]
+    Name(Key),
     /// The address cannot be bound, or the system has no descriptor for the network, with the system's error.
     #[error("cannot listen")]
     Listen(ErrorKind),
-    /// The allocator refused the server's addresses or the table.
+    /// The allocator refused the addresses or the table.
     #[error("out of memory")]
     Memory,
 }
 
-/// Binds the first bindable address of a name. Fails with the error of the name, or of its last address; `NotFound` if
-/// it has none.
-fn listener_at<R: Net>(net: &R, address: &str) -> Result<TcpListener, ErrorKind> {
-    let addresses = match address.to_socket_addrs(net) {
-        Ok(addresses) => addresses,
-        Err(error) => return Err(error.kind()),
-    };
-    let mut cause = ErrorKind::NotFound;
-    for address in addresses {
-        match TcpListener::bind(net, address) {
-            Ok(listener) => return Ok(listener),
-            Err(error) => cause = error.kind(),
-        }
+/// Looks up the address of this key.
+fn addresses_at<R: AllocGlobal + Net>(
+    rt: &R,
+    key: Key,
+    address: &str,
+) -> Result<Vec<SocketAddr>, BindError>
+    ensures found { IfOk result (λ all. AreAddressesOf address.now all.items) }
+    ensures cause { IfErr result (IsLookUpError key address.now) }
+{
+    match looked_up(rt.alloc(), rt, address) {
+        Ok(all) => Ok(all),
+        Err(AddressFault::Unknown) => Err(BindError::Name(key)),
+        Err(AddressFault::Silent | AddressFault::Refused(_)) => Err(BindError::Memory),
     }
-    Err(cause)
 }
 
-/// Resolves the server's address. Returns no address for an unknown name, so that no bot's connect succeeds. Fails only
-/// if the allocator refuses the list.
-fn servers_at<R: Net>(
-    alloc: Global,
-    net: &R,
-    address: &str,
-) -> Result<Vec<SocketAddr>, AllocError> {
-    let mut servers = Vec::new(alloc);
-    if let Ok(addresses) = address.to_socket_addrs(net) {
-        for address in addresses {
-            servers.push(address)?;
-        }
+/// Creates the network of the operating system, with this listener for bots.
+fn network_with<R: AllocGlobal + Clock + Net>(
+    rt: &R,
+    listener: TcpListener,
+) -> Result<OsNetwork<'_, R>, BindError>
+    ensures { IfErr result (λ error. (key : Key) → error ≢ BindError.Name key) }
+{
+    match OsNetwork::new(rt.alloc(), rt, listener, EVENTS) {
+        Ok(network) => Ok(network),
+        Err(NetworkError::System(cause)) => Err(BindError::Listen(cause)),
+        Err(NetworkError::Memory) => Err(BindError::Memory),
     }
-    Ok(servers)
+}
+
+/// Returns the address of a listener that was bound to this one, if the system chose its port.
+fn address_chosen(listener: &TcpListener, bound: SocketAddr) -> Option<SocketAddr> {
+    if bound.port() == 0 {
+        listener.local_addr().ok()
+    } else {
+        None
+    }
 }
 
 /// The resources of a run: its listener, the addresses of the server, and the table of its sockets.
@@ -74,6 +85,8 @@ fn servers_at<R: Net>(
 pub struct BoundSockets<'r, R: Clock + Net> {
     /// The network of the operating system, with the listener for bots.
     pub network: OsNetwork<'r, R>,
+    /// The address of the listener, if the system chose its port.
+    pub chosen: Option<SocketAddr>,
     /// The addresses of the server.
     pub servers: Vec<SocketAddr>,
     /// The table of the sockets.
@@ -82,11 +95,15 @@ pub struct BoundSockets<'r, R: Clock + Net> {
     pub pool: Pool,
 }
 
-/// Binds the listen address of the settings, and resolves the server's. The table has a row for each socket of the run.
-/// The system decides which listener it is, and the addresses of the server's name.
+/// Looks up both addresses of the settings, and listens at the first one. The table has a row for each socket of the
+/// run. The system decides which listener it is, and the addresses of a name.
 ///
-/// Fails with `Listen` if no address can be bound. Fails with `Memory` if the list of the server's addresses is
-/// refused. Then fails with either while the table is created.
+/// Fails with `Name` if the system knows no address of a host. Then fails with `Listen` if no address can be bound, or
+/// if there is no descriptor for the network. Fails with `Memory` at a growth that was refused.
+///
+/// `servers`: no run begins without an address of its server, and one in digits is its own.
+///
+/// `cause`: an address in digits is never called unknown.
 pub fn bind_sockets<'r, R: AllocGlobal + Clock + Net>(
     rt: &'r R,
     settings: &Settings,
@@ -94,22 +111,21 @@ pub fn bind_sockets<'r, R: AllocGlobal + Clock + Net>(
     ensures rows { IfOk result (λ ground. settings.now.max_sessions < 2 ^ 62 →
         ground.table.max_rows ≡ 2 * settings.now.max_sessions + MOST_CLOSING + MOST_CONTROLS + 2) }
     ensures free { IfOk result (λ ground. ground.table.rows ≡ []) }
+    ensures servers { IfOk result (λ ground. AreAddressesOf settings.now.server ground.servers.items) }
+    ensures cause { IfErr result (IsBindCause settings.now) }
 {
-    let listener = match listener_at(rt, settings.listen.as_str()) {
-        Ok(listener) => listener,
+    let places = addresses_at(rt, Key::Listen, settings.listen.as_str())?;
+    let servers = addresses_at(rt, Key::Server, settings.server.as_str())?;
+    let (listener, bound) = match listener_on(rt, places.as_slice()) {
+        Ok(listening) => listening,
         Err(cause) => return Err(BindError::Listen(cause)),
     };
-    let Ok(servers) = servers_at(rt.alloc(), rt, settings.server.as_str()) else {
-        return Err(BindError::Memory);
-    };
-    let network = match OsNetwork::new(rt.alloc(), rt, listener, EVENTS) {
-        Ok(network) => network,
-        Err(NetworkError::System(cause)) => return Err(BindError::Listen(cause)),
-        Err(NetworkError::Memory) => return Err(BindError::Memory),
-    };
+    let chosen = address_chosen(&listener, bound);
+    let network = network_with(rt, listener)?;
     match SocketTable::new(rt.alloc(), most_sockets(settings.max_sessions)) {
         Ok(table) => Ok(BoundSockets {
             network,
+            chosen,
             servers,
             table,
             pool: Pool::new(rt.alloc()),

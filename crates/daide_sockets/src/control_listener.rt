@@ -2,6 +2,7 @@
 //!
 //! The operating system decides what is at the path, so no contract is about it.
 
+use crate::addresses::AddressFault;
 use mio::net::{UnixListener, UnixStream};
 use std::io::ErrorKind;
 use std::net::Net;
@@ -68,5 +69,16 @@ pub fn bind_control<R: Files + Net>(rt: &R, path: &str) -> io::Result<UnixListen
             let _ = fs::remove_file(rt, path);
             Err(error)
         }
+    }
+}
+
+/// Listens once at this path as a run does, and removes the socket.
+pub fn try_control<R: Files + Net>(rt: &R, path: &str) -> Result<(), AddressFault> {
+    match bind_control(rt, path) {
+        Ok(_listener) => {
+            let _file = ControlFile::at(rt, path);
+            Ok(())
+        }
+        Err(error) => Err(AddressFault::Refused(error.kind())),
     }
 }

@@ -13,6 +13,7 @@
 //! system is described by that call of the network, by the network's own `transition`.
 #![tactic(auto)]
 
+pub mod addresses;
 pub mod admission;
 pub mod bound_sockets;
 pub mod capacity;

@@ -1,9 +1,10 @@
 -- The end of `show`, `check`, `frame` and `settings`: the exit status by the result of their libraries, and the output.
 -- (own)
-use Rattle.std.specs.Prelude.{◌≡◌, ◌≢◌, ℕ, ◌==◌, ◌&&◌, Bool, true, false, if◌then◌else◌, codes}
+use Rattle.std.specs.Prelude.{◌≡◌, ◌≢◌, ◌≤◌, ℕ, ◌==◌, ◌&&◌, Bool, true, false, if◌then◌else◌, codes}
 use Rattle.std.specs.Prelude.{List, [], ◌∷◌, ◌++◌, map, Option, Some, None, IfSome, option_map, Result, Ok, Err}
 use Rattle.std.specs.Prelude.{IfOk, is_ok}
 use Rattle.std.specs.List.{join_with_byte}
+use Rattle.std.specs.Option.{is_some}
 use Rattle.std.specs.Io.KnownBytes.{Keeps}
 use Rattle.daide_words.specs.declared.word.Word.{Word}
 use Rattle.daide_words.specs.Word.{names_of}
@@ -27,6 +28,7 @@ use Rattle.daide_command_line.specs.declared.arguments.CheckOrder.{CheckOrder}
 use Rattle.daide_command_line.specs.declared.arguments.FrameOrder.{FrameOrder}
 use Rattle.daide_command_line.specs.declared.arguments.SettingsOrder.{SettingsOrder}
 use Rattle.toml.specs.Parse.{parse_document}
+use Rattle.daide_settings.specs.declared.settings.Settings.{Settings}
 use Rattle.daide_settings.specs.Settings.{judged_settings}
 use Rattle.daide_tools.specs.declared.judging.SettingsFault.{SettingsFault}
 
@@ -104,20 +106,23 @@ FrameEnds added input old new status =
 
 -- ---- `settings`
 
--- the status by the judgement: whether the text has settings, or a fault
-abbrev pub settings_status : Result Bool SettingsFault → ℕ
-settings_status (Ok true) = 0
-settings_status (Ok false) = 1
-settings_status (Err fault) = 1
+-- the status by the judgement, whose settings are there if the text has no fault; with `--try` a trial of their
+-- addresses may fail
+abbrev pub IsSettingsStatus : Result (Option Settings) SettingsFault → Bool → ℕ → Type 0
+IsSettingsStatus (Ok (Some settings)) false status = status ≡ 0
+IsSettingsStatus (Ok (Some settings)) true status = status ≤ 1
+IsSettingsStatus (Ok None) tried status = status ≡ 1
+IsSettingsStatus (Err fault) tried status = status ≡ 1
 
 -- the judgement of a text: whether it has settings
 abbrev pub IsJudgement : List ℕ → Bool → Type 0
 IsJudgement text good = good ≡ is_ok (judged_settings (parse_document text))
 
 -- the status is that of a judgement, which is the one of a known text
-abbrev pub SettingsEnds : Option (List ℕ) → ℕ → Type 0
-SettingsEnds known status = (answer : Result Bool SettingsFault)
-    × IfOk answer (λ good. IfSome known (λ text. IsJudgement text good)) × (status ≡ settings_status answer)
+abbrev pub SettingsEnds : Bool → Option (List ℕ) → ℕ → Type 0
+SettingsEnds tried known status = (answer : Result (Option Settings) SettingsFault)
+    × IfOk answer (λ settings. IfSome known (λ text. IsJudgement text (is_some settings)))
+    × IsSettingsStatus answer tried status
 
 -- ---- an order
 
@@ -143,4 +148,4 @@ FrameRuns order known old new status =
     (lines_by (option_map (λ typed. map (λ word. word.now) typed.now) order.typed) known) old new status
 
 abbrev pub SettingsRuns : SettingsOrder → Option (List ℕ) → ℕ → Type 0
-SettingsRuns order known status = order.path.now ≡ codes "-" → SettingsEnds known status
+SettingsRuns order known status = order.path.now ≡ codes "-" → SettingsEnds order.is_tried known status

@@ -1,2 +1,3 @@
 pub mod Controlling
 pub mod Endings
+pub mod Trials

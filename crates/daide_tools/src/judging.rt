@@ -1,20 +1,21 @@
 //! `settings`: the faults of a file of settings, or its values and what its run needs.
 
-ghost use Rattle.std.specs.Prelude.{◌≡◌, ◌≤◌, [], false, IfOk, IfSome, is_ok};
-ghost use Rattle.toml.specs.Parse.{parse_document};
+ghost use Rattle.std.specs.Prelude.{◌≡◌, ◌≤◌, IfOk, IfSome};
+ghost use Rattle.std.specs.Option.{is_some};
 ghost use Rattle.daide_driver.specs.Hub.{session_bound};
 ghost use Rattle.daide_event_loop.specs.Served.{run_limits};
-ghost use Rattle.daide_settings.specs.Settings.{judged_settings};
-ghost use Rattle.daide_tools.specs.Endings.{IsJudgement, settings_status, SettingsEnds, SettingsRuns};
+ghost use Rattle.daide_tools.specs.Endings.{IsJudgement, IsSettingsStatus, SettingsEnds, SettingsRuns};
 
 use crate::faults::{CLEAN, FAULT, tell};
 use crate::settings_file::{SettingsFileFault, read_text};
+use crate::trying::try_settings;
 use daide_command_line::arguments::SettingsOrder;
 use daide_settings::{JudgeFault, Settings, SettingsError, judge_settings, read_settings};
 use daide_sockets::lingering_close::MOST_CLOSING;
 use std::alloc::Global;
 use std::io::{Read, Write};
-use std::rt::Files;
+use std::net::Net;
+use std::rt::{Clock, Files};
 use std::{fs, io};
 use thiserror::Error;
 
@@ -65,12 +66,15 @@ fn write_descriptors(settings: &Settings, text: &mut Vec<u8>) -> io::Result<()> 
     writeln!(text, "#   1 a session more with --record")
 }
 
-/// Returns the memory and the descriptors that a run needs, as comments of TOML.
-fn needs_of(alloc: Global, settings: &Settings) -> io::Result<Vec<u8>> {
+/// Returns the memory and the descriptors that a run needs, as comments of TOML; without settings nothing.
+fn needs_of(alloc: Global, settings: &Option<Settings>) -> io::Result<Vec<u8>> {
+    let mut text = Vec::new(alloc);
+    let Some(settings) = settings else {
+        return Ok(text);
+    };
     let one = session_bytes(settings);
     let count = settings.max_sessions;
     let all = one.saturating_mul(count);
-    let mut text = Vec::new(alloc);
     writeln!(
         text,
         "# memory: at most {all} bytes for bodies, brackets and queued frames, {one} for each of {count} sessions;"
@@ -83,45 +87,46 @@ fn needs_of(alloc: Global, settings: &Settings) -> io::Result<Vec<u8>> {
     Ok(text)
 }
 
-/// Returns what the run of a text needs; nothing if the text has no settings.
-fn needs_of_text<'a>(alloc: Global, text: &str) -> Result<Vec<u8>, SettingsFault<'a>>
-    ensures { IfOk result (λ needs. is_ok (judged_settings (parse_document text.now)) ≡ false → needs.items ≡ []) }
+/// Returns the settings of a text, if it has no fault. Fails only if memory is refused.
+fn settings_of<'a>(alloc: Global, text: &str) -> Result<Option<Settings>, SettingsFault<'a>>
+    ensures { IfOk result (λ settings. IsJudgement text.now (is_some settings)) }
 {
     match read_settings(alloc, text) {
-        Ok(settings) => {
-            needs_of(alloc, &settings).map_err(|_| SettingsFault::Judge(JudgeFault::Memory))
-        }
+        Ok(settings) => Ok(Some(settings)),
         Err(SettingsError::Memory) => Err(SettingsFault::Judge(JudgeFault::Memory)),
-        Err(_) => Ok(Vec::new(alloc)),
+        Err(_) => Ok(None),
     }
 }
 
-/// Judges a text of settings. Returns true if it has settings. All memory is allocated before anything is written.
+/// Judges a text of settings, and returns them if it has no fault. All memory is allocated before anything is written.
 fn judge_text<'a, O: Write>(
     alloc: Global,
     text: &str,
     output: &mut O,
-) -> Result<bool, SettingsFault<'a>>
-    ensures { IfOk result (λ good. IsJudgement text.now good) }
+) -> Result<Option<Settings>, SettingsFault<'a>>
+    ensures { IfOk result (λ settings. IsJudgement text.now (is_some settings)) }
 {
-    let needs = needs_of_text(alloc, text)?;
+    let settings = settings_of(alloc, text)?;
+    let Ok(needs) = needs_of(alloc, &settings) else {
+        return Err(SettingsFault::Judge(JudgeFault::Memory));
+    };
     match judge_settings(alloc, text, output) {
-        Ok(good) => match output.write_all(needs.as_slice()) {
-            Ok(()) => Ok(good),
+        Ok(_) => match output.write_all(needs.as_slice()) {
+            Ok(()) => Ok(settings),
             Err(_) => Err(SettingsFault::Judge(JudgeFault::Write)),
         },
         Err(fault) => Err(SettingsFault::Judge(fault)),
     }
 }
 
-/// Judges the settings in a reader, which is the file of this name.
+/// Judges the settings in a reader, which is the file of this name, and returns them if they have no fault.
 fn judge_input<'a, I: Read, O: Write>(
     alloc: Global,
     path: &'a str,
     input: &mut I,
     output: &mut O,
-) -> Result<bool, SettingsFault<'a>>
-    ensures { IfOk result (λ good. IfSome (I.remaining input.old) (λ text. IsJudgement text good)) }
+) -> Result<Option<Settings>, SettingsFault<'a>>
+    ensures { IfOk result (λ settings. IfSome (I.remaining input.old) (λ text. IsJudgement text (is_some settings))) }
 {
     match read_text(alloc, path, input) {
         Ok(text) => judge_text(alloc, text.as_str(), output),
@@ -129,34 +134,43 @@ fn judge_input<'a, I: Read, O: Write>(
     }
 }
 
-/// Returns the status of a judgement. Reports a fault on standard error.
-fn end_judged<E: Write>(answer: Result<bool, SettingsFault<'_>>, errors: &mut E) -> io::Result<u8>
-    ensures { IfOk result (λ status. status ≡ settings_status answer.entry) }
+/// Returns the status of a judgement. Reports a fault on standard error. If that is ordered, the addresses of settings
+/// without a fault are tried.
+fn end_judged<R: AllocGlobal + Files + Clock + Net, O: Write, E: Write>(
+    rt: &R,
+    answer: Result<Option<Settings>, SettingsFault<'_>>,
+    is_tried: bool,
+    output: &mut O,
+    errors: &mut E,
+) -> io::Result<u8>
+    ensures { IfOk result (IsSettingsStatus answer.entry is_tried) }
 {
     match answer {
-        Ok(true) => Ok(CLEAN),
-        Ok(false) => Ok(FAULT),
+        Ok(Some(settings)) if is_tried => try_settings(rt, &settings, output, errors),
+        Ok(Some(_settings)) => Ok(CLEAN),
+        Ok(None) => Ok(FAULT),
         Err(fault) => tell(errors, fault, FAULT),
     }
 }
 
-/// Judges the settings in a reader, which is the file of this name. Returns the status.
-fn judge_read<I: Read, O: Write, E: Write>(
-    alloc: Global,
-    path: &str,
+/// Judges the settings in a reader, which is the file of this order. Returns the status.
+fn judge_read<R: AllocGlobal + Files + Clock + Net, I: Read, O: Write, E: Write>(
+    rt: &R,
+    order: SettingsOrder<'_>,
     input: &mut I,
     output: &mut O,
     errors: &mut E,
 ) -> io::Result<u8>
     ensures bounded { IfOk result (λ status. status ≤ FAULT) }
-    ensures judged { IfOk result (SettingsEnds (I.remaining input.old)) }
+    ensures judged { IfOk result (SettingsEnds order.entry.is_tried (I.remaining input.old)) }
 {
-    let answer = judge_input(alloc, path, input, output);
-    end_judged(answer, errors)
+    let answer = judge_input(rt.alloc(), order.path, input, output);
+    end_judged(rt, answer, order.is_tried, output, errors)
 }
 
-/// Judges the settings at a path, or of standard input. No contract is about the contents of a file.
-pub fn run_settings<R: AllocGlobal + Files, I: Read, O: Write, E: Write>(
+/// Judges the settings at a path, or of standard input, and tries their addresses if that is ordered. No contract is
+/// about the contents of a file, or about what passes.
+pub fn run_settings<R: AllocGlobal + Files + Clock + Net, I: Read, O: Write, E: Write>(
     rt: &R,
     order: SettingsOrder<'_>,
     input: &mut I,
@@ -166,15 +180,14 @@ pub fn run_settings<R: AllocGlobal + Files, I: Read, O: Write, E: Write>(
     ensures bounded { IfOk result (λ status. status ≤ FAULT) }
     ensures judged { IfOk result (SettingsRuns order.entry (I.remaining input.old)) }
 {
-    let SettingsOrder { path } = order;
-    if path == "-" {
-        return judge_read(rt.alloc(), path, input, output, errors);
+    if order.path == "-" {
+        return judge_read(rt, order, input, output, errors);
     }
-    match fs::open(rt, path) {
-        Ok(mut file) => judge_read(rt.alloc(), path, &mut file, output, errors),
+    match fs::open(rt, order.path) {
+        Ok(mut file) => judge_read(rt, order, &mut file, output, errors),
         Err(error) => tell(
             errors,
-            SettingsFileFault::Unreadable(path, error.kind()),
+            SettingsFileFault::Unreadable(order.path, error.kind()),
             FAULT,
         ),
     }

@@ -1,8 +1,8 @@
 //! The commands of `daide-gate` that need no run of their own, over any streams.
 //!
 //! `showing`, `checking` and `framing` take their input from the arguments (`typed`), a file or a reader. `judging` judges
-//! a file of settings, and `controlling` sends a request to a run and prints its answer. `settings_file` reads a file of
-//! settings. `faults` has the line that reports a fault and the exit statuses.
+//! a file of settings, whose addresses `trying` tries, and `controlling` sends a request to a run and prints its answer.
+//! `settings_file` reads a file of settings. `faults` has the line that reports a fault and the exit statuses.
 #![tactic(auto)]
 
 pub mod checking;
@@ -12,4 +12,5 @@ pub mod framing;
 pub mod judging;
 pub mod settings_file;
 pub mod showing;
+mod trying;
 mod typed;

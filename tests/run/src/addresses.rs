@@ -4,6 +4,7 @@
 use crate::doors::any_port;
 use crate::frames::{FM, IM};
 use daide_run::run_text;
+use daide_sockets::addresses::{try_connect, try_listen};
 use daide_test_support::rows::holds;
 use std::alloc::{Allocator, Global};
 use std::fs::{Metadata, OpenOptions};
@@ -50,6 +51,10 @@ impl Net for Named<'_> {
 
     fn connect(&self, addr: SocketAddr) -> io::Result<TcpStream> {
         self.rt.connect(addr)
+    }
+
+    fn connect_timeout(&self, addr: SocketAddr, timeout: Duration) -> io::Result<TcpStream> {
+        self.rt.connect_timeout(addr, timeout)
     }
 
     fn lookup_host(&self, _host: &str, _port: u16, found: &mut [SocketAddr]) -> io::Result<usize> {
@@ -191,4 +196,31 @@ fn second_address_is_listened_on(rt: HostRuntime) -> Result<(), Fail> {
     let to = server.local_addr()?.to_string(rt.alloc())?;
     serves_one(&names, ("gate:1", at.as_str()), to.as_str())?;
     holds(brought_both(&rt, &server)?, "both frames")
+}
+
+/// The first of a name's addresses is in use, and nobody listens there once it is free. Both trials pass at the second.
+#[test]
+fn second_address_passes_a_trial(rt: HostRuntime) -> Result<(), Fail> {
+    let server = TcpListener::bind(&rt, any_port())?;
+    let taken = TcpListener::bind(&rt, any_port())?;
+    let free = TcpListener::bind(&rt, any_port())?.local_addr()?;
+    let first = taken.local_addr()?;
+    let names = Named {
+        rt: &rt,
+        addresses: [first, free],
+    };
+    holds(
+        try_listen(&names, "gate:1").is_ok_and(|at| at == free),
+        "listen",
+    )?;
+    drop(taken);
+    let there = server.local_addr()?;
+    let names = Named {
+        rt: &rt,
+        addresses: [first, there],
+    };
+    holds(
+        try_connect(&names, "server:1").is_ok_and(|at| at == there),
+        "server",
+    )
 }

@@ -21,6 +21,7 @@ const FAULTS: &[(RunFault, &str)] = &[
     (RunFault::Record(ErrorKind::PermissionDenied), "record could not be written"),
     (RunFault::Settings(SettingsError::Memory), "out of memory"),
     (RunFault::Gateway(GatewayFault::Listen(Key::Listen, ErrorKind::AddrInUse)), "cannot listen"),
+    (RunFault::Gateway(GatewayFault::Name(Key::Server)), "unknown name"),
     (RunFault::Gateway(GatewayFault::Memory), "out of memory"),
     (
         RunFault::Gateway(GatewayFault::Serve(ServeFault::Memory)),

@@ -1,3 +1,4 @@
+use Rattle.std.specs.Option.{is_some}
 use Rattle.std.proofs.lemmas.Result.{IfOk-weaker}
 use Rattle.daide_tools.specs.Endings.{IsJudgement}
 use Rattle.daide_tools.proofs.JudgingLemmas.{of_text}
@@ -6,5 +7,6 @@ use Rattle.daide_tools.proofs.judging.judge_input.Goals as goal
 pub returns-in-Ok : goal.returns-in-Ok
 returns-in-Ok g c =
     IfOk-weaker c.judge_text.result _ _
-    (λ good judged. of_text (λ text. IsJudgement text good) _ _ _ c.as_str.ensures.value c.in-Ok.ensures.whole judged)
+    (λ settings judged. of_text (λ text. IsJudgement text (is_some settings)) _ _ _ c.as_str.ensures.value
+    c.in-Ok.ensures.whole judged)
     c.judge_text.ensures

@@ -1,0 +1,105 @@
+//! `settings --try`: what a run begins with, tried once.
+//!
+//! The operating system decides what passes, so the contracts are about any results.
+
+ghost use Rattle.std.specs.Prelude.{◌≡◌, ◌≤◌, IfOk};
+ghost use Rattle.std.specs.Option.{is_some};
+ghost use Rattle.daide_tools.specs.Trials.{trials_status};
+
+use crate::faults::{CLEAN, FAULT, tell};
+use daide_settings::{JudgeFault, Key, Settings};
+use daide_sockets::addresses::{AddressFault, try_connect, try_listen};
+use daide_sockets::control_listener::try_control;
+use std::io;
+use std::io::Write;
+use std::net::{Net, SocketAddr};
+use std::rt::{Clock, Files};
+
+/// The results of the trials of some settings.
+#[derive(Clone, Copy)]
+struct Trials {
+    /// Of `listen`: the address at which a listener was.
+    listen: Result<SocketAddr, AddressFault>,
+    /// Of `server`: the address that was reached.
+    server: Result<SocketAddr, AddressFault>,
+    /// Of the path of `control`; it passes if the settings have none.
+    control: Result<(), AddressFault>,
+}
+
+/// Tries what a run with these settings begins with. No listener is left when the server is tried, so that the trial does
+/// not reach itself.
+fn trials_of<R: AllocGlobal + Files + Clock + Net>(rt: &R, settings: &Settings) -> Trials {
+    let listen = try_listen(rt, settings.listen.as_str());
+    let server = try_connect(rt, settings.server.as_str());
+    let control = match &settings.control {
+        Some(path) => try_control(rt, path.as_str()),
+        None => Ok(()),
+    };
+    Trials {
+        listen,
+        server,
+        control,
+    }
+}
+
+/// Writes a comment of TOML for each trial that passed.
+fn write_passed<O: Write>(settings: &Settings, trials: Trials, output: &mut O) -> io::Result<()> {
+    if let Ok(address) = trials.listen {
+        writeln!(output, "# listen: {address} is free")?;
+    }
+    if let Ok(address) = trials.server {
+        writeln!(output, "# server: reached at {address}")?;
+    }
+    if settings.control.is_some() && trials.control.is_ok() {
+        writeln!(output, "# control: its path is free")?;
+    }
+    Ok(())
+}
+
+/// Reports the fault of the value of a key, if it has one. Returns true if it has.
+fn tell_fault<E: Write>(
+    key: Key,
+    value: &str,
+    fault: Option<AddressFault>,
+    errors: &mut E,
+) -> io::Result<bool>
+    ensures { IfOk result (λ failed. failed ≡ is_some fault) }
+{
+    let Some(fault) = fault else {
+        return Ok(false);
+    };
+    tell(errors, format_args!("{key} {value}: {fault}"), FAULT)?;
+    Ok(true)
+}
+
+/// Reports each trial that failed. Returns the status.
+fn tell_failed<E: Write>(settings: &Settings, trials: Trials, errors: &mut E) -> io::Result<u8>
+    ensures { IfOk result (λ status. status ≡ trials_status trials) }
+{
+    let listen = settings.listen.as_str();
+    let mut has_failed = tell_fault(Key::Listen, listen, trials.listen.err(), errors)?;
+    let server = settings.server.as_str();
+    has_failed |= tell_fault(Key::Server, server, trials.server.err(), errors)?;
+    let control = match &settings.control {
+        Some(path) => path.as_str(),
+        None => "",
+    };
+    has_failed |= tell_fault(Key::Control, control, trials.control.err(), errors)?;
+    Ok(if has_failed { FAULT } else { CLEAN })
+}
+
+/// Tries the addresses of settings without a fault, and reports what passed and what failed. Returns the status.
+pub(crate) fn try_settings<R: AllocGlobal + Files + Clock + Net, O: Write, E: Write>(
+    rt: &R,
+    settings: &Settings,
+    output: &mut O,
+    errors: &mut E,
+) -> io::Result<u8>
+    ensures { IfOk result (λ status. status ≤ FAULT) }
+{
+    let trials = trials_of(rt, settings);
+    match write_passed(settings, trials, output) {
+        Ok(()) => tell_failed(settings, trials, errors),
+        Err(_) => tell(errors, JudgeFault::Write, FAULT),
+    }
+}
