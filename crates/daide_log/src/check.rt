@@ -221,7 +221,7 @@ fn hand_over_rest<T: Copy, W: Write>(
 }
 
 /// Reports a log, and writes the page at the end, whether the log has a fault or not.
-pub(crate) fn report_whole<A: Allocator + Copy, R: LogReader, W: Write, S: Style>(
+fn report_whole<A: Allocator + Copy, R: LogReader, W: Write, S: Style>(
     alloc: A,
     input: &mut Input<'_, R>,
     account: &mut ReportBuilder<'_, '_, W, S>,
@@ -238,6 +238,39 @@ pub(crate) fn report_whole<A: Allocator + Copy, R: LogReader, W: Write, S: Style
 {
     let answer = report(alloc, input, account);
     hand_over_rest(answer, &mut account.output)
+}
+
+/// Reads a log, and writes its report in a style. After `BadLine`, `refused` says why the line is none.
+#[tactic(auto, using(crate::proofs::LogLemmas::answered_alike))]
+pub(crate) fn report_stream<A: Allocator + Copy, R: LogReader, W: Write, S: Style>(
+    alloc: A,
+    style: &mut S,
+    reader: &mut R,
+    writer: &mut W,
+    refused: &mut Option<LineReason>,
+) -> Result<S::Answer, LogFault>
+    requires fresh { (words : List Word) → S.knows words style.old (S.form words).fresh }
+    ensures { (words : List Word) × IsAnswered (S.form words) (R.reader_view reader.old) (R.reader_view reader.new)
+        (W.contents writer.old) (W.contents writer.new) result }
+{
+    let mut input = Input {
+        block: Block::new(),
+        text: Text::new(),
+        reader,
+    };
+    let mut account = ReportBuilder {
+        summary: Summary::new(),
+        output: Output {
+            page: Page::new(),
+            writer,
+        },
+        head: Preamble::new(),
+        refused: None,
+        style,
+    };
+    let answer = report_whole(alloc, &mut input, &mut account);
+    *refused = account.refused;
+    answer
 }
 
 /// Reads a log, and writes its report, as `check_log` does, from a reader that records its reads.
@@ -262,24 +295,7 @@ pub fn check_stream<A: Allocator + Copy, R: LogReader, W: Write>(
     ensures refused { IfErr result (λ fault. IsFaultAfter plain (R.reader_view reader.old) (R.reader_view reader.new)
         (W.contents writer.old) (W.contents writer.new) fault) }
 {
-    let mut input = Input {
-        block: Block::new(),
-        text: Text::new(),
-        reader,
-    };
-    let mut account = ReportBuilder {
-        summary: Summary::new(),
-        output: Output {
-            page: Page::new(),
-            writer,
-        },
-        head: Preamble::new(),
-        refused: None,
-        style: &mut PlainStyle,
-    };
-    let answer = report_whole(alloc, &mut input, &mut account);
-    *refused = account.refused;
-    answer
+    report_stream(alloc, &mut PlainStyle, reader, writer, refused)
 }
 
 /// Reads a log, and writes its report: a line for each frame that became whole, each fault and each end, and the counts

@@ -32,26 +32,21 @@ ghost use Rattle.daide_log.specs.Reporting.{IsIdle};
 ghost use Rattle.daide_log.specs.Proofs.Lawful.{explained_lawful};
 
 use crate::announced::{announced_after, capped_from, level_announced, record_level, top_level};
-use crate::check::report_whole;
+use crate::check::report_stream;
 use crate::heading::{Preamble, Version};
 use crate::line_reason::LineReason;
 use crate::page::{
     Unreported, put_byte, put_cut_line, put_indented, put_message, put_part, put_text,
 };
 use crate::report::{Part, ReportKey};
-use crate::report_builder::ReportBuilder;
 use crate::style::Style;
 use daide_explain::{Rules, answer_of, write_explained};
 use daide_frame::{Code, Head, Kind, Side};
 use daide_grammar::Level;
 use daide_io::{FaultCause, FaultField};
 use daide_log_lines::LogFault;
-use daide_log_lines::block::Block;
-use daide_log_lines::input::Input;
 use daide_log_lines::output::Output;
-use daide_log_lines::page::Page;
 use daide_log_lines::reader::LogReader;
-use daide_log_lines::text::Text;
 use daide_protocol::transitions::side2_of;
 use daide_protocol::{Deed, MAX_SESSIONS, Note, Summary};
 use daide_reader::Verdict;
@@ -75,10 +70,22 @@ pub struct Explained {
 
 /// The style of a report with explanations. One text is allocated for all of them, and cleared before each.
 #[derive(Drop)]
-struct Explaining<B: Allocator> {
+pub(crate) struct Explaining<B: Allocator> {
     text: Vec<u8, B>,
     /// The level that the server of each session announced last.
     announced: [Level; MAX_SESSIONS],
+}
+
+impl<B: Allocator> Explaining<B> {
+    /// Returns the style with an empty text, before any server announced a level.
+    pub(crate) fn new(alloc: B) -> Explaining<B>
+        ensures { result.announced ≡ replicate most_sessions L0 }
+    {
+        Explaining {
+            text: Vec::new(alloc),
+            announced: [Level::L0; MAX_SESSIONS],
+        }
+    }
 }
 
 /// Writes tokens on a line of their own, with the operator's words by their names.
@@ -557,7 +564,7 @@ impl<B: Allocator + Copy> Style for Explaining<B> {
     }
 
     fn quote<W: Write>(
-        &self,
+        &mut self,
         _head: &Preamble,
         line: &[u8],
         output: &mut Output<'_, W>,
@@ -591,39 +598,6 @@ impl<B: Allocator + Copy> Style for Explaining<B> {
     ghost lawful = { explained_lawful };
 }
 
-/// Reads a log and writes its report with explanations, as `explain_stream` does, with the text of this style.
-#[tactic(auto, using(crate::proofs::LogLemmas::answered_alike))]
-fn explain_over<A: Allocator + Copy, R: LogReader, W: Write>(
-    alloc: A,
-    style: &mut Explaining<A>,
-    reader: &mut R,
-    writer: &mut W,
-    refused: &mut Option<LineReason>,
-) -> Result<Explained, LogFault>
-    requires fresh { style.old.announced ≡ replicate most_sessions L0 }
-    ensures { (words : List Word) × IsAnswered (explained words) (R.reader_view reader.old) (R.reader_view reader.new)
-        (W.contents writer.old) (W.contents writer.new) result }
-{
-    let mut input = Input {
-        block: Block::new(),
-        text: Text::new(),
-        reader,
-    };
-    let mut account = ReportBuilder {
-        summary: Summary::new(),
-        output: Output {
-            page: Page::new(),
-            writer,
-        },
-        head: Preamble::new(),
-        refused: None,
-        style,
-    };
-    let answer = report_whole(alloc, &mut input, &mut account);
-    *refused = account.refused;
-    answer
-}
-
 /// Reads a log, and writes its report with explanations, as `explain_log` does. Each read is made in time, as for
 /// `check_stream`, which also says what `refused` is.
 pub fn explain_stream<A: Allocator + Copy, R: LogReader, W: Write>(
@@ -635,11 +609,7 @@ pub fn explain_stream<A: Allocator + Copy, R: LogReader, W: Write>(
     ensures { (words : List Word) × IsAnswered (explained words) (R.reader_view reader.old) (R.reader_view reader.new)
         (W.contents writer.old) (W.contents writer.new) result }
 {
-    let mut style = Explaining {
-        text: Vec::new(alloc),
-        announced: [Level::L0; MAX_SESSIONS],
-    };
-    explain_over(alloc, &mut style, reader, writer, refused)
+    report_stream(alloc, &mut Explaining::new(alloc), reader, writer, refused)
 }
 
 /// Reads a log and writes its report with explanations.

@@ -55,7 +55,7 @@ pub trait Style {
 
     /// Writes what the report has for a line itself, apart from the moves of a session.
     fn quote<W: Write>(
-        &self,
+        &mut self,
         head: &Preamble,
         line: &[u8],
         output: &mut Output<'_, W>,
@@ -64,6 +64,7 @@ pub trait Style {
             × IsQuietWith (form (words_of head.now.words)) line.now text
             × Appends (all_of W.contents output.old) (all_of W.contents output.new) text) }
         ensures refused { IfErr result (IsCauseIn (form (words_of head.now.words))) }
+        ensures same_knowledge { (words : List Word) → knows words self.new ≡ knows words self.old }
         ensures same_writer { IsSameWriter output.old output.new };
 
     /// Returns whether a last line that is cut is no fault.
@@ -117,7 +118,7 @@ impl Style for PlainStyle {
 
     #[inline(always)]
     fn quote<W: Write>(
-        &self,
+        &mut self,
         _head: &Preamble,
         _line: &[u8],
         _output: &mut Output<'_, W>,

@@ -19,7 +19,7 @@ returns-in-Some-Quiet-clause-judged g c =
     omega (arith, c.len-count.ensures, c.args.sessions.now.ok.0) in
     on_ok c.quote.result _ _ c.quote.ensures.text
     (λ t.
-    rw c.quote.ensures.same_style
+    rw (c.quote.ensures.same_knowledge words)
     (subst (λ (s : Summary). Judges (g.S.Style.form words) (g.S.Style.knows words c.args.account.now.style.now)
     (g.S.Style.knows words c.args.account.now.style.now) c.args.origin.version c.args.origin.line
     (states_of c.args.sessions.now.items) c.args.line.now (states_of c.args.sessions.now.items) c.args.account.now.summary s
@@ -52,7 +52,7 @@ returns-in_ok-quote-in-Some-Of-clause-judged g c =
     (ap (λ (n : ℕ). event_in c.args.origin.version n c.args.line.now) count
     ∙ sym (rw c.in-Some-Of.field-0-is at c.in-Some-Of.ensures.reported))
     within.0 (omega (arith, within.1, count)) c.index_mut.ensures.value c.source-source.ensures quoted.1 quoted.2
-    (rw (c.quote-in-Some-Of.ensures.same_head, c.quote-in-Some-Of.ensures.same_summary, c.quote-in-Some-Of.ensures.same_style) at reported))
+    (rw (c.quote-in-Some-Of.ensures.same_head, c.quote-in-Some-Of.ensures.same_summary, c.quote-in-Some-Of.ensures.same_knowledge words) at reported))
 
 pub returns-in-None-clause-same : goal.returns-in-None-clause-same
 returns-in-None-clause-same g c = refl

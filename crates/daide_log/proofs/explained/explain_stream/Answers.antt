@@ -1,0 +1,5 @@
+use Rattle.std.proofs.Common.{sym}
+use Rattle.daide_log.proofs.explained.explain_stream.Goals as goal
+
+pub report_stream-requires-clause-fresh : goal.report_stream-requires-clause-fresh
+report_stream-requires-clause-fresh g c = λ words. sym c.new.ensures
