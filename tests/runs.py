@@ -236,7 +236,7 @@ def each_usage_is_a_row(program):
 
 def examples_of_the_help_work(program):
     """The help of each command has two examples, which work as they are at the top of a clone."""
-    for command, statuses in (("show", [3, 0]), ("check", [3, 3]), ("frame", [0, 0])):
+    for command, statuses in (("show", [3, 0]), ("check", [3, 3]), ("transcript", [0, 0]), ("frame", [0, 0])):
         text = subprocess.run([str(program), command, "--help"], capture_output=True, check=True).stdout.decode()
         lines = [line.strip() for line in text.partition("Examples:\n")[2].splitlines()]
         same(len(lines), 2, f"examples of {command}")

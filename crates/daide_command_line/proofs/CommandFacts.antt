@@ -39,6 +39,28 @@ shown_is_taken : fault_of gate_app shown ≡ []
 unfolding clap_on_literals
 shown_is_taken = refl
 
+-- two logs, and the messages of one as objects
+abbrev checked : List Text
+checked = codes "daide-gate" ∷ codes "check" ∷ codes "a.log" ∷ codes "--explain" ∷ codes "b.log" ∷ []
+
+checked_files : option_map (λ p. all_of (codes "FILE") p.1) (subcommand_of gate_app checked)
+    ≡ Some (Some (codes "a.log" ∷ codes "b.log" ∷ []))
+unfolding clap_on_literals
+checked_files = refl
+
+abbrev transcribed : List Text
+transcribed = codes "daide-gate" ∷ codes "transcript" ∷ codes "--format" ∷ codes "json" ∷ codes "a.log" ∷ []
+
+transcribed_format : option_map (λ p. first_of (codes "format") p.1) (subcommand_of gate_app transcribed)
+    ≡ Some (Some (codes "json"))
+unfolding clap_on_literals
+transcribed_format = refl
+
+transcribed_records : option_map (λ p. all_of (codes "RECORD") p.1) (subcommand_of gate_app transcribed)
+    ≡ Some (Some (codes "a.log" ∷ []))
+unfolding clap_on_literals
+transcribed_records = refl
+
 -- a run with records
 abbrev recorded : List Text
 recorded = codes "daide-gate" ∷ codes "run" ∷ codes "--record" ∷ codes "logs" ∷ codes "a.toml" ∷ []

@@ -20,9 +20,10 @@ use Rattle.daide_grammar.specs.declared.level.Level.{Level}
 use Rattle.daide_grammar.specs.declared.level.Level.TheVariants.{L0, L10, L20, L30, L40, L50, L60}
 use Rattle.daide_command_line.specs.declared.arguments.Order.{Order}
 use Rattle.daide_command_line.specs.declared.arguments.Order.TheVariants.{Show, Check, Frame, Settings, Run, BadSide, BadLevel}
-use Rattle.daide_command_line.specs.declared.arguments.Order.TheVariants.{Status, Stop, BadFormat, BadTimeout}
+use Rattle.daide_command_line.specs.declared.arguments.Order.TheVariants.{Status, Stop, BadFormat, BadTimeout, Transcript, BadMessageFormat}
 use Rattle.daide_command_line.specs.declared.arguments.ShowOrder.{ShowOrder}
 use Rattle.daide_command_line.specs.declared.arguments.CheckOrder.{CheckOrder}
+use Rattle.daide_command_line.specs.declared.arguments.TranscriptOrder.{TranscriptOrder}
 use Rattle.daide_command_line.specs.declared.arguments.FrameOrder.{FrameOrder}
 use Rattle.daide_command_line.specs.declared.arguments.SettingsOrder.{SettingsOrder}
 use Rattle.daide_command_line.specs.declared.arguments.RunOrder.{RunOrder}
@@ -64,7 +65,10 @@ show_app = with_rules (codes "show")
     ∷ flag_rule (codes "explain") ∷ words_rule (codes "HEX") ∷ [])
 
 abbrev pub check_app : App
-check_app = with_rules (codes "check") (flag_rule (codes "explain") ∷ word_rule (codes "FILE") false ∷ [])
+check_app = with_rules (codes "check") (flag_rule (codes "explain") ∷ words_rule (codes "FILE") ∷ [])
+
+abbrev pub transcript_app : App
+transcript_app = with_rules (codes "transcript") (option_rule (codes "format") ∷ words_rule (codes "RECORD") ∷ [])
 
 abbrev pub frame_app : App
 frame_app = with_rules (codes "frame") (option_rule (codes "words") ∷ words_rule (codes "TEXT") ∷ [])
@@ -87,7 +91,8 @@ stop_app = with_rules (codes "stop")
 abbrev pub gate_app : App
 gate_app = record {
   top = record (new_shape (codes "daide-gate")) { is_leaf = false; has_version = true };
-  subs = show_app.top ∷ check_app.top ∷ frame_app.top ∷ settings_app.top ∷ run_app.top ∷ status_app.top ∷ stop_app.top ∷ [];
+  subs = show_app.top ∷ check_app.top ∷ transcript_app.top ∷ frame_app.top ∷ settings_app.top ∷ run_app.top ∷ status_app.top
+      ∷ stop_app.top ∷ [];
 }
 
 -- a hyphen, and then a digit
@@ -123,6 +128,13 @@ format_named word =
     else if bytes_eq word (codes "prometheus") then Some Prometheus
     else None
 
+-- whether the form of a transcript with this name is JSON
+abbrev pub json_named : Text → Option Bool
+json_named word =
+    if bytes_eq word (codes "text") then Some false
+    else if bytes_eq word (codes "json") then Some true
+    else None
+
 -- the seconds of a timeout: 1 to 86,400, in decimal digits as std reads them
 abbrev pub IsTimeout : Text → Option ℕ → Type 0
 IsTimeout word timeout =
@@ -141,11 +153,19 @@ IsRunOrder rows order =
     × (order.is_verbose ≡ is_set (codes "verbose") rows)
     × (option_map (λ text. text.now) order.record ≡ first_of (codes "record") rows)
 
--- the order of `check`; without a file, standard input
+-- the order of `check`
 abbrev pub IsCheckOrder : List Row → CheckOrder → Type 0
 IsCheckOrder rows order =
-    (order.path.now ≡ unwrap_or (first_of (codes "FILE") rows) (codes "-"))
+    (option_map (λ files. map (λ file. file.now) files.now) order.files ≡ all_of (codes "FILE") rows)
     × (order.is_explained ≡ is_set (codes "explain") rows)
+
+-- the order of `transcript`, by the named form
+abbrev pub IsTranscriptOrder : Option Bool → List Row → Order → Type 0
+IsTranscriptOrder None rows order = order ≡ BadMessageFormat
+IsTranscriptOrder (Some is_json) rows order = (transcript : TranscriptOrder) × (order ≡ Transcript transcript)
+    × (transcript.is_json ≡ is_json)
+    × (option_map (λ records. map (λ record_name. record_name.now) records.now) transcript.records
+    ≡ all_of (codes "RECORD") rows)
 
 -- the order of `frame`
 abbrev pub IsFrameOrder : List Row → FrameOrder → Type 0
@@ -194,6 +214,7 @@ IsStopOrder (Some word) rows order = (timeout : Option ℕ) × IsTimeout word ti
 pub data Subcommand : Type 0 where
   ForRun : Subcommand
   ForCheck : Subcommand
+  ForTranscript : Subcommand
   ForFrame : Subcommand
   ForSettings : Subcommand
   ForStatus : Subcommand
@@ -204,6 +225,7 @@ abbrev pub subcommand_named : Text → Subcommand
 subcommand_named name =
     if bytes_eq name (codes "run") then ForRun
     else if bytes_eq name (codes "check") then ForCheck
+    else if bytes_eq name (codes "transcript") then ForTranscript
     else if bytes_eq name (codes "frame") then ForFrame
     else if bytes_eq name (codes "settings") then ForSettings
     else if bytes_eq name (codes "status") then ForStatus
@@ -214,6 +236,8 @@ subcommand_named name =
 abbrev pub IsOrderFor : Subcommand → List Row → Order → Type 0
 IsOrderFor ForRun rows order = (run : RunOrder) × (order ≡ Run run) × IsRunOrder rows run
 IsOrderFor ForCheck rows order = (check : CheckOrder) × (order ≡ Check check) × IsCheckOrder rows check
+IsOrderFor ForTranscript rows order =
+    IsTranscriptOrder (json_named (unwrap_or (first_of (codes "format") rows) (codes "text"))) rows order
 IsOrderFor ForFrame rows order = (frame : FrameOrder) × (order ≡ Frame frame) × IsFrameOrder rows frame
 IsOrderFor ForSettings rows order = (settings : SettingsOrder) × (order ≡ Settings settings) × IsSettingsOrder rows settings
 IsOrderFor ForStatus rows order =

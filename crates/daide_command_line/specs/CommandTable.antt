@@ -8,14 +8,13 @@ use Rattle.daide_command_line.specs.CommandLine.{flag_rule, lettered_rule, optio
 use Rattle.daide_command_line.specs.declared.command_line.Argument.{Argument}
 use Rattle.daide_command_line.specs.declared.command_line.CommandRow.{CommandRow}
 use Rattle.daide_command_line.specs.declared.command_line.Takes.{Takes}
-use Rattle.daide_command_line.specs.declared.command_line.Takes.TheVariants.{RequiredWord, Nothing, NothingOr, Value, Word, Words}
+use Rattle.daide_command_line.specs.declared.command_line.Takes.TheVariants.{RequiredWord, Nothing, NothingOr, Value, Words}
 
 -- the rule of an argument, by what it takes
 abbrev pub rule_taking : Text → Takes → Rule
 rule_taking name (Value value) = option_rule name
 rule_taking name Nothing = flag_rule name
 rule_taking name (NothingOr letter) = lettered_rule name letter
-rule_taking name Word = word_rule name false
 rule_taking name RequiredWord = word_rule name true
 rule_taking name Words = words_rule name
 

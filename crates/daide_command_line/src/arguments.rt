@@ -3,9 +3,9 @@
 ghost use Rattle.std.specs.Prelude.{◌≡◌, map, option_map, unwrap_or, codes};
 ghost use Rattle.std.specs.List.{list_any};
 ghost use Rattle.clap.specs.Words.{rows_of, found_of, subcommand_rows_of, first_of, all_of};
-ghost use Rattle.daide_command_line.specs.CommandLine.{format_named, IsTimeout, IsStatusOrder, IsStopWithin, IsStopOrder};
+ghost use Rattle.daide_command_line.specs.CommandLine.{format_named, json_named, IsTimeout, IsStatusOrder, IsStopWithin, IsStopOrder};
 ghost use Rattle.daide_command_line.specs.CommandLine.{begins_negative, side_named, level_named, is_set};
-ghost use Rattle.daide_command_line.specs.CommandLine.{IsRunOrder, IsCheckOrder, IsFrameOrder, IsSettingsOrder, IsShowOrder, IsOrderFor, IsOrderOf, subcommand_named, ParsesTo, parsed_by};
+ghost use Rattle.daide_command_line.specs.CommandLine.{IsRunOrder, IsCheckOrder, IsTranscriptOrder, IsFrameOrder, IsSettingsOrder, IsShowOrder, IsOrderFor, IsOrderOf, subcommand_named, ParsesTo, parsed_by};
 
 use crate::command_line::command;
 use clap::ArgMatches;
@@ -21,8 +21,10 @@ use std::convert::AsStr;
 pub enum Order<'m, 'a> {
     /// Show one frame.
     Show(ShowOrder<'m, 'a>),
-    /// Report a log.
-    Check(CheckOrder<'a>),
+    /// Report logs.
+    Check(CheckOrder<'m, 'a>),
+    /// Print the messages of logs.
+    Transcript(TranscriptOrder<'m, 'a>),
     /// Write the frames of messages.
     Frame(FrameOrder<'m, 'a>),
     /// Judge a file of settings.
@@ -39,6 +41,8 @@ pub enum Order<'m, 'a> {
     BadLevel,
     /// The value of `--format` is not a form of a status.
     BadFormat,
+    /// The value of `--format` is not a form of a transcript.
+    BadMessageFormat,
     /// The value of `--timeout` is not a number of seconds.
     BadTimeout,
 }
@@ -58,13 +62,22 @@ pub struct ShowOrder<'m, 'a> {
     pub typed: Option<&'m [&'a str]>,
 }
 
-/// The order to report a log.
+/// The order to report logs.
 #[derive(Clone, Copy)]
-pub struct CheckOrder<'a> {
-    /// The path of the log, or `-` for standard input.
-    pub path: &'a str,
+pub struct CheckOrder<'m, 'a> {
+    /// The paths of the logs, `-` for standard input; `None` for standard input alone.
+    pub files: Option<&'m [&'a str]>,
     /// Whether each message is printed and each verdict explained.
     pub is_explained: bool,
+}
+
+/// The order to print the messages of logs.
+#[derive(Clone, Copy)]
+pub struct TranscriptOrder<'m, 'a> {
+    /// The paths of the logs, `-` for standard input; `None` for standard input alone.
+    pub records: Option<&'m [&'a str]>,
+    /// Whether each message is an object of JSON.
+    pub is_json: bool,
 }
 
 /// The order to write the frames of messages.
@@ -233,13 +246,38 @@ fn run_order<'a>(run: &ArgMatches<'a>) -> RunOrder<'a>
 }
 
 /// Returns the order of `check`.
-fn check_order<'a>(check: &ArgMatches<'a>) -> CheckOrder<'a>
+fn check_order<'m, 'a>(check: &'m ArgMatches<'a>) -> CheckOrder<'m, 'a>
     ensures { IsCheckOrder (rows_of (found_of check.now)) result }
 {
     CheckOrder {
-        path: value_of(check, "FILE").unwrap_or("-"),
+        files: values_of(check, "FILE"),
         is_explained: is_given(check, "explain"),
     }
+}
+
+/// Returns whether the form of a transcript with this name is JSON.
+fn json_named(word: &str) -> Option<bool>
+    ensures { result ≡ json_named word.now }
+{
+    match word {
+        "text" => Some(false),
+        "json" => Some(true),
+        _ => None,
+    }
+}
+
+/// Returns the order of `transcript`.
+fn transcript_order<'m, 'a>(transcript: &'m ArgMatches<'a>) -> Order<'m, 'a>
+    ensures { IsTranscriptOrder (json_named (unwrap_or (first_of (codes "format") (rows_of (found_of transcript.now))) (codes "text")))
+        (rows_of (found_of transcript.now)) result }
+{
+    let Some(is_json) = json_named(value_of(transcript, "format").unwrap_or("text")) else {
+        return Order::BadMessageFormat;
+    };
+    Order::Transcript(TranscriptOrder {
+        records: values_of(transcript, "RECORD"),
+        is_json,
+    })
 }
 
 /// Returns the order of `frame`.
@@ -328,6 +366,7 @@ fn order_for<'m, 'a>(name: &str, given: &'m ArgMatches<'a>) -> Order<'m, 'a>
     match name {
         "run" => Order::Run(run_order(given)),
         "check" => Order::Check(check_order(given)),
+        "transcript" => transcript_order(given),
         "frame" => Order::Frame(frame_order(given)),
         "settings" => Order::Settings(settings_order(given)),
         "status" => status_order(given),

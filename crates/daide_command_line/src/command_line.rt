@@ -19,8 +19,6 @@ enum Takes {
     Nothing,
     /// Nothing: the argument is a flag, which this letter gives too.
     NothingOr(char),
-    /// One word that is not an option.
-    Word,
     /// One word that is not an option, and that must be given.
     RequiredWord,
     /// All words that are not options.
@@ -61,7 +59,7 @@ Without a command it does what 'show' does with its defaults. The options of 'sh
 
 Exit status:
   0  the frame would be relayed; the log has no PRN, HUH or fault; all messages have frames; the settings have no
-     fault; all bots were served; the status was printed; the run is over; help and version
+     fault; all bots were served; the status or the messages were printed; the run is over; help and version
   1  a fault of the input, the output, the settings, the folder of records, the address to listen on, the control
      socket, or memory, told in one line on standard error; a run that goes on after the timeout of 'stop'
   2  words that are not understood
@@ -82,11 +80,22 @@ A log's first line is 'daide-log 1', its second 'config LEVEL BODY DEPTH'; each 
 'server HEX', 'end bot', 'end server', 'timer' or 'stop', or is empty, or begins with '#'. The log of a match begins
 with 'daide-log 2', and names each line's session. docs/FORMATS.md has both, and the report.
 The exit status is 0 if no message got PRN or HUH and there was no fault, and else 3. With '--explain' it is 3 also
-if a side's bytes end within a frame, or if the last line is cut.
+if a side's bytes end within a frame, or if the last line is cut. For several logs each report follows its name, and
+a table of the sessions comes last.
 
 Examples:
   daide-gate check examples/match.log
   daide-gate check --explain examples/whole-match.log";
+
+/// The help on the output of `transcript`, with examples and exit statuses.
+const TRANSCRIPT_NOTES: &str = "\
+It reads the logs that 'check' reads, and prints each message that a side sent: its time, its session, the bot's name
+and power, the sender, the text, and what it got if it was not relayed. Messages of all logs are in order of time.
+The exit status is 0 if all logs could be read, and else 1.
+
+Examples:
+  daide-gate transcript examples/whole-match.log
+  daide-gate transcript --format json examples/match.log examples/whole-match.log";
 
 /// The help on the messages of `frame`, with examples and exit statuses.
 const FRAME_NOTES: &str = "\
@@ -195,8 +204,26 @@ const COMMANDS: &[CommandRow] = &[
             },
             Argument {
                 name: "FILE",
-                takes: Takes::Word,
-                help: "The log; without it, and for '-', standard input is read",
+                takes: Takes::Words,
+                help: "The logs; without one, and for '-', standard input is read",
+            },
+        ],
+        takes_numbers: false,
+    },
+    CommandRow {
+        name: "transcript",
+        about: "Prints the messages of logs in order of time",
+        notes: TRANSCRIPT_NOTES,
+        arguments: &[
+            Argument {
+                name: "format",
+                takes: Takes::Value("FORM"),
+                help: "The form: text or json [default: text]",
+            },
+            Argument {
+                name: "RECORD",
+                takes: Takes::Words,
+                help: "The logs; without one, and for '-', standard input is read",
             },
         ],
         takes_numbers: false,
@@ -313,7 +340,6 @@ fn arg_of<'a>(alloc: Global, row: &'a Argument, takes_negative: bool) -> Arg<'a>
         Takes::Value(value) => arg.long(row.name).action(ArgAction::Set).value_name(value),
         Takes::Nothing => arg.long(row.name).action(ArgAction::SetTrue),
         Takes::NothingOr(letter) => { arg.long(row.name).short(letter).action(ArgAction::SetTrue) }
-        Takes::Word => arg.action(ArgAction::Set),
         Takes::RequiredWord => arg.required(true).action(ArgAction::Set),
         Takes::Words => arg
             .action(ArgAction::Append)

@@ -17,9 +17,6 @@ pub enum Hint {
     /// The argument is the path of a file.
     #[error("'daide-gate check' reports a log")]
     Check,
-    /// The arguments are the paths of several files.
-    #[error("'daide-gate check' reports one log at a time")]
-    OneLog,
     /// The settings are missing.
     #[error("'daide-gate run examples/settings.toml' serves one bot; that file has every key of the settings")]
     Settings,
@@ -52,25 +49,11 @@ pub fn hint_of(word: &str) -> Option<Hint> {
     None
 }
 
-/// Returns true if the arguments after `check` have two files before any unknown option.
-fn has_two_logs<S: AsStr>(words: &[S]) -> bool {
-    let mut logs = 0u32;
-    for word in words {
-        match word.as_str() {
-            "--explain" => {}
-            word if word == "-" || !word.starts_with("-") => logs = logs.saturating_add(1),
-            _ => break,
-        }
-    }
-    logs >= 2
-}
-
 /// Returns the hint for arguments with a usage error, if there is one. The first argument is the program's name.
 pub fn usage_hint<S: AsStr>(kind: ErrorKind, words: &[S]) -> Option<Hint> {
-    let (first, rest) = words.get(1..)?.split_first()?;
+    let first = words.get(1)?;
     match (kind, first.as_str()) {
         (ErrorKind::InvalidSubcommand, word) => hint_of(word),
-        (ErrorKind::UnknownArgument, "check") if has_two_logs(rest) => Some(Hint::OneLog),
         (ErrorKind::MissingRequiredArgument, "run") => Some(Hint::Settings),
         _ => None,
     }

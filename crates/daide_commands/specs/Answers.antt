@@ -6,6 +6,7 @@ use Rattle.clap.specs.declared.error.kind.ErrorKind.TheVariants.{DisplayHelp, Di
 use Rattle.daide_command_line.specs.declared.arguments.Order.{Order}
 use Rattle.daide_command_line.specs.declared.arguments.Order.TheVariants.{Show, Check, Frame, Settings, Run, BadSide}
 use Rattle.daide_command_line.specs.declared.arguments.Order.TheVariants.{BadLevel, Status, Stop, BadFormat, BadTimeout}
+use Rattle.daide_command_line.specs.declared.arguments.Order.TheVariants.{Transcript, BadMessageFormat}
 use Rattle.daide_command_line.specs.CommandLine.{ParsesTo, IsOrderOf}
 use Rattle.daide_run.specs.Gateway.{Announces}
 use Rattle.daide_tools.specs.Controlling.{IsAnswerPrinted}
@@ -20,6 +21,7 @@ abbrev pub OrderEnds : Type 0 → Order → Option (List ℕ) → Option (List �
     Type 0
 OrderEnds failed (Show order) known rest old new status = ShowRuns order known old new status
 OrderEnds failed (Check order) known rest old new status = CheckRuns order known rest old new status
+OrderEnds failed (Transcript order) known rest old new status = status ≤ 1
 OrderEnds failed (Frame order) known rest old new status = FrameRuns order known old new status
 OrderEnds failed (Settings order) known rest old new status = SettingsRuns order known status
 OrderEnds failed (Run order) known rest old new status = (status ≤ 1) × (status ≡ 0 → Announces failed old new)
@@ -28,6 +30,7 @@ OrderEnds failed BadLevel known rest old new status = (status ≡ 2) × (new ≡
 OrderEnds failed (Status order) known rest old new status = (status ≤ 1) × (status ≡ 0 → IsAnswerPrinted old new)
 OrderEnds failed (Stop order) known rest old new status = (status ≤ 1) × (new ≡ old)
 OrderEnds failed BadFormat known rest old new status = (status ≡ 2) × (new ≡ old)
+OrderEnds failed BadMessageFormat known rest old new status = (status ≡ 2) × (new ≡ old)
 OrderEnds failed BadTimeout known rest old new status = (status ≡ 2) × (new ≡ old)
 
 -- ---- arguments that give no order

@@ -16,6 +16,7 @@ use daide_tools::faults::{CLEAN, FAULT, NOT_RELAYED, USAGE, tell};
 use daide_tools::framing::run_frame;
 use daide_tools::judging::run_settings;
 use daide_tools::showing::run_show;
+use daide_tools::transcribing::run_transcript;
 use std::convert::AsStr;
 use std::io;
 use std::io::{Read, Write};
@@ -61,6 +62,7 @@ fn carry_out<R: AllocGlobal + Files + Clock + Net, I: Read, O: Sink, E: Write>(
     match order {
         Order::Show(order) => run_show(rt, order, input, output, errors),
         Order::Check(order) => run_check(rt, order, input, output, errors),
+        Order::Transcript(order) => run_transcript(rt, order, input, output, errors),
         Order::Frame(order) => run_frame(rt, order, input, output, errors),
         Order::Settings(order) => run_settings(rt, order, input, output, errors),
         Order::Run(order) => run(rt, order, output, errors),
@@ -81,6 +83,7 @@ fn carry_out<R: AllocGlobal + Files + Clock + Net, I: Read, O: Sink, E: Write>(
                 USAGE,
             )
         }
+        Order::BadMessageFormat => tell(errors, "bad format; it must be text or json", USAGE),
         Order::BadTimeout => tell(errors, "bad timeout; it must be 1 to 86400 seconds", USAGE),
     }
 }

@@ -1,6 +1,6 @@
 -- The end of `show`, `check`, `frame` and `settings`: the exit status by the result of their libraries, and the output.
 -- (own)
-use Rattle.std.specs.Prelude.{◌≡◌, ◌≢◌, ◌≤◌, ℕ, ◌==◌, ◌&&◌, Bool, true, false, if◌then◌else◌, codes}
+use Rattle.std.specs.Prelude.{◌≡◌, ◌≢◌, ◌≤◌, ◌⊎◌, ℕ, ◌==◌, ◌&&◌, Bool, true, false, if◌then◌else◌, codes}
 use Rattle.std.specs.Prelude.{List, [], ◌∷◌, ◌++◌, map, Option, Some, None, IfSome, option_map, Result, Ok, Err}
 use Rattle.std.specs.Prelude.{IfOk, is_ok}
 use Rattle.std.specs.List.{join_with_byte}
@@ -137,9 +137,15 @@ ShowRuns order known old new status =
     (record { words = words; side = order.side; level = order.level; explained = order.is_explained })
     (given_by (option_map (λ typed. map (λ word. word.now) typed.now) order.typed) known) old new status
 
+-- the logs are standard input alone
+abbrev pub IsStandardInput : Option (List (List ℕ)) → Type 0
+IsStandardInput files = (files ≡ None) ⊎ (files ≡ Some (codes "-" ∷ []))
+
+-- for several logs nothing is said
 abbrev pub CheckRuns : CheckOrder → Option (List ℕ) → Option (List ℕ) → Option (List ℕ) → Option (List ℕ) → ℕ → Type 0
 CheckRuns order known rest old new status =
-    order.path.now ≡ codes "-" → ReportEnds order.is_explained known rest old new status
+    IsStandardInput (option_map (λ files. map (λ file. file.now) files.now) order.files) →
+    ReportEnds order.is_explained known rest old new status
 
 abbrev pub FrameRuns : FrameOrder → Option (List ℕ) → Option (List ℕ) → Option (List ℕ) → ℕ → Type 0
 FrameRuns order known old new status =

@@ -4,16 +4,30 @@ ghost use Rattle.std.specs.Prelude.{◌≡◌, ◌≤◌, IfOk};
 ghost use Rattle.daide_tools.specs.Endings.{check_status, explained_status, CheckRuns, ReportEnds};
 
 use crate::faults::{CLEAN, FAULT, NOT_RELAYED, tell};
+use crate::several::check_several;
 use daide_command_line::arguments::CheckOrder;
 use daide_log::{Explained, LineReason, LogFault, check_stream, explain_stream};
 use daide_protocol::Summary;
 use std::alloc::Allocator;
+use std::fmt::Display;
 use std::io::{Read, Write};
 use std::rt::Files;
 use std::{fs, io};
 
+/// Reports what is wrong with a line that is not a log line, after the name of its log, if any. A failure to write it has
+/// no effect.
+pub(crate) fn tell_reason<N: Display + Drop, E: Write>(
+    fault: LogFault,
+    refused: Option<LineReason>,
+    name: N,
+    errors: &mut E,
+) {
+    if let (LogFault::BadLine(_), Some(reason)) = (fault, refused) {
+        let _ = writeln!(errors, "daide-gate: {name}{reason}");
+    }
+}
+
 /// Reports a fault of a log on standard error, and what is wrong with a line that is not a log line. Returns the status.
-/// A failure to write the latter has no effect.
 fn tell_fault<E: Write>(
     fault: LogFault,
     refused: Option<LineReason>,
@@ -22,9 +36,7 @@ fn tell_fault<E: Write>(
     ensures { IfOk result (λ status. status ≡ 1) }
 {
     let status = tell(errors, fault, FAULT)?;
-    if let (LogFault::BadLine(_), Some(reason)) = (fault, refused) {
-        let _ = writeln!(errors, "daide-gate: {reason}");
-    }
+    tell_reason(fault, refused, "", errors);
     Ok(status)
 }
 
@@ -78,10 +90,11 @@ fn check_read<A: Allocator + Copy, I: Read, O: Write, E: Write>(
     end_check(answer, refused, errors)
 }
 
-/// Writes the report of the log at a path, or of standard input. No contract is about the contents of a file.
+/// Writes the report of the log at a path, or of standard input, or the reports of several logs and their table. No
+/// contract is about the contents of a file.
 pub fn run_check<R: AllocGlobal + Files, I: Read, O: Write, E: Write>(
     rt: &R,
-    order: CheckOrder<'_>,
+    order: CheckOrder<'_, '_>,
     input: &mut I,
     output: &mut O,
     errors: &mut E,
@@ -90,7 +103,15 @@ pub fn run_check<R: AllocGlobal + Files, I: Read, O: Write, E: Write>(
     ensures reported { IfOk result (CheckRuns order.entry (I.remaining input.old) (I.remaining input.new)
         (O.contents output.old) (O.contents output.new)) }
 {
-    let CheckOrder { path, is_explained } = order;
+    let CheckOrder {
+        files,
+        is_explained,
+    } = order;
+    let path = match files {
+        None => "-",
+        Some([path]) => *path,
+        Some(paths) => return check_several(rt, paths, is_explained, input, output, errors),
+    };
     if path == "-" {
         return check_read(rt.alloc(), is_explained, input, output, errors);
     }

@@ -1,0 +1,75 @@
+//! `transcript`: the messages of logs, in order of time.
+
+ghost use Rattle.std.specs.Prelude.{◌≡◌, ◌≤◌, IfOk};
+
+use crate::faults::{CLEAN, FAULT, tell};
+use crate::several::{RefusedLog, tell_refused};
+use daide_command_line::arguments::TranscriptOrder;
+use daide_log::{LogFault, explain_observed};
+use daide_transcript::{MessageFormat, Transcript};
+use std::alloc::Allocator;
+use std::io::{ErrorKind, Read, Write};
+use std::rt::Files;
+use std::{fs, io};
+
+/// Adds the messages of a log.
+fn add_read<A: Allocator + Copy, I: Read>(
+    alloc: A,
+    input: &mut I,
+    transcript: &mut Transcript<'_>,
+) -> Result<(), RefusedLog> {
+    let mut reason = None;
+    match explain_observed(alloc, input, &mut io::sink(), transcript, &mut reason) {
+        Ok(_report) => Ok(()),
+        Err(fault) => Err(RefusedLog { fault, reason }),
+    }
+}
+
+/// Adds the messages of the log at a path, or of standard input for `-`.
+fn add_at<'a, R: AllocGlobal + Files, I: Read>(
+    rt: &R,
+    path: &'a str,
+    input: &mut I,
+    transcript: &mut Transcript<'a>,
+) -> Result<(), RefusedLog> {
+    transcript.begin_log(path);
+    if path == "-" {
+        return add_read(rt.alloc(), input, transcript);
+    }
+    match fs::open(rt, path) {
+        Ok(mut file) => add_read(rt.alloc(), &mut file, transcript),
+        Err(_) => Err(RefusedLog::without_line(LogFault::Read)),
+    }
+}
+
+/// Prints the messages of the logs at paths, or of standard input. A log with a fault does not keep the others from
+/// being read.
+pub fn run_transcript<R: AllocGlobal + Files, I: Read, O: Write, E: Write>(
+    rt: &R,
+    order: TranscriptOrder<'_, '_>,
+    input: &mut I,
+    output: &mut O,
+    errors: &mut E,
+) -> io::Result<u8>
+    ensures { IfOk result (λ status. status ≤ FAULT) }
+{
+    let format = if order.is_json {
+        MessageFormat::Json
+    } else {
+        MessageFormat::Text
+    };
+    let mut transcript = Transcript::new(rt.alloc(), format);
+    let mut status = CLEAN;
+    for path in order.records.unwrap_or(&["-"]) {
+        if let Err(refused) = add_at(rt, path, input, &mut transcript) {
+            status = tell_refused(path, refused, errors)?;
+        }
+    }
+    match transcript.write(rt.alloc(), output) {
+        Ok(()) => Ok(status),
+        Err(error) if error.kind() == ErrorKind::OutOfMemory => {
+            tell(errors, LogFault::Memory, FAULT)
+        }
+        Err(_) => tell(errors, LogFault::Write, FAULT),
+    }
+}
