@@ -25,7 +25,7 @@ pub enum LineProblem {
     /// The first line names no version.
     #[error("the first line is daide-log 1 or daide-log 2")]
     NoVersion,
-    /// The second line has other parts: so many numbers are wanted.
+    /// The second line has other parts than `config` and this number of numbers.
     #[error("the second line is config and {0} numbers")]
     NotConfig(usize),
     /// A part is not a number.
@@ -52,7 +52,7 @@ pub enum LineProblem {
     /// The line goes on after its event.
     #[error("nothing follows the event")]
     Rest,
-    /// A character among the digits of a side's bytes is none.
+    /// A character in HEX is not a digit.
     #[error("the character is not a hexadecimal digit")]
     NotDigit,
     /// The last byte has one digit.
@@ -126,7 +126,7 @@ fn version_reason(line: &[u8]) -> LineReason {
 /// The lines of a log that have parts after their first word.
 #[derive(Clone, Copy)]
 enum PartedLine {
-    /// The second line, with so many numbers.
+    /// The second line, with this number of numbers.
     Config(usize),
     /// The line of a word.
     Word,
@@ -359,7 +359,7 @@ fn event_reason(line: &[u8], from: usize) -> LineReason {
     at(LineProblem::NoEvent, from)
 }
 
-/// Returns why a line after the head, of a log with so many sessions, is none.
+/// Returns why a line after the head, of a log with this number of sessions, is none.
 pub(crate) fn line_reason(version: Version, sessions: u16, line: &[u8]) -> LineReason {
     let Version::Match = version else {
         return event_reason(line, 0);
