@@ -26,7 +26,7 @@ use Rattle.daide_log.specs.ConfigLine.{match_config_of_line}
 use Rattle.daide_log.specs.Heading.{Preamble, Heading, Unnamed, Named, Headed, single_session, heading_after}
 use Rattle.daide_protocol.specs.Summary.{nothing_counted}
 use Rattle.daide_log.specs.Report.{ReportEntry, events_of_line, side_of, entries_of, lines_of, counted_all, summary_line}
-use Rattle.daide_log.specs.Log.{ReportsBy, IsReportBy, LogState, Opening, Playing, state_after_preamble, stage_at, source_in, IsPlayed, AdvancesByLine, Reports, ReportsAll, IsReport}
+use Rattle.daide_log.specs.Log.{ReportsBy, IsReportBy, LogState, Opening, Playing, state_after_preamble, stage_at, source_in, IsPlayed, AdvancesByLine, ReportsAll, IsReport}
 use Rattle.daide_log.specs.Laws.{is_number, own_of, own_line, unnumbered, own_reported, SessionsAreAlone}
 use Rattle.daide_log.proofs.StepLemmas.{Steps, all_read, all_written}
 

@@ -1,6 +1,6 @@
 -- A log whose third line is cut, computed from the definitions: the report with explanations covers the lines before
 -- it, and the plain report has a fault.
-use Rattle.std.proofs.Common.{◌≡◌, ◌+◌, [], ◌∷◌, ◌++◌, Some, Ok, Err, refl, arith, codes}
+use Rattle.std.proofs.Common.{[], ◌∷◌, ◌++◌, Some, Ok, Err, refl, arith, codes}
 use Rattle.std.specs.Fmt.{digits}
 use Rattle.hex.specs.Hex.{decode_pairs}
 use Rattle.daide_protocol.specs.declared.phase.SessionPhase.TheVariants.{WaitIm}

@@ -1,5 +1,5 @@
 -- The events that have a line.
-use Rattle.std.proofs.Common.{◌≡◌, false, List, [], ◌∷◌, ℕ, length, Option, Some}
+use Rattle.std.proofs.Common.{◌≡◌, false, List, [], ◌∷◌, ℕ, length, Some}
 use Rattle.std.specs.Prelude.{◌==◌}
 use Rattle.daide_frame.specs.declared.side.Side.{Side}
 use Rattle.daide_log_lines.specs.LogLine.{LogEvent, Received}

@@ -1,5 +1,5 @@
 -- What an event does to a record with times.
-use Rattle.std.proofs.Common.{◌≡◌, Option, Some, None, refl, sym, subst, inl}
+use Rattle.std.proofs.Common.{◌≡◌, Option, Some, None, sym, subst, inl}
 use Rattle.daide_log_lines.specs.LogLine.{LogEvent}
 use Rattle.jiff_core.specs.declared.civil.datetime.DateTime.{DateTime}
 use Rattle.daide_log.specs.declared.comment.Comment.TheVariants as comments

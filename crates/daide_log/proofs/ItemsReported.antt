@@ -1,6 +1,6 @@
 -- The report of a record: its calls and comments, under the numbers of its lines.
 use Rattle.std.proofs.Common.{◌≡◌, ℕ, zero, suc, ◌+◌, ◌/◌, ◌%◌, ◌<◌, ◌≤◌, ◌&&◌, inl, cond, Bool, true, false, List, [], ◌∷◌, ◌++◌, length, map, take, codes, leb}
-use Rattle.std.proofs.Common.{Some, None, Ok, refl, sym, ap, ◌∙◌, subst, arith, append_assoc, append-nil, length-append}
+use Rattle.std.proofs.Common.{Some, refl, sym, ap, ◌∙◌, subst, arith, append_assoc, append-nil, length-append}
 use Rattle.std.specs.Prelude.{unsigned_abs}
 use Rattle.std.specs.List.{AllByRecursion, list_all}
 use Rattle.std.specs.Fmt.{decimal}
@@ -8,13 +8,10 @@ use Rattle.std.proofs.lemmas.Bool.Decides.{nat_tests}
 use Rattle.jiff_core.specs.declared.civil.date.Date.{Date}
 use Rattle.jiff_core.specs.declared.civil.datetime.DateTime.{DateTime}
 use Rattle.jiff_core.specs.declared.civil.time.Time.{Time}
-use Rattle.daide_words.specs.declared.word.Word.{Word}
-use Rattle.daide_words.specs.Accepted.{are_accepted}
-use Rattle.daide_protocol.specs.declared.config.Config.{Config}
 use Rattle.daide_protocol.specs.declared.note.Note.{Note}
-use Rattle.daide_protocol.specs.Config.{config_fault, limits_with}
+use Rattle.daide_protocol.specs.Config.{limits_with}
 use Rattle.daide_protocol.specs.Machine.{SessionState, Effect, Runs, initial_state}
-use Rattle.daide_io.specs.Ports.{PortCall, event_of, events_of}
+use Rattle.daide_io.specs.Ports.{event_of, events_of}
 use Rattle.daide_log_lines.specs.LogLine.{most_lines, longest_line, is_comment}
 use Rattle.daide_log_lines.specs.MatchLine.{Quiet, match_event_of_line, match_event_of_parts}
 use Rattle.daide_log_lines.specs.LogLine.{parted_at_space}
@@ -27,7 +24,7 @@ use Rattle.daide_log.specs.RecordItem.{line_of_item, address_text, printable, lo
 use Rattle.daide_log.specs.RecordItem.{record_text, record_count}
 use Rattle.daide_log.specs.UtcText.{two_digits, three_digits, four_digits, date_text, clock_text, utc_text}
 use Rattle.daide_log.specs.RecordLaw.{side_of_answer, notes_reported, notes_of}
-use Rattle.daide_log.specs.RecordLaw.{TellsBy, IsReported, RecordsAreReported}
+use Rattle.daide_log.specs.RecordLaw.{TellsBy, RecordsAreReported}
 use Rattle.daide_log.proofs.ReportLemmas.{decimal_few}
 use Rattle.daide_log.proofs.RecordCounts.{session_counts}
 use Rattle.daide_log.proofs.RecordHead.{long_visible}

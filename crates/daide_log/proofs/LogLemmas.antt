@@ -17,7 +17,7 @@ use Rattle.daide_log.specs.Reporting.{IsLateFault}
 use Rattle.daide_log.specs.declared.opening.Opened.{Opened}
 use Rattle.daide_log.specs.Report.{texts_of, counted_over, summary_line}
 use Rattle.daide_log_lines.specs.LogLine.{longest_line}
-use Rattle.daide_log.specs.Log.{plain, LogState, Opening, Playing, GoesOnBy, IsBad, IsOpening, reads_cut, ReportsBy, ReportsAllBy, IsReportBy}
+use Rattle.daide_log.specs.Log.{LogState, Opening, Playing, GoesOnBy, IsBad, IsOpening, reads_cut, ReportsBy, ReportsAllBy, IsReportBy}
 use Rattle.daide_log_lines.specs.Reader.{Reader}
 use Rattle.daide_log_lines.specs.Lines.{LooksAt, IsFound, IsInLine, block_size}
 use Rattle.daide_log.specs.Progress.{HasRead, HasReadAll, StopsBehind, IsFaultOf, IsFaultAfter, Reported}

@@ -1,11 +1,11 @@
 -- The cause of a move: its event, the state before it, and the frame that the session still holds.
-use Rattle.std.proofs.Common.{◌≡◌, ℕ, ◌+◌, ◌<◌, ◌≤◌, Bool, true, false, List, [], ◌∷◌, ◌++◌, length, Option, Some, None}
-use Rattle.std.proofs.Common.{refl, sym, ap, ◌∙◌, subst, arith, append_assoc, append-nil, length-append}
+use Rattle.std.proofs.Common.{◌≡◌, ℕ, ◌≤◌, Bool, true, false, List, [], ◌∷◌, ◌++◌, length, Option, Some, None}
+use Rattle.std.proofs.Common.{refl, sym, ap, ◌∙◌, subst, arith, append-nil}
 use Rattle.daide_frame.specs.declared.side.Side.{Side}
 use Rattle.daide_frame.specs.declared.side.Side.TheVariants.{Bot, Server}
 use Rattle.daide_frame.specs.declared.head.Head.{Head}
 use Rattle.daide_frame.specs.declared.code.Code.{Code}
-use Rattle.daide_frame.specs.Frames.{FrameEvent, Begun, Whole, Wrong, last_items, missing, fed, is_nothing}
+use Rattle.daide_frame.specs.Frames.{FrameEvent, Whole, last_items, missing, fed, is_nothing}
 use Rattle.daide_protocol.specs.Events.{Event, Comes, bytes_come}
 use Rattle.daide_protocol.specs.Machine.{SessionState, Effect, Successor, Transition, Runs, coming, with_pending, is_over}
 use Rattle.daide_protocol.specs.Machine.{items_outcome, level_in}
@@ -18,7 +18,7 @@ use Rattle.daide_grammar.specs.declared.level.Level.{Level}
 use Rattle.daide_grammar.specs.SideMessages.{IsMessageOver}
 use Rattle.daide_reader.specs.Verdict.{HasVerdict}
 use Rattle.daide_protocol.specs.declared.note.Deed.{Deed}
-use Rattle.std.proofs.Common.{cond, ◌⊎◌, Result, Ok, Err}
+use Rattle.std.proofs.Common.{cond, Result, Ok, Err}
 use Rattle.std.specs.Prelude.{⊤, is_some}
 use Rattle.daide_frame.specs.declared.head.Kind.{Kind}
 use Rattle.daide_frame.specs.declared.head.Kind.TheVariants.{Im, Rm, Dm, Fm, Em}

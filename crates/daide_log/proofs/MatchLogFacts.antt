@@ -28,7 +28,7 @@ use Rattle.daide_log.specs.ConfigLine.{match_config_of_line}
 use Rattle.daide_log_lines.specs.WordLine.{word_of_line}
 use Rattle.daide_log.specs.Heading.{Preamble, Unnamed, Named, Headed}
 use Rattle.daide_log.specs.Report.{ReportEntry, source_text, reported_text, move_line, summary_line, events_of_line}
-use Rattle.daide_log.specs.Log.{ReportsBy, ReportsAllBy, IsReportBy, Opening, Playing, source_in, Reports, ReportsAll, IsReport}
+use Rattle.daide_log.specs.Log.{ReportsBy, ReportsAllBy, IsReportBy, Opening, Playing, source_in, Reports, IsReport}
 use Rattle.daide_log_lines.proofs.LineFacts.{xyz}
 use Rattle.daide_log.proofs.MatchFacts.{limits}
 use Rattle.daide_log.proofs.Played.{Played, state_at, played, verdict_on, entries_by}

@@ -1,5 +1,5 @@
 -- A message's text is on one line, whatever words an operator added.
-use Rattle.std.proofs.Common.{◌≡◌, ◌==◌, ◌&&◌, ◌%◌, nat_le, not, ℕ, Bool, true, false, List, [], ◌∷◌, ◌++◌, codes, drop, length}
+use Rattle.std.proofs.Common.{◌≡◌, ◌==◌, ◌&&◌, ◌%◌, not, ℕ, Bool, true, false, List, [], ◌∷◌, ◌++◌, codes, drop, length}
 use Rattle.std.proofs.Common.{Result, Err, is_ok, is_none, bytes_eq, if◌then◌else◌, refl, sym, ap, ◌∙◌, arith}
 use Rattle.std.proofs.Common.{Option, append_assoc, subst}
 use Rattle.std.specs.Io.KnownBytes.{Appends}

@@ -1,5 +1,5 @@
 -- A text that is appended to a page byte by byte.
-use Rattle.std.proofs.Common.{◌≡◌, ℕ, Bool, List, [], ◌∷◌, ◌++◌, length, Option, Some, None, refl, sym, ap, ◌∙◌, subst}
+use Rattle.std.proofs.Common.{◌≡◌, ℕ, Bool, List, [], ◌∷◌, ◌++◌, length, Option, refl, sym, ap, ◌∙◌, subst}
 use Rattle.std.proofs.Common.{append_assoc, append-nil, ◌≤◌, ◌-◌, true, take, drop, get_or, arith}
 use Rattle.std.specs.Prelude.{◌==◌}
 use Rattle.daide_frame.proofs.ListLemmas.{take_whole}

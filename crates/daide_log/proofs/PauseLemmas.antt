@@ -4,7 +4,7 @@ use Rattle.std.specs.Io.KnownBytes.{Keeps, Appends, append_known}
 use Rattle.daide_log_lines.specs.LogLine.{most_lines}
 use Rattle.daide_log.specs.declared.record.RecordEnd.{RecordEnd}
 use Rattle.daide_log.specs.declared.record.RecordEnd.TheVariants.{Whole, Failed}
-use Rattle.daide_log.specs.Recording.{Written, WritesPage, KeepsText, GetsLine, GetsText}
+use Rattle.daide_log.specs.Recording.{Written, KeepsText, GetsLine, GetsText}
 
 pub unwritten_kept : (failed : Type 0) (old : Written) → KeepsText failed old old
 unwritten_kept failed old = inl refl

@@ -19,7 +19,7 @@ use Rattle.daide_grammar.specs.declared.level.Level.TheVariants.{L0}
 use Rattle.daide_log_lines.specs.LogLine.{LogEvent, Received, event_of_line}
 use Rattle.daide_log.specs.declared.heading.Version.TheVariants.{Single}
 use Rattle.daide_log.specs.Report.{ReportEntry, source_text, reported_text, move_line, summary_line, events_of_line}
-use Rattle.daide_log.specs.Log.{ReportsAllBy, IsReportBy, Playing, source_in, Reports, ReportsAll, IsReport}
+use Rattle.daide_log.specs.Log.{ReportsAllBy, IsReportBy, Playing, source_in, Reports, IsReport}
 use Rattle.daide_log.proofs.Played.{Played, played, verdict_on, entries_by, has_no_feed}
 use Rattle.daide_log.proofs.StandardFacts.{limits, session_in, session_ended, opening_lines, opened, next_line, im}
 use Rattle.daide_log.proofs.StandardFacts.{im_passes}

@@ -31,7 +31,7 @@ use Rattle.daide_log.specs.Heading.{Unnamed, Named, Headed, single_session}
 use Rattle.daide_log.specs.Report.{ReportEntry, source_text, reported_text, move_line, summary_line, lines_of, events_of_line, side_of}
 use Rattle.daide_protocol.specs.Summary.{nothing_counted}
 use Rattle.daide_log.specs.Report.{counted_all}
-use Rattle.daide_log.specs.Log.{ReportsBy, ReportsAllBy, IsReportBy, Opening, Playing, source_in, Reports, ReportsAll, IsReport}
+use Rattle.daide_log.specs.Log.{ReportsBy, ReportsAllBy, IsReportBy, Opening, Playing, source_in, Reports, IsReport}
 use Rattle.daide_log.proofs.Played.{Played, state_at, played, verdict_on, entries_by}
 use Rattle.daide_log.proofs.Played.{has_no_feed, unbroken, line_played}
 
