@@ -117,8 +117,8 @@ def cut_and_bad_logs_are_told(program):
         lines, errors, status = told(folder, ["bad.log", "no-such.log", "a.log"])
         turned = [*TOLD[:4], TOLD[5], TOLD[4], *TOLD[6:]]
         same((lines, status), (turned, 1), "logs with a fault")
-        same(errors[0].startswith("daide-gate: bad.log: line 11 is not a log line"), True, f"the first of {errors}")
-        same(errors[-1], "daide-gate: no-such.log: input could not be read", f"the last of {errors}")
+        same(errors, ["daide-gate: bad.log: line 11 is not a log line", "daide-gate: bad.log: column 7: the number of digits is odd",
+                      "daide-gate: no-such.log: input could not be read"], "their faults")
         same(folder.run(["transcript", "--format", "xml"])[1:],
              (b"daide-gate: bad format; it must be text or json\n", 2), "an unknown form")
 

@@ -126,7 +126,9 @@ fn quote<W: Write, S: Style>(
     ensures refused { IfErr result (IsLateFault (S.form (words_of account.old.head.words))) }
     ensures same_head { account.new.head ≡ account.old.head }
     ensures same_summary { account.new.summary ≡ account.old.summary }
-    ensures same_knowledge { (words : List Word) → S.knows words account.new.style.now ≡ S.knows words account.old.style.now }
+    ensures known { (context : (S.form (words_of account.old.head.words)).Context) →
+        S.knows (words_of account.old.head.words) account.old.style.now context →
+        S.knows (words_of account.old.head.words) account.new.style.now context }
     ensures same_writer { IsSameWriter account.old.output account.new.output }
 {
     as_fault(

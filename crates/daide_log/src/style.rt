@@ -64,7 +64,8 @@ pub trait Style {
             × IsQuietWith (form (words_of head.now.words)) line.now text
             × Appends (all_of W.contents output.old) (all_of W.contents output.new) text) }
         ensures refused { IfErr result (IsCauseIn (form (words_of head.now.words))) }
-        ensures same_knowledge { (words : List Word) → knows words self.new ≡ knows words self.old }
+        ensures known { (context : (form (words_of head.now.words)).Context) →
+            knows (words_of head.now.words) self.old context → knows (words_of head.now.words) self.new context }
         ensures same_writer { IsSameWriter output.old output.new };
 
     /// Returns whether a last line that is cut is no fault.

@@ -5,7 +5,7 @@ pub use Rattle.std.proofs.Common.{Result, unwrap_or, get_or, Option, inl, inr, �
 pub use Rattle.std.proofs.Common.{append-nil, IfOk, ◌*◌, rules}
 pub use Rattle.std.proofs.lemmas.List.{take-append-le, length-take-le}
 pub use Rattle.std.specs.Bool.{MatchBool}
-pub use Rattle.std.specs.Fmt.{digits}
+unfoldable pub use Rattle.std.specs.Fmt.{digits}
 pub use Rattle.std.specs.List.{range_with_len, slice_split}
 unfoldable pub use Rattle.hex.specs.Hex.{decode_pairs}
 pub use Rattle.hex.specs.declared.error.FromHexError.{FromHexError}

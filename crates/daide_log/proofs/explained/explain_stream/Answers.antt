@@ -1,5 +1,5 @@
 use Rattle.std.proofs.Common.{sym}
 use Rattle.daide_log.proofs.explained.explain_stream.Goals as goal
 
-pub report_stream-requires-clause-fresh : goal.report_stream-requires-clause-fresh
-report_stream-requires-clause-fresh g c = λ words. sym c.new.ensures
+pub report_stream-requires : goal.report_stream-requires
+report_stream-requires g c = record { fresh = λ words. sym c.new.ensures }

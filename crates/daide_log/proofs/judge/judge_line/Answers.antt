@@ -18,9 +18,8 @@ returns-in-Some-Quiet-clause-judged g c =
     let count : length c.args.sessions.now.items ≡ c.len-count.result =
     omega (arith, c.len-count.ensures, c.args.sessions.now.ok.0) in
     on_ok c.quote.result _ _ c.quote.ensures.text
-    (λ t.
-    rw (c.quote.ensures.same_knowledge words)
-    (subst (λ (s : Summary). Judges (g.S.Style.form words) (g.S.Style.knows words c.args.account.now.style.now)
+    (λ t context knew.
+    let judged = subst (λ (s : Summary). Judges (g.S.Style.form words) (g.S.Style.knows words c.args.account.now.style.now)
     (g.S.Style.knows words c.args.account.now.style.now) c.args.origin.version c.args.origin.line
     (states_of c.args.sessions.now.items) c.args.line.now (states_of c.args.sessions.now.items) c.args.account.now.summary s
     (all_of g.W.Write.contents c.args.account.now.output) (all_of g.W.Write.contents c.quote.new.account.output))
@@ -30,7 +29,8 @@ returns-in-Some-Quiet-clause-judged g c =
     c.args.account.now.summary (all_of g.W.Write.contents c.args.account.now.output)
     (all_of g.W.Write.contents c.quote.new.account.output) t.0
     (ap (λ (n : ℕ). event_in c.args.origin.version n c.args.line.now) count
-    ∙ sym (rw c.in-Some-Quiet.field-0-is at c.in-Some-Quiet.ensures.reported)) t.1 t.2)))
+    ∙ sym (rw c.in-Some-Quiet.field-0-is at c.in-Some-Quiet.ensures.reported)) t.1 t.2) context knew in
+    (judged.0, judged.1, judged.2, judged.3, c.quote.ensures.known _ judged.4))
 
 pub returns-in_ok-quote-in-Some-Of-clause-judged : goal.returns-in_ok-quote-in-Some-Of-clause-judged
 returns-in_ok-quote-in-Some-Of-clause-judged g c =
@@ -52,7 +52,8 @@ returns-in_ok-quote-in-Some-Of-clause-judged g c =
     (ap (λ (n : ℕ). event_in c.args.origin.version n c.args.line.now) count
     ∙ sym (rw c.in-Some-Of.field-0-is at c.in-Some-Of.ensures.reported))
     within.0 (omega (arith, within.1, count)) c.index_mut.ensures.value c.source-source.ensures quoted.1 quoted.2
-    (rw (c.quote-in-Some-Of.ensures.same_head, c.quote-in-Some-Of.ensures.same_summary, c.quote-in-Some-Of.ensures.same_knowledge words) at reported))
+    (let moved = rw (c.quote-in-Some-Of.ensures.same_head, c.quote-in-Some-Of.ensures.same_summary) at reported in
+    λ context knew. moved context (c.quote-in-Some-Of.ensures.known context knew)))
 
 pub returns-in-None-clause-same : goal.returns-in-None-clause-same
 returns-in-None-clause-same g c = refl
