@@ -1,33 +1,19 @@
 -- A session's own log has the same moves as the session has in the log of a match.
-use Rattle.std.proofs.Common.{◌≡◌, ℕ, zero, suc, ◌+◌, ◌-◌, ◌<◌, Bool, true, false, cond, eqb, leb, ◌⊎◌, inl, inr, ◌≢◌}
-use Rattle.std.proofs.Common.{List, [], ◌∷◌, ◌++◌, length, map, set, replicate, codes, Option, Some, None, Ok, Result}
-use Rattle.std.proofs.Common.{refl, sym, ap, ◌∙◌, subst, arith}
-use Rattle.std.specs.Prelude.{◌&&◌, slice_get, option_map}
-use Rattle.std.proofs.lemmas.Bool.{leb-true}
-use Rattle.std.proofs.lemmas.Bool.Decides.{eqb_tells}
-use Rattle.std.proofs.lemmas.List.{length-map}
-use Rattle.std.proofs.lemmas.Option.{same_Some}
-use Rattle.daide_frame.specs.declared.side.Side.{Side}
+use Rattle.daide_log.proofs.Common.{◌≡◌, ℕ, zero, suc, ◌+◌, ◌-◌, ◌<◌, Bool, true, false, cond, eqb, leb, ◌⊎◌, inl, inr}
+use Rattle.daide_log.proofs.Common.{◌≢◌, List, [], ◌∷◌, ◌++◌, length, map, set, replicate, codes, Option, Some, None}
+use Rattle.daide_log.proofs.Common.{Ok, Result, refl, sym, ap, ◌∙◌, subst, arith, ◌&&◌, slice_get, option_map, leb-true}
+use Rattle.daide_log.proofs.Common.{eqb_tells, length-map, same_Some, Side, SessionState, Effect, Runs, initial_state}
+use Rattle.daide_log.proofs.Common.{Config, limits_with, LogFault, Version, Single, Match, MatchConfig, Summary}
+use Rattle.daide_log.proofs.Common.{LogEvent, Received, EndOf, ImTimerLine, StopLine, event_of_line, plain_number}
+use Rattle.daide_log.proofs.Common.{parted_at_space, config_of_line, match_config_of_line, MatchEvent, Of, Quiet, loud}
+use Rattle.daide_log.proofs.Common.{within, event_of_session, match_event_of_parts, match_event_of_line, Preamble}
+use Rattle.daide_log.proofs.Common.{Heading, Unnamed, Named, Headed, single_session, heading_after, nothing_counted}
+use Rattle.daide_log.proofs.Common.{ReportEntry, events_of_line, side_of, entries_of, lines_of, counted_all}
+use Rattle.daide_log.proofs.Common.{summary_line, own_line, own_reported, SessionsAreAlone}
 use Rattle.daide_frame.proofs.ListLemmas.{eqb_same}
-use Rattle.daide_protocol.specs.Machine.{SessionState, Effect, Runs, initial_state}
-use Rattle.daide_protocol.specs.declared.config.Config.{Config}
-use Rattle.daide_protocol.specs.Config.{limits_with}
-use Rattle.daide_log_lines.specs.declared.fault.LogFault.{LogFault}
-use Rattle.daide_log.specs.declared.heading.Version.{Version}
-use Rattle.daide_log.specs.declared.heading.Version.TheVariants.{Single, Match}
-use Rattle.daide_log.specs.declared.config_line.MatchConfig.{MatchConfig}
-use Rattle.daide_protocol.specs.declared.summary.Summary.{Summary}
-use Rattle.daide_log_lines.specs.LogLine.{LogEvent, Received, EndOf, ImTimerLine, StopLine, Silence, Parted, is_comment, event_of_line}
-use Rattle.daide_log_lines.specs.LogLine.{plain_number, parted_at_space}
-use Rattle.daide_log.specs.ConfigLine.{config_of_line}
-use Rattle.daide_log_lines.specs.MatchLine.{MatchEvent, Of, Quiet, loud, within, event_of_session, match_event_of_parts}
-use Rattle.daide_log_lines.specs.MatchLine.{match_event_of_line}
-use Rattle.daide_log.specs.ConfigLine.{match_config_of_line}
-use Rattle.daide_log.specs.Heading.{Preamble, Heading, Unnamed, Named, Headed, single_session, heading_after}
-use Rattle.daide_protocol.specs.Summary.{nothing_counted}
-use Rattle.daide_log.specs.Report.{ReportEntry, events_of_line, side_of, entries_of, lines_of, counted_all, summary_line}
+use Rattle.daide_log_lines.specs.LogLine.{Silence, Parted, is_comment}
 use Rattle.daide_log.specs.Log.{ReportsBy, IsReportBy, LogState, Opening, Playing, state_after_preamble, stage_at, source_in, IsPlayed, AdvancesByLine, ReportsAll, IsReport}
-use Rattle.daide_log.specs.Laws.{is_number, own_of, own_line, unnumbered, own_reported, SessionsAreAlone}
+use Rattle.daide_log.specs.Laws.{is_number, own_of, unnumbered}
 use Rattle.daide_log.proofs.StepLemmas.{Steps, all_read, all_written}
 
 -- ---- the event of a line

@@ -1,9 +1,6 @@
 -- The level that a server announced, and the text of a level that the highest one capped, worked out by hand.
-use Rattle.std.proofs.Common.{◌≡◌, ℕ, List, [], ◌∷◌, codes, Some, None, refl}
-use Rattle.std.specs.Fmt.{digits}
-use Rattle.daide_frame.specs.declared.side.Side.TheVariants.{Bot, Server}
-use Rattle.daide_grammar.specs.declared.level.Level.TheVariants.{L0, L10, L20, L30, L60}
-use Rattle.daide_protocol.specs.declared.note.Note.TheVariants.{Stopped}
+use Rattle.daide_log.proofs.Common.{◌≡◌, ℕ, List, [], ◌∷◌, codes, Some, None, refl, digits, Bot, Server, L0, L10, L20}
+use Rattle.daide_log.proofs.Common.{L30, L60, Stopped}
 use Rattle.daide_log.specs.Explained.{Moved, Remark, announced_in, announced_levels, capped_from, level_announced, level_text}
 
 -- `HLO ( ENG ) ( 1234 ) ( ( LVL n ) )`

@@ -1,6 +1,6 @@
 -- The text of an address, byte by byte.
-use Rattle.std.proofs.Common.{◌≡◌, ℕ, zero, suc, ◌+◌, ◌<◌, ◌≤◌, List, [], ◌∷◌, ◌++◌, length, take, get_or, map, refl, sym, ap, ◌∙◌, append_assoc, arith}
-use Rattle.std.proofs.lemmas.List.{take_more, map-append}
+use Rattle.daide_log.proofs.Common.{◌≡◌, ℕ, zero, suc, ◌+◌, ◌<◌, ◌≤◌, List, [], ◌∷◌, ◌++◌, length, take, get_or, map}
+use Rattle.daide_log.proofs.Common.{refl, sym, ap, ◌∙◌, append_assoc, arith, take_more, map-append}
 use Rattle.daide_log.specs.RecordItem.{address_text, printable}
 use Rattle.daide_log.specs.UtcText.{two_digits, three_digits}
 

@@ -1,15 +1,9 @@
 -- A log whose third line is cut, computed from the definitions: the report with explanations covers the lines before
 -- it, and the plain report has a fault.
-use Rattle.std.proofs.Common.{[], ◌∷◌, ◌++◌, Some, Ok, Err, refl, arith, codes}
-use Rattle.std.specs.Fmt.{digits}
-use Rattle.hex.specs.Hex.{decode_pairs}
-use Rattle.daide_protocol.specs.declared.phase.SessionPhase.TheVariants.{WaitIm}
-use Rattle.daide_log_lines.specs.declared.fault.LogFault.TheVariants.{BadLine}
-use Rattle.daide_log_lines.specs.LogLine.{plain_number, parted_at_space, event_of_line}
-use Rattle.daide_log.specs.declared.heading.Version.TheVariants.{Single}
-use Rattle.daide_log.specs.ConfigLine.{config_of_line}
-use Rattle.daide_log.specs.Heading.{Unnamed, Named, Headed, single_session}
-use Rattle.daide_log.specs.Report.{summary_line, cut_line}
+use Rattle.daide_log.proofs.Common.{[], ◌∷◌, ◌++◌, Some, Ok, Err, refl, arith, codes, digits, decode_pairs, WaitIm}
+use Rattle.daide_log.proofs.Common.{BadLine, plain_number, parted_at_space, event_of_line, Single, config_of_line}
+use Rattle.daide_log.proofs.Common.{Unnamed, Named, Headed, single_session, summary_line}
+use Rattle.daide_log.specs.Report.{cut_line}
 use Rattle.daide_log.specs.Explained.{explained}
 use Rattle.daide_log.specs.Log.{ReportsBy, IsReportBy, Opening, Playing, IsReport}
 use Rattle.daide_log.proofs.Played.{has_no_feed, unbroken}

@@ -1,41 +1,26 @@
 -- The lines of a log after its head.
-use Rattle.std.proofs.Common.{◌≡◌, ℕ, ◌+◌, ◌-◌, ◌*◌, ◌<◌, ◌≤◌, List, [], ◌++◌, length, get_or, set, Option, Some, None}
-use Rattle.std.proofs.Common.{Result, Ok, Err, refl, sym, ap, ◌∙◌, subst, arith, ◌⊎◌, inl, inr, IfOk, OnOk, ◌≢◌, ◌∷◌, true, false}
-use Rattle.std.specs.Prelude.{All, IsErrAnd, MatchResult, option_map, replicate}
-use Rattle.std.proofs.Common.{IfErr}
-use Rattle.std.proofs.lemmas.List.{length-map, map-set, map-append, replicate_more}
+use Rattle.std.proofs.Common.{IsErrAnd, MatchResult}
+use Rattle.std.proofs.lemmas.List.{map-set, replicate_more}
 use Rattle.std.proofs.lemmas.Option.{slice_get-map, slice_get_read}
-use Rattle.std.specs.Io.KnownBytes.{Keeps, Appends}
-use Rattle.daide_frame.specs.declared.side.Side.TheVariants.{Bot, Server}
-use Rattle.daide_protocol.specs.Machine.{Limits, SessionState, initial_state}
-use Rattle.daide_protocol.specs.Wires.{SessionView, IsNew}
-use Rattle.daide_log.specs.declared.heading.Version.{Version}
-use Rattle.daide_log.specs.declared.report.ReportKey.{ReportKey}
-use Rattle.daide_protocol.specs.declared.summary.Summary.{Summary}
-use Rattle.daide_log_lines.specs.declared.lines.LineEnd.{LineEnd}
-use Rattle.daide_log_lines.specs.declared.lines.LineEnd.TheVariants.{Held, Line, Last, End}
-use Rattle.daide_log_lines.specs.declared.fault.LogFault.{LogFault}
+use Rattle.daide_log.proofs.Common.{◌≡◌, ℕ, ◌+◌, ◌-◌, ◌*◌, ◌<◌, ◌≤◌, List, [], ◌++◌, length, get_or, set, Option, Some}
+use Rattle.daide_log.proofs.Common.{None, Result, Ok, Err, refl, sym, ap, ◌∙◌, subst, arith, ◌⊎◌, inl, inr, IfOk, OnOk}
+use Rattle.daide_log.proofs.Common.{◌≢◌, ◌∷◌, true, false, All, option_map, replicate, IfErr, length-map, map-append}
+use Rattle.daide_log.proofs.Common.{Keeps, Appends, Bot, Server, Limits, SessionState, initial_state, SessionView}
+use Rattle.daide_log.proofs.Common.{Version, ReportKey, Summary, LineEnd, Held, Line, Last, End, LogFault, LogEvent}
+use Rattle.daide_log.proofs.Common.{most_lines, Of, Quiet, nothing_counted, IsMoreBy, Word, Config, config_fault}
+use Rattle.daide_log.proofs.Common.{limits_with, ReportForm, IsWritableForm, events_of_line, side_of, texts_of}
+use Rattle.daide_log.proofs.Common.{counted_over, Reader, IsFound, no_more, more_by, more_then, IsReady, IsLateFault}
+use Rattle.daide_log.proofs.Common.{ReportsEvents, StartsReport, IsFaultAfter, IsFinished, Judges, states_of}
+use Rattle.daide_log.proofs.Common.{appends_and_keeps, keeps_appends}
+use Rattle.daide_protocol.specs.Wires.{IsNew}
 use Rattle.daide_log_lines.specs.declared.fault.LogFault.TheVariants as Faults
-use Rattle.daide_log_lines.specs.LogLine.{LogEvent}
-use Rattle.daide_log_lines.specs.MatchLine.{Of, Quiet}
-use Rattle.daide_protocol.specs.Summary.{nothing_counted}
-use Rattle.daide_words.specs.declared.word.Word.{Word}
-use Rattle.daide_protocol.specs.declared.config.Config.{Config}
-use Rattle.daide_protocol.specs.Config.{config_fault, limits_with}
 use Rattle.daide_log.specs.declared.page.Unreported.{Unreported}
 use Rattle.daide_log.specs.declared.page.Unreported.TheVariants as Unreporteds
-use Rattle.daide_log.specs.ReportForm.{ReportForm, IsWritableForm}
 use Rattle.daide_log.specs.Explained.{explained}
-use Rattle.daide_log.specs.Report.{events_of_line, side_of, texts_of, counted_over}
-use Rattle.daide_log_lines.specs.LogLine.{most_lines}
 use Rattle.daide_log.specs.Log.{Playing, event_in, source_in}
-use Rattle.daide_log_lines.specs.Reader.{Reader}
-use Rattle.daide_log_lines.specs.Lines.{IsFound, is_end_of_log, is_last_line}
-use Rattle.daide_protocol.specs.Summary.{IsMoreBy}
-use Rattle.daide_protocol.proofs.GrowthLemmas.{no_more, more_by, more_then}
-use Rattle.daide_log.specs.Reporting.{IsReady, IsQuietWith, IsCauseIn, IsLateFault, ReportsEvents, fault_of_unreported}
-use Rattle.daide_log.specs.Progress.{StartsReport, IsFaultOf, IsFaultAfter, IsFinished, Reported, IsPlaying, Judges, states_of}
-use Rattle.daide_log_lines.proofs.PageLemmas.{appends_and_keeps, keeps_appends}
+use Rattle.daide_log_lines.specs.Lines.{is_end_of_log, is_last_line}
+use Rattle.daide_log.specs.Reporting.{IsQuietWith, IsCauseIn, fault_of_unreported}
+use Rattle.daide_log.specs.Progress.{IsFaultOf, Reported, IsPlaying}
 use Rattle.daide_log.proofs.PlayLemmas.{appends_more, texts_of-append, counted_over-append}
 use Rattle.daide_log.proofs.LogLemmas.{line_read, last_read, end_read, bad_line, bad_last, fault_found, fault_after, finished, finished_cut}
 use Rattle.daide_log.proofs.LogLemmas.{found_given, write_failed, late_fault}

@@ -1,8 +1,5 @@
 -- The events that have a line.
-use Rattle.std.proofs.Common.{◌≡◌, false, List, [], ◌∷◌, ℕ, length, Some}
-use Rattle.std.specs.Prelude.{◌==◌}
-use Rattle.daide_frame.specs.declared.side.Side.{Side}
-use Rattle.daide_log_lines.specs.LogLine.{LogEvent, Received}
+use Rattle.daide_log.proofs.Common.{◌≡◌, false, List, [], ◌∷◌, ℕ, length, Some, ◌==◌, Side, LogEvent, Received}
 use Rattle.daide_log.specs.declared.record.RecordedEvent.{RecordedEvent}
 use Rattle.daide_log.specs.RecordText.{piece_of}
 use Rattle.daide_log.specs.Recording.{line_event}

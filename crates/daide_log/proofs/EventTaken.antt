@@ -1,11 +1,9 @@
 -- What an event does to a record with times.
-use Rattle.std.proofs.Common.{◌≡◌, Option, Some, None, sym, subst, inl}
-use Rattle.daide_log_lines.specs.LogLine.{LogEvent}
-use Rattle.jiff_core.specs.declared.civil.datetime.DateTime.{DateTime}
+use Rattle.daide_log.proofs.Common.{◌≡◌, Option, Some, None, sym, subst, inl, LogEvent, DateTime, Moment, Written}
+use Rattle.daide_log.proofs.Common.{GetsText, Recorded}
 use Rattle.daide_log.specs.declared.comment.Comment.TheVariants as comments
-use Rattle.daide_log.specs.declared.moment.Moment.{Moment}
 use Rattle.daide_log.specs.RecordItem.{comment_line}
-use Rattle.daide_log.specs.Recording.{Written, RecordsEvent, GetsText, Recorded, TakesTime, TakesCall, due_time, last_time}
+use Rattle.daide_log.specs.Recording.{RecordsEvent, TakesTime, TakesCall, due_time, last_time}
 use Rattle.daide_log.specs.UtcText.{IsUtcOf}
 
 -- an event without a line

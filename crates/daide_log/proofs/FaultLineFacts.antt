@@ -1,9 +1,8 @@
 -- The lines that explain a fault with code 08, worked out by hand: a body above the cap, which is that of the log, an
 -- unknown type, and an RM of the server before the IM.
-use Rattle.std.proofs.Common.{◌≡◌, [], ◌∷◌, codes, refl}
+use Rattle.daide_log.proofs.Common.{◌≡◌, [], ◌∷◌, codes, refl, parse_head}
 use Rattle.daide_frame.specs.declared.code.Code.TheVariants.{UnknownMessage}
 use Rattle.daide_frame.specs.Frames.{head_in}
-use Rattle.daide_frame.specs.Head.{parse_head}
 use Rattle.daide_log.specs.Explained.{fault_lines}
 
 unknown_messages :

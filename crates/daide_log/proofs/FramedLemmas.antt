@@ -1,11 +1,7 @@
 -- The items that end with the last of some bytes, each with the body of its frame.
-use Rattle.std.proofs.Common.{◌≡◌, ℕ, Bool, true, false, cond, eqb, List, [], ◌∷◌, length, drop}
-use Rattle.std.proofs.Common.{Option, Some, None, Result, Ok, Err, refl, sym, subst, arith}
-use Rattle.std.proofs.lemmas.Bool.{eqb-true}
-use Rattle.daide_frame.specs.declared.head.Head.{Head}
-use Rattle.daide_frame.specs.declared.code.Code.{Code}
-use Rattle.daide_frame.specs.declared.code.Code.TheVariants.{InvalidToken}
-use Rattle.daide_frame.specs.Head.{parse_head}
+use Rattle.daide_log.proofs.Common.{◌≡◌, ℕ, Bool, true, false, cond, eqb, List, [], ◌∷◌, length, drop, Option, Some}
+use Rattle.daide_log.proofs.Common.{None, Result, Ok, Err, refl, sym, subst, arith, eqb-true, Head, Code, InvalidToken}
+use Rattle.daide_log.proofs.Common.{parse_head}
 use Rattle.daide_frame.specs.Frames.{FrameEvent, Begun, Whole, Wrong, alien_in, last_items}
 use Rattle.daide_frame.proofs.FramesLemmas.{last_items-short, at_head, alien_in-nothing, last_items-head4, at_body}
 use Rattle.daide_frame.proofs.FramesLemmas.{last_items-body4}

@@ -1,30 +1,22 @@
 -- The report of a record: its calls and comments, under the numbers of its lines.
-use Rattle.std.proofs.Common.{◌≡◌, ℕ, zero, suc, ◌+◌, ◌/◌, ◌%◌, ◌<◌, ◌≤◌, ◌&&◌, inl, cond, Bool, true, false, List, [], ◌∷◌, ◌++◌, length, map, take, codes, leb}
-use Rattle.std.proofs.Common.{Some, refl, sym, ap, ◌∙◌, subst, arith, append_assoc, append-nil, length-append}
-use Rattle.std.specs.Prelude.{unsigned_abs}
-use Rattle.std.specs.List.{AllByRecursion, list_all}
-use Rattle.std.specs.Fmt.{decimal}
-use Rattle.std.proofs.lemmas.Bool.Decides.{nat_tests}
+use Rattle.std.proofs.Common.{unsigned_abs}
+use Rattle.daide_log.proofs.Common.{◌≡◌, ℕ, zero, suc, ◌+◌, ◌/◌, ◌%◌, ◌<◌, ◌≤◌, ◌&&◌, inl, cond, Bool, true, false}
+use Rattle.daide_log.proofs.Common.{List, [], ◌∷◌, ◌++◌, length, map, take, codes, leb, Some, refl, sym, ap, ◌∙◌, subst}
+use Rattle.daide_log.proofs.Common.{arith, append_assoc, append-nil, length-append, AllByRecursion, list_all, decimal}
+use Rattle.daide_log.proofs.Common.{nat_tests, DateTime, Note, limits_with, SessionState, Effect, Runs, initial_state}
+use Rattle.daide_log.proofs.Common.{most_lines, longest_line, parted_at_space, Quiet, match_event_of_line}
+use Rattle.daide_log.proofs.Common.{match_event_of_parts, Match, ReportEntry, entries_of}
 use Rattle.jiff_core.specs.declared.civil.date.Date.{Date}
-use Rattle.jiff_core.specs.declared.civil.datetime.DateTime.{DateTime}
 use Rattle.jiff_core.specs.declared.civil.time.Time.{Time}
-use Rattle.daide_protocol.specs.declared.note.Note.{Note}
-use Rattle.daide_protocol.specs.Config.{limits_with}
-use Rattle.daide_protocol.specs.Machine.{SessionState, Effect, Runs, initial_state}
 use Rattle.daide_io.specs.Ports.{event_of, events_of}
-use Rattle.daide_log_lines.specs.LogLine.{most_lines, longest_line, is_comment}
-use Rattle.daide_log_lines.specs.MatchLine.{Quiet, match_event_of_line, match_event_of_parts}
-use Rattle.daide_log_lines.specs.LogLine.{parted_at_space}
-use Rattle.daide_log.specs.declared.heading.Version.TheVariants.{Match}
-use Rattle.daide_log.specs.Report.{ReportEntry, entries_of}
+use Rattle.daide_log_lines.specs.LogLine.{is_comment}
 use Rattle.daide_log.specs.Log.{ReportsBy, ReportsAllBy, IsReportBy, Playing, AdvancesByLine, Reports, source_in}
 use Rattle.daide_log.specs.RecordText.{line_of_answer, count_of_answer, head_text, head_count}
 use Rattle.daide_log.specs.RecordItem.{RecordItem, Called, Begun, Timed, IsItem, calls_in, lines_of_items, count_of_item, count_of_items}
 use Rattle.daide_log.specs.RecordItem.{line_of_item, address_text, printable, longest_address, begun_text, time_text}
 use Rattle.daide_log.specs.RecordItem.{record_text, record_count}
 use Rattle.daide_log.specs.UtcText.{two_digits, three_digits, four_digits, date_text, clock_text, utc_text}
-use Rattle.daide_log.specs.RecordLaw.{side_of_answer, notes_reported, notes_of}
-use Rattle.daide_log.specs.RecordLaw.{TellsBy, RecordsAreReported}
+use Rattle.daide_log.specs.RecordLaw.{side_of_answer, notes_reported, notes_of, TellsBy, RecordsAreReported}
 use Rattle.daide_log.proofs.ReportLemmas.{decimal_few}
 use Rattle.daide_log.proofs.RecordCounts.{session_counts}
 use Rattle.daide_log.proofs.RecordHead.{long_visible}

@@ -1,25 +1,13 @@
 -- One application of each law of `laws` that is a definition, to known values. Each fact depends on the law alone, so
 -- that a weakened law fails to check.
-use Rattle.std.proofs.Common.{◌≡◌, ◌≢◌, ℕ, ◌≤◌, List, [], ◌∷◌, ◌++◌, codes, Some, Ok, refl, sym, ◌∙◌, arith}
-use Rattle.daide_protocol.specs.declared.summary.Summary.{Summary}
-use Rattle.daide_protocol.specs.declared.config.Config.{Config}
-use Rattle.daide_protocol.specs.Config.{limits_with}
-use Rattle.daide_protocol.specs.Machine.{initial_state}
+use Rattle.daide_log.proofs.Common.{◌≡◌, ◌≢◌, ℕ, ◌≤◌, List, [], ◌∷◌, ◌++◌, codes, Some, Ok, refl, sym, ◌∙◌, arith}
+use Rattle.daide_log.proofs.Common.{Summary, Config, limits_with, initial_state, PortCall, Clock, EvolvesBy}
+use Rattle.daide_log.proofs.Common.{nothing_counted, BadLine, RecordEnd, Whole, Failed, MatchConfig, config_of_line}
+use Rattle.daide_log.proofs.Common.{match_config_of_line, Unnamed, IsLines, SessionsAreAlone, own_reported, HasFault}
+use Rattle.daide_log.proofs.Common.{Recorded, Records, ReportEntry, counted_all, lines_of, summary_line}
 use Rattle.daide_io.specs.declared.ports.ClockEvent.TheVariants.{ImTimeIsOver, StopIsRequested}
-use Rattle.daide_io.specs.Ports.{PortCall, Clock, EvolvesBy}
-use Rattle.daide_protocol.specs.Summary.{nothing_counted}
-use Rattle.daide_log_lines.specs.declared.fault.LogFault.TheVariants.{BadLine}
-use Rattle.daide_log.specs.declared.record.RecordEnd.{RecordEnd}
-use Rattle.daide_log.specs.declared.record.RecordEnd.TheVariants.{Whole, Failed}
-use Rattle.daide_log.specs.declared.config_line.MatchConfig.{MatchConfig}
-use Rattle.daide_log.specs.ConfigLine.{config_of_line, match_config_of_line}
-use Rattle.daide_log.specs.Heading.{Unnamed}
-use Rattle.daide_log.specs.Laws.{IsLines, SessionsAreAlone, own_reported}
 use Rattle.daide_log.specs.Log.{IsReportBy, IsReport, Opening, ReportsBy}
-use Rattle.daide_log.specs.Progress.{HasFault}
 use Rattle.daide_log.specs.RecordLaw.{HasBegun, HasItems, IsReported, PortsAreRecorded, RecordsAreReported}
-use Rattle.daide_log.specs.Recording.{Recorded, Records}
-use Rattle.daide_log.specs.Report.{ReportEntry, counted_all, lines_of, summary_line}
 use Rattle.daide_log.proofs.Played.{has_no_feed, unbroken}
 
 -- a match in which no session has a line

@@ -1,3 +1,4 @@
+mod Common
 pub mod OneMove
 pub mod ReportLemmas
 pub mod Played

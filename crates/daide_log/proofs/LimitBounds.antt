@@ -1,13 +1,8 @@
 -- The limits that a session accepts, as bounds.
-use Rattle.std.proofs.Common.{◌≡◌, ◌≤◌, Bool, true, false, cond, Result, Ok, Err, refl}
-use Rattle.std.proofs.Common.{leb}
-use Rattle.std.specs.Prelude.{◌&&◌, ◌==◌, ◌%◌}
-use Rattle.std.proofs.lemmas.Bool.{and_parts, leb-true}
-use Rattle.daide_protocol.specs.declared.config.Config.{Config}
-use Rattle.daide_protocol.specs.declared.config.ConfigError.{ConfigError}
+use Rattle.daide_log.proofs.Common.{◌≡◌, ◌≤◌, Bool, true, false, cond, Result, Ok, Err, refl, leb, ◌&&◌, ◌==◌, ◌%◌}
+use Rattle.daide_log.proofs.Common.{and_parts, leb-true, Config, ConfigError, config_fault, is_level, is_body, is_depth}
 use Rattle.daide_protocol.specs.declared.config.ConfigError.TheVariants as errors
 use Rattle.daide_protocol.specs.Bounds.{least_depth, greatest_depth, longest_body}
-use Rattle.daide_protocol.specs.Config.{config_fault, is_level, is_body, is_depth}
 
 record AreWithin (config : Config) : Type 0 where
   pub low : least_depth ≤ config.max_depth

@@ -1,31 +1,19 @@
 -- From one line of a log to the next.
-use Rattle.std.specs.Bool.{MatchBool}
-use Rattle.std.proofs.Common.{◌≡◌, ℕ, ◌+◌, ◌<◌, ◌≤◌, List, [], ◌∷◌, ◌++◌, length, Option, Some, None, Result, Ok, Err}
-use Rattle.std.proofs.Common.{Bool, true, false, refl, sym, ap, ◌∙◌, subst, arith, append-nil, append_assoc, length-append, ◌≢◌, IfSome, IfOk, IfErr, inl, inr}
-use Rattle.std.specs.Io.KnownBytes.{Consumes, Keeps, Appends, IsAtEnd, append_known}
-use Rattle.daide_protocol.specs.Machine.{SessionState}
-use Rattle.daide_log.specs.declared.heading.Version.{Version}
-use Rattle.daide_protocol.specs.declared.summary.Summary.{Summary}
-use Rattle.daide_log_lines.specs.declared.lines.LineEnd.{LineEnd}
-use Rattle.daide_log_lines.specs.declared.lines.LineEnd.TheVariants.{Held, Line, Last, End}
-use Rattle.daide_log_lines.specs.declared.fault.LogFault.{LogFault}
+use Rattle.std.specs.Io.KnownBytes.{Consumes, IsAtEnd}
+use Rattle.daide_log.proofs.Common.{MatchBool, ◌≡◌, ℕ, ◌+◌, ◌<◌, ◌≤◌, List, [], ◌∷◌, ◌++◌, length, Option, Some, None}
+use Rattle.daide_log.proofs.Common.{Result, Ok, Err, Bool, true, false, refl, sym, ap, ◌∙◌, subst, arith, append-nil}
+use Rattle.daide_log.proofs.Common.{append_assoc, length-append, ◌≢◌, IfSome, IfOk, IfErr, inl, inr, Keeps, Appends}
+use Rattle.daide_log.proofs.Common.{append_known, SessionState, Version, Summary, LineEnd, Held, Line, Last, End}
+use Rattle.daide_log.proofs.Common.{LogFault, Unnamed, nothing_counted, ReportForm, IsLateFault, Opened, texts_of}
+use Rattle.daide_log.proofs.Common.{counted_over, summary_line, longest_line, Reader, IsFound, HasRead, HasReadAll}
+use Rattle.daide_log.proofs.Common.{IsFaultAfter, GivesInTime, IsOpened, IsOpenedBy, IsFinished, Word, preamble_of}
+use Rattle.daide_log.proofs.Common.{keeps_appends, appends_and_keeps}
 use Rattle.daide_log_lines.specs.declared.fault.LogFault.TheVariants as Faults
-use Rattle.daide_log.specs.Heading.{Unnamed}
-use Rattle.daide_protocol.specs.Summary.{nothing_counted}
-use Rattle.daide_log.specs.ReportForm.{ReportForm}
-use Rattle.daide_log.specs.Reporting.{IsLateFault}
-use Rattle.daide_log.specs.declared.opening.Opened.{Opened}
-use Rattle.daide_log.specs.Report.{texts_of, counted_over, summary_line}
-use Rattle.daide_log_lines.specs.LogLine.{longest_line}
 use Rattle.daide_log.specs.Log.{LogState, Opening, Playing, GoesOnBy, IsBad, IsOpening, reads_cut, ReportsBy, ReportsAllBy, IsReportBy}
-use Rattle.daide_log_lines.specs.Reader.{Reader}
-use Rattle.daide_log_lines.specs.Lines.{LooksAt, IsFound, IsInLine, block_size}
-use Rattle.daide_log.specs.Progress.{HasRead, HasReadAll, StopsBehind, IsFaultOf, IsFaultAfter, Reported}
-use Rattle.daide_log.specs.Progress.{IsInTime, GivesInTime, StopsAtLine, IsOpened, IsOpenedBy, IsFinished, IsAnswered}
-use Rattle.daide_words.specs.declared.word.Word.{Word}
-use Rattle.daide_log.specs.PreambleKnown.{preamble_of}
+use Rattle.daide_log_lines.specs.Lines.{LooksAt, IsInLine, block_size}
+use Rattle.daide_log.specs.Progress.{StopsBehind, IsFaultOf, Reported, IsInTime, StopsAtLine, IsAnswered}
 use Rattle.daide_log_lines.proofs.LineLemmas.{gives_none, gives_on}
-use Rattle.daide_log_lines.proofs.PageLemmas.{keeps_more, keeps_appends, appends_and_keeps, none_held}
+use Rattle.daide_log_lines.proofs.PageLemmas.{keeps_more, none_held}
 use Rattle.daide_log.proofs.PlayLemmas.{appends_more}
 
 module _ {Answer : Type 0} (form : ReportForm Answer) where

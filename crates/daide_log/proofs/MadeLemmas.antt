@@ -1,65 +1,40 @@
 -- The cause of a move: its event, the state before it, and the frame that the session still holds.
-use Rattle.std.proofs.Common.{◌≡◌, ℕ, ◌≤◌, Bool, true, false, List, [], ◌∷◌, ◌++◌, length, Option, Some, None}
-use Rattle.std.proofs.Common.{refl, sym, ap, ◌∙◌, subst, arith, append-nil}
-use Rattle.daide_frame.specs.declared.side.Side.{Side}
-use Rattle.daide_frame.specs.declared.side.Side.TheVariants.{Bot, Server}
-use Rattle.daide_frame.specs.declared.head.Head.{Head}
-use Rattle.daide_frame.specs.declared.code.Code.{Code}
+use Rattle.std.proofs.Common.{is_some}
+use Rattle.daide_log.proofs.Common.{◌≡◌, ℕ, ◌≤◌, Bool, true, false, List, [], ◌∷◌, ◌++◌, length, Option, Some, None}
+use Rattle.daide_log.proofs.Common.{refl, sym, ap, ◌∙◌, subst, arith, append-nil, ◌%◌, drop, cond, Result, Ok, Err}
+use Rattle.daide_log.proofs.Common.{slice_set, Side, Bot, Server, Head, Code, Event, bytes_come, Ends, ImTimerExpired}
+use Rattle.daide_log.proofs.Common.{OperatorStops, SessionState, Effect, Successor, Transition, Runs, coming}
+use Rattle.daide_log.proofs.Common.{with_pending, is_over, items_outcome, level_in, Question, is_dm, side2_of, question}
+use Rattle.daide_log.proofs.Common.{answered, im_answered, frame_outcome, header_outcome, untimely, with_noted, Limits}
+use Rattle.daide_log.proofs.Common.{event_outcome, im_timer_expired, over_stays, one_run, MatchBool, tokens_of, Level}
+use Rattle.daide_log.proofs.Common.{Deed, ⊤, Im, Rm, Dm, Fm, im_of, Verdict, Relay, Prn, Huh, SessionPhase, Note}
+use Rattle.daide_log.proofs.Common.{ImTimeout, Word, grammar_words, Config, WaitIm, WaitRm, Open, Over, limits_with}
+use Rattle.daide_log.proofs.Common.{SessionView, holding, runs_limits, Summary, count_note, ReportKey, move_line}
+use Rattle.daide_log.proofs.Common.{texts_of, counted_over}
 use Rattle.daide_frame.specs.Frames.{FrameEvent, Whole, last_items, missing, fed, is_nothing}
-use Rattle.daide_protocol.specs.Events.{Event, Comes, bytes_come}
-use Rattle.daide_protocol.specs.Machine.{SessionState, Effect, Successor, Transition, Runs, coming, with_pending, is_over}
-use Rattle.daide_protocol.specs.Machine.{items_outcome, level_in}
-use Rattle.daide_protocol.proofs.PieceRuns.{over_stays}
-use Rattle.daide_protocol.proofs.OneRun.{one_run}
-use Rattle.std.proofs.Common.{◌%◌, drop}
-use Rattle.std.specs.Bool.{MatchBool}
-use Rattle.daide_token.specs.Token.{tokens_of}
-use Rattle.daide_grammar.specs.declared.level.Level.{Level}
+use Rattle.daide_protocol.specs.Events.{Comes}
+use Rattle.daide_protocol.specs.Machine.{IsCorrectVerdict, question_of, asked_by, deed_of, is_sent, destination}
 use Rattle.daide_grammar.specs.SideMessages.{IsMessageOver}
 use Rattle.daide_reader.specs.Verdict.{HasVerdict}
-use Rattle.daide_protocol.specs.declared.note.Deed.{Deed}
-use Rattle.std.proofs.Common.{cond, Result, Ok, Err}
-use Rattle.std.specs.Prelude.{⊤, is_some}
 use Rattle.daide_frame.specs.declared.head.Kind.{Kind}
-use Rattle.daide_frame.specs.declared.head.Kind.TheVariants.{Im, Rm, Dm, Fm, Em}
+use Rattle.daide_frame.specs.declared.head.Kind.TheVariants.{Em}
 use Rattle.daide_frame.specs.Head.{is_im, has_right_length}
-use Rattle.daide_frame.specs.InitialMessage.{im_of}
-use Rattle.daide_reader.specs.declared.verdict.Verdict.{Verdict}
-use Rattle.daide_reader.specs.declared.verdict.Verdict.TheVariants.{Relay, Prn, Huh}
-use Rattle.daide_protocol.specs.declared.phase.SessionPhase.{SessionPhase}
-use Rattle.daide_protocol.specs.declared.note.Note.{Note}
 use Rattle.daide_protocol.specs.declared.note.Note.TheVariants as Notes
-use Rattle.daide_protocol.specs.Machine.{Question, IsCorrectVerdict, is_dm, side2_of, question_of, asked_by, question, deed_of, is_sent}
-use Rattle.daide_protocol.specs.Machine.{destination, answered, im_answered, frame_outcome, header_outcome, untimely, with_noted}
 use Rattle.daide_protocol.proofs.FrameShapes.{IsWholeFrame}
 use Rattle.daide_protocol.proofs.AnswerBytes.{even_right}
 use Rattle.daide_log.proofs.FramedLemmas.{Framed, framed}
-use Rattle.daide_frame.specs.declared.code.Code.TheVariants.{ImTimeout}
-use Rattle.daide_words.specs.declared.word.Word.{Word}
-use Rattle.daide_words.specs.Word.{grammar_words}
 use Rattle.daide_reader.proofs.BodyLemmas.{place_in}
-use Rattle.daide_protocol.specs.declared.config.Config.{Config}
-use Rattle.daide_protocol.specs.declared.phase.SessionPhase.TheVariants.{WaitIm, WaitRm, Open, Over}
-use Rattle.daide_protocol.specs.Config.{limits_with}
-use Rattle.daide_protocol.specs.Events.{Ends, ImTimerExpired, OperatorStops}
-use Rattle.daide_protocol.specs.Machine.{Limits, event_outcome, im_timer_expired}
-use Rattle.daide_protocol.specs.Wires.{SessionView, holding, held_after}
-use Rattle.daide_protocol.proofs.LimitsKept.{runs_limits}
+use Rattle.daide_protocol.specs.Wires.{held_after}
 use Rattle.daide_log.specs.Reporting.{IsCaused, IsMade, IsUnder}
-use Rattle.daide_protocol.specs.declared.summary.Summary.{Summary}
-use Rattle.daide_protocol.specs.Summary.{count_note}
 use Rattle.daide_protocol.proofs.WireLemmas.{bytes_come-append}
-use Rattle.daide_log.specs.declared.report.ReportKey.{ReportKey}
-use Rattle.daide_log.specs.Report.{move_line, texts_of, counted_over}
 use Rattle.daide_log.specs.Explained.{ExplainedEntry, Moved, AreShownBy, ExplainsMove, ExplainsFrame, AreMessageLines, bytes_at}
 use Rattle.daide_log.specs.Explained.{fault_lines, indented, shown_text, shown_counted, announced_after, announced_at, announced_if}
 use Rattle.daide_log.specs.Explained.{announced_levels, capped_from, level_announced, place_of_session}
-use Rattle.std.specs.Prelude.{slice_set}
+use Rattle.daide_log.specs.Explained.{verdict_by}
 use Rattle.daide_log.specs.Proofs.Lawful.{silent, in_a_row}
 use Rattle.daide_log.specs.Explaining.{IsRightFate, IsRightlyReported, AreLinesBy, announced_by_held}
 use Rattle.daide_log.proofs.PlayLemmas.{room_is_missing}
 use Rattle.daide_log.proofs.LimitBounds.{depth_within, body_within}
-use Rattle.daide_log.specs.Explained.{verdict_by}
 use Rattle.daide_log.proofs.OneMove.{Ending, ending_at, less_missing, over_moves, pending_phase, pending_missing, no_more}
 
 -- the byte of a piece that caused its move

@@ -1,20 +1,10 @@
 -- Lines of the log of a match and of its report, computed from the definitions, so that a wrong definition fails to
 -- check.
-use Rattle.std.proofs.Common.{◌≡◌, [], ◌∷◌, ◌++◌, Some, None, refl, codes}
-use Rattle.std.specs.Fmt.{digits}
-use Rattle.daide_frame.specs.declared.side.Side.TheVariants.{Bot, Server}
-use Rattle.daide_frame.specs.declared.head.Kind.TheVariants.{Im}
-use Rattle.daide_protocol.specs.declared.note.Deed.TheVariants.{Relayed}
-use Rattle.daide_protocol.specs.declared.note.Note.TheVariants.{Nothing, Frame}
-use Rattle.daide_protocol.specs.declared.config.Config.{Config}
-use Rattle.daide_token.specs.Names.{name_of, token_named, names}
-use Rattle.daide_log.specs.declared.heading.Version.TheVariants.{Single, Match}
-use Rattle.daide_log_lines.specs.LogLine.{parted_at_space, plain_number}
+use Rattle.daide_log.proofs.Common.{◌≡◌, [], ◌∷◌, ◌++◌, Some, None, refl, codes, digits, Bot, Server, Im, Relayed}
+use Rattle.daide_log.proofs.Common.{Nothing, Frame, Config, name_of, token_named, names, Single, Match, parted_at_space}
+use Rattle.daide_log.proofs.Common.{plain_number, match_config_of_line, version_of, append_word, source_text}
+use Rattle.daide_log.proofs.Common.{reported_text, move_line, own_line}
 use Rattle.daide_log_lines.proofs.LineFacts.{xyz, gof}
-use Rattle.daide_log.specs.ConfigLine.{match_config_of_line}
-use Rattle.daide_log.specs.Heading.{version_of, append_word}
-use Rattle.daide_log.specs.Report.{source_text, reported_text, move_line}
-use Rattle.daide_log.specs.Laws.{own_line}
 
 -- ---- the head
 

@@ -1,33 +1,15 @@
 -- A whole log of a match in which no message is judged, computed from the definitions, so that a wrong definition fails
 -- to check. The tests have logs with messages.
-use Rattle.std.proofs.Common.{◌≡◌, ℕ, List, [], ◌∷◌, ◌++◌, codes}
-use Rattle.std.proofs.Common.{Some, Ok, Err, refl, arith}
-use Rattle.std.specs.Fmt.{digits}
-use Rattle.hex.specs.Hex.{decode_pairs, encode_with}
-use Rattle.daide_frame.specs.declared.side.Side.TheVariants.{Bot}
-use Rattle.daide_frame.specs.Head.{parse_head}
-use Rattle.daide_frame.specs.InitialMessage.{im_of}
+use Rattle.daide_log.proofs.Common.{◌≡◌, ℕ, List, [], ◌∷◌, ◌++◌, codes, Some, Ok, Err, refl, arith, digits}
+use Rattle.daide_log.proofs.Common.{decode_pairs, encode_with, Bot, parse_head, im_of, name_of, token_named, names, Im}
+use Rattle.daide_log.proofs.Common.{ImTimeout, Relayed, Frame, Fault, SessionPhase, Ending, WaitIm, WaitRm, Over}
+use Rattle.daide_log.proofs.Common.{SessionState, limits_with, Word, BadLine, Match, LogEvent, Received, ImTimerLine}
+use Rattle.daide_log.proofs.Common.{parted_at_space, plain_number, event_of_line, match_event_of_line}
+use Rattle.daide_log.proofs.Common.{match_config_of_line, Preamble, Unnamed, Named, Headed, ReportEntry, source_text}
+use Rattle.daide_log.proofs.Common.{reported_text, move_line, summary_line, events_of_line}
 use Rattle.daide_frame.specs.Frames.{is_alien, first_items, last_items}
-use Rattle.daide_token.specs.Names.{name_of, token_named, names}
-use Rattle.daide_frame.specs.declared.head.Kind.TheVariants.{Im}
-use Rattle.daide_frame.specs.declared.code.Code.TheVariants.{ImTimeout}
-use Rattle.daide_protocol.specs.declared.note.Deed.TheVariants.{Relayed}
-use Rattle.daide_protocol.specs.declared.note.Note.TheVariants.{Frame, Fault}
-use Rattle.daide_protocol.specs.declared.phase.SessionPhase.{SessionPhase}
-use Rattle.daide_protocol.specs.declared.ending.Ending.{Ending}
 use Rattle.daide_protocol.specs.declared.ending.Ending.TheVariants as Endings
-use Rattle.daide_protocol.specs.declared.phase.SessionPhase.TheVariants.{WaitIm, WaitRm, Over}
-use Rattle.daide_protocol.specs.Machine.{SessionState}
-use Rattle.daide_protocol.specs.Config.{limits_with}
-use Rattle.daide_words.specs.declared.word.Word.{Word}
-use Rattle.daide_log_lines.specs.declared.fault.LogFault.TheVariants.{BadLine}
-use Rattle.daide_log.specs.declared.heading.Version.TheVariants.{Match}
-use Rattle.daide_log_lines.specs.LogLine.{LogEvent, Received, ImTimerLine, parted_at_space, plain_number, event_of_line}
-use Rattle.daide_log_lines.specs.MatchLine.{match_event_of_line}
-use Rattle.daide_log.specs.ConfigLine.{match_config_of_line}
 use Rattle.daide_log_lines.specs.WordLine.{word_of_line}
-use Rattle.daide_log.specs.Heading.{Preamble, Unnamed, Named, Headed}
-use Rattle.daide_log.specs.Report.{ReportEntry, source_text, reported_text, move_line, summary_line, events_of_line}
 use Rattle.daide_log.specs.Log.{ReportsBy, ReportsAllBy, IsReportBy, Opening, Playing, source_in, Reports, IsReport}
 use Rattle.daide_log_lines.proofs.LineFacts.{xyz}
 use Rattle.daide_log.proofs.MatchFacts.{limits}

@@ -1,16 +1,13 @@
 -- The bytes for which a session has room cause at most one move.
-use Rattle.std.proofs.Common.{◌≡◌, ℕ, ◌+◌, ◌-◌, ◌<◌, ◌≤◌, Bool, true, false, cond, eqb, List, [], ◌∷◌, ◌++◌, length}
-use Rattle.std.proofs.Common.{Option, Some, None, Result, Ok, Err, refl, sym, ap, ◌∙◌, subst, arith, ◌⊎◌, inl, inr}
-use Rattle.std.proofs.Common.{length-append, append-nil}
-use Rattle.std.specs.Prelude.{◌&&◌}
-use Rattle.std.proofs.lemmas.Bool.Decides.{eqb_tells}
-use Rattle.daide_frame.specs.declared.side.Side.{Side}
-use Rattle.daide_frame.specs.declared.side.Side.TheVariants.{Bot, Server}
-use Rattle.daide_frame.specs.declared.head.Head.{Head}
-use Rattle.daide_frame.specs.declared.code.Code.{Code}
-use Rattle.daide_frame.specs.declared.code.Code.TheVariants.{InvalidToken}
-use Rattle.daide_frame.specs.Head.{parse_head, is_im}
-use Rattle.daide_frame.specs.InitialMessage.{im_of}
+use Rattle.daide_log.proofs.Common.{◌≡◌, ℕ, ◌+◌, ◌-◌, ◌<◌, ◌≤◌, Bool, true, false, cond, eqb, List, [], ◌∷◌, ◌++◌}
+use Rattle.daide_log.proofs.Common.{length, Option, Some, None, Result, Ok, Err, refl, sym, ap, ◌∙◌, subst, arith, ◌⊎◌}
+use Rattle.daide_log.proofs.Common.{inl, inr, length-append, append-nil, ◌&&◌, eqb_tells, Side, Bot, Server, Head, Code}
+use Rattle.daide_log.proofs.Common.{InvalidToken, parse_head, im_of, Verdict, Stopped, SessionPhase, WaitIm, WaitRm}
+use Rattle.daide_log.proofs.Common.{Open, Over, Event, ImTimerExpired, OperatorStops, bytes_come, SessionState, Effect}
+use Rattle.daide_log.proofs.Common.{Successor, Runs, coming, with_pending, with_noted, items_outcome, is_over, untimely}
+use Rattle.daide_log.proofs.Common.{frame_outcome, answered, header_outcome, im_answered, im_timer_expired, level_in}
+use Rattle.daide_log.proofs.Common.{event_outcome, fm_to, note_of, over_stays, one_run, IsOneEffect}
+use Rattle.daide_frame.specs.Head.{is_im}
 use Rattle.daide_frame.specs.Frames.{FrameEvent, Begun, Whole, Wrong, last_items, missing, missing_of_body, head_part, alien_in}
 use Rattle.daide_frame.proofs.AlienLemmas.{ends_alien}
 use Rattle.daide_frame.proofs.FramesLemmas.{at_head, at_body, last_items-short, last_items-head4, last_items-body4}
@@ -18,18 +15,6 @@ use Rattle.daide_frame.proofs.FramesLemmas.{missing-short, missing-of4, wanted}
 use Rattle.daide_frame.proofs.ListLemmas.{eqb_same}
 use Rattle.daide_frame.proofs.FeedingLemmas.{is_dm, alien_in-push}
 use Rattle.daide_frame.proofs.OneByte.{byte_tells, ByteTells}
-use Rattle.daide_reader.specs.declared.verdict.Verdict.{Verdict}
-use Rattle.daide_protocol.specs.declared.note.Note.TheVariants.{Stopped}
-use Rattle.daide_protocol.specs.declared.phase.SessionPhase.{SessionPhase}
-use Rattle.daide_protocol.specs.declared.phase.SessionPhase.TheVariants.{WaitIm, WaitRm, Open, Over}
-use Rattle.daide_protocol.specs.Events.{Event, ImTimerExpired, OperatorStops, bytes_come}
-use Rattle.daide_protocol.specs.Machine.{SessionState, Effect, Successor, Runs, coming, with_pending, with_noted}
-use Rattle.daide_protocol.specs.Machine.{items_outcome, is_over, untimely, frame_outcome, answered, header_outcome}
-use Rattle.daide_protocol.specs.Machine.{im_answered, im_timer_expired, level_in, event_outcome, fm_to}
-use Rattle.daide_protocol.specs.Wires.{note_of}
-use Rattle.daide_protocol.proofs.PieceRuns.{over_stays}
-use Rattle.daide_protocol.proofs.OneRun.{one_run}
-use Rattle.daide_log.specs.Reporting.{IsOneEffect}
 
 -- ---- the items that end with a byte
 

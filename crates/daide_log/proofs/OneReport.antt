@@ -1,20 +1,12 @@
 -- A log has one report: its bytes determine the ends of its lines, each line has one effect, and a log stops in one
 -- way.
-use Rattle.std.proofs.Common.{◌≡◌, ℕ, ◌+◌, ◌-◌, ◌<◌, ◌≤◌, ◌⊎◌, inl, inr, List, [], ◌∷◌, ◌++◌, length, Option, Some, None}
-use Rattle.std.proofs.Common.{Result, Ok, Err, refl, sym, ap, ◌∙◌, subst, arith, append-nil, append_assoc, length-append}
-use Rattle.std.specs.Prelude.{slice_set}
-use Rattle.std.proofs.lemmas.Option.{same_Some}
-use Rattle.daide_protocol.specs.Machine.{SessionState, Effect, Runs}
-use Rattle.daide_protocol.proofs.OneRun.{one_run}
-use Rattle.daide_log_lines.specs.declared.fault.LogFault.{LogFault}
-use Rattle.daide_log_lines.specs.declared.fault.LogFault.TheVariants.{BadLine, LineTooLong, TooManyLines}
-use Rattle.daide_log_lines.specs.LogLine.{IsUnbroken, longest_line, most_lines, without_cr}
-use Rattle.daide_log_lines.specs.MatchLine.{MatchEvent, Of, Quiet}
-use Rattle.daide_log.specs.declared.heading.Version.{Version}
-use Rattle.daide_protocol.specs.declared.summary.Summary.{Summary}
-use Rattle.daide_log.specs.Heading.{Heading, Unnamed}
-use Rattle.daide_protocol.specs.Summary.{nothing_counted}
-use Rattle.daide_log.specs.Report.{ReportEntry, events_of_line, side_of, entries_of, lines_of, counted_all, summary_line}
+use Rattle.daide_log.proofs.Common.{◌≡◌, ℕ, ◌+◌, ◌-◌, ◌<◌, ◌≤◌, ◌⊎◌, inl, inr, List, [], ◌∷◌, ◌++◌, length, Option}
+use Rattle.daide_log.proofs.Common.{Some, None, Result, Ok, Err, refl, sym, ap, ◌∙◌, subst, arith, append-nil}
+use Rattle.daide_log.proofs.Common.{append_assoc, length-append, slice_set, same_Some, SessionState, Effect, Runs}
+use Rattle.daide_log.proofs.Common.{one_run, LogFault, BadLine, LineTooLong, TooManyLines, IsUnbroken, longest_line}
+use Rattle.daide_log.proofs.Common.{most_lines, without_cr, MatchEvent, Of, Quiet, Version, Summary, Heading, Unnamed}
+use Rattle.daide_log.proofs.Common.{nothing_counted, ReportEntry, events_of_line, side_of, entries_of, lines_of}
+use Rattle.daide_log.proofs.Common.{counted_all, summary_line}
 use Rattle.daide_log.specs.Log.{ReportsBy, ReportsAllBy, IsReportBy, LogState, Opening, Playing, stage_at, source_in, IsPlayed, AdvancesByLine, IsBad, IsOpening}
 use Rattle.daide_log.specs.Log.{Reports, ReportsAll, IsReport}
 use Rattle.daide_log.proofs.StepLemmas.{no_feed, one_end}

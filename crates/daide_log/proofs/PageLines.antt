@@ -1,31 +1,17 @@
 -- A message's text is on one line, whatever words an operator added.
-use Rattle.std.proofs.Common.{◌≡◌, ◌==◌, ◌&&◌, ◌%◌, not, ℕ, Bool, true, false, List, [], ◌∷◌, ◌++◌, codes, drop, length}
-use Rattle.std.proofs.Common.{Result, Err, is_ok, is_none, bytes_eq, if◌then◌else◌, refl, sym, ap, ◌∙◌, arith}
-use Rattle.std.proofs.Common.{Option, append_assoc, subst}
-use Rattle.std.specs.Io.KnownBytes.{Appends}
-use Rattle.std.specs.List.{list_all, list_any}
-use Rattle.std.proofs.lemmas.Bool.{and_parts}
-use Rattle.std.proofs.lemmas.Bool.Decides.{nat_tests}
-use Rattle.daide_token.specs.Names.{Named, token_named}
-use Rattle.daide_token.specs.Token.{tokens_of}
-use Rattle.daide_token.specs.TextSteps.{end_text, place_past, some_text}
-use Rattle.daide_token.specs.declared.text.PrinterState.{PrinterState}
-use Rattle.daide_token.specs.declared.text.PrinterState.TheVariants.{Start}
+use Rattle.std.proofs.Common.{is_none, bytes_eq}
+use Rattle.std.specs.List.{list_any}
+use Rattle.daide_log.proofs.Common.{◌≡◌, ◌==◌, ◌&&◌, ◌%◌, not, ℕ, Bool, true, false, List, [], ◌∷◌, ◌++◌, codes, drop}
+use Rattle.daide_log.proofs.Common.{length, Result, Err, is_ok, if◌then◌else◌, refl, sym, ap, ◌∙◌, arith, Option}
+use Rattle.daide_log.proofs.Common.{append_assoc, subst, Appends, list_all, and_parts, nat_tests, token_named}
+use Rattle.daide_log.proofs.Common.{tokens_of, place_past, some_text, PrinterState, Start, Head, Side, are_accepted}
+use Rattle.daide_log.proofs.Common.{are_accepted_after, is_capital, is_free_name, word_fault, names_of, Word, WordError}
+use Rattle.daide_log.proofs.Common.{Relay, Level, Limits, is_dm, SessionView, holding, Config, Deed}
+use Rattle.daide_token.specs.Names.{Named}
+use Rattle.daide_token.specs.TextSteps.{end_text}
 use Rattle.daide_token.proofs.TextParts.{text_by_parts}
 use Rattle.daide_token.proofs.TextLines.{is_inner, are_inner, are_names_inner, text_inner}
-use Rattle.daide_frame.specs.declared.head.Head.{Head}
-use Rattle.daide_frame.specs.declared.side.Side.{Side}
-use Rattle.daide_words.specs.Accepted.{are_accepted, are_accepted_after, is_capital, is_free_name, word_fault}
-use Rattle.daide_words.specs.Word.{names_of}
-use Rattle.daide_words.specs.declared.word.Word.{Word}
-use Rattle.daide_words.specs.declared.word.WordError.{WordError}
 use Rattle.daide_words.specs.declared.word.WordError.TheVariants as faults
-use Rattle.daide_reader.specs.declared.verdict.Verdict.TheVariants.{Relay}
-use Rattle.daide_grammar.specs.declared.level.Level.{Level}
-use Rattle.daide_protocol.specs.Machine.{Limits, is_dm}
-use Rattle.daide_protocol.specs.Wires.{SessionView, holding}
-use Rattle.daide_protocol.specs.declared.config.Config.{Config}
-use Rattle.daide_protocol.specs.declared.note.Deed.{Deed}
 use Rattle.daide_protocol.specs.declared.note.Note.TheVariants as Notes
 use Rattle.daide_log.specs.Explained.{indented, indented_from, with_line_feed, message_text, verdict_by}
 use Rattle.daide_log.specs.Explaining.{AreLinesBy, IsRightlyReported}

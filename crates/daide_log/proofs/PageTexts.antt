@@ -1,10 +1,8 @@
 -- A text that is appended to a page byte by byte.
-use Rattle.std.proofs.Common.{◌≡◌, ℕ, Bool, List, [], ◌∷◌, ◌++◌, length, Option, refl, sym, ap, ◌∙◌, subst}
-use Rattle.std.proofs.Common.{append_assoc, append-nil, ◌≤◌, ◌-◌, true, take, drop, get_or, arith}
-use Rattle.std.specs.Prelude.{◌==◌}
+use Rattle.daide_log.proofs.Common.{◌≡◌, ℕ, Bool, List, [], ◌∷◌, ◌++◌, length, Option, refl, sym, ap, ◌∙◌, subst}
+use Rattle.daide_log.proofs.Common.{append_assoc, append-nil, ◌≤◌, ◌-◌, true, take, drop, get_or, arith, ◌==◌, Appends}
 use Rattle.daide_frame.proofs.ListLemmas.{take_whole}
 use Rattle.daide_log.specs.Explained.{indented, indented_byte, indented_from}
-use Rattle.std.specs.Io.KnownBytes.{Appends}
 use Rattle.daide_log.proofs.PlayLemmas.{appends_more, appends_none}
 
 -- a prefix of the text is written, and this is left

@@ -1,16 +1,9 @@
 -- The lines for incomplete frames, in order.
-use Rattle.std.proofs.Common.{◌≡◌, ℕ, ◌+◌, List, [], ◌∷◌, ◌++◌, length, Option, refl, sym, ap, ◌∙◌, subst, arith}
-use Rattle.std.proofs.Common.{append_assoc, append-nil, length-append, zero, suc, ◌-◌, ◌<◌, ◌≤◌, get_or, All}
-use Rattle.daide_protocol.specs.Wires.{SessionView}
-use Rattle.daide_log.specs.declared.heading.Version.{Version}
-use Rattle.daide_log.specs.Progress.{states_of}
-use Rattle.daide_log.specs.Reporting.{IsIdle}
-use Rattle.std.specs.Io.KnownBytes.{Appends}
-use Rattle.daide_log.specs.Report.{texts_of}
-use Rattle.std.proofs.Common.{Bool, true, false, cond, take, drop, Some, None}
-use Rattle.std.specs.Prelude.{nat_lt}
+use Rattle.daide_log.proofs.Common.{◌≡◌, ℕ, ◌+◌, List, [], ◌∷◌, ◌++◌, length, Option, refl, sym, ap, ◌∙◌, subst, arith}
+use Rattle.daide_log.proofs.Common.{append_assoc, append-nil, length-append, zero, suc, ◌-◌, ◌<◌, ◌≤◌, get_or, All}
+use Rattle.daide_log.proofs.Common.{Bool, true, false, cond, take, drop, Some, None, nat_lt, SessionView, Version}
+use Rattle.daide_log.proofs.Common.{states_of, IsIdle, Appends, texts_of, Side}
 use Rattle.daide_frame.proofs.ListLemmas.{ltb_no}
-use Rattle.daide_frame.specs.declared.side.Side.{Side}
 use Rattle.daide_frame.specs.Frames.{announced, announced_by, head_in}
 use Rattle.daide_log.specs.declared.report.Part as reports
 use Rattle.daide_log.specs.Explained.{Part, part_of, part_text, unfinished_parts, parts_from, session_number}

@@ -1,10 +1,7 @@
 -- A record that is written when no bytes move.
-use Rattle.std.proofs.Common.{◌≡◌, ◌+◌, ◌<◌, ℕ, List, [], Option, Some, None, refl, sym, ap, ◌∙◌, ◌++◌, append_assoc, subst, inl, inr}
-use Rattle.std.specs.Io.KnownBytes.{Keeps, Appends, append_known}
-use Rattle.daide_log_lines.specs.LogLine.{most_lines}
-use Rattle.daide_log.specs.declared.record.RecordEnd.{RecordEnd}
-use Rattle.daide_log.specs.declared.record.RecordEnd.TheVariants.{Whole, Failed}
-use Rattle.daide_log.specs.Recording.{Written, KeepsText, GetsLine, GetsText}
+use Rattle.daide_log.proofs.Common.{◌≡◌, ◌+◌, ◌<◌, ℕ, List, [], Option, Some, None, refl, sym, ap, ◌∙◌, ◌++◌}
+use Rattle.daide_log.proofs.Common.{append_assoc, subst, inl, inr, Keeps, Appends, append_known, most_lines, RecordEnd}
+use Rattle.daide_log.proofs.Common.{Whole, Failed, Written, KeepsText, GetsLine, GetsText}
 
 pub unwritten_kept : (failed : Type 0) (old : Written) → KeepsText failed old old
 unwritten_kept failed old = inl refl

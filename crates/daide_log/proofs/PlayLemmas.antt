@@ -1,36 +1,25 @@
 -- A session's moves at the lines of a log.
-use Rattle.std.proofs.Common.{◌≡◌, ℕ, ◌+◌, ◌<◌, ◌≤◌, Bool, true, false, List, [], ◌∷◌, ◌++◌, length, Option}
-use Rattle.std.proofs.Common.{Some, None, refl, sym, ap, ◌∙◌, subst, arith, length-append, append-nil, append_assoc}
-use Rattle.std.proofs.Common.{◌⊎◌, inl, inr, cond}
-use Rattle.std.specs.Prelude.{◌||◌}
-use Rattle.std.specs.Io.KnownBytes.{Appends}
-use Rattle.daide_frame.specs.declared.side.Side.{Side}
-use Rattle.daide_frame.specs.declared.side.Side.TheVariants.{Bot, Server}
+use Rattle.std.proofs.Common.{◌||◌}
+use Rattle.daide_log.proofs.Common.{◌≡◌, ℕ, ◌+◌, ◌<◌, ◌≤◌, Bool, true, false, List, [], ◌∷◌, ◌++◌, length, Option, Some}
+use Rattle.daide_log.proofs.Common.{None, refl, sym, ap, ◌∙◌, subst, arith, length-append, append-nil, append_assoc}
+use Rattle.daide_log.proofs.Common.{◌⊎◌, inl, inr, cond, Appends, Side, Bot, Server, Note, Event, Ends, ImTimerExpired}
+use Rattle.daide_log.proofs.Common.{OperatorStops, bytes_come, SessionState, Effect, Successor, Runs, coming, fm_to}
+use Rattle.daide_log.proofs.Common.{is_over, event_outcome, SessionView, holding, note_of, over_stays, ReportKey}
+use Rattle.daide_log.proofs.Common.{Summary, count_note, HasRoom, IsMoreBy, Word, Config, runs_limits, ReportForm}
+use Rattle.daide_log.proofs.Common.{IsWritableForm, move_line, texts_of, counted_over, no_more, more_by, more_then}
+use Rattle.daide_log.proofs.Common.{less_room, IsIdle, IsOneEffect, ReportsEvents, IsReady, Moves}
 use Rattle.daide_frame.specs.Frames.{missing}
-use Rattle.daide_protocol.specs.declared.note.Note.{Note}
 use Rattle.daide_protocol.specs.declared.note.Note.TheVariants as Notes
 use Rattle.daide_frame.specs.Side.{other}
-use Rattle.daide_protocol.specs.Events.{Event, Ends, ImTimerExpired, OperatorStops, bytes_come}
-use Rattle.daide_protocol.specs.Machine.{SessionState, Effect, Successor, Sent, Runs, coming, fm_to, is_over, event_outcome}
-use Rattle.daide_protocol.specs.Wires.{SessionView, Refines, ReceivesBytes, Holding, HoldsTheSame, holding, sent_to, queued}
-use Rattle.daide_protocol.specs.Wires.{room_of, is_awaited, note_of, note_or}
+use Rattle.daide_protocol.specs.Machine.{Sent}
+use Rattle.daide_protocol.specs.Wires.{Refines, ReceivesBytes, Holding, HoldsTheSame, sent_to, queued, room_of}
+use Rattle.daide_protocol.specs.Wires.{is_awaited, note_or}
 use Rattle.daide_protocol.proofs.OneRun.{runs_join}
-use Rattle.daide_protocol.proofs.PieceRuns.{over_stays}
 use Rattle.daide_protocol.proofs.WireLemmas.{bytes_come-append}
 use Rattle.daide_log_lines.specs.declared.event_line.ParsedEvent.{ParsedEvent}
 use Rattle.daide_log_lines.specs.declared.event_line.ParsedEvent.TheVariants as ParsedEvents
-use Rattle.daide_log.specs.declared.report.ReportKey.{ReportKey}
-use Rattle.daide_protocol.specs.declared.summary.Summary.{Summary}
-use Rattle.daide_protocol.specs.Summary.{count_note}
-use Rattle.daide_words.specs.declared.word.Word.{Word}
-use Rattle.daide_protocol.specs.declared.config.Config.{Config}
-use Rattle.daide_protocol.proofs.LimitsKept.{runs_limits}
-use Rattle.daide_log.specs.ReportForm.{ReportForm, IsWritableForm}
-use Rattle.daide_log.specs.Report.{move_line, texts_of, counted_over}
-use Rattle.daide_protocol.specs.Summary.{HasRoom, IsMoreBy}
-use Rattle.daide_protocol.proofs.GrowthLemmas.{no_more, more_by, more_then, less_room, room_after}
-use Rattle.daide_log.specs.Reporting.{IsIdle, IsOneEffect, ReportsEvents, ReportsMove, IsMade, IsReady, IsUnder}
-use Rattle.daide_log.specs.Reporting.{IsBare, IsCaused, Moves, note_of_move}
+use Rattle.daide_protocol.proofs.GrowthLemmas.{room_after}
+use Rattle.daide_log.specs.Reporting.{ReportsMove, IsMade, IsUnder, IsBare, IsCaused, note_of_move}
 use Rattle.daide_log.proofs.OneMove.{one_move_a_piece, one_move_a_timer, one_move_a_stop}
 
 -- ---- one piece

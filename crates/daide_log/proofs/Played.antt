@@ -1,29 +1,15 @@
 -- Runs of the machine that are computed. The verdict on a message is the one of the grammar's table, which is the
 -- grammar's if no words were added.
-use Rattle.std.proofs.Common.{◌≡◌, ℕ, ◌+◌, ◌-◌, ◌<◌, ◌≤◌, Bool, true, false, List, [], ◌∷◌, ◌++◌, length, map}
-use Rattle.std.proofs.Common.{Option, Some, None}
-use Rattle.std.proofs.Common.{refl, sym, ap, ◌∙◌, subst, eqb, ◌⊎◌, inl, inr}
-use Rattle.std.specs.Prelude.{if◌then◌else◌, slice_get, slice_set}
-use Rattle.std.proofs.lemmas.Bool.Decides.{eqb_tells}
-use Rattle.std.proofs.lemmas.List.{map-append}
-use Rattle.std.proofs.lemmas.Option.{same_Some}
-use Rattle.daide_frame.specs.declared.side.Side.{Side}
+use Rattle.daide_log.proofs.Common.{◌≡◌, ℕ, ◌+◌, ◌-◌, ◌<◌, ◌≤◌, Bool, true, false, List, [], ◌∷◌, ◌++◌, length, map}
+use Rattle.daide_log.proofs.Common.{Option, Some, None, refl, sym, ap, ◌∙◌, subst, eqb, ◌⊎◌, inl, inr, if◌then◌else◌}
+use Rattle.daide_log.proofs.Common.{slice_get, slice_set, eqb_tells, map-append, same_Some, Side, L0, Verdict, Relay}
+use Rattle.daide_log.proofs.Common.{Note, SessionPhase, Event, Limits, SessionState, Effect, Successor, Question, Runs}
+use Rattle.daide_log.proofs.Common.{event_outcome, question, side2_of, LogEvent, IsUnbroken, without_cr, Of, Version}
+use Rattle.daide_log.proofs.Common.{ReportKey, ReportEntry, entries_of, events_of_line, side_of}
 use Rattle.daide_frame.specs.PerSide.{both}
-use Rattle.daide_grammar.specs.declared.level.Level.TheVariants.{L0}
 use Rattle.daide_grammar.specs.Words.{Words}
-use Rattle.daide_reader.specs.declared.verdict.Verdict.{Verdict}
-use Rattle.daide_reader.specs.declared.verdict.Verdict.TheVariants.{Relay}
 use Rattle.daide_reader.proofs.SomeVerdict.{plain_verdict, plain_verdict_right}
-use Rattle.daide_protocol.specs.declared.note.Note.{Note}
-use Rattle.daide_protocol.specs.declared.phase.SessionPhase.{SessionPhase}
-use Rattle.daide_protocol.specs.Events.{Event}
-use Rattle.daide_protocol.specs.Machine.{Limits, SessionState, Effect, Successor, Question, Runs, IsCorrectVerdict, event_outcome}
-use Rattle.daide_protocol.specs.Machine.{question, side2_of}
-use Rattle.daide_log_lines.specs.LogLine.{LogEvent, IsUnbroken, without_cr}
-use Rattle.daide_log_lines.specs.MatchLine.{Of}
-use Rattle.daide_log.specs.declared.heading.Version.{Version}
-use Rattle.daide_log.specs.declared.report.ReportKey.{ReportKey}
-use Rattle.daide_log.specs.Report.{ReportEntry, entries_of, events_of_line, side_of}
+use Rattle.daide_protocol.specs.Machine.{IsCorrectVerdict}
 use Rattle.daide_log.specs.Log.{ReportsBy, Playing, Reports, event_in, source_in}
 
 -- a session between two messages, with both sides at level 0

@@ -1,35 +1,19 @@
 -- The head of a log, line by line.
-use Rattle.std.specs.Bool.{MatchBool}
-use Rattle.std.proofs.Common.{◌≡◌, ℕ, zero, suc, ◌+◌, ◌≤◌, Bool, true, false, cond, List, []}
-use Rattle.std.proofs.Common.{◌∷◌, length, Option, Some, None, Result, Ok, Err}
-use Rattle.std.proofs.Common.{refl, sym, ap, subst, arith, ◌≢◌, OnOk, IfErr, IfSome}
-use Rattle.std.specs.Prelude.{option_map, not, replicate}
-use Rattle.daide_protocol.specs.Machine.{SessionState}
-use Rattle.daide_protocol.specs.Wires.{SessionView}
-use Rattle.std.proofs.lemmas.Option.{same_Some}
-use Rattle.daide_log_lines.specs.declared.lines.LineEnd.{LineEnd}
-use Rattle.daide_log_lines.specs.declared.lines.LineEnd.TheVariants.{Held, Line, Last, End}
-use Rattle.daide_log_lines.specs.declared.fault.LogFault.{LogFault}
+use Rattle.daide_log.proofs.Common.{MatchBool, ◌≡◌, ℕ, zero, suc, ◌+◌, ◌≤◌, Bool, true, false, cond, List, [], ◌∷◌}
+use Rattle.daide_log.proofs.Common.{length, Option, Some, None, Result, Ok, Err, refl, sym, ap, subst, arith, ◌≢◌, OnOk}
+use Rattle.daide_log.proofs.Common.{IfErr, IfSome, option_map, not, replicate, SessionState, SessionView, same_Some}
+use Rattle.daide_log.proofs.Common.{LineEnd, Held, Line, Last, End, LogFault, Opened, More, Headed, heading_after}
+use Rattle.daide_log.proofs.Common.{has_all_words, preamble_of, heading_of, Keeps, most_lines, Reader, IsFound}
+use Rattle.daide_log.proofs.Common.{keeps_appends, ⊤, Word, words_of, ReportForm, IsWritableForm, HasRead, HasReadAll}
+use Rattle.daide_log.proofs.Common.{GivesInTime, IsPreambleProgress, IsOpened, IsOpenedBy, IsFaultAfter, states_of}
 use Rattle.daide_log_lines.specs.declared.fault.LogFault.TheVariants as Faults
-use Rattle.daide_log.specs.declared.opening.Opened.{Opened}
 use Rattle.daide_log.specs.declared.opening.PreambleProgress.{PreambleProgress}
-use Rattle.daide_log.specs.declared.opening.PreambleProgress.TheVariants.{More}
 use Rattle.daide_log.specs.declared.heading.Preamble as heads
 use Rattle.daide_log.specs.declared.heading.Heading as headings
 use Rattle.daide_log.specs.declared.heading.Heading.TheVariants as Variants
-use Rattle.daide_log.specs.Heading.{Headed, heading_after, has_all_words}
-use Rattle.daide_log.specs.PreambleKnown.{preamble_of, heading_of, IsPreambleKnown, whole_preamble, preamble_after, at_last, after_line}
-use Rattle.std.specs.Io.KnownBytes.{Keeps}
-use Rattle.daide_log_lines.specs.LogLine.{most_lines}
+use Rattle.daide_log.specs.PreambleKnown.{IsPreambleKnown, whole_preamble, preamble_after, at_last, after_line}
 use Rattle.daide_log.specs.Log.{Opening, stage_at, state_after_preamble}
-use Rattle.daide_log_lines.specs.Reader.{Reader}
-use Rattle.daide_log_lines.specs.Lines.{IsFound}
-use Rattle.daide_log_lines.proofs.PageLemmas.{keeps_appends}
-use Rattle.std.specs.Prelude.{⊤}
-use Rattle.daide_words.specs.declared.word.Word.{Word}
-use Rattle.daide_words.specs.Words.{words_of}
-use Rattle.daide_log.specs.ReportForm.{ReportForm, IsWritableForm, HasWords}
-use Rattle.daide_log.specs.Progress.{HasRead, HasReadAll, GivesInTime, IsPreambleProgress, IsOpened, IsOpenedBy, IsFaultAfter, states_of}
+use Rattle.daide_log.specs.ReportForm.{HasWords}
 use Rattle.daide_log.proofs.LogLemmas.{line_read, last_read, end_read, bad_line, bad_last, ends_early, fault_found}
 
 -- while a head is incomplete, another of its lines follows

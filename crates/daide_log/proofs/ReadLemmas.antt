@@ -1,16 +1,11 @@
 -- No read is in time after bytes that have a fault.
-use Rattle.std.proofs.Common.{◌≡◌, ℕ, zero, suc, ◌+◌, ◌<◌, ◌≤◌, ◌⊎◌, inl, inr, List, [], ◌∷◌, ◌++◌, length, replicate}
-use Rattle.std.proofs.Common.{Option, Result, Err, refl, sym, ap, ◌∙◌, subst, arith, append-nil, append_assoc, length-append}
-use Rattle.std.proofs.lemmas.Bool.{cases_lt}
-use Rattle.daide_protocol.specs.declared.summary.Summary.{Summary}
-use Rattle.daide_log_lines.specs.declared.fault.LogFault.{LogFault}
-use Rattle.daide_log_lines.specs.declared.fault.LogFault.TheVariants.{LineTooLong, TooManyLines}
-use Rattle.daide_log_lines.specs.LogLine.{IsUnbroken, longest_line, most_lines}
+use Rattle.daide_log.proofs.Common.{◌≡◌, ℕ, zero, suc, ◌+◌, ◌<◌, ◌≤◌, ◌⊎◌, inl, inr, List, [], ◌∷◌, ◌++◌, length}
+use Rattle.daide_log.proofs.Common.{replicate, Option, Result, Err, refl, sym, ap, ◌∙◌, subst, arith, append-nil}
+use Rattle.daide_log.proofs.Common.{append_assoc, length-append, cases_lt, Summary, LogFault, LineTooLong, TooManyLines}
+use Rattle.daide_log.proofs.Common.{IsUnbroken, longest_line, most_lines, Unnamed, ReportEntry, lines_of, HasFault}
 use Rattle.daide_log_lines.proofs.LineLemmas.{unbroken_append}
-use Rattle.daide_log.specs.Heading.{Unnamed}
-use Rattle.daide_log.specs.Report.{ReportEntry, lines_of}
 use Rattle.daide_log.specs.Log.{plain, ReportsBy, IsReportBy, LogState, Opening, Reports, IsReport}
-use Rattle.daide_log.specs.Progress.{IsInTime, HasFault}
+use Rattle.daide_log.specs.Progress.{IsInTime}
 use Rattle.daide_log.proofs.StepLemmas.{one_end}
 use Rattle.daide_log.proofs.OneReport.{Goes, feeds, from_front, one_report}
 

@@ -1,12 +1,8 @@
 -- The report of a record counts what the session counts.
-use Rattle.std.proofs.Common.{◌≡◌, List, [], ◌∷◌, ap, sym, ◌∙◌, refl}
-use Rattle.daide_protocol.specs.declared.note.Note.{Note}
-use Rattle.daide_protocol.specs.declared.note.Note.TheVariants.{Nothing}
-use Rattle.daide_protocol.specs.declared.summary.Summary.{Summary}
-use Rattle.daide_protocol.specs.Machine.{Effect}
-use Rattle.daide_protocol.specs.Summary.{count_note, nothing_counted, reduced, tallied}
+use Rattle.daide_log.proofs.Common.{◌≡◌, List, [], ◌∷◌, ap, sym, ◌∙◌, refl, Note, Nothing, Summary, Effect, count_note}
+use Rattle.daide_log.proofs.Common.{nothing_counted, ReportEntry, counted_all}
+use Rattle.daide_protocol.specs.Summary.{reduced, tallied}
 use Rattle.daide_protocol.proofs.SummaryLemmas.{counted_reduced}
-use Rattle.daide_log.specs.Report.{ReportEntry, counted_all}
 use Rattle.daide_log.specs.RecordLaw.{notes_reported, notes_of}
 
 abbrev first_or : Note → List Note → Note

@@ -1,36 +1,28 @@
 -- Parsing the head of a record returns its limits and words.
-use Rattle.std.proofs.Common.{◌≡◌, ℕ, zero, suc, ◌+◌, ◌-◌, ◌*◌, ◌/◌, ◌%◌, ◌^◌, ◌<◌, ◌≤◌, ◌==◌, ◌&&◌, cond, eqb, leb}
-use Rattle.std.proofs.Common.{Bool, true, false, List, [], ◌∷◌, ◌++◌, length, take, get_or, codes, nat_lt, append-nil, add-one}
-use Rattle.std.proofs.Common.{Some, None, Result, Ok, Err, refl, sym, ap, ◌∙◌, arith, append_assoc, length-append}
-use Rattle.std.specs.List.{list_all}
-use Rattle.std.specs.Fmt.{decimal}
+use Rattle.std.proofs.Common.{add-one}
 use Rattle.std.proofs.lemmas.Fmt.{decimal_digit, decimal_nonempty, decimal_step, first_decimal}
-use Rattle.std.proofs.lemmas.Bool.{and_parts, leb-true}
-use Rattle.std.proofs.lemmas.Bool.Decides.{nat_tests}
-use Rattle.hex.specs.Hex.{IsBytes, encode_upper, upper_digits, decode_of}
-use Rattle.hex.proofs.HexLemmas.{decode_of-encode_upper, length-encode_with}
+use Rattle.daide_log.proofs.Common.{◌≡◌, ℕ, zero, suc, ◌+◌, ◌-◌, ◌*◌, ◌/◌, ◌%◌, ◌^◌, ◌<◌, ◌≤◌, ◌==◌, ◌&&◌, cond, eqb}
+use Rattle.daide_log.proofs.Common.{leb, Bool, true, false, List, [], ◌∷◌, ◌++◌, length, take, get_or, codes, nat_lt}
+use Rattle.daide_log.proofs.Common.{append-nil, Some, None, Result, Ok, Err, refl, sym, ap, ◌∙◌, arith, append_assoc}
+use Rattle.daide_log.proofs.Common.{length-append, list_all, decimal, and_parts, leb-true, nat_tests, IsBytes}
+use Rattle.daide_log.proofs.Common.{encode_upper, upper_digits, decode_of, decode_of-encode_upper, length-encode_with}
+use Rattle.daide_log.proofs.Common.{Level, L0, L10, L20, L30, L60, Word, word_at, is_capital, Config, ConfigError}
+use Rattle.daide_log.proofs.Common.{config_fault, is_level, is_body, is_depth, plain_number, parted_at_space}
+use Rattle.daide_log.proofs.Common.{longest_line, within, match_config_of_numbers, match_config_of_line}
 use Rattle.daide_token.specs.Token.{token_bytes}
-use Rattle.daide_grammar.specs.declared.level.Level.{Level}
-use Rattle.daide_grammar.specs.declared.level.Level.TheVariants.{L0, L10, L20, L30, L40, L50, L60}
+use Rattle.daide_grammar.specs.declared.level.Level.TheVariants.{L40, L50}
 use Rattle.daide_grammar.specs.Level.{level_number, level_of_number}
 use Rattle.daide_words.specs.declared.slot.Slot.{Slot}
 use Rattle.daide_words.specs.declared.slot.Slot.TheVariants as slots
 use Rattle.daide_words.specs.declared.operand.Operand.{Operand}
 use Rattle.daide_words.specs.declared.operand.Operand.TheVariants as operands
-use Rattle.daide_words.specs.declared.word.Word.{Word}
 use Rattle.daide_words.specs.WordNames.{slot_name, slot_named, operand_name, operand_named, word_of_parts}
-use Rattle.daide_words.specs.Words.{word_at}
-use Rattle.daide_words.specs.Accepted.{is_capital}
-use Rattle.daide_protocol.specs.declared.config.Config.{Config}
-use Rattle.daide_protocol.specs.declared.config.ConfigError.{ConfigError}
 use Rattle.daide_protocol.specs.declared.config.ConfigError.TheVariants as errors
-use Rattle.daide_protocol.specs.Config.{config_fault, is_level, is_body, is_depth}
-use Rattle.daide_log_lines.specs.LogLine.{plain_number, number_on, parted_at_space, longest_line}
-use Rattle.daide_log_lines.specs.MatchLine.{within}
+use Rattle.daide_log_lines.specs.LogLine.{number_on}
 use Rattle.daide_log_lines.specs.WordLine.{parse_name, parse_code, code_of_bytes, parse_level, level_of_option, word_of_level}
 use Rattle.daide_log_lines.specs.WordLine.{word_of_slot, word_of_code, word_of_name, word_of_line}
-use Rattle.daide_log.specs.ConfigLine.{right_or_none, config_of_numbers, match_config_of_numbers, match_config_of_counts}
-use Rattle.daide_log.specs.ConfigLine.{match_config_of_depth, match_config_of_body, match_config_of_level, match_config_of_line}
+use Rattle.daide_log.specs.ConfigLine.{right_or_none, config_of_numbers, match_config_of_counts, match_config_of_depth}
+use Rattle.daide_log.specs.ConfigLine.{match_config_of_body, match_config_of_level}
 use Rattle.daide_log.specs.RecordText.{spaced, word_text, config_text, lines_of_words}
 use Rattle.daide_log.proofs.ReportLemmas.{decimal_few}
 use Rattle.daide_log.proofs.RecordLines.{is_plain, is_visible, both_all, visible_plain, encode_visible, parted_word}

@@ -1,23 +1,18 @@
 -- Parsing the lines of a record returns their events.
-use Rattle.std.proofs.Common.{◌≡◌, ◌≢◌, ℕ, zero, suc, ◌+◌, ◌-◌, ◌*◌, ◌/◌, ◌%◌, ◌<◌, ◌≤◌, ◌&&◌, ◌⊎◌, inl, inr, cond, eqb, leb}
-use Rattle.std.proofs.Common.{Bool, true, false, List, [], ◌∷◌, ◌++◌, length, take, drop, get_or, map, codes, nat_lt}
-use Rattle.std.proofs.Common.{Some, None, refl, sym, ap, ◌∙◌, subst, arith, append_assoc, length-append}
-use Rattle.std.specs.Prelude.{slice_index}
-use Rattle.std.specs.List.{list_all, range_with_len}
+use Rattle.std.proofs.Common.{slice_index}
+use Rattle.std.specs.List.{range_with_len}
 use Rattle.std.specs.Str.{bytes_eq}
-use Rattle.std.proofs.lemmas.Bool.{and_parts}
-use Rattle.std.proofs.lemmas.Bool.Decides.{eqb_tells, nat_tests}
-use Rattle.std.proofs.lemmas.List.{take_more}
 use Rattle.std.proofs.lemmas.List.Folds.{list_all-append}
-use Rattle.hex.specs.Hex.{IsBytes, encode_upper, encode_with, upper_digits, decode_of}
-use Rattle.hex.proofs.HexLemmas.{decode_of-encode_upper, length-encode_with}
-use Rattle.daide_frame.specs.declared.side.Side.{Side}
-use Rattle.daide_frame.specs.declared.side.Side.TheVariants.{Bot, Server}
+use Rattle.daide_log.proofs.Common.{◌≡◌, ◌≢◌, ℕ, zero, suc, ◌+◌, ◌-◌, ◌*◌, ◌/◌, ◌%◌, ◌<◌, ◌≤◌, ◌&&◌, ◌⊎◌, inl, inr}
+use Rattle.daide_log.proofs.Common.{cond, eqb, leb, Bool, true, false, List, [], ◌∷◌, ◌++◌, length, take, drop, get_or}
+use Rattle.daide_log.proofs.Common.{map, codes, nat_lt, Some, None, refl, sym, ap, ◌∙◌, subst, arith, append_assoc}
+use Rattle.daide_log.proofs.Common.{length-append, list_all, and_parts, eqb_tells, nat_tests, take_more, IsBytes}
+use Rattle.daide_log.proofs.Common.{encode_upper, encode_with, upper_digits, decode_of, decode_of-encode_upper}
+use Rattle.daide_log.proofs.Common.{length-encode_with, Side, Bot, Server, IsUnbroken, without_cr, longest_line}
+use Rattle.daide_log.proofs.Common.{plain_number, parted_at_space, LogEvent, Received, EndOf, ImTimerLine, StopLine}
+use Rattle.daide_log.proofs.Common.{event_of_line, Of, loud, event_of_session, match_event_of_line}
 use Rattle.daide_grammar.proofs.Alike.{alike}
-use Rattle.daide_log_lines.specs.LogLine.{IsUnbroken, without_cr, longest_line, plain_number}
-use Rattle.daide_log_lines.specs.LogLine.{with_first, parted_at_space}
-use Rattle.daide_log_lines.specs.LogLine.{LogEvent, Received, EndOf, ImTimerLine, StopLine, Silence, decoded, parse_received, event_of_line}
-use Rattle.daide_log_lines.specs.MatchLine.{Of, loud, event_of_session, match_event_of_line}
+use Rattle.daide_log_lines.specs.LogLine.{with_first, Silence, decoded, parse_received}
 use Rattle.daide_log.specs.Report.{name_of_side}
 use Rattle.daide_log.specs.RecordText.{event_text}
 

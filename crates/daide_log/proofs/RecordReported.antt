@@ -1,42 +1,25 @@
 -- The report of a record's head, and of the line of a call that has an event.
-use Rattle.std.proofs.Common.{◌≡◌, ℕ, suc, ◌+◌, ◌<◌, ◌≤◌, ◌⊎◌, inl, inr, cond, eqb, leb}
-use Rattle.std.proofs.Common.{Bool, true, false, List, [], ◌∷◌, ◌++◌, length, codes, append-nil}
-use Rattle.std.proofs.Common.{Option, Some, None, Result, Ok, Err, refl, sym, ap, ◌∙◌, subst, arith, append_assoc, length-append}
-use Rattle.std.specs.Prelude.{is_ok, not, option_map}
-use Rattle.std.specs.List.{AllByRecursion, list_all}
-use Rattle.std.proofs.lemmas.Bool.{and_parts, leb-true}
-use Rattle.std.proofs.lemmas.Bool.Decides.{nat_tests}
+use Rattle.daide_log.proofs.Common.{◌≡◌, ℕ, suc, ◌+◌, ◌<◌, ◌≤◌, ◌⊎◌, inl, inr, cond, eqb, leb, Bool, true, false, List}
+use Rattle.daide_log.proofs.Common.{[], ◌∷◌, ◌++◌, length, codes, append-nil, Option, Some, None, Result, Ok, Err, refl}
+use Rattle.daide_log.proofs.Common.{sym, ap, ◌∙◌, subst, arith, append_assoc, length-append, is_ok, not, option_map}
+use Rattle.daide_log.proofs.Common.{AllByRecursion, list_all, and_parts, leb-true, nat_tests, Side, Bot, Word}
+use Rattle.daide_log.proofs.Common.{WordError, names_of, word_fault, are_accepted, are_accepted_after, is_capital}
+use Rattle.daide_log.proofs.Common.{is_free_name, Config, Note, config_fault, limits_with, Event, Ends, SessionState}
+use Rattle.daide_log.proofs.Common.{Effect, Successor, Transition, Runs, initial_state, event_outcome, is_over, one_run}
+use Rattle.daide_log.proofs.Common.{over_stays, Verdict, PortCall, Clock, most_lines, LogEvent, Received, EndOf}
+use Rattle.daide_log.proofs.Common.{ImTimerLine, StopLine, Of, Match, Preamble, Unnamed, Named, Headed, append_word}
+use Rattle.daide_log.proofs.Common.{heading_after, ReportEntry, entries_of, side_of}
 use Rattle.daide_token.specs.Names.{Named as NamedToken}
-use Rattle.daide_frame.specs.declared.side.Side.{Side}
-use Rattle.daide_frame.specs.declared.side.Side.TheVariants.{Bot}
-use Rattle.daide_words.specs.declared.word.Word.{Word}
-use Rattle.daide_words.specs.declared.word.WordError.{WordError}
 use Rattle.daide_words.specs.declared.word.WordError.TheVariants as faults
-use Rattle.daide_words.specs.Word.{names_of}
-use Rattle.daide_words.specs.Accepted.{word_fault, are_accepted, are_accepted_after, is_capital, is_free_name, is_free_code}
-use Rattle.daide_words.specs.Accepted.{has_press, may_hold}
-use Rattle.daide_protocol.specs.declared.config.Config.{Config}
-use Rattle.daide_protocol.specs.declared.note.Note.{Note}
-use Rattle.daide_protocol.specs.Config.{config_fault, limits_with}
-use Rattle.daide_protocol.specs.Events.{Event, Ends, Loses}
-use Rattle.daide_protocol.specs.Machine.{SessionState, Effect, Successor, Transition, Runs, initial_state, event_outcome, is_over}
-use Rattle.daide_protocol.proofs.OneRun.{one_run}
-use Rattle.daide_protocol.proofs.PieceRuns.{over_stays}
-use Rattle.daide_reader.specs.declared.verdict.Verdict.{Verdict}
+use Rattle.daide_words.specs.Accepted.{is_free_code, has_press, may_hold}
+use Rattle.daide_protocol.specs.Events.{Loses}
 use Rattle.daide_io.specs.declared.ports.ClockEvent.TheVariants.{NoEvent, ImTimeIsOver, StopIsRequested}
 use Rattle.daide_io.specs.declared.ports.Pull.TheVariants.{Got, Idle, Ended}
 use Rattle.daide_io.specs.declared.ports.Put.TheVariants.{Took, Failed}
-use Rattle.daide_io.specs.Ports.{PortCall, TurnBegins, Clock, Pulled, Offered, event_of}
-use Rattle.daide_log_lines.specs.LogLine.{most_lines}
-use Rattle.daide_log_lines.specs.LogLine.{LogEvent, Received, EndOf, ImTimerLine, StopLine}
-use Rattle.daide_log_lines.specs.MatchLine.{Of}
-use Rattle.daide_log.specs.declared.heading.Version.TheVariants.{Match}
-use Rattle.daide_log.specs.Heading.{Preamble, Unnamed, Named, Headed, append_word, heading_after}
-use Rattle.daide_log.specs.Report.{ReportEntry, entries_of, side_of}
+use Rattle.daide_io.specs.Ports.{TurnBegins, Pulled, Offered, event_of}
 use Rattle.daide_log.specs.Report.{events_of_line as events_in}
 use Rattle.daide_log.specs.Log.{ReportsBy, LogState, Opening, Playing, AdvancesByLine, Reports, state_after_preamble, stage_at, source_in}
-use Rattle.daide_log.specs.RecordText.{reported_by}
-use Rattle.daide_log.specs.RecordText.{event_text, event_line, line_of_answer, count_of_answer}
+use Rattle.daide_log.specs.RecordText.{reported_by, event_text, event_line, line_of_answer, count_of_answer}
 use Rattle.daide_log.specs.RecordText.{lines_of_words, word_text, config_text, head_text, head_count}
 use Rattle.daide_log.specs.RecordItem.{IsPiece}
 use Rattle.daide_log.specs.RecordLaw.{side_of_answer, notes_reported, notes_of, HasName}

@@ -1,21 +1,14 @@
 -- The record of ports and their calls, with times.
-use Rattle.std.proofs.Common.{◌≡◌, ◌≢◌, ◌⊎◌, inl, inr, ℕ, ◌+◌, ◌≤◌, List, [], ◌∷◌, ◌++◌, Option, Some, None, refl, sym, ap, ◌∙◌, subst}
-use Rattle.std.proofs.Common.{arith, append_assoc, append-nil}
-use Rattle.std.specs.List.{AllByRecursion}
-use Rattle.std.specs.Io.KnownBytes.{Keeps, Appends}
-use Rattle.daide_words.specs.declared.word.Word.{Word}
-use Rattle.daide_protocol.specs.declared.config.Config.{Config}
-use Rattle.daide_io.specs.Ports.{PortCall, EvolvesBy}
-use Rattle.daide_log_lines.specs.LogLine.{LogEvent, most_lines}
-use Rattle.daide_log.specs.declared.moment.Moment.{Moment}
-use Rattle.daide_log.specs.declared.record.RecordEnd.{RecordEnd}
-use Rattle.daide_log.specs.declared.record.RecordEnd.TheVariants.{Whole, Failed, Full}
+use Rattle.daide_log.proofs.Common.{◌≡◌, ◌≢◌, ◌⊎◌, inl, inr, ℕ, ◌+◌, ◌≤◌, List, [], ◌∷◌, ◌++◌, Option, Some, None, refl}
+use Rattle.daide_log.proofs.Common.{sym, ap, ◌∙◌, subst, arith, append_assoc, append-nil, AllByRecursion, Keeps}
+use Rattle.daide_log.proofs.Common.{Appends, Word, Config, PortCall, EvolvesBy, LogEvent, most_lines, Moment, RecordEnd}
+use Rattle.daide_log.proofs.Common.{Whole, Failed, Written, KeepsText, GetsLine, GetsText, Recorded, Records}
+use Rattle.daide_log.specs.declared.record.RecordEnd.TheVariants.{Full}
 use Rattle.daide_log.specs.RecordText.{event_line, reported_by, line_reported, count_reported, line_of_answer, count_of_answer}
 use Rattle.daide_log.specs.RecordText.{head_text}
 use Rattle.daide_log.specs.RecordItem.{RecordItem, Called, Timed, IsPiece, IsItem, call_in, calls_in, line_of_item, count_of_item}
 use Rattle.daide_log.specs.RecordItem.{lines_of_items, count_of_items, record_text, record_count}
-use Rattle.daide_log.specs.Recording.{Written, KeepsText, GetsLine, GetsText, TakesEvent}
-use Rattle.daide_log.specs.Recording.{Recorded, Records, TakesTime, TakesCall, due_time}
+use Rattle.daide_log.specs.Recording.{TakesEvent, TakesTime, TakesCall, due_time}
 use Rattle.daide_log.specs.RecordLaw.{HasItems, PortsAreRecorded}
 
 -- ---- one more item

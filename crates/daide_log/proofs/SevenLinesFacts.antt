@@ -1,29 +1,18 @@
 -- The worked log of seven lines, with its messages, computed from the definitions. The verdict on a message is the one
 -- of the grammar's table, which is the grammar's.
-use Rattle.std.proofs.Common.{◌≡◌, ℕ, List, [], ◌∷◌, ◌++◌, codes, Some, Ok, refl, arith}
-use Rattle.std.specs.Fmt.{digits}
-use Rattle.hex.specs.Hex.{decode_pairs}
-use Rattle.daide_frame.specs.declared.side.Side.{Side}
-use Rattle.daide_frame.specs.declared.side.Side.TheVariants.{Bot, Server}
-use Rattle.daide_frame.specs.declared.head.Kind.TheVariants.{Im, Rm, Dm, Fm}
-use Rattle.daide_frame.specs.Head.{parse_head}
+use Rattle.daide_log.proofs.Common.{◌≡◌, ℕ, List, [], ◌∷◌, ◌++◌, codes, Some, Ok, refl, arith, digits, decode_pairs}
+use Rattle.daide_log.proofs.Common.{Side, Bot, Server, Im, Rm, Dm, Fm, parse_head, Relayed, Note, Frame, WaitIm, WaitRm}
+use Rattle.daide_log.proofs.Common.{Open, L0, LogEvent, Received, event_of_line, Single, ReportEntry, source_text}
+use Rattle.daide_log.proofs.Common.{reported_text, move_line, summary_line, events_of_line}
 use Rattle.daide_frame.specs.Frames.{is_alien, first_items, last_items}
 use Rattle.daide_token.specs.Class.{class_of}
 use Rattle.daide_grammar.specs.Table.Symbols.{entries, may_end_of, slot_of, table_answer}
-use Rattle.daide_protocol.specs.declared.note.Deed.TheVariants.{Relayed, Prn}
-use Rattle.daide_protocol.specs.declared.note.Note.{Note}
-use Rattle.daide_protocol.specs.declared.note.Note.TheVariants.{Frame}
+use Rattle.daide_protocol.specs.declared.note.Deed.TheVariants.{Prn}
 use Rattle.daide_protocol.specs.declared.ending.Ending.TheVariants as Endings
-use Rattle.daide_protocol.specs.declared.phase.SessionPhase.TheVariants.{WaitIm, WaitRm, Open}
-use Rattle.daide_grammar.specs.declared.level.Level.TheVariants.{L0}
-use Rattle.daide_log_lines.specs.LogLine.{LogEvent, Received, event_of_line}
-use Rattle.daide_log.specs.declared.heading.Version.TheVariants.{Single}
-use Rattle.daide_log.specs.Report.{ReportEntry, source_text, reported_text, move_line, summary_line, events_of_line}
 use Rattle.daide_log.specs.Log.{ReportsAllBy, IsReportBy, Playing, source_in, Reports, IsReport}
 use Rattle.daide_log.proofs.Played.{Played, played, verdict_on, entries_by, has_no_feed}
 use Rattle.daide_log.proofs.StandardFacts.{limits, session_in, session_ended, opening_lines, opened, next_line, im}
-use Rattle.daide_log.proofs.StandardFacts.{im_passes}
-use Rattle.daide_log.proofs.StandardFacts.{im_played}
+use Rattle.daide_log.proofs.StandardFacts.{im_passes, im_played}
 
 -- ---- the messages, and the move of each
 

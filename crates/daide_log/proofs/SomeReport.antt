@@ -1,37 +1,24 @@
 -- Every log has a report, whatever its bytes: it is split at its line feeds, and each line is accepted or bad.
-use Rattle.std.proofs.Common.{◌≡◌, ℕ, zero, suc, ◌+◌, ◌-◌, ◌<◌, ◌≤◌, ◌⊎◌, inl, inr, Bool, true, false, cond, eqb, leb, ◌≢◌}
-use Rattle.std.proofs.Common.{List, [], ◌∷◌, ◌++◌, length, replicate, codes, Option, Some, None, Result}
-use Rattle.std.proofs.Common.{refl, sym, ap, ◌∙◌, subst, arith, append-nil, append_assoc, length-append}
-use Rattle.std.specs.Prelude.{◌&&◌, slice_get, slice_set, option_map, is_ok}
-use Rattle.std.proofs.lemmas.Bool.{leb-true, cases_lt}
-use Rattle.std.proofs.lemmas.Bool.Decides.{eqb_tells}
-use Rattle.std.proofs.lemmas.Option.{same_Some}
-use Rattle.daide_words.specs.declared.word.Word.{Word}
-use Rattle.daide_words.specs.Word.{grammar_words, names_of}
-use Rattle.daide_words.specs.Accepted.{are_accepted, word_fault}
+use Rattle.daide_log.proofs.Common.{◌≡◌, ℕ, zero, suc, ◌+◌, ◌-◌, ◌<◌, ◌≤◌, ◌⊎◌, inl, inr, Bool, true, false, cond, eqb}
+use Rattle.daide_log.proofs.Common.{leb, ◌≢◌, List, [], ◌∷◌, ◌++◌, length, replicate, codes, Option, Some, None, Result}
+use Rattle.daide_log.proofs.Common.{refl, sym, ap, ◌∙◌, subst, arith, append-nil, append_assoc, length-append, ◌&&◌}
+use Rattle.daide_log.proofs.Common.{slice_get, slice_set, option_map, is_ok, leb-true, cases_lt, eqb_tells, same_Some}
+use Rattle.daide_log.proofs.Common.{Word, grammar_words, names_of, are_accepted, word_fault, Limits, SessionState}
+use Rattle.daide_log.proofs.Common.{initial_state, runs_limits, Config, limits_with, LogFault, LogEvent, IsUnbroken}
+use Rattle.daide_log.proofs.Common.{longest_line, most_lines, without_cr, plain_number, parted_at_space, event_of_line}
+use Rattle.daide_log.proofs.Common.{MatchEvent, Of, Quiet, loud, within, event_of_session, match_event_of_parts}
+use Rattle.daide_log.proofs.Common.{match_event_of_line, Version, Single, Match, MatchConfig, Summary, config_of_line}
+use Rattle.daide_log.proofs.Common.{match_config_of_line, match_config_of_numbers, Preamble, Heading, Unnamed, Named}
+use Rattle.daide_log.proofs.Common.{Headed, single_session, version_of, append_word, heading_after, has_all_words}
+use Rattle.daide_log.proofs.Common.{ReportEntry, events_of_line, side_of, entries_of}
 use Rattle.daide_words.proofs.AcceptedCodes.{accepted_free}
 use Rattle.daide_words.proofs.WordLists.{accepted-append}
-use Rattle.daide_protocol.specs.Machine.{Limits, SessionState, initial_state}
-use Rattle.daide_protocol.proofs.LimitsKept.{runs_limits}
-use Rattle.daide_protocol.specs.declared.config.Config.{Config}
-use Rattle.daide_protocol.specs.Config.{limits_with}
 use Rattle.daide_protocol.proofs.WordedRuns.{run_over}
-use Rattle.daide_log_lines.specs.declared.fault.LogFault.{LogFault}
-use Rattle.daide_log_lines.specs.LogLine.{LogEvent, Parted, IsUnbroken, longest_line, most_lines, without_cr, strip_prefix}
-use Rattle.daide_log_lines.specs.LogLine.{plain_number, parted_at_space, is_comment, event_of_line}
-use Rattle.daide_log_lines.specs.MatchLine.{MatchEvent, Of, Quiet, loud, within, event_of_session, match_event_of_parts}
-use Rattle.daide_log_lines.specs.MatchLine.{match_event_of_line}
+use Rattle.daide_log_lines.specs.LogLine.{Parted, strip_prefix, is_comment}
 use Rattle.daide_log_lines.specs.WordLine.{word_of_line}
-use Rattle.daide_log.specs.declared.heading.Version.{Version}
-use Rattle.daide_log.specs.declared.heading.Version.TheVariants.{Single, Match}
-use Rattle.daide_log.specs.declared.config_line.MatchConfig.{MatchConfig}
-use Rattle.daide_protocol.specs.declared.summary.Summary.{Summary}
-use Rattle.daide_log.specs.ConfigLine.{config_of_line, config_of_numbers, match_config_of_line, match_config_of_rest}
-use Rattle.daide_log.specs.ConfigLine.{match_config_of_level, match_config_of_body, match_config_of_depth}
-use Rattle.daide_log.specs.ConfigLine.{match_config_of_counts, match_config_of_numbers}
-use Rattle.daide_log.specs.Heading.{Preamble, Heading, Unnamed, Named, Headed, single_session, version_of, limits_in, append_word}
-use Rattle.daide_log.specs.Heading.{heading_after, has_all_words}
-use Rattle.daide_log.specs.Report.{ReportEntry, events_of_line, side_of, entries_of}
+use Rattle.daide_log.specs.ConfigLine.{config_of_numbers, match_config_of_rest, match_config_of_level}
+use Rattle.daide_log.specs.ConfigLine.{match_config_of_body, match_config_of_depth, match_config_of_counts}
+use Rattle.daide_log.specs.Heading.{limits_in}
 use Rattle.daide_log.specs.Log.{ReportsBy, ReportsAllBy, IsReportBy, LogState, Opening, Playing, state_after_preamble, stage_at, event_in, source_in, AdvancesByLine, IsBad, plain, reads_cut}
 use Rattle.daide_log.specs.Log.{Reports, ReportsAll, IsReport}
 

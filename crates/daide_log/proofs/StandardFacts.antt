@@ -1,36 +1,17 @@
 -- Lines of a log and of its report, and whole logs in which no message is judged, computed from the definitions, so
 -- that a wrong definition fails to check. SevenLinesFacts and the tests have logs with messages.
-use Rattle.std.proofs.Common.{◌≡◌, ℕ, ◌+◌, ◌<◌, ◌≤◌, true, List, [], ◌∷◌, ◌++◌, length, Some, None}
-use Rattle.std.proofs.Common.{Ok, Err, refl, ap, arith, codes}
-use Rattle.std.specs.Prelude.{option_map}
-use Rattle.std.specs.Fmt.{digits}
-use Rattle.hex.specs.Hex.{decode_pairs, encode_with}
-use Rattle.daide_frame.specs.declared.side.Side.TheVariants.{Bot, Server}
-use Rattle.daide_frame.specs.declared.head.Kind.TheVariants.{Im, Dm, Fm}
-use Rattle.daide_frame.specs.declared.code.Code.TheVariants.{ImTimeout, InvalidToken}
-use Rattle.daide_frame.specs.Head.{parse_head}
-use Rattle.daide_frame.specs.InitialMessage.{im_of}
+use Rattle.daide_log.proofs.Common.{◌≡◌, ℕ, ◌+◌, ◌<◌, ◌≤◌, true, List, [], ◌∷◌, ◌++◌, length, Some, None, Ok, Err, refl}
+use Rattle.daide_log.proofs.Common.{ap, arith, codes, option_map, digits, decode_pairs, encode_with, Bot, Server, Im}
+use Rattle.daide_log.proofs.Common.{Dm, Fm, ImTimeout, InvalidToken, parse_head, im_of, Relayed, Nothing, Frame, Fault}
+use Rattle.daide_log.proofs.Common.{Stopped, SessionPhase, Ending, WaitIm, WaitRm, Over, SessionState, Config, BadLine}
+use Rattle.daide_log.proofs.Common.{LogEvent, Received, EndOf, ImTimerLine, StopLine, without_cr, plain_number}
+use Rattle.daide_log.proofs.Common.{parted_at_space, event_of_line, Of, Single, ReportKey, config_of_line, Unnamed}
+use Rattle.daide_log.proofs.Common.{Named, Headed, single_session, ReportEntry, source_text, reported_text, move_line}
+use Rattle.daide_log.proofs.Common.{summary_line, lines_of, events_of_line, side_of, counted_all, nothing_counted}
 use Rattle.daide_frame.specs.Frames.{is_alien, first_items, last_items}
-use Rattle.daide_protocol.specs.declared.note.Deed.TheVariants.{Relayed, Dropped, Prn, Huh}
-use Rattle.daide_protocol.specs.declared.note.Note.TheVariants.{Nothing, Frame, Fault, Stopped}
-use Rattle.daide_protocol.specs.declared.phase.SessionPhase.{SessionPhase}
-use Rattle.daide_protocol.specs.declared.ending.Ending.{Ending}
+use Rattle.daide_protocol.specs.declared.note.Deed.TheVariants.{Dropped, Prn, Huh}
 use Rattle.daide_protocol.specs.declared.ending.Ending.TheVariants as Endings
-use Rattle.daide_protocol.specs.declared.phase.SessionPhase.TheVariants.{WaitIm, WaitRm, Over}
-use Rattle.daide_protocol.specs.Machine.{SessionState}
-use Rattle.daide_protocol.specs.declared.config.Config.{Config}
 use Rattle.daide_protocol.specs.Config.{limits_of}
-use Rattle.daide_log_lines.specs.declared.fault.LogFault.TheVariants.{BadLine}
-use Rattle.daide_log_lines.specs.LogLine.{LogEvent, Received, EndOf, ImTimerLine, StopLine, without_cr, plain_number, parted_at_space}
-use Rattle.daide_log_lines.specs.LogLine.{event_of_line}
-use Rattle.daide_log_lines.specs.MatchLine.{Of}
-use Rattle.daide_log.specs.declared.heading.Version.TheVariants.{Single}
-use Rattle.daide_log.specs.declared.report.ReportKey.{ReportKey}
-use Rattle.daide_log.specs.ConfigLine.{config_of_line}
-use Rattle.daide_log.specs.Heading.{Unnamed, Named, Headed, single_session}
-use Rattle.daide_log.specs.Report.{ReportEntry, source_text, reported_text, move_line, summary_line, lines_of, events_of_line, side_of}
-use Rattle.daide_protocol.specs.Summary.{nothing_counted}
-use Rattle.daide_log.specs.Report.{counted_all}
 use Rattle.daide_log.specs.Log.{ReportsBy, ReportsAllBy, IsReportBy, Opening, Playing, source_in, Reports, IsReport}
 use Rattle.daide_log.proofs.Played.{Played, state_at, played, verdict_on, entries_by}
 use Rattle.daide_log.proofs.Played.{has_no_feed, unbroken, line_played}

@@ -1,12 +1,8 @@
 -- A log, line by line.
-use Rattle.std.proofs.Common.{◌≡◌, ℕ, ◌+◌, ◌<◌, ◌≤◌, inl, inr, List, [], ◌∷◌, ◌++◌, length}
-use Rattle.std.proofs.Common.{refl, sym, ap, ◌∙◌, subst, arith, append-nil, append_assoc, length-append}
-use Rattle.daide_log_lines.specs.LogLine.{without_cr}
-use Rattle.daide_log.specs.Heading.{Unnamed}
-use Rattle.daide_log.specs.Report.{ReportEntry}
-use Rattle.daide_log_lines.specs.LogLine.{IsUnbroken, most_lines}
+use Rattle.daide_log.proofs.Common.{◌≡◌, ℕ, ◌+◌, ◌<◌, ◌≤◌, inl, inr, List, [], ◌∷◌, ◌++◌, length, refl, sym, ap, ◌∙◌}
+use Rattle.daide_log.proofs.Common.{subst, arith, append-nil, append_assoc, length-append, without_cr, IsUnbroken}
+use Rattle.daide_log.proofs.Common.{most_lines, Unnamed, ReportEntry, IsLines}
 use Rattle.daide_log.specs.Log.{ReportsBy, ReportsAllBy, LogState, Opening, AdvancesByLine, Reports, ReportsAll}
-use Rattle.daide_log.specs.Laws.{IsLines}
 
 -- these lines, after this number of lines, take the log to the new state with these entries
 abbrev pub Steps : ℕ → LogState → List (List ℕ) → List ReportEntry → LogState → Type 0

@@ -1,13 +1,9 @@
 -- Lines of an explanation, in order.
-use Rattle.std.proofs.Common.{◌≡◌, ℕ, List, [], ◌++◌, Option, take, drop, refl, ap, ◌∙◌, append_assoc, append-nil}
 use Rattle.std.specs.List.{AllZip}
-use Rattle.std.proofs.lemmas.List.{take-append-drop}
 use Rattle.std.proofs.lemmas.List.Elements.{same_from_all_zip}
-use Rattle.daide_grammar.specs.declared.level.Level.{Level}
+use Rattle.daide_log.proofs.Common.{◌≡◌, ℕ, List, [], ◌++◌, Option, take, drop, refl, ap, ◌∙◌, append_assoc, append-nil}
+use Rattle.daide_log.proofs.Common.{take-append-drop, Level, Word, Verdict, Relay, Prn, Huh}
 use Rattle.daide_grammar.specs.declared.side.Side2.{Side2}
-use Rattle.daide_words.specs.declared.word.Word.{Word}
-use Rattle.daide_reader.specs.declared.verdict.Verdict.{Verdict}
-use Rattle.daide_reader.specs.declared.verdict.Verdict.TheVariants.{Relay, Prn, Huh}
 use Rattle.daide_log.specs.Explained.{AreRefusedLines, AreMessageLines}
 
 pub four_lines : (old a b c d t u v w : List ℕ) → t ≡ old ++ a → u ≡ t ++ b → v ≡ u ++ c → w ≡ v ++ d →

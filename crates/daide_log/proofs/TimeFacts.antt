@@ -1,8 +1,6 @@
 -- The texts of comments, computed from the definitions.
-use Rattle.std.proofs.Common.{◌≡◌, ◌++◌, ◌∷◌, [], codes, refl}
-use Rattle.std.specs.Prelude.{pos}
-use Rattle.std.specs.Fmt.{digits}
-use Rattle.jiff_core.specs.declared.civil.datetime.DateTime.{DateTime}
+use Rattle.std.proofs.Common.{pos}
+use Rattle.daide_log.proofs.Common.{◌≡◌, ◌++◌, ◌∷◌, [], codes, refl, digits, DateTime}
 use Rattle.daide_log.specs.UtcText.{utc_text}
 use Rattle.daide_log.specs.RecordItem.{Begun, Timed, line_of_item, begun_text, time_text, address_text}
 

@@ -1,8 +1,4 @@
-use Rattle.std.proofs.Common.{refl, inl, inr, ◌∙◌}
-use Rattle.daide_log_lines.specs.Output.{all_of}
-use Rattle.daide_words.specs.Words.{words_of}
-use Rattle.daide_log.specs.Progress.{states_of}
-use Rattle.daide_log.specs.Report.{summary_line}
+use Rattle.daide_log.proofs.Common.{refl, inl, inr, ◌∙◌, all_of, words_of, states_of, summary_line}
 use Rattle.daide_log.proofs.PlayLemmas.{appends_more}
 use Rattle.daide_log.proofs.check.finish.Goals as goal
 

@@ -1,20 +1,12 @@
-use Rattle.std.proofs.Common.{◌≡◌, ◌+◌, ◌*◌, ◌≤◌, arith, refl, sym, ap, ◌∙◌, subst, Ok, Some, None, List, ℕ, ◌⊎◌, length, All, IfOk, IfErr}
-use Rattle.daide_log_lines.specs.declared.lines.LineEnd.{LineEnd}
-use Rattle.daide_log_lines.specs.declared.lines.LineEnd.TheVariants.{Line}
-use Rattle.daide_log_lines.specs.declared.fault.LogFault.TheVariants.{BadLine}
+use Rattle.daide_log.proofs.Common.{◌≡◌, ◌+◌, ◌*◌, ◌≤◌, arith, refl, sym, ap, ◌∙◌, subst, Ok, Some, None, List, ℕ, ◌⊎◌}
+use Rattle.daide_log.proofs.Common.{length, All, IfOk, IfErr, LineEnd, Line, BadLine, IsFound, most_lines, all_of}
+use Rattle.daide_log.proofs.Common.{words_of, HasRoom, IsMoreBy, nothing_counted, SessionView, Summary, IsReady}
+use Rattle.daide_log.proofs.Common.{IsLateFault, Judges, IsFinished, states_of}
 use Rattle.daide_log_lines.specs.Input.{line_at, rest_after}
-use Rattle.daide_log_lines.specs.Lines.{IsFound}
-use Rattle.daide_log_lines.specs.LogLine.{longest_piece, most_lines}
-use Rattle.daide_log_lines.specs.Output.{all_of}
-use Rattle.daide_words.specs.Words.{words_of}
+use Rattle.daide_log_lines.specs.LogLine.{longest_piece}
 use Rattle.daide_protocol.specs.Bounds.{most_sessions}
-use Rattle.daide_protocol.specs.Summary.{HasRoom, IsMoreBy, nothing_counted}
-use Rattle.daide_protocol.specs.Wires.{SessionView}
-use Rattle.daide_protocol.specs.declared.summary.Summary.{Summary}
 use Rattle.daide_log.specs.declared.heading.Preamble.{Preamble}
 use Rattle.daide_log.specs.Log.{event_in}
-use Rattle.daide_log.specs.Reporting.{IsReady, IsLateFault}
-use Rattle.daide_log.specs.Progress.{Judges, IsFinished, states_of}
 use Rattle.daide_log.proofs.EventLemmas.{plays_first, plays_more, finished_at_end, finished_at_last, finished_at_cut, fault_in_play}
 use Rattle.daide_log.proofs.EventLemmas.{nothing_reported, unfinished, fault_handed_on, bad_in_play, at_end, at_last_line, as_line}
 use Rattle.daide_log.proofs.check.play.Goals as goal

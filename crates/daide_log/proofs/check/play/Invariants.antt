@@ -1,9 +1,5 @@
-use Rattle.std.proofs.Common.{◌≡◌, ◌-◌, length}
+use Rattle.daide_log.proofs.Common.{◌≡◌, ◌-◌, length, IsSameWriter, all_of, words_of, StartsReport, states_of, IsReady}
 use Rattle.daide_log_lines.specs.Input.{IsSameReader}
-use Rattle.daide_log_lines.specs.Output.{IsSameWriter, all_of}
-use Rattle.daide_words.specs.Words.{words_of}
-use Rattle.daide_log.specs.Progress.{StartsReport, states_of}
-use Rattle.daide_log.specs.Reporting.{IsReady}
 use Rattle.daide_log.proofs.EventLemmas.{Plays}
 use Rattle.daide_log.proofs.check.play.Given as goal
 

@@ -1,14 +1,7 @@
-use Rattle.std.proofs.Common.{subst, sym, [], List, None, arith, ap, length, ◌∙◌, IfOk}
-use Rattle.daide_protocol.specs.Wires.{SessionView}
-use Rattle.daide_log_lines.specs.Output.{all_of}
-use Rattle.daide_protocol.specs.Machine.{SessionState, initial_state}
-use Rattle.daide_protocol.specs.Config.{limits_with}
-use Rattle.daide_words.specs.Words.{words_of}
-use Rattle.std.specs.Prelude.{not, replicate}
-use Rattle.daide_log.specs.PreambleKnown.{preamble_of}
+use Rattle.daide_log.proofs.Common.{subst, sym, [], List, None, arith, ap, length, ◌∙◌, IfOk, not, replicate}
+use Rattle.daide_log.proofs.Common.{SessionView, all_of, SessionState, initial_state, limits_with, words_of}
+use Rattle.daide_log.proofs.Common.{preamble_of, HasRead, HasReadAll, IsFinished, states_of, keeps_appends}
 use Rattle.daide_log.specs.Log.{Playing, state_after_preamble}
-use Rattle.daide_log.specs.Progress.{HasRead, HasReadAll, IsFinished, states_of}
-use Rattle.daide_log_lines.proofs.PageLemmas.{keeps_appends}
 use Rattle.daide_log.proofs.LogLemmas.{fault_at_once, finished, write_failed}
 use Rattle.daide_log.proofs.PreambleLemmas.{as_many, opened_last, opened_more, memory_wanted}
 use Rattle.daide_log.proofs.check.report.Goals as goal

@@ -1,4 +1,4 @@
-use Rattle.daide_log_lines.specs.Output.{all_of}
+use Rattle.daide_log.proofs.Common.{all_of}
 use Rattle.daide_log.proofs.LogLemmas.{refused_rest, reported_rest}
 use Rattle.daide_log.proofs.check.report_whole.Goals as goal
 

@@ -1,4 +1,5 @@
-use Rattle.std.proofs.Common.{◌≡◌, ℕ, List, ◌++◌, length, min, sym, subst, append-nil, arith}
+use Rattle.std.proofs.Common.{min}
+use Rattle.daide_log.proofs.Common.{◌≡◌, ℕ, List, ◌++◌, length, sym, subst, append-nil, arith}
 use Rattle.daide_log.specs.RecordItem.{address_text}
 use Rattle.daide_log.proofs.CommentLemmas.{address_whole}
 use Rattle.daide_log.proofs.comment.put_address.Goals as goal

@@ -1,4 +1,4 @@
-use Rattle.std.proofs.Common.{◌≡◌, ◌+◌, ◌++◌, length, map, take}
+use Rattle.daide_log.proofs.Common.{◌≡◌, ◌+◌, ◌++◌, length, map, take}
 use Rattle.daide_log.specs.RecordItem.{printable}
 use Rattle.daide_log.proofs.comment.put_address.Given as goal
 

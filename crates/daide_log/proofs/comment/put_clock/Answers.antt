@@ -1,4 +1,4 @@
-use Rattle.std.proofs.Common.{◌/◌, ◌∷◌, ◌++◌, ◌∙◌, append_assoc}
+use Rattle.daide_log.proofs.Common.{◌/◌, ◌∷◌, ◌++◌, ◌∙◌, append_assoc}
 use Rattle.daide_log.specs.UtcText.{two_digits}
 use Rattle.daide_log.proofs.CommentLemmas.{clock_put}
 use Rattle.daide_log.proofs.comment.put_clock.Goals as goal

@@ -1,4 +1,4 @@
-use Rattle.std.proofs.Common.{sym}
+use Rattle.daide_log.proofs.Common.{sym}
 use Rattle.daide_log.proofs.explained.explain_stream.Goals as goal
 
 pub report_stream-requires : goal.report_stream-requires

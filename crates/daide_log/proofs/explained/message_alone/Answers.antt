@@ -1,4 +1,4 @@
-use Rattle.std.proofs.Common.{sym, ◌∙◌}
+use Rattle.daide_log.proofs.Common.{sym, ◌∙◌}
 use Rattle.daide_log.proofs.PageLines.{body_even, text_alone}
 use Rattle.daide_log.proofs.explained.message_alone.Goals as goal
 

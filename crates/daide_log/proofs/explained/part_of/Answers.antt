@@ -1,6 +1,5 @@
-use Rattle.std.proofs.Common.{◌∙◌, length, ap}
-use Rattle.daide_protocol.specs.Machine.{coming, ending_in}
-use Rattle.daide_protocol.specs.Wires.{holding}
+use Rattle.daide_log.proofs.Common.{◌∙◌, length, ap, coming, holding}
+use Rattle.daide_protocol.specs.Machine.{ending_in}
 use Rattle.daide_log.specs.Explained.{is_at_fault}
 use Rattle.daide_frame.specs.Frames.{announced_by}
 use Rattle.daide_log.proofs.PartLemmas.{part_found}

@@ -1,5 +1,4 @@
-use Rattle.std.proofs.Common.{◌∙◌, [], arith, refl, subst, sym}
-use Rattle.daide_log.specs.Reporting.{IsIdle}
+use Rattle.daide_log.proofs.Common.{◌∙◌, [], arith, refl, subst, sym, IsIdle}
 use Rattle.daide_log.proofs.PartLemmas.{parts_next, parts_over, idle_next, one_less}
 use Rattle.daide_log.proofs.PlayLemmas.{appends_none}
 use Rattle.daide_log.proofs.explained.put_parts.Goals as goal

@@ -1,8 +1,5 @@
-use Rattle.std.proofs.Common.{◌≡◌, ◌+◌, ◌*◌, ◌≤◌, All, length}
-use Rattle.daide_log_lines.specs.Output.{IsSameWriter, all_of}
+use Rattle.daide_log.proofs.Common.{◌≡◌, ◌+◌, ◌*◌, ◌≤◌, All, length, IsSameWriter, all_of, states_of, IsIdle}
 use Rattle.daide_log.specs.Explained.{parts_from}
-use Rattle.daide_log.specs.Progress.{states_of}
-use Rattle.daide_log.specs.Reporting.{IsIdle}
 use Rattle.daide_log.proofs.PartLemmas.{PutsParts}
 use Rattle.daide_log.proofs.explained.put_parts.Given as goal
 

@@ -1,8 +1,5 @@
-use Rattle.std.proofs.Common.{arith}
-use Rattle.daide_log_lines.specs.Output.{all_of}
+use Rattle.daide_log.proofs.Common.{arith, all_of, states_of, texts_of}
 use Rattle.daide_log.specs.Explained.{cut_text, parts_from, part_text}
-use Rattle.daide_log.specs.Progress.{states_of}
-use Rattle.daide_log.specs.Report.{texts_of}
 use Rattle.daide_log.proofs.PlayLemmas.{appends_more}
 use Rattle.daide_log.proofs.explained.put_rest.Goals as goal
 

@@ -1,5 +1,4 @@
-use Rattle.std.proofs.Common.{◌∙◌}
-use Rattle.daide_frame.specs.declared.side.Side.TheVariants.{Bot, Server}
+use Rattle.daide_log.proofs.Common.{◌∙◌, Bot, Server}
 use Rattle.daide_log.proofs.PartLemmas.{both_put}
 use Rattle.daide_log.proofs.PlayLemmas.{idle_free}
 use Rattle.daide_log.proofs.explained.put_session.Goals as goal

@@ -1,5 +1,4 @@
-use Rattle.std.proofs.Common.{◌++◌, ◌∙◌, ℕ, List, ap, append_assoc}
-use Rattle.daide_protocol.specs.Wires.{holding}
+use Rattle.daide_log.proofs.Common.{◌++◌, ◌∙◌, ℕ, List, ap, append_assoc, holding}
 use Rattle.daide_log.specs.Explained.{fault_name, faulty_bytes, with_line_feed}
 use Rattle.daide_log.proofs.EventLemmas.{on_ok}
 use Rattle.daide_log.proofs.TextLemmas.{held_of_parts}

@@ -1,4 +1,4 @@
-use Rattle.daide_words.specs.Words.{words_of}
+use Rattle.daide_log.proofs.Common.{words_of}
 use Rattle.daide_log.proofs.explained.write_held.Goals as goal
 
 pub write_message-requires-clause-ruled : goal.write_message-requires-clause-ruled

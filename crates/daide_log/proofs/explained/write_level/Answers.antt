@@ -1,5 +1,4 @@
-use Rattle.std.proofs.Common.{◌++◌, ◌∙◌, [], ◌∷◌, ℕ, ap, codes}
-use Rattle.std.specs.Fmt.{decimal}
+use Rattle.daide_log.proofs.Common.{◌++◌, ◌∙◌, [], ◌∷◌, ℕ, ap, codes, decimal}
 use Rattle.daide_grammar.specs.Level.{level_number}
 use Rattle.daide_log.specs.Explained.{capped_text}
 use Rattle.daide_log.proofs.EventLemmas.{on_ok}

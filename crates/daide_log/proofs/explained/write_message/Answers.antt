@@ -1,4 +1,4 @@
-use Rattle.daide_words.specs.Words.{words_of}
+use Rattle.daide_log.proofs.Common.{words_of}
 use Rattle.daide_log.proofs.EventLemmas.{on_ok}
 use Rattle.daide_log.proofs.TextLemmas.{as_message}
 use Rattle.daide_log.proofs.explained.write_message.Goals as goal

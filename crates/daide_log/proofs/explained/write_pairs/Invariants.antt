@@ -1,4 +1,4 @@
-use Rattle.std.proofs.Common.{length, ◌≡◌, ◌++◌}
+use Rattle.daide_log.proofs.Common.{length, ◌≡◌, ◌++◌}
 use Rattle.daide_log.specs.Explained.{pairs}
 use Rattle.daide_log.proofs.explained.write_pairs.Given as goal
 

@@ -1,6 +1,4 @@
-use Rattle.std.proofs.Common.{◌++◌, ◌∙◌, ℕ, List, ap, refl}
-use Rattle.daide_token.specs.Token.{tokens_of}
-use Rattle.daide_words.specs.Words.{words_of}
+use Rattle.daide_log.proofs.Common.{◌++◌, ◌∙◌, ℕ, List, ap, refl, tokens_of, words_of}
 use Rattle.daide_protocol.specs.Answers.{answer_body}
 use Rattle.daide_log.specs.Explained.{with_line_feed, level_text, message_text}
 use Rattle.daide_log.proofs.EventLemmas.{on_ok}

@@ -1,10 +1,4 @@
-use Rattle.std.proofs.Common.{◌∙◌, subst}
-use Rattle.daide_frame.specs.declared.side.Side.{Side}
-use Rattle.daide_words.specs.Words.{words_of}
-use Rattle.daide_log_lines.specs.Output.{all_of}
-use Rattle.daide_log_lines.specs.ParsedEvents.{event_reported}
-use Rattle.daide_log.specs.Report.{events_of_line}
-use Rattle.daide_log.specs.Reporting.{ReportsEvents}
+use Rattle.daide_log.proofs.Common.{◌∙◌, subst, Side, words_of, all_of, event_reported, events_of_line, ReportsEvents}
 use Rattle.daide_log.proofs.PlayLemmas.{bare}
 use Rattle.daide_log.proofs.EventLemmas.{as_reported, on_ok, refused_late}
 use Rattle.daide_log.proofs.judge.judge.Goals as goal

@@ -1,12 +1,7 @@
-use Rattle.std.proofs.Common.{◌≡◌, ◌∙◌, refl, sym, ap, subst, length, ℕ, arith}
-use Rattle.daide_log_lines.specs.Output.{all_of}
-use Rattle.daide_words.specs.Words.{words_of}
-use Rattle.daide_protocol.specs.declared.summary.Summary.{Summary}
+use Rattle.daide_log.proofs.Common.{◌≡◌, ◌∙◌, refl, sym, ap, subst, length, ℕ, arith, all_of, words_of, Summary, Judges}
+use Rattle.daide_log.proofs.Common.{states_of, event_reported, no_more}
 use Rattle.daide_log.specs.Log.{event_in}
-use Rattle.daide_log.specs.Progress.{Judges, states_of}
-use Rattle.daide_log_lines.specs.ParsedEvents.{event_reported}
 use Rattle.daide_log.proofs.EventLemmas.{session_judged, nothing_judged, on_ok}
-use Rattle.daide_protocol.proofs.GrowthLemmas.{no_more}
 use Rattle.daide_log.proofs.judge.judge_line.Goals as goal
 
 pub returns-in-None-clause-judged : goal.returns-in-None-clause-judged

@@ -1,5 +1,4 @@
-use Rattle.std.proofs.Common.{[], ◌∷◌, ◌++◌, codes}
-use Rattle.daide_log_lines.specs.declared.fault.LogFault.TheVariants.{BadLine}
+use Rattle.daide_log.proofs.Common.{[], ◌∷◌, ◌++◌, codes, BadLine}
 use Rattle.daide_log.proofs.LawFacts.{bad_first_line}
 use Rattle.daide_log.proofs.law_facts.no_read_after_a_bad_line.Goals as goal
 

@@ -1,4 +1,4 @@
-use Rattle.std.proofs.Common.{[], ◌∷◌, ◌++◌, codes, Ok}
+use Rattle.daide_log.proofs.Common.{[], ◌∷◌, ◌++◌, codes, Ok}
 use Rattle.daide_log.proofs.StandardFacts.{opening_lines, two_lines_alone}
 use Rattle.daide_log.proofs.law_facts.one_report_at_two_logs.Goals as goal
 

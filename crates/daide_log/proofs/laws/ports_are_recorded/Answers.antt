@@ -1,4 +1,4 @@
-use Rattle.daide_log.specs.Recording.{HasFailed}
+use Rattle.daide_log.proofs.Common.{HasFailed}
 use Rattle.daide_log.proofs.RecordedPorts.{ports_recorded}
 use Rattle.daide_log.proofs.laws.ports_are_recorded.Goals as goal
 

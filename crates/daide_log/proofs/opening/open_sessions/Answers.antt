@@ -1,10 +1,6 @@
-use Rattle.std.proofs.Common.{◌≡◌, ◌∙◌, ◌∷◌, sym, ap, subst, arith, ℕ, [], All, length, length-append, replicate}
 use Rattle.std.proofs.lemmas.List.Elements.{All-push}
-use Rattle.daide_protocol.specs.Machine.{initial_state}
-use Rattle.daide_protocol.specs.Config.{limits_with}
-use Rattle.daide_words.specs.Words.{words_of}
-use Rattle.daide_log.specs.Progress.{states_of}
-use Rattle.daide_log.specs.Reporting.{IsReady}
+use Rattle.daide_log.proofs.Common.{◌≡◌, ◌∙◌, ◌∷◌, sym, ap, subst, arith, ℕ, [], All, length, length-append, replicate}
+use Rattle.daide_log.proofs.Common.{initial_state, limits_with, words_of, states_of, IsReady}
 use Rattle.daide_log.proofs.EventLemmas.{new_is_ready, one_more_opened}
 use Rattle.daide_log.proofs.opening.open_sessions.Goals as goal
 

@@ -1,10 +1,6 @@
-use Rattle.std.proofs.Common.{◌≡◌, ◌≤◌, All, replicate, length}
-use Rattle.std.specs.Prelude.{vec_capacity}
-use Rattle.daide_protocol.specs.Machine.{initial_state}
-use Rattle.daide_protocol.specs.Config.{limits_with}
-use Rattle.daide_words.specs.Words.{words_of}
-use Rattle.daide_log.specs.Progress.{states_of}
-use Rattle.daide_log.specs.Reporting.{IsReady}
+use Rattle.std.proofs.Common.{vec_capacity}
+use Rattle.daide_log.proofs.Common.{◌≡◌, ◌≤◌, All, replicate, length, initial_state, limits_with, words_of, states_of}
+use Rattle.daide_log.proofs.Common.{IsReady}
 use Rattle.daide_log.proofs.opening.open_sessions.Given as goal
 
 -- this number of sessions was created, and there is room for all

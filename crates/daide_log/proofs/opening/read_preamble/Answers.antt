@@ -1,10 +1,6 @@
-use Rattle.std.proofs.Common.{◌∙◌, refl, sym, ap, subst, arith, List, ℕ, [], Ok}
-use Rattle.daide_log_lines.specs.Output.{all_of}
-use Rattle.daide_log.specs.declared.opening.PreambleProgress.TheVariants.{More}
-use Rattle.daide_log.specs.Heading.{Unnamed, heading_after}
-use Rattle.daide_log.specs.PreambleKnown.{heading_of}
+use Rattle.daide_log.proofs.Common.{◌∙◌, refl, sym, ap, subst, arith, List, ℕ, [], Ok, all_of, More, Unnamed}
+use Rattle.daide_log.proofs.Common.{heading_after, heading_of, HasRead, IsPreambleProgress}
 use Rattle.daide_log.specs.Log.{Opening}
-use Rattle.daide_log.specs.Progress.{HasRead, IsPreambleProgress}
 use Rattle.daide_log_lines.proofs.PageLemmas.{keeps_all, keeps_more}
 use Rattle.daide_log.proofs.LogLemmas.{nothing_read}
 use Rattle.daide_log.proofs.PreambleLemmas.{head_judged, step_kept, fault_keeps, next_is, next_held}

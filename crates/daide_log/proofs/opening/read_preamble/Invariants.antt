@@ -1,6 +1,5 @@
-use Rattle.std.proofs.Common.{◌-◌}
+use Rattle.daide_log.proofs.Common.{◌-◌, IsSameWriter, all_of}
 use Rattle.daide_log_lines.specs.Input.{IsSameReader}
-use Rattle.daide_log_lines.specs.Output.{IsSameWriter, all_of}
 use Rattle.daide_log.proofs.PreambleLemmas.{IsReading}
 use Rattle.daide_log.proofs.opening.read_preamble.Given as goal
 

@@ -1,5 +1,4 @@
-use Rattle.std.proofs.Common.{◌∙◌, arith, refl}
-use Rattle.daide_log_lines.specs.Output.{all_of}
+use Rattle.daide_log.proofs.Common.{◌∙◌, arith, refl, all_of}
 use Rattle.daide_log.proofs.PageTexts.{puts_in_line, puts_indented}
 use Rattle.daide_log.proofs.page.put_indented.Goals as goal
 

@@ -1,5 +1,4 @@
-use Rattle.std.proofs.Common.{length}
-use Rattle.daide_log_lines.specs.Output.{IsSameWriter, all_of}
+use Rattle.daide_log.proofs.Common.{length, IsSameWriter, all_of}
 use Rattle.daide_log.specs.Explained.{indented, indented_from}
 use Rattle.daide_log.proofs.PageTexts.{Puts}
 use Rattle.daide_log.proofs.page.put_indented.Given as goal

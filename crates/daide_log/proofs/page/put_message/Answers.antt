@@ -1,6 +1,4 @@
-use Rattle.daide_log_lines.specs.Output.{all_of}
-use Rattle.daide_token.specs.Token.{tokens_of}
-use Rattle.daide_words.specs.Words.{words_of}
+use Rattle.daide_log.proofs.Common.{all_of, tokens_of, words_of}
 use Rattle.daide_log.proofs.EventLemmas.{on_ok}
 use Rattle.daide_log.proofs.PageLines.{parts_put}
 use Rattle.daide_log.proofs.page.put_message.Goals as goal

@@ -1,10 +1,7 @@
-use Rattle.std.proofs.Common.{◌≡◌, ◌++◌, ℕ, List, Option, None, Some, sym, ap, ◌∙◌, append_assoc}
-use Rattle.std.specs.Io.KnownBytes.{Appends, append_known}
+use Rattle.daide_log.proofs.Common.{◌≡◌, ◌++◌, ℕ, List, Option, None, Some, sym, ap, ◌∙◌, append_assoc, Appends}
+use Rattle.daide_log.proofs.Common.{append_known, some_text, tokens_of, all_of}
 use Rattle.daide_token.specs.Names.{Named}
-use Rattle.daide_token.specs.TextSteps.{some_text}
-use Rattle.daide_token.specs.Token.{tokens_of}
 use Rattle.daide_log_lines.proofs.PageLemmas.{keeps_and_appends}
-use Rattle.daide_log_lines.specs.Output.{all_of}
 use Rattle.daide_log.proofs.page.put_some.Goals as goal
 
 appended : (known : Option (List ℕ)) (items more text : List ℕ) → more ≡ items ++ text →

@@ -1,4 +1,4 @@
-use Rattle.std.proofs.Common.{◌∙◌, arith}
+use Rattle.daide_log.proofs.Common.{◌∙◌, arith}
 use Rattle.daide_log.proofs.PageTexts.{puts_next}
 use Rattle.daide_log.proofs.page.put_text.Goals as goal
 

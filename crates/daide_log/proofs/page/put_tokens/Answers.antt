@@ -1,13 +1,7 @@
-use Rattle.std.proofs.Common.{◌≡◌, ◌==◌, ◌%◌, ◌++◌, true, ℕ, List, [], ◌∷◌, length, take, arith, refl, sym, ap, ◌∙◌}
-use Rattle.std.proofs.lemmas.List.{take-append-drop}
-use Rattle.std.proofs.lemmas.Bool.Decides.{nat_tests}
-use Rattle.daide_log_lines.specs.Output.{all_of}
+use Rattle.daide_log.proofs.Common.{◌≡◌, ◌==◌, ◌%◌, ◌++◌, true, ℕ, List, [], ◌∷◌, length, take, arith, refl, sym, ap}
+use Rattle.daide_log.proofs.Common.{◌∙◌, take-append-drop, nat_tests, all_of, place_past, some_text, tokens_of}
+use Rattle.daide_log.proofs.Common.{PrinterState, names_of, words_of}
 use Rattle.daide_token.proofs.TextParts.{past_by_parts, some_by_parts}
-use Rattle.daide_token.specs.TextSteps.{place_past, some_text}
-use Rattle.daide_token.specs.Token.{tokens_of}
-use Rattle.daide_token.specs.declared.text.PrinterState.{PrinterState}
-use Rattle.daide_words.specs.Word.{names_of}
-use Rattle.daide_words.specs.Words.{words_of}
 use Rattle.daide_log.proofs.PageTexts.{puts_all, puts_more, puts_none}
 use Rattle.daide_log.proofs.page.put_tokens.Goals as goal
 

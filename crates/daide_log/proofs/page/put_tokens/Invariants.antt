@@ -1,10 +1,5 @@
-use Rattle.std.proofs.Common.{◌≡◌, ◌%◌, length}
-use Rattle.daide_log_lines.specs.Output.{IsSameWriter, all_of}
-use Rattle.daide_token.specs.TextSteps.{place_past, some_text}
-use Rattle.daide_token.specs.Token.{tokens_of}
-use Rattle.daide_token.specs.declared.text.PrinterState.TheVariants.{Start}
-use Rattle.daide_words.specs.Word.{names_of}
-use Rattle.daide_words.specs.Words.{words_of}
+use Rattle.daide_log.proofs.Common.{◌≡◌, ◌%◌, length, IsSameWriter, all_of, place_past, some_text, tokens_of, Start}
+use Rattle.daide_log.proofs.Common.{names_of, words_of}
 use Rattle.daide_log.proofs.PageTexts.{Puts}
 use Rattle.daide_log.proofs.page.put_tokens.Given as goal
 

@@ -1,10 +1,6 @@
-use Rattle.std.proofs.Common.{◌∷◌, [], sym, ◌∙◌, Option, subst}
 use Rattle.std.proofs.lemmas.Bool.{not-true, not-false}
-use Rattle.daide_frame.specs.declared.side.Side.TheVariants.{Bot}
-use Rattle.daide_protocol.specs.declared.note.Note.{Note}
-use Rattle.daide_protocol.specs.Events.{Ends, ImTimerExpired, OperatorStops}
-use Rattle.daide_protocol.proofs.LimitsKept.{runs_limits}
-use Rattle.daide_log.specs.Reporting.{Moves}
+use Rattle.daide_log.proofs.Common.{◌∷◌, [], sym, ◌∙◌, Option, subst, Bot, Note, Ends, ImTimerExpired, OperatorStops}
+use Rattle.daide_log.proofs.Common.{runs_limits, Moves}
 use Rattle.daide_log.proofs.PlayLemmas.{end_made, end_silent, timer_made, timer_silent, stop_made, stop_silent, moves_noted, idle_free}
 use Rattle.daide_log.proofs.play.apply.Goals as goal
 

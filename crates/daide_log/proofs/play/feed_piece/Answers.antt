@@ -1,9 +1,5 @@
-use Rattle.std.proofs.Common.{refl}
-use Rattle.daide_log_lines.specs.Output.{all_of}
-use Rattle.daide_words.specs.Words.{words_of}
-use Rattle.daide_protocol.specs.Events.{bytes_come}
+use Rattle.daide_log.proofs.Common.{refl, all_of, words_of, bytes_come, no_more}
 use Rattle.daide_log.proofs.PlayLemmas.{idle_still, piece_made, piece_silent, ready_after, under_after, tells_none}
-use Rattle.daide_protocol.proofs.GrowthLemmas.{no_more}
 use Rattle.daide_log.proofs.EventLemmas.{on_ok}
 use Rattle.daide_log.proofs.play.feed_piece.Goals as goal
 

@@ -1,13 +1,7 @@
-use Rattle.std.proofs.Common.{refl, sym, subst, ◌∙◌, inl, inr, length, arith}
-use Rattle.std.proofs.lemmas.Bool.{eqb-true}
-use Rattle.std.proofs.lemmas.List.{take-append-drop}
-use Rattle.daide_log_lines.specs.Output.{all_of}
-use Rattle.daide_words.specs.Words.{words_of}
-use Rattle.daide_protocol.specs.Events.{bytes_come}
+use Rattle.daide_log.proofs.Common.{refl, sym, subst, ◌∙◌, inl, inr, length, arith, eqb-true, take-append-drop, all_of}
+use Rattle.daide_log.proofs.Common.{words_of, bytes_come, IsReady, ReportsEvents, less_room}
 use Rattle.daide_log.specs.declared.heading.Preamble.{Preamble}
-use Rattle.daide_log.specs.Reporting.{IsReady, ReportsEvents}
 use Rattle.daide_log.proofs.PlayLemmas.{piece_fed, all_fed, fed_few, idle_free, nothing_fed, reported_few}
-use Rattle.daide_protocol.proofs.GrowthLemmas.{less_room}
 use Rattle.daide_frame.proofs.FeedingLemmas.{not_empty}
 use Rattle.daide_log.proofs.play.feed_pieces.Goals as goal
 

@@ -1,6 +1,4 @@
-use Rattle.std.proofs.Common.{◌≡◌, length}
-use Rattle.daide_log_lines.specs.Output.{IsSameWriter, all_of}
-use Rattle.daide_words.specs.Words.{words_of}
+use Rattle.daide_log.proofs.Common.{◌≡◌, length, IsSameWriter, all_of, words_of}
 use Rattle.daide_log.proofs.PlayLemmas.{HasFed}
 use Rattle.daide_log.proofs.play.feed_pieces.Given as goal
 

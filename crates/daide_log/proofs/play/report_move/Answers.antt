@@ -1,6 +1,4 @@
-use Rattle.daide_log_lines.specs.Output.{all_of}
-use Rattle.daide_words.specs.Words.{words_of}
-use Rattle.daide_protocol.proofs.GrowthLemmas.{no_more}
+use Rattle.daide_log.proofs.Common.{all_of, words_of, no_more}
 use Rattle.daide_log.proofs.PlayLemmas.{is_none, ready_again, tells_none, tells_one}
 use Rattle.daide_log.proofs.EventLemmas.{on_ok}
 use Rattle.daide_log.proofs.play.report_move.Goals as goal

@@ -1,4 +1,4 @@
-use Rattle.std.proofs.Common.{◌∙◌}
+use Rattle.daide_log.proofs.Common.{◌∙◌}
 use Rattle.daide_log.proofs.play.take_answers.Goals as goal
 
 pub returns-clause-state : goal.returns-clause-state

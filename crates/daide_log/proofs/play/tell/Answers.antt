@@ -1,5 +1,4 @@
-use Rattle.daide_log_lines.specs.Output.{all_of}
-use Rattle.daide_log.specs.Report.{move_line}
+use Rattle.daide_log.proofs.Common.{all_of, move_line}
 use Rattle.daide_log.proofs.EventLemmas.{on_ok}
 use Rattle.daide_log.proofs.PlayLemmas.{appends_more}
 use Rattle.daide_log.proofs.play.tell.Goals as goal

@@ -1,4 +1,4 @@
-use Rattle.std.proofs.Common.{◌++◌, List, ℕ, sym, ap, ◌∙◌, append-nil, arith}
+use Rattle.daide_log.proofs.Common.{◌++◌, List, ℕ, sym, ap, ◌∙◌, append-nil, arith}
 use Rattle.daide_log.proofs.RecordLines.{encode_none}
 use Rattle.daide_log.proofs.record_text.put_bytes.Goals as goal
 

@@ -1,5 +1,4 @@
-use Rattle.std.proofs.Common.{◌≡◌, ◌+◌, ◌*◌, ◌++◌, length, take}
-use Rattle.hex.specs.Hex.{encode_upper}
+use Rattle.daide_log.proofs.Common.{◌≡◌, ◌+◌, ◌*◌, ◌++◌, length, take, encode_upper}
 use Rattle.daide_log.proofs.record_text.put_bytes.Given as goal
 
 abbrev pub invariant-loop-i : goal.invariant-loop-i

@@ -1,5 +1,4 @@
-use Rattle.std.proofs.Common.{◌≡◌, [], ◌∷◌, ◌++◌, codes, length, sym, ap, ◌∙◌, arith, None}
-use Rattle.daide_words.specs.Words.{words_of, word_at}
+use Rattle.daide_log.proofs.Common.{◌≡◌, [], ◌∷◌, ◌++◌, codes, length, sym, ap, ◌∙◌, arith, None, words_of, word_at}
 use Rattle.daide_log.specs.RecordText.{config_text}
 use Rattle.daide_words.proofs.WordLists.{names-length}
 use Rattle.daide_log.proofs.RecordHead.{head_more, no_word}

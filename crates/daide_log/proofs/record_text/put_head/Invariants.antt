@@ -1,5 +1,4 @@
-use Rattle.std.proofs.Common.{◌≡◌, ◌+◌, ◌*◌, ◌≤◌, [], ◌∷◌, ◌++◌, codes, length, take}
-use Rattle.daide_words.specs.Words.{words_of}
+use Rattle.daide_log.proofs.Common.{◌≡◌, ◌+◌, ◌*◌, ◌≤◌, [], ◌∷◌, ◌++◌, codes, length, take, words_of}
 use Rattle.daide_log.specs.RecordText.{config_text, lines_of_words}
 use Rattle.daide_log.proofs.record_text.put_head.Given as goal
 

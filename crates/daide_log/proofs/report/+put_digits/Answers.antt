@@ -1,5 +1,4 @@
-use Rattle.std.proofs.Common.{◌≡◌, ◌+◌, ◌/◌, ◌%◌, [], ◌∷◌, ◌++◌, length, ap, arith, ◌∙◌}
-use Rattle.std.specs.Fmt.{decimal}
+use Rattle.daide_log.proofs.Common.{◌≡◌, ◌+◌, ◌/◌, ◌%◌, [], ◌∷◌, ◌++◌, length, ap, arith, ◌∙◌, decimal}
 use Rattle.daide_log.proofs.ReportLemmas.{digit_behind, front_shorter, one_digit, room_behind, room_for_one}
 use Rattle.daide_log.proofs.report.+put_digits.Goals as goal
 use Rattle.daide_log.proofs.report.+put_digits.Goals.{then-number-ge10, else-number-ge10}

@@ -1,6 +1,5 @@
-use Rattle.std.proofs.Common.{◌∙◌, ◌++◌, ap}
 use Rattle.std.proofs.lemmas.Fmt.{contents_after_writes}
-use Rattle.daide_log.specs.Report.{summary_line}
+use Rattle.daide_log.proofs.Common.{◌∙◌, ◌++◌, ap, summary_line}
 use Rattle.daide_log.proofs.report.last_line.Goals as goal
 
 pub returns : goal.returns

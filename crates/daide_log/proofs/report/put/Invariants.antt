@@ -1,4 +1,4 @@
-use Rattle.std.proofs.Common.{◌≡◌, ◌+◌, ◌++◌, length, take}
+use Rattle.daide_log.proofs.Common.{◌≡◌, ◌+◌, ◌++◌, length, take}
 use Rattle.daide_log.proofs.report.put.Given as goal
 
 -- the bytes before i were appended to the line

@@ -1,5 +1,4 @@
-use Rattle.std.proofs.Common.{ap, length, length-append, arith, ◌∙◌}
-use Rattle.std.specs.Fmt.{decimal}
+use Rattle.daide_log.proofs.Common.{ap, length, length-append, arith, ◌∙◌, decimal}
 use Rattle.daide_log.proofs.ReportLemmas.{decimal_few}
 use Rattle.daide_log.proofs.report.put_number.Goals as goal
 

@@ -1,5 +1,4 @@
-use Rattle.std.proofs.Common.{codes}
-use Rattle.std.specs.Fmt.{decimal}
+use Rattle.daide_log.proofs.Common.{codes, decimal}
 use Rattle.daide_log.proofs.TextLemmas.{four_lines}
 use Rattle.daide_log.proofs.report.put_of_frame.Goals as goal
 

@@ -1,5 +1,5 @@
-use Rattle.std.proofs.Common.{◌≡◌, ◌+◌, ◌∷◌, ◌++◌, [], ◌∙◌, ap, sym}
 use Rattle.std.proofs.lemmas.Fmt.{decimal_digit}
+use Rattle.daide_log.proofs.Common.{◌≡◌, ◌+◌, ◌∷◌, ◌++◌, [], ◌∙◌, ap, sym}
 use Rattle.daide_log.proofs.report.put_one.Goals as goal
 
 pub returns-clause-text : goal.returns-clause-text

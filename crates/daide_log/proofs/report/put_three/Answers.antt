@@ -1,4 +1,4 @@
-use Rattle.std.proofs.Common.{◌∙◌, arith}
+use Rattle.daide_log.proofs.Common.{◌∙◌, arith}
 use Rattle.daide_log.proofs.ReportLemmas.{digit_behind}
 use Rattle.daide_log.proofs.report.put_three.Goals as goal
 

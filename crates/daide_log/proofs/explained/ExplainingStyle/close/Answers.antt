@@ -1,4 +1,4 @@
-use Rattle.daide_words.specs.Words.{words_of}
+use Rattle.daide_log.proofs.Common.{words_of}
 use Rattle.daide_log.proofs.EventLemmas.{any_cause}
 use Rattle.daide_log.proofs.explained.ExplainingStyle.close.Goals as goal
 

@@ -1,15 +1,5 @@
-use Rattle.std.proofs.Common.{◌≡◌, ◌++◌, ◌∙◌, List, ℕ, subst, sym, ap}
-use Rattle.std.specs.Io.KnownBytes.{Appends}
-use Rattle.daide_token.specs.Token.{tokens_of}
-use Rattle.daide_log_lines.specs.Output.{all_of}
-use Rattle.daide_words.specs.Words.{words_of}
-use Rattle.std.specs.Prelude.{slice_set}
-use Rattle.daide_frame.specs.declared.side.Side.{Side}
-use Rattle.daide_grammar.specs.declared.level.Level.{Level}
-use Rattle.daide_protocol.specs.Config.{limits_with}
-use Rattle.daide_protocol.specs.Wires.{SessionView}
-use Rattle.daide_protocol.specs.declared.note.Note.{Note}
-use Rattle.daide_log.specs.declared.report.ReportKey.{ReportKey}
+use Rattle.daide_log.proofs.Common.{◌≡◌, ◌++◌, ◌∙◌, List, ℕ, subst, sym, ap, slice_set, Appends, tokens_of, all_of}
+use Rattle.daide_log.proofs.Common.{words_of, Side, Level, limits_with, SessionView, Note, ReportKey}
 use Rattle.daide_log.specs.Explained.{indented, level_announced, place_of_session, with_line_feed, message_text}
 use Rattle.daide_log.specs.Explaining.{AreLinesBy, announced_by_held}
 use Rattle.daide_log.proofs.EventLemmas.{on_ok}

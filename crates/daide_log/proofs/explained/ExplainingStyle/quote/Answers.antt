@@ -1,4 +1,4 @@
-use Rattle.std.proofs.Common.{◌∷◌, [], ◌∙◌, sym, refl, append-nil}
+use Rattle.daide_log.proofs.Common.{◌∷◌, [], ◌∙◌, sym, refl, append-nil}
 use Rattle.daide_log.specs.Explained.{Remark, with_line_feed}
 use Rattle.daide_log.proofs.EventLemmas.{on_ok}
 use Rattle.daide_log.proofs.explained.ExplainingStyle.quote.Goals as goal

@@ -1,9 +1,6 @@
-use Rattle.std.proofs.Common.{rules, ◌≡◌, ◌<◌, sym, ◌∙◌}
-use Rattle.std.specs.Io.KnownBytes.{append_known}
-use Rattle.daide_log.specs.declared.record.RecordEnd.TheVariants.{Whole, Failed}
-use Rattle.daide_log_lines.specs.LogLine.{most_lines}
+use Rattle.std.proofs.Common.{rules}
+use Rattle.daide_log.proofs.Common.{◌≡◌, ◌<◌, sym, ◌∙◌, append_known, Whole, Failed, most_lines, HasFailed}
 use Rattle.daide_log.specs.RecordItem.{comment_line}
-use Rattle.daide_log.specs.Recording.{HasFailed}
 use Rattle.daide_log.proofs.PauseLemmas.{line_got, page_got}
 use Rattle.daide_log.proofs.record.Record.comment.Goals as goal
 

@@ -1,4 +1,4 @@
-use Rattle.std.proofs.Common.{sym, ap, ◌∙◌}
+use Rattle.daide_log.proofs.Common.{sym, ap, ◌∙◌}
 use Rattle.daide_log.specs.Recording.{line_event}
 use Rattle.daide_log.proofs.EventLines.{lined_bytes}
 use Rattle.daide_log.proofs.record.RecordedEvent.is_silent.Goals as goal

@@ -1,4 +1,4 @@
-use Rattle.std.proofs.Common.{refl}
+use Rattle.daide_log.proofs.Common.{refl}
 use Rattle.daide_log.proofs.PlayLemmas.{appends_none}
 use Rattle.daide_log.proofs.style.PlainStyleStyle.close.Goals as goal
 
