@@ -191,8 +191,10 @@ def logs_with_a_fault_are_in_the_table(program):
         printed, errors, status = folder.run(["check", "bad.log", "no-such.log", "head.log", "n\x01ö.log"])
         wanted = ["# bad.log", *lines_of(report), "# no-such.log", "# head.log", "# n?ö.log", *leaves, *aligned(rows)]
         same((lines_of(printed), status), (wanted, 1), "logs with a fault")
-        texts = [line.split(": ")[1] for line in lines_of(errors)]
-        same(texts, ["bad.log", "no-such.log", "head.log"], "files that are named")
+        faults = ["bad.log: line 11 is not a log line", "bad.log: column 7: the number of digits is odd",
+                  "no-such.log: input could not be read", "head.log: line 2 is not a log line",
+                  "head.log: column 1: the log ends before this line"]
+        same(lines_of(errors), [f"daide-gate: {fault}" for fault in faults], "the faults")
         printed, errors, status = folder.run(["check", "-", "n\x01ö.log"], LEAVES.encode())
         wanted = ["# -", *leaves, "# n?ö.log", *leaves, *aligned([NAMES, rows[2], rows[2]])]
         same((lines_of(printed), errors, status), (wanted, b"", 0), "standard input and a file")
