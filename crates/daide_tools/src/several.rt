@@ -31,18 +31,15 @@ impl RefusedLog {
 }
 
 /// Reports the fault of one of several logs, after its name, and what is wrong with a line that is not a log line.
-/// Returns the status.
 pub(crate) fn tell_refused<E: Write>(
     path: &str,
     refused: RefusedLog,
     errors: &mut E,
-) -> io::Result<u8>
-    ensures { IfOk result (λ status. status ≡ FAULT) }
-{
+) -> io::Result<()> {
     let RefusedLog { fault, reason } = refused;
-    let status = tell(errors, format_args!("{path}: {fault}"), FAULT)?;
+    tell(errors, format_args!("{path}: {fault}"), FAULT)?;
     tell_reason(fault, reason, format_args!("{path}: "), errors);
-    Ok(status)
+    Ok(())
 }
 
 /// Writes the report of a log. Returns whether nothing in it was refused, and with explanations whether it is complete.
@@ -61,20 +58,17 @@ fn is_clean<A: Allocator + Copy, I: Read, O: Write>(
     Ok(check_observed(alloc, input, output, sessions, reason)?.is_clean())
 }
 
-/// Writes the report of a log. Returns the status of the report.
+/// Writes the report of a log, as `is_clean` does.
 fn report_read<A: Allocator + Copy, I: Read, O: Write>(
     alloc: A,
     is_explained: bool,
     input: &mut I,
     output: &mut O,
     sessions: &mut Sessions,
-) -> Result<u8, RefusedLog>
-    ensures { IfOk result (λ status. status ≤ NOT_RELAYED) }
-{
+) -> Result<bool, RefusedLog> {
     let mut reason = None;
     match is_clean(alloc, is_explained, input, output, sessions, &mut reason) {
-        Ok(true) => Ok(CLEAN),
-        Ok(false) => Ok(NOT_RELAYED),
+        Ok(answer) => Ok(answer),
         Err(fault) => Err(RefusedLog { fault, reason }),
     }
 }
@@ -89,7 +83,7 @@ fn write_name<O: Write>(path: &str, output: &mut O) -> io::Result<()> {
     output.write_all(b"\n")
 }
 
-/// Writes the name and the report of the log at a path, or of standard input for `-`. Returns the status of the report.
+/// Writes the name and the report of the log at a path, or of standard input for `-`. Returns what `is_clean` does.
 fn report_at<R: AllocGlobal + Files, I: Read, O: Write>(
     rt: &R,
     path: &str,
@@ -97,9 +91,7 @@ fn report_at<R: AllocGlobal + Files, I: Read, O: Write>(
     input: &mut I,
     output: &mut O,
     sessions: &mut Sessions,
-) -> Result<u8, RefusedLog>
-    ensures { IfOk result (λ status. status ≤ NOT_RELAYED) }
-{
+) -> Result<bool, RefusedLog> {
     if write_name(path, output).is_err() {
         return Err(RefusedLog::without_line(LogFault::Write));
     }
@@ -113,16 +105,15 @@ fn report_at<R: AllocGlobal + Files, I: Read, O: Write>(
     }
 }
 
-/// Returns the status of several logs, of which one more has this status.
-fn with_status(all: u8, one: u8) -> u8
-    requires all { all ≤ NOT_RELAYED }
-    requires one { one ≤ NOT_RELAYED }
+/// Returns the status of several logs.
+fn status_of(has_fault: bool, are_clean: bool) -> u8
     ensures { result ≤ NOT_RELAYED }
 {
-    if all == CLEAN || one == FAULT {
-        return one;
+    match (has_fault, are_clean) {
+        (true, _) => FAULT,
+        (false, true) => CLEAN,
+        (false, false) => NOT_RELAYED,
     }
-    all
 }
 
 /// Writes the table, and returns the status.
@@ -158,16 +149,19 @@ pub(crate) fn check_several<R: AllocGlobal + Files, I: Read, O: Write, E: Write>
     ensures { IfOk result (λ status. status ≤ NOT_RELAYED) }
 {
     let mut sessions = Sessions::new(rt.alloc());
-    let mut status = CLEAN;
+    let (mut has_fault, mut are_clean) = (false, true);
     for path in paths {
-        let one = match report_at(rt, path, is_explained, input, output, &mut sessions) {
-            Ok(one) => one,
-            Err(refused) if matches!(refused.fault, LogFault::Write) => {
-                return tell(errors, LogFault::Write, FAULT);
+        match report_at(rt, path, is_explained, input, output, &mut sessions) {
+            Ok(one) => are_clean &= one,
+            Err(refused) => {
+                if matches!(refused.fault, LogFault::Write) {
+                    return tell(errors, LogFault::Write, FAULT);
+                }
+                tell_refused(path, refused, errors)?;
+                has_fault = true;
             }
-            Err(refused) => tell_refused(path, refused, errors)?,
-        };
-        status = with_status(status, one);
+        }
     }
+    let status = status_of(has_fault, are_clean);
     end_with_table(rt.alloc(), status, &sessions, output, errors)
 }

@@ -59,14 +59,15 @@ pub fn run_transcript<R: AllocGlobal + Files, I: Read, O: Write, E: Write>(
         MessageFormat::Text
     };
     let mut transcript = Transcript::new(rt.alloc(), format);
-    let mut status = CLEAN;
+    let mut has_fault = false;
     for path in order.records.unwrap_or(&["-"]) {
         if let Err(refused) = add_at(rt, path, input, &mut transcript) {
-            status = tell_refused(path, refused, errors)?;
+            tell_refused(path, refused, errors)?;
+            has_fault = true;
         }
     }
     match transcript.write(rt.alloc(), output) {
-        Ok(()) => Ok(status),
+        Ok(()) => Ok(if has_fault { FAULT } else { CLEAN }),
         Err(error) if error.kind() == ErrorKind::OutOfMemory => {
             tell(errors, LogFault::Memory, FAULT)
         }
