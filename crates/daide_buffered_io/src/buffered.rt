@@ -79,6 +79,11 @@ impl<S: Drop> Buffered<S> {
         &self.stream
     }
 
+    /// Lends the stream itself, to have it followed under another key.
+    pub fn stream_mut(&mut self) -> &mut S {
+        &mut self.stream
+    }
+
     /// Returns whether the read buffer has bytes.
     pub fn is_ahead(&self) -> bool
         ensures some { result ≡ true → 0 < length self.now.read_buffer }

@@ -9,10 +9,12 @@
 pub mod hub;
 pub mod laws;
 pub mod relaying;
+pub mod slab;
 pub mod status;
 pub mod turn_io;
 
 pub use hub::{AddFault, Hub, HubError, Removed};
 pub use relaying::{RelayEnd, relay};
+pub use slab::Slab;
 pub use status::{fault_field, session_status};
 pub use turn_io::turn;

@@ -27,7 +27,7 @@ pub use daide_driver::{
 };
 pub use daide_io::ports::ClockEvent;
 pub use daide_io::{
-    ByteCounts, Cause, Connect, FaultField, Interest, Notice, Orders, Ports, Pull, Put, SessionEnd,
+    ByteCounts, Cause, Connect, FaultField, Notice, Orders, Ports, Pull, Put, SessionEnd,
     SessionStatus, System, ports, system,
 };
 pub use daide_protocol::{

@@ -1,5 +1,5 @@
 -- The calls of the loop over sessions on its system, and their effect on the system.
-use Rattle.std.specs.Prelude.{◌≡◌, Bool, false, List, [], ◌∷◌, length}
+use Rattle.std.specs.Prelude.{◌≡◌, ℕ, Bool, false, List, [], ◌∷◌, length}
 use Rattle.daide_frame.specs.declared.side.Side.TheVariants.{Bot, Server}
 use Rattle.daide_protocol.specs.Machine.{level_in, plain_phase}
 use Rattle.daide_protocol.specs.Wires.{SessionView, queued, sent_bytes}
@@ -26,23 +26,19 @@ status_of session bytes = record {
   bytes = bytes;
 }
 
--- One call with its result: the beginning of a round, with the operator's orders; the ports of a session whose status is
--- shown; whether there is news for the ports of a session, which the next wait is to watch if there is none (it is left
--- out where the answer is known to be no and to change nothing); the beginning of a turn, with the ports of its session
--- before and after; the ports of a session that the next wait is to watch after its turns; whether a bot arrived; the
--- result of a connect; ports that were retired, with how their session ended; a line that was logged; and a wait that
--- ended.
+-- One call with its result: a poll, which may block or not, with the places that it woke and the operator's orders; the
+-- ports of a session whose status is shown; whether a bot arrived, which has this place from then on; the result of its
+-- connect; the beginning of a turn, with the ports of the session before and after; a session that is to rest, and whether
+-- it does; ports that were retired, with how their session ended; and a line that was logged.
 pub data SystemCall (P : Type 0) : Type 0 where
-  Begins : (orders : Orders) → SystemCall P
+  Polls : (may_block : Bool) → (woken : List ℕ) → (orders : Orders) → SystemCall P
   Shows : (ports : P) → (status : SessionStatus) → SystemCall P
-  ReportsNews : (ports : P) → (news : Bool) → SystemCall P
-  BeginsTurn : (before after : P) → SystemCall P
-  Watches : (ports : P) → SystemCall P
-  Accepts : (came : Bool) → SystemCall P
-  Connects : (connect : Connect P) → SystemCall P
-  Retires : (ports : P) → (end : SessionEnd) → SystemCall P
+  Accepts : (place : ℕ) → (came : Bool) → SystemCall P
+  Connects : (place : ℕ) → (connect : Connect P) → SystemCall P
+  BeginsTurn : (place : ℕ) → (before after : P) → SystemCall P
+  Rests : (place : ℕ) → (ports : P) → (rests : Bool) → SystemCall P
+  Retires : (place : ℕ) → (ports : P) → (end : SessionEnd) → SystemCall P
   Notifies : (notice : Notice) → SystemCall P
-  Waits : SystemCall P
 
 -- The system went from old to new by these calls; `transition` is the effect of one call with its result.
 abbrev pub TransitsBy : {P S : Type 0} → (S → SystemCall P → S → Type 0) → S → List (SystemCall P) → S → Type 0

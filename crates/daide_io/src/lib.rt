@@ -9,19 +9,20 @@
 #![tactic(auto)]
 
 pub mod byte_counts;
+pub mod deadline;
 pub mod duplex;
 pub mod fault_field;
-pub mod interest;
 pub mod network;
 pub mod outcome;
 pub mod ports;
+pub mod ready_queue;
 pub mod system;
 
 pub use byte_counts::ByteCounts;
 pub use duplex::Duplex;
 pub use fault_field::{FaultCause, FaultField};
-pub use interest::{GroupInterest, Interest};
 pub use network::{ConnectStatus, Network, SocketEvent};
 pub use outcome::IoResult;
 pub use ports::{Ports, Pull, Put};
+pub use ready_queue::ReadyQueue;
 pub use system::{Cause, Connect, Notice, Orders, SessionEnd, SessionStatus, System};

@@ -91,6 +91,11 @@ pub trait Network: Drop {
     fn follow(&mut self, connection: &mut Self::Connection, key: usize) -> bool
         ensures { transition self.old (Follows connection.old key result connection.new) self.new };
 
+    /// Follows a connection, which was followed under another key, under this one from now on. What is ready already is
+    /// reported again. Returns whether the system accepts that; if not, nothing more is reported of the connection.
+    fn refollow(&mut self, connection: &mut Self::Connection, key: usize) -> bool
+        ensures { transition self.old (Follows connection.old key result connection.new) self.new };
+
     /// Returns the state of a connection's connect.
     fn connect_status(&mut self, connection: &Self::Connection) -> ConnectStatus
         ensures { transition self.old (AsksConnect connection.now result) self.new };

@@ -3,9 +3,7 @@
 ghost use Rattle.std.specs.Prelude.{length, take};
 ghost use Rattle.daide_io.specs.Ports.{PortCall, Clock, Pulled, Offered, IsPullWithin, IsPutWithin};
 ghost use Rattle.daide_io.specs.Ports.{pulled_len};
-ghost use Rattle.daide_io.specs.Interest.{InterestView};
 
-use crate::interest::Interest;
 use daide_frame::side::Side;
 
 /// The result of a pull.
@@ -48,9 +46,6 @@ pub trait Ports: Drop {
     /// The effect of a call with its result on the ports, and the effect of the system when a turn begins.
     ghost transition: { Self → PortCall → Self → Type 0 };
 
-    /// What the session with these ports may wait for until its next turn.
-    ghost interest: { Self → InterestView → Type 0 };
-
     /// Reads bytes from a side into the front of the buffer. Returns `Got`, `Idle` or `Ended`.
     fn pull(&mut self, side: Side, buffer: &mut [u8]) -> Pull
         ensures within { IsPullWithin result (length buffer.old) }
@@ -66,8 +61,4 @@ pub trait Ports: Drop {
     /// writes nothing.
     fn clock(&mut self) -> ClockEvent
         ensures { transition self.old (Clock result) self.new };
-
-    /// Returns what the session waits for until its next turn.
-    fn interest(&self) -> Interest
-        ensures { interest self.now result };
 }

@@ -1,27 +1,27 @@
-//! The interface of the loop over sessions to the system. Its calls begin a round and return the operator's orders, show
-//! the status of a session, report whether there is news for one, begin a turn of it, accept a bot, and return the result
-//! of a connect to the server. They also retire the ports of a closed session, with how it ended, log a line for the
-//! operator, watch the ports of a session, and wait.
+//! The interface of the loop over sessions to the system. Its calls poll for what happened and return the operator's orders,
+//! show the status of a session, accept a bot, return the result of its connect to the server, begin a turn of a session,
+//! and have a session rest. They also retire the ports of a closed session, with how it ended, and log a line for the
+//! operator.
 //!
 //! ```text
 //! accept --true--> pending connect --Ready--> a session's ports --over--> retire
 //!                                  `-Failed-> CannotReach is logged, and the run goes on
 //! ```
 
-ghost use Rattle.std.specs.Prelude.{◌≡◌, true, false};
+ghost use Rattle.std.specs.Prelude.{◌≡◌, ℕ, List};
 ghost use Rattle.daide_io.specs.Ports.{TurnBegins};
-ghost use Rattle.daide_io.specs.System.{SystemCall, Begins, Shows, ReportsNews, BeginsTurn, Watches, Accepts, Connects};
-ghost use Rattle.daide_io.specs.System.{Retires, Notifies, Waits};
-ghost use Rattle.daide_io.specs.Interest.{InterestView, IsOfGroup};
+ghost use Rattle.daide_io.specs.ReadyQueue.{woken_all};
+ghost use Rattle.daide_io.specs.System.{SystemCall, Polls, Shows, Accepts, Connects, BeginsTurn, Rests, Retires, Notifies};
 
 use crate::byte_counts::ByteCounts;
 use crate::fault_field::FaultField;
-use crate::interest::{GroupInterest, Interest};
 use crate::ports::Ports;
+use crate::ready_queue::ReadyQueue;
 use daide_grammar::level::Level;
 use daide_protocol::account::Account;
 use daide_protocol::ending::Ending;
 use daide_protocol::phase::Phase;
+use std::alloc::Allocator;
 use thiserror::Error;
 
 /// The result for the pending connects to the server.
@@ -99,82 +99,56 @@ pub struct SessionStatus {
     pub bytes: ByteCounts,
 }
 
-/// The environment of a run. Only `wait` blocks.
+/// The environment of a run. Only `poll` blocks.
+///
+/// A bot has a place from its accept on, until it is given up or its ports are retired. The loop chooses the places, each
+/// below the most sessions of the run. In both directions a place names the bot and its session.
 ///
 /// Contracts of a caller speak of the calls with their results. Each implementor defines the effect of a call on
-/// itself: a system with a record appends the call to it, and one over sockets says which sockets were accepted, were
-/// paired and are to close.
+/// itself.
 pub trait System<P: Ports> {
     /// The effect of a call with its result on the system.
     ghost transition: { Self → SystemCall P → Self → Type 0 };
 
-    /// Begins a round, whether or not the round before it ended with a wait, and returns the operator's orders for it.
-    /// The system continues its own work, such as closing sockets, and may collect new events.
-    fn begin_round(&mut self) -> Orders
-        ensures { transition self.old (Begins result) self.new };
+    /// Collects what happened since the last poll, makes progress with the system's own work, such as closing sockets, and
+    /// returns the operator's orders. Each place that rests and for which there is something to do is added to the queue:
+    /// something was reported for one of its wires, its deadline is past, or the operator stops all sessions. Blocks until
+    /// there may be something to do, for a place or for the system, only if `may_block`.
+    fn poll<A: Allocator>(&mut self, may_block: bool, ready: &mut ReadyQueue<A>) -> Orders
+        ensures { (woken : List ℕ) × (ready.new ≡ woken_all woken ready.old)
+            × transition self.old (Polls may_block woken result) self.new };
 
-    /// Shows the operator the status of the session with these ports. If the orders of a round require it, this is
-    /// called once for each session, before any other call of the round. It changes no port, and calls none. A wait may
-    /// follow in the same round, so the system itself sees to it that the operator receives what is shown.
+    /// Shows the operator the status of the session with these ports. If the orders of a poll require it, this is called
+    /// once for each session, before any other call. It changes no port, and calls none.
     fn show(&mut self, ports: &P, status: SessionStatus)
         ensures { transition self.old (Shows ports.now status) self.new };
 
-    /// Returns true only if there is nothing to do for the session with this interest, nor for the system: `has_news` would
-    /// return false, and change nothing. So a round passes over sessions at rest without a call that may change the system.
-    ///
-    /// `no_work`: nothing may be done at once.
-    fn is_at_rest(&self, interest: &Interest) -> bool
-        ensures no_work { result ≡ true → interest.now.has_work ≡ false }
-        ensures at_rest { result ≡ true →
-            (ports : P) → P.interest ports interest.now → transition self.now (ReportsNews ports false) self.now };
+    /// Returns whether a bot arrived, which has this place from then on. Its connect to the server is pending, and its IM
+    /// timer runs.
+    fn accept(&mut self, place: usize) -> bool
+        ensures { transition self.old (Accepts place result) self.new };
 
-    /// Returns true only if each session of a group with this interest is at rest. So a round passes over a group at rest
-    /// with one question.
-    fn are_at_rest(&self, group: &GroupInterest) -> bool
-        ensures { result ≡ true → (interest : InterestView) → IsOfGroup group.now interest →
-            (ports : P) → P.interest ports interest → transition self.now (ReportsNews ports false) self.now };
+    /// Returns the result of the pending connect of the bot at a place. While it has none, the place rests.
+    fn connected(&mut self, place: usize) -> Connect<P>
+        ensures { transition self.old (Connects place result) self.new };
 
-    /// Returns whether a turn of the session with this interest may do something: whether, since its last turn began, an
-    /// event came for one of its wires, or one of its deadlines expired. It is called for sessions whose last turn made
-    /// no progress. If it returns false, the session has no turn in this round, and the next wait watches it, as after
-    /// `watch`. So no session at rest is called for twice in a round.
-    fn has_news(&mut self, interest: &Interest) -> bool
-        ensures { (ports : P) → P.interest ports interest.now → transition self.old (ReportsNews ports result) self.new };
-
-    /// Begins a turn of the session with these ports. It does what the ports have to do once a turn, such as counting
-    /// the turn, writing bytes that were held for too long, and reading a deadline. So the calls of the ports only
-    /// return results.
-    fn begin_turn(&mut self, ports: &mut P)
+    /// Begins a turn of the session at a place, with these ports. It does what the ports have to do once a turn, such as
+    /// writing bytes that were held for too long, and reading a deadline. So the calls of the ports only return results.
+    fn begin_turn(&mut self, place: usize, ports: &mut P)
         ensures ports { P.transition ports.old TurnBegins ports.new }
-        ensures system { transition self.old (BeginsTurn ports.old ports.new) self.new };
+        ensures system { transition self.old (BeginsTurn place ports.old ports.new) self.new };
 
-    /// Has the next wait watch the ports of the session with this interest: the system notes what they need from it until
-    /// their next turn, such as their nearest deadline. It is called for a session after its turns in a round, if the last
-    /// one made no progress. What later calls of the round watch is watched beside it.
-    fn watch(&mut self, interest: &Interest)
-        ensures { (ports : P) → P.interest ports interest.now → transition self.old (Watches ports) self.new };
+    /// Has the session at a place rest, whose last turn made no progress: returns true if nothing may be done at once for
+    /// its ports. Then a later poll names the place once there is something to do.
+    fn rest(&mut self, place: usize, ports: &P) -> bool
+        ensures { transition self.old (Rests place ports.now result) self.new };
 
-    /// Returns whether a bot arrived. From then on its connect to the server is pending, and its IM timer runs. If an
-    /// accept fails, also for lack of descriptors, it returns false.
-    fn accept(&mut self) -> bool
-        ensures { transition self.old (Accepts result) self.new };
-
-    /// Returns the result for the pending connects: for one of them if several succeeded or failed. It is called only
-    /// while one is pending.
-    fn connected(&mut self) -> Connect<P>
-        ensures { transition self.old (Connects result) self.new };
-
-    /// Takes the ports of a session that is over, on which no more calls are made, with how it ended and its account.
-    /// The run does not wait for the ports to close, and no longer holds them.
-    fn retire(&mut self, ports: P, end: SessionEnd)
-        ensures { transition self.old (Retires ports end) self.new };
+    /// Takes the ports of the session at a place, which is over and makes no more calls on them, with how it ended and its
+    /// account. The place is free. The run does not wait for the ports to close.
+    fn retire(&mut self, place: usize, ports: P, end: SessionEnd)
+        ensures { transition self.old (Retires place ports end) self.new };
 
     /// Logs a line for the operator. A failure to do so ends nothing.
     fn tell(&mut self, notice: Notice)
         ensures { transition self.old (Notifies notice) self.new };
-
-    /// Waits until something may have changed: a wire of the ports that it was to watch, a deadline of theirs, a pending
-    /// connect, or a new bot. It may return earlier.
-    fn wait(&mut self)
-        ensures { transition self.old Waits self.new };
 }

@@ -10,7 +10,6 @@ use crate::moment::Moment;
 use crate::record::{Record, RecordEnd, RecordedEvent};
 use crate::sink::Sink;
 use daide_frame::Side;
-use daide_io::interest::Interest;
 use daide_io::ports::{ClockEvent, Ports, Pull, Put};
 use daide_io::system::System;
 use daide_log_lines::event_line::MOST;
@@ -108,15 +107,15 @@ impl<P: Ports, W: Sink + Drop> Recording<P, W> {
         }
     }
 
-    /// Has the system begin a turn with the inner ports, at this time. The record is unchanged.
-    pub fn begin_turn<S: System<P>>(&mut self, system: &mut S, now: Option<Moment>)
+    /// Has the system begin a turn of the session at a place with the inner ports, at this time. The record is unchanged.
+    pub fn begin_turn<S: System<P>>(&mut self, place: usize, system: &mut S, now: Option<Moment>)
         ensures begins { Records P.transition (HasFailed W.Fails) self.old TurnBegins self.new }
         ensures time { self.new.present ≡ now }
-        ensures asked { S.transition system.old (BeginsTurn self.old.ports self.new.ports) system.new }
+        ensures asked { S.transition system.old (BeginsTurn place self.old.ports self.new.ports) system.new }
     {
         self.ending_before = self.log.ending();
         self.present = now;
-        system.begin_turn(&mut self.ports);
+        system.begin_turn(place, &mut self.ports);
     }
 
     /// Returns whether the record failed or became full since the last turn began.
@@ -195,11 +194,8 @@ impl<P: Ports, W: Sink + Drop> Recording<P, W> {
 
 impl<P: Ports, W: Sink + Drop> Ports for Recording<P, W> {
     ghost use Rattle.daide_log.specs.Recording.{Records, HasFailed};
-    ghost use Rattle.daide_io.specs.Interest.{MayAddWork};
 
     ghost transition = { Records P.transition (HasFailed W.Fails) };
-
-    ghost interest = { λ ports interest. MayAddWork (P.interest ports.ports) interest };
 
     fn pull(&mut self, side: Side, buffer: &mut [u8]) -> Pull {
         let most = buffer.len().min(MOST);
@@ -237,10 +233,5 @@ impl<P: Ports, W: Sink + Drop> Ports for Recording<P, W> {
             ClockEvent::StopIsRequested => self.record_event(RecordedEvent::Stop, Activity::Ended),
         }
         event
-    }
-
-    /// A record that has just ended is something to do at once, so that the next turn begins and it is logged.
-    fn interest(&self) -> Interest {
-        self.ports.interest().or_work(self.has_just_ended())
     }
 }

@@ -7,12 +7,11 @@ ghost use Rattle.daide_sockets.specs.Scheduling.{RunEvolves, run_state};
 
 use crate::folder::{Folder, SessionFile, end, tell_if_ended};
 use crate::running::Finish;
-use daide_io::{
-    Connect, GroupInterest, Interest, Network, Notice, Orders, SessionEnd, SessionStatus, System,
-};
+use daide_io::{Connect, Network, Notice, Orders, ReadyQueue, SessionEnd, SessionStatus, System};
 use daide_log::{Moment, Recording};
 use daide_sockets::ports::SocketPorts;
 use daide_sockets::system::Sockets;
+use std::alloc::Allocator;
 use std::io::Write;
 use std::rt::{Clock, Files};
 use std::time::{SystemTime, UNIX_EPOCH};
@@ -93,9 +92,10 @@ impl<'w, N: Network, R: AllocGlobal + Files, C: Clock, E: Write + Drop> System<
         new.sockets.now.acceptor new.sockets.now.control (vec_capacity new.sockets.now.arrivals) new.sockets.now.arrivals.items new.sockets.now.closings) };
 
     /// The times that are recorded in the round are that of its beginning.
-    fn begin_round(&mut self) -> Orders {
+    fn poll<A: Allocator>(&mut self, may_block: bool, ready: &mut ReadyQueue<A>) -> Orders {
+        let orders = self.sockets.poll(may_block, ready);
         self.now = moment_by(self.clock);
-        self.sockets.begin_round()
+        orders
     }
 
     fn show(
@@ -106,39 +106,33 @@ impl<'w, N: Network, R: AllocGlobal + Files, C: Clock, E: Write + Drop> System<
         self.sockets.show(ports.ports(), status);
     }
 
-    fn is_at_rest(&self, interest: &Interest) -> bool {
-        self.sockets.is_at_rest(interest)
-    }
-
-    fn are_at_rest(&self, group: &GroupInterest) -> bool {
-        self.sockets.are_at_rest(group)
-    }
-
-    /// A record that has just ended is work of its ports, so that the next turn begins at once and logs it.
-    fn has_news(&mut self, interest: &Interest) -> bool {
-        self.sockets.has_news(interest)
-    }
-
     fn begin_turn(
         &mut self,
+        place: usize,
         ports: &mut Recording<SocketPorts<'w, N::Connection>, SessionFile<R::File>>,
     ) {
         tell_if_ended(ports, &mut self.sockets.errors);
-        ports.begin_turn(self.sockets, self.now);
+        ports.begin_turn(place, self.sockets, self.now);
     }
 
-    fn watch(&mut self, interest: &Interest) {
-        self.sockets.watch(interest);
+    /// A record that has just ended is something to do at once, so that the next turn begins and it is logged.
+    fn rest(
+        &mut self,
+        place: usize,
+        ports: &Recording<SocketPorts<'w, N::Connection>, SessionFile<R::File>>,
+    ) -> bool {
+        !ports.has_just_ended() && self.sockets.rest(place, ports.ports())
     }
 
-    fn accept(&mut self) -> bool {
-        self.sockets.accept()
+    fn accept(&mut self, place: usize) -> bool {
+        self.sockets.accept(place)
     }
 
     fn connected(
         &mut self,
+        place: usize,
     ) -> Connect<Recording<SocketPorts<'w, N::Connection>, SessionFile<R::File>>> {
-        match self.sockets.connected() {
+        match self.sockets.connected(place) {
             Connect::Ready(ports) => {
                 let number = ports.number();
                 let session = (number, self.sockets.address_of(number));
@@ -152,19 +146,16 @@ impl<'w, N: Network, R: AllocGlobal + Files, C: Clock, E: Write + Drop> System<
 
     fn retire(
         &mut self,
+        place: usize,
         ports: Recording<SocketPorts<'w, N::Connection>, SessionFile<R::File>>,
         end_of: SessionEnd,
     ) {
         tell_if_ended(&ports, &mut self.sockets.errors);
         let ports = end(ports, &mut self.sockets.errors);
-        self.sockets.retire(ports, end_of);
+        self.sockets.retire(place, ports, end_of);
     }
 
     fn tell(&mut self, notice: Notice) {
         self.sockets.tell(notice);
-    }
-
-    fn wait(&mut self) {
-        self.sockets.wait();
     }
 }

@@ -25,7 +25,7 @@ use crate::poller::Poller;
 use crate::ports::SocketPorts;
 use crate::present::Present;
 use crate::socket::Socket;
-use crate::table::{SocketTable, after, is_past, merged};
+use crate::table::{SocketTable, after, bot_key, is_past, merged, server_key};
 use daide_buffered_io::pool::Pool;
 use daide_buffered_io::readiness::Readiness;
 use daide_io::duplex::Duplex;
@@ -69,14 +69,17 @@ pub struct Acceptor {
 }
 
 impl Acceptor {
-    /// Has the listener followed. Returns `None` if the table has no free row, or the system refuses.
+    /// Has the listener followed. Returns `None` if the system refuses.
     pub fn new<N: Network>(poller: &mut Poller<N>) -> Option<Acceptor>
         ensures begins { IfSome result (λ acceptor. (acceptor.came ≡ 0) × (acceptor.resumes_at ≡ None)
             × (acceptor.awaits_bots ≡ false) × (acceptor.is_closed ≡ false)) }
         ensures rows { IfSome result (λ acceptor.
             HandsRows poller.old.table [] poller.new.table (listener_keys acceptor)) }
     {
-        let key = poller.listen()?;
+        let key = poller.table.listener_key();
+        if !poller.network.listen(key) {
+            return None;
+        }
         Some(Acceptor {
             key,
             readiness: Readiness::UNKNOWN,
@@ -321,6 +324,7 @@ impl Acceptor {
     /// was refused. After a refusal it is due only if no pause could begin, without a clock (`refused`).
     pub(crate) fn next_bot<'w, N: Network>(
         &mut self,
+        place: usize,
         poller: &mut Poller<N>,
         pool: &'w Pool,
         rules: (&[AddressRange], u16),
@@ -372,13 +376,12 @@ impl Acceptor {
         if !may_come(allow, most, present.hosts(), host) {
             return Err(Some(address));
         }
-        let Some(bot) = Socket::new(poller, pool, stream) else {
+        let Some(bot) = Socket::new(poller, pool, stream, bot_key(place)) else {
             self.pause_after_refusal(poller.table.now());
             return Err(None);
         };
         // The list has room for each bot of a run.
         if !present.add(number, host, address, poller.table.now()) {
-            poller.table.release(bot.key);
             self.pause_after_refusal(poller.table.now());
             return Err(None);
         }
@@ -392,6 +395,8 @@ impl Acceptor {
 pub(crate) struct PendingConnection<'w, S: Drop> {
     /// The number of its session.
     number: u32,
+    /// Its place in the run.
+    place: usize,
     bot: Socket<'w, S>,
     server: Option<Socket<'w, S>>,
     /// The number of addresses tried.
@@ -430,20 +435,14 @@ pub(crate) struct Unreached<'w, S: Drop> {
     pub bot: Socket<'w, S>,
 }
 
-/// Starts a connect to the next address that permits one, and returns its connection with the key of its row. Returns
+/// Starts a connect to the next address that permits one, and returns its connection, followed under this key. Returns
 /// `None` if no address is left.
-///
-/// `connects`: the last calls on the network began the connect, to one of the server's addresses, and followed its
-/// connection under this key.
-///
-/// `calls`: one connect was made to each address tried, in their order. No other call was made but to follow them.
-///
-/// `all`: if none began, no address is left.
 fn begun<N: Network>(
     poller: &mut Poller<N>,
     servers: &[SocketAddr],
+    key: usize,
     tried: &mut usize,
-) -> Option<(N::Connection, usize)>
+) -> Option<N::Connection>
     ensures connects { IfSome result (λ begun. ConnectsTo N.transition servers.now begun.0 begun.1 poller.new.network) }
     ensures calls { (count : ℕ) × (tried.new ≡ tried.old + count)
         × ConnectsFrom N.transition servers.now tried.old count poller.old.network poller.new.network }
@@ -458,8 +457,8 @@ fn begun<N: Network>(
             continue;
         };
         let mut stream = stream;
-        if let Some(key) = poller.follow(&mut stream) {
-            return Some((stream, key));
+        if poller.follow(&mut stream, key) {
+            return Some(stream);
         }
     }
     None
@@ -467,7 +466,8 @@ fn begun<N: Network>(
 
 /// Creates the socket of a connect that began for the session with this number.
 fn connecting<'w, S: Duplex + Drop>(
-    begun: Option<(S, usize)>,
+    begun: Option<S>,
+    key: usize,
     pool: &'w Pool,
     number: u32,
 ) -> Option<Socket<'w, S>>
@@ -476,20 +476,9 @@ fn connecting<'w, S: Duplex + Drop>(
     ensures none { result ≡ None → begun ≡ None }
 {
     match begun {
-        Some((stream, key)) => Some(Socket::over(pool, stream, key).of_connect(number)),
+        Some(stream) => Some(Socket::over(pool, stream, key).of_connect(number)),
         None => None,
     }
-}
-
-/// Closes a connect, if there is one, and frees its row.
-fn release_connect<S: Drop>(server: Option<Socket<'_, S>>, table: &mut SocketTable)
-    ensures rows { HandsRows table.old (key_in (option_map (λ socket. socket.key) server.entry)) table.new [] }
-    ensures clock { table.new.reading ≡ table.old.reading }
-{
-    let Some(server) = server else {
-        return;
-    };
-    table.release(server.key);
 }
 
 impl<'w, S: Duplex + Drop> PendingConnection<'w, S> {
@@ -500,7 +489,7 @@ impl<'w, S: Duplex + Drop> PendingConnection<'w, S> {
     pub(crate) fn new<N: Network<Connection = S>>(
         poller: &mut Poller<N>,
         servers: &[SocketAddr],
-        came: (u32, Socket<'w, S>),
+        came: (u32, usize, Socket<'w, S>),
         times: (Duration, Duration),
     ) -> PendingConnection<'w, S>
         ensures number { result.number ≡ came.entry.0 }
@@ -512,15 +501,17 @@ impl<'w, S: Duplex + Drop> PendingConnection<'w, S> {
         ensures im_due { IsAfter poller.old.table.reading (as_nanos times.0) result.im_due }
         ensures gives_up { IsAfter poller.old.table.reading (as_nanos times.1) result.gives_up }
     {
-        let (number, bot) = came;
+        let (number, place, bot) = came;
         let (im_time, connect_time) = times;
         let gives_up = poller.table.after(connect_time);
         let im_due = poller.table.after(im_time);
         let mut tried = 0;
-        let begun = begun(poller, servers, &mut tried);
-        let server = connecting(begun, bot.pool, number);
+        let key = server_key(place);
+        let begun = begun(poller, servers, key, &mut tried);
+        let server = connecting(begun, key, bot.pool, number);
         PendingConnection {
             number,
+            place,
             bot,
             server,
             tried,
@@ -564,19 +555,7 @@ impl<'w, S: Duplex + Drop> PendingConnection<'w, S> {
         status
     }
 
-    /// Closes the connect, and frees its row for the next one.
-    fn drop_connect(&mut self, table: &mut SocketTable)
-        ensures connect { self.new ≡ record self.old { server = None; row = None } }
-        ensures rows { HandsRows table.old (arrival_keys self.old) table.new (arrival_keys self.new) }
-        ensures clock { table.new.reading ≡ table.old.reading }
-    {
-        let server = self.server.take();
-        release_connect(server, table);
-    }
-
     /// Closes the connect, and starts one to the next address, if one is left.
-    ///
-    /// `calls`, `all`: connects are made to the next addresses, until one begins or no address is left, and no other call.
     fn try_next<N: Network<Connection = S>>(
         &mut self,
         poller: &mut Poller<N>,
@@ -589,13 +568,14 @@ impl<'w, S: Duplex + Drop> PendingConnection<'w, S> {
         ensures clock { poller.new.table.reading ≡ poller.old.table.reading }
         ensures rows { HandsRows poller.old.table (arrival_keys self.old) poller.new.table (arrival_keys self.new) }
     {
-        self.drop_connect(&mut poller.table);
-        let begun = begun(poller, servers, &mut self.tried);
-        self.server = connecting(begun, self.bot.pool, self.number);
+        self.server = None;
+        let key = server_key(self.place);
+        let begun = begun(poller, servers, key, &mut self.tried);
+        self.server = connecting(begun, key, self.bot.pool, self.number);
     }
 
     /// Closes the connect once its deadline is past at the table's reading of the clock.
-    fn drop_if_late(&mut self, table: &mut SocketTable)
+    fn drop_if_late(&mut self, table: &SocketTable)
         ensures in_time { is_past table.old.reading self.old.gives_up ≡ false → self.new ≡ self.old }
         ensures late { is_past table.old.reading self.old.gives_up ≡ true →
             self.new ≡ record self.old { server = None; row = None } }
@@ -604,8 +584,13 @@ impl<'w, S: Duplex + Drop> PendingConnection<'w, S> {
         ensures rows { HandsRows table.old (arrival_keys self.old) table.new (arrival_keys self.new) }
     {
         if table.is_over(self.gives_up) {
-            self.drop_connect(table);
+            self.server = None;
         }
+    }
+
+    /// Returns its deadline.
+    pub(crate) fn due(&self) -> Option<Instant> {
+        self.gives_up
     }
 
     /// Advances the connect without blocking. Returns true if it is still under way; otherwise the server is connected,
@@ -640,7 +625,7 @@ impl<'w, S: Duplex + Drop> PendingConnection<'w, S> {
             ConnectStatus::Failed => self.try_next(poller, servers),
             ConnectStatus::Pending => {}
         }
-        self.drop_if_late(&mut poller.table);
+        self.drop_if_late(&poller.table);
         self.server.is_some()
     }
 
@@ -671,6 +656,7 @@ impl<'w, S: Duplex + Drop> PendingConnection<'w, S> {
     {
         let PendingConnection {
             number,
+            place: _,
             bot,
             server,
             tried: _,
@@ -683,47 +669,22 @@ impl<'w, S: Duplex + Drop> PendingConnection<'w, S> {
         Ok(SocketPorts::new(bot, server).of_session(number, now, im_due, times))
     }
 
-    /// Has the next wait watch the connect: it does not block if the connect may have a result, and lasts at most until
-    /// its deadline.
-    fn watch(&self, table: &mut SocketTable)
-        ensures { table.new ≡ watching table.old (may_connect table.old self.now.row) self.now.gives_up }
-    {
-        let may_end = match &self.server {
-            None => true,
-            Some(server) => merged(server.readiness, table.report(server.key)).may_write,
-        };
-        table.watch(may_end, self.gives_up);
-    }
-
     /// Gives up the connect, and returns the bot.
-    pub(crate) fn give_up(self, table: &mut SocketTable) -> Unreached<'w, S>
+    pub(crate) fn give_up(self) -> Unreached<'w, S>
         ensures given_up { (result.number ≡ self.entry.number) × (result.bot.stream ≡ self.entry.bot)
             × (result.bot.key ≡ self.entry.bot_key) }
         ensures rows { HandsRows table.old (arrival_keys self.entry) table.new (result.bot.key ∷ []) }
         ensures clock { table.new.reading ≡ table.old.reading }
     {
-        let mut arrival = self;
-        arrival.drop_connect(table);
         let PendingConnection {
             number,
+            place: _,
             bot,
             server: _,
             tried: _,
             gives_up: _,
             im_due: _,
-        } = arrival;
+        } = self;
         Unreached { number, bot }
-    }
-}
-
-/// Has the next wait watch each connect.
-pub(crate) fn watch_arrivals<S: Duplex + Drop>(
-    arrivals: &[PendingConnection<'_, S>],
-    table: &mut SocketTable,
-)
-    ensures { table.new ≡ watching_all table.old (arrivals_watched table.old arrivals.now) }
-{
-    for arrival in arrivals {
-        arrival.watch(table);
     }
 }

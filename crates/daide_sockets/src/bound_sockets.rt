@@ -7,11 +7,10 @@ ghost use Rattle.daide_sockets.specs.Rows.{AreRowsOf, control_keys, keys_of_run}
 ghost use Rattle.daide_sockets.specs.Times.{IsSeconds, IsIdleTime};
 
 use crate::addresses::{AddressFault, listener_on, looked_up};
-use crate::control::MOST_CONTROLS;
 use crate::lingering_close::MOST_CLOSING;
 use crate::os_network::{NetworkError, OsNetwork};
 use crate::poller::EVENTS;
-use crate::system::{Sockets, most_sockets};
+use crate::system::Sockets;
 use crate::table::SocketTable;
 use daide_buffered_io::pool::Pool;
 use daide_io::network::Network;
@@ -122,7 +121,7 @@ pub fn bind_sockets<'r, R: AllocGlobal + Clock + Net>(
     };
     let chosen = address_chosen(&listener, bound);
     let network = network_with(rt, listener)?;
-    match SocketTable::new(rt.alloc(), most_sockets(settings.max_sessions)) {
+    match SocketTable::new(rt.alloc(), settings.max_sessions, MOST_CLOSING) {
         Ok(table) => Ok(BoundSockets {
             network,
             chosen,

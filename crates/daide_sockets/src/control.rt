@@ -205,6 +205,21 @@ impl<S: Duplex + Drop> Slots<S> {
             || self.fourth.is_none()
     }
 
+    /// Returns the number of the first free place, from 0; 4 if there is none.
+    fn first_free(&self) -> usize {
+        if self.first.is_none() {
+            0
+        } else if self.second.is_none() {
+            1
+        } else if self.third.is_none() {
+            2
+        } else if self.fourth.is_none() {
+            3
+        } else {
+            MOST_CONTROLS
+        }
+    }
+
     /// Puts a connection to the first free place, if there is one.
     fn put(&mut self, connection: ControlConnection<S>)
         ensures { places self.new ≡ with_one connection (places self.old) }
@@ -267,9 +282,9 @@ impl ControlListener {
         };
     }
 
-    /// Accepts a connection and has it followed, and returns it with the key of its row. Returns `None` if there is none,
-    /// or if the system refuses. Makes no call if the listener is not ready, or during the pause after a refusal.
-    fn accept<N: Network>(&mut self, poller: &mut Poller<N>) -> Option<(N::Connection, usize)>
+    /// Accepts a connection, has it followed under this key, and returns it. Returns `None` if there is none, or if the
+    /// system refuses. Makes no call if the listener is not ready, or during the pause after a refusal.
+    fn accept<N: Network>(&mut self, poller: &mut Poller<N>, key: usize) -> Option<N::Connection>
         ensures made { is_accept_due poller.old.table self.old.key self.old.readiness self.old.resumes_at ≡ true →
             MakesControlAccept N.transition poller.old.network }
         ensures not_made { is_accept_due poller.old.table self.old.key self.old.readiness self.old.resumes_at ≡ false →
@@ -293,11 +308,11 @@ impl ControlListener {
             }
         };
         self.readiness.may_read = true;
-        let Some(key) = poller.follow(&mut connection) else {
+        if !poller.follow(&mut connection, key) {
             self.pause(poller.table.now(), ErrorKind::Other);
             return None;
-        };
-        Some((connection, key))
+        }
+        Some(connection)
     }
 
     /// Has the next wait watch the listener, if a place is free.
@@ -305,7 +320,8 @@ impl ControlListener {
         ensures { table.new ≡ watching_listener table.old has_room (Some self.now) }
     {
         if has_room {
-            table.watch(self.readiness.may_read, self.resumes_at);
+            let may_accept = self.readiness.may_read || table.report(self.key).may_read;
+            table.watch(may_accept && self.resumes_at.is_none(), self.resumes_at);
         }
     }
 }
@@ -333,21 +349,15 @@ fn listener_of<N: Network>(poller: &mut Poller<N>) -> Option<Option<ControlListe
     ensures rows { IfSome result (λ listener.
         HandsRows poller.old.table [] poller.new.table (control_listener_keys listener)) }
 {
-    let key = poller.table.take_row()?;
+    let key = poller.table.control_key();
     match poller.network.listen_for_control(key) {
         Some(true) => Some(Some(ControlListener {
             key,
             readiness: Readiness::UNKNOWN,
             resumes_at: None,
         })),
-        Some(false) => {
-            poller.table.release(key);
-            None
-        }
-        None => {
-            poller.table.release(key);
-            Some(None)
-        }
+        Some(false) => None,
+        None => Some(None),
     }
 }
 
@@ -388,7 +398,8 @@ impl<S: Duplex + Drop> Control<S> {
         if !self.slots.has_room() {
             return;
         }
-        let Some((stream, key)) = listener.accept(poller) else {
+        let key = poller.table.control_connection_key(self.slots.first_free());
+        let Some(stream) = listener.accept(poller, key) else {
             return;
         };
         let closes_at = poller.table.after(Duration::from_secs(CONTROL_SECONDS));

@@ -26,8 +26,8 @@ use crate::ports::SocketPorts;
 use crate::socket::Socket;
 use crate::table::{SocketTable, after, is_past, is_time_over, merged};
 use daide_buffered_io::dropping::Dropping;
+use daide_io::deadline::earlier;
 use daide_io::duplex::Duplex;
-use daide_io::interest::earlier;
 use daide_io::network::Network;
 use std::alloc::{AllocError, Global};
 use std::marker::Model;
@@ -433,23 +433,37 @@ impl<'w, S: Duplex + Drop> Closings<'w, S> {
         self.pass_end = self.pass_end.saturating_sub(1);
     }
 
-    /// Begins to close a socket. If there are `MOST_CLOSING` already, the oldest is closed.
-    pub fn begin(&mut self, table: &mut SocketTable, socket: Socket<'w, S>)
+    /// Begins to close a socket, which leaves the row of its place for one of its own. If there are `MOST_CLOSING` already,
+    /// the oldest is closed.
+    pub fn begin<N: Network<Connection = S>>(
+        &mut self,
+        poller: &mut Poller<N>,
+        socket: Socket<'w, S>,
+    )
         ensures closes { ClosesAt S.to_give S.taken S.calls table.old.reading self.old socket.entry.key socket.entry.stream
             self.new }
         ensures clock { table.new.reading ≡ table.old.reading }
         ensures rows { HandsRows table.old (socket.entry.key ∷ closing_keys self.old.streams) table.new
             (closing_keys self.new.streams) }
     {
-        let now = table.now();
-        self.make_room(table);
+        let now = poller.table.now();
+        self.make_room(&mut poller.table);
+        let mut socket = socket;
+        // There is a row for each closing socket.
+        if let Some(key) = poller.table.take_closing_row() {
+            socket.move_to(poller, key);
+        }
         let mut closing = LingeringClose::new(socket, self.stall_time, now);
         closing.end_writing(now);
         self.sockets.push(closing);
     }
 
     /// Begins to close both sockets of a session.
-    pub fn begin_both(&mut self, table: &mut SocketTable, ports: SocketPorts<'w, S>)
+    pub fn begin_both<N: Network<Connection = S>>(
+        &mut self,
+        poller: &mut Poller<N>,
+        ports: SocketPorts<'w, S>,
+    )
         ensures closes { ClosesBothAt S.to_give S.taken S.calls table.old.reading self.old (record {
           number = ports.entry.number;
           bot = ports.entry.bot.stream;
@@ -461,8 +475,8 @@ impl<'w, S: Duplex + Drop> Closings<'w, S> {
             table.new (closing_keys self.new.streams) }
     {
         let (bot, server) = ports.into_sockets();
-        self.begin(table, bot);
-        self.begin(table, server);
+        self.begin(poller, bot);
+        self.begin(poller, server);
     }
 
     /// Begins the next pass, if all of the last one were advanced.
@@ -514,9 +528,8 @@ impl<'w, S: Duplex + Drop> Closings<'w, S> {
         ensures rows { HandsRows poller.old.table (closing_keys self.old.streams) poller.new.table
             (closing_keys self.new.streams) }
     {
-        // A round that was broken off may have watched more, which no wait is for any more.
-        let table = &mut poller.table;
-        table.unwatch();
+        // No place is woken any more.
+        poller.table.forget_places();
         for _round in 0..u64::MAX {
             self.advance(&mut poller.table);
             if self.is_empty() {
@@ -532,9 +545,9 @@ impl<'w, S: Duplex + Drop> Closings<'w, S> {
         ensures { RestsOnce N.transition (closings_watched poller.old.table self.now.streams) poller.old.network
             poller.old.table poller.new.network poller.new.table }
     {
-        self.watch(&mut poller.table);
-        poller.wait();
         poller.table.unwatch();
+        self.watch(&mut poller.table);
+        poller.poll(true);
     }
 
     /// Has the next wait watch each socket.

@@ -185,6 +185,20 @@ impl<R: Clock + Net> Network for OsNetwork<'_, R> {
         }
     }
 
+    fn refollow(&mut self, connection: &mut Connection, key: usize) -> bool {
+        let interest = Interest::READABLE | Interest::WRITABLE | Interest::PRIORITY;
+        match connection {
+            Connection::Tcp(stream) => self
+                .registry
+                .reregister(stream, Token(key), interest)
+                .is_ok(),
+            Connection::Control(stream) => self
+                .registry
+                .reregister(stream, Token(key), interest)
+                .is_ok(),
+        }
+    }
+
     fn connect_status(&mut self, connection: &Connection) -> ConnectStatus {
         let Connection::Tcp(stream) = connection else {
             // Only connects to the server have a state.

@@ -9,7 +9,8 @@ ghost use Rattle.daide_sockets.specs.Table.{PollsOnce, IsFull, IsNoTime, WaitsOn
 
 use crate::table::SocketTable;
 use daide_io::network::{Network, SocketEvent};
-use std::alloc::{AllocError, Global};
+use daide_io::ready_queue::ReadyQueue;
+use std::alloc::{AllocError, Allocator, Global};
 use std::time::Duration;
 
 /// The most events that one poll receives; further ones are received by the next.
@@ -41,26 +42,9 @@ impl<N: Network> Poller<N> {
         Ok(poller)
     }
 
-    /// Returns the key of a row under which the network follows its listener. Returns `None` if the table has no free
-    /// row, or the system refuses (`refused`).
-    pub(crate) fn listen(&mut self) -> Option<usize>
-        ensures followed { IfSome result (λ key. N.transition self.old.network (Listens key true) self.new.network) }
-        ensures refused { IfNone result (IsFull self.old.table
-            ⊎ (key : ℕ) × N.transition self.old.network (Listens key false) self.new.network) }
-        ensures row { IfSome result (λ key. TakesRow self.old.table key self.new.table) }
-        ensures rows { HandsRows self.old.table [] self.new.table (key_in result) }
-    {
-        let key = self.table.take_row()?;
-        if !self.network.listen(key) {
-            self.table.release(key);
-            return None;
-        }
-        Some(key)
-    }
-
-    /// Returns the key of a row under which the network follows a connection. Returns `None` if the table has no free
-    /// row, or the system refuses (`refused`).
-    pub(crate) fn follow(&mut self, connection: &mut N::Connection) -> Option<usize>
+    /// Has the network follow a connection under the key of a row, of which nothing is known then. Returns whether the
+    /// system accepts that.
+    pub(crate) fn follow(&mut self, connection: &mut N::Connection, key: usize) -> bool
         ensures followed { IfSome result (λ key.
             N.transition self.old.network (Follows connection.old key true connection.new) self.new.network) }
         ensures refused { IfNone result (IsFull self.new.table ⊎ (key : ℕ)
@@ -70,55 +54,27 @@ impl<N: Network> Poller<N> {
         ensures rows { HandsRows self.old.table [] self.new.table (key_in result) }
         ensures clock { self.new.table.reading ≡ self.old.table.reading }
     {
-        let key = self.table.take_row()?;
-        if !self.network.follow(connection, key) {
-            self.table.release(key);
-            return None;
-        }
-        Some(key)
+        self.table.release(key);
+        self.network.follow(connection, key)
     }
 
-    /// Polls the network, at most for `timeout`, and reads the clock.
-    fn ask(&mut self, timeout: Option<Duration>)
-        ensures { PollsOnce N.transition timeout self.old.network self.old.table self.new.network self.new.table }
-    {
+    /// Polls the network once, and reads the clock. Blocks only if it may, and if nothing that is watched has work: until a
+    /// socket is ready, or until the nearest deadline.
+    pub(crate) fn poll(&mut self, may_block: bool) {
+        let timeout = if !may_block || self.table.has_work() {
+            Some(Duration::ZERO)
+        } else {
+            self.table.until_next()
+        };
         self.network.poll(timeout, &mut self.news);
         self.table.note_news(self.news.as_slice());
         let now = self.network.now();
         self.table.note_now(now);
     }
 
-    /// Polls for the present events if many turns began since the last poll.
-    pub fn look_by_turns(&mut self)
-        ensures looks { nat_le 32 self.old.table.turns ≡ true → (time : Option Duration) × IsNoTime time
-            × PollsOnce N.transition time self.old.network self.old.table self.new.network self.new.table }
-        ensures rests { nat_le 32 self.old.table.turns ≡ false → self.new ≡ self.old }
-        ensures rows { KeepsRows self.old.table self.new.table }
-    {
-        if self.table.has_many_turns() {
-            self.look();
-        }
-    }
-
-    /// Polls for the present events. Does not block.
-    pub(crate) fn look(&mut self)
-        ensures { (time : Option Duration) × IsNoTime time
-            × PollsOnce N.transition time self.old.network self.old.table self.new.network self.new.table }
-    {
-        self.ask(Some(Duration::ZERO));
-    }
-
-    /// Blocks until a socket is ready, or until the next deadline. Does not block if a poll since the last wait
-    /// received events, since the system reports each of them only once, or if something may be done at once.
-    pub fn wait(&mut self)
-        ensures { WaitsOnce N.transition self.old.network self.old.table self.new.network self.new.table }
-    {
-        let timeout = if self.table.has_pending() {
-            Some(Duration::ZERO)
-        } else {
-            self.table.until_next()
-        };
-        self.ask(timeout);
-        self.table.note_wait();
+    /// Polls the network once, and wakes the places for which there is something to do.
+    pub(crate) fn poll_for<A: Allocator>(&mut self, may_block: bool, ready: &mut ReadyQueue<A>) {
+        self.poll(may_block);
+        self.table.wake(self.news.as_slice(), ready);
     }
 }

@@ -18,15 +18,14 @@ ghost use Rattle.daide_sockets.specs.Timers.{BeginsAt, PullsInTime, PutsInTime, 
 ghost use Rattle.daide_sockets.specs.Times.{IsStallEnd, has_stalled, is_past};
 ghost use Rattle.daide_sockets.specs.Wakeups.{StaysUnread, IsPulled, IsOffered, Settles, KeepsWatched};
 ghost use Rattle.daide_sockets.specs.Wakeups.{session_due};
-ghost use Rattle.daide_sockets.specs.Interests.{interest_of};
 
 use crate::socket::{Socket, TurnsHeld};
 use crate::table::{SocketTable, is_past, merged, timeout_end};
 use crate::timed::Timed;
 use daide_buffered_io::readiness::Readiness;
 use daide_frame::side::Side;
+use daide_io::deadline::earlier;
 use daide_io::duplex::Duplex;
-use daide_io::interest::{Interest, earlier};
 use daide_io::ports::{ClockEvent, Ports, Pull, Put};
 use std::time::{Duration, Instant};
 
@@ -373,8 +372,14 @@ impl<'w, S: Drop> SocketPorts<'w, S> {
         (bot, server)
     }
 
+    /// Returns whether something may be done at once: bytes are held that may be written, or a read or a write was
+    /// interrupted.
+    pub(crate) fn has_work(&self) -> bool {
+        self.bot.has_work() || self.server.has_work()
+    }
+
     /// Returns the nearest deadline of the session after its last turn; `None` if there is none.
-    fn due(&self) -> Option<Instant>
+    pub(crate) fn due(&self) -> Option<Instant>
         ensures { result ≡ session_due (record {
           bot = self.now.bot;
           server = self.now.server;
@@ -497,7 +502,6 @@ impl<S: Duplex + Drop> SocketPorts<'_, S> {
         ensures rows { KeepsRows table.old table.new }
         ensures watched { KeepsWatched table.old table.new }
     {
-        table.note_turn();
         self.count_turn(table.now());
         self.take_reports(table);
         self.begin_both();
@@ -520,8 +524,6 @@ impl<S: Duplex + Drop> Ports for SocketPorts<'_, S> {
     ghost transition = { λ old answer new. Transfers S.to_give S.taken (old.bot.stream, old.server.stream) answer
         (new.bot.stream, new.server.stream) × Settles S.calls answer (old.bot, old.server) (new.bot, new.server)
         × SetsTimers answer (timers_of old) (timers_of new) };
-
-    ghost interest = { λ ports interest. interest ≡ interest_of ports };
 
     fn pull(&mut self, side: Side, buffer: &mut [u8]) -> Pull
         ensures within { IsPullWithin result (length buffer.old) }
@@ -584,17 +586,5 @@ impl<S: Duplex + Drop> Ports for SocketPorts<'_, S> {
         ensures same { self.new ≡ self.old }
     {
         clock_event(self.stops, self.im_timer_expired)
-    }
-
-    fn interest(&self) -> Interest
-        ensures { result ≡ interest_of self.now }
-    {
-        Interest::new(
-            self.bot.key,
-            self.server.key,
-            self.is_stopped,
-            self.bot.has_work() || self.server.has_work(),
-            self.due(),
-        )
     }
 }

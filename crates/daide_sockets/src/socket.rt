@@ -27,8 +27,8 @@ use crate::timed::Timed;
 use daide_buffered_io::buffered::Buffered;
 use daide_buffered_io::pool::Pool;
 use daide_buffered_io::readiness::Readiness;
+use daide_io::deadline::earlier;
 use daide_io::duplex::Duplex;
-use daide_io::interest::earlier;
 use daide_io::network::Network;
 use daide_io::ports::{Pull, Put};
 use std::time::{Duration, Instant};
@@ -69,11 +69,12 @@ pub struct Socket<'w, S: Drop> {
 }
 
 impl<'w, S: Duplex + Drop> Socket<'w, S> {
-    /// Has a connection followed. Returns `None` if the table has no free row, or the system refuses (`refused`).
+    /// Has a connection followed under this key. Returns `None` if the system refuses.
     pub fn new<N: Network<Connection = S>>(
         poller: &mut Poller<N>,
         pool: &'w Pool,
         stream: S,
+        key: usize,
     ) -> Option<Socket<'w, S>>
         ensures fresh { IfSome result (λ socket. IsFresh socket.stream) }
         ensures refused { IfNone result (IsFull poller.new.table ⊎ (key : ℕ) × (after : S)
@@ -83,8 +84,26 @@ impl<'w, S: Duplex + Drop> Socket<'w, S> {
         ensures rows { HandsRows poller.old.table [] poller.new.table (key_in (option_map (λ socket. socket.key) result)) }
     {
         let mut stream = stream;
-        let key = poller.follow(&mut stream)?;
+        if !poller.follow(&mut stream, key) {
+            return None;
+        }
         Some(Socket::over(pool, stream, key))
+    }
+
+    /// Has the connection, whose session is over, followed under another key. If the system refuses, nothing more is
+    /// reported of it, so it may be read and written until that finds nothing to do.
+    pub(crate) fn move_to<N: Network<Connection = S>>(
+        &mut self,
+        poller: &mut Poller<N>,
+        key: usize,
+    ) {
+        self.take_report(&mut poller.table);
+        poller.table.release(self.key);
+        self.key = key;
+        if !poller.network.refollow(self.stream.stream_mut(), key) {
+            self.readiness.may_read = true;
+            self.readiness.may_write = true;
+        }
     }
 }
 
@@ -148,16 +167,13 @@ impl<'w, S: Drop> Socket<'w, S> {
     }
 
     /// Adds the report of its row to its readiness, and takes it out of the row.
+    #[inline(always)]
     pub fn take_report(&mut self, table: &mut SocketTable)
         ensures readiness { self.new ≡ record self.old {
           readiness = merged self.old.readiness (report_at table.old self.old.key);
         } }
         ensures table { table.new ≡ without_report table.old self.old.key }
     {
-        // Most turns begin without a report.
-        if !table.is_reported_at(self.key) {
-            return;
-        }
         let report = table.take_report(self.key);
         self.note_report(report);
     }

@@ -32,10 +32,10 @@ mod arrivals;
 mod beginning;
 mod orders;
 
-use crate::admission::{Acceptor, PendingConnection, watch_arrivals};
+use crate::admission::{Acceptor, PendingConnection};
 use crate::capacity::Capacity;
-use crate::control::{Control, MOST_CONTROLS, seconds_between};
-use crate::lingering_close::{Closings, MOST_CLOSING};
+use crate::control::{Control, seconds_between};
+use crate::lingering_close::Closings;
 use crate::poller::Poller;
 use crate::ports::SocketPorts;
 use crate::present::Present;
@@ -43,27 +43,15 @@ use crate::session_notice::{Lasted, SessionNotice};
 use crate::system::beginning::{Listening, RunLists};
 use crate::table::SocketTable;
 use daide_buffered_io::pool::Pool;
-use daide_io::interest::{GroupInterest, Interest};
 use daide_io::network::Network;
+use daide_io::ready_queue::ReadyQueue;
 use daide_io::system::{Connect, Notice, Orders, SessionEnd, SessionStatus, System};
 use daide_settings::{AddressRange, Settings};
 use daide_status::SessionRow;
-use std::alloc::Global;
+use std::alloc::{Allocator, Global};
 use std::io::Write;
 use std::net::SocketAddr;
 use std::time::Duration;
-
-/// Returns the most sockets of a run: the listener, two a session, those that are closing, and those of control: its
-/// listener and its connections.
-pub fn most_sockets(max_sessions: usize) -> usize
-    ensures { max_sessions < 2 ^ 62 → result ≡ 2 * max_sessions + MOST_CLOSING + MOST_CONTROLS + 2 }
-{
-    max_sessions
-        .saturating_mul(2)
-        .saturating_add(MOST_CLOSING)
-        .saturating_add(MOST_CONTROLS)
-        .saturating_add(2)
-}
 
 /// Converts a timeout from seconds; 0 is `None`, for never.
 fn idle_time_of(seconds: u32) -> Option<Duration>
@@ -134,7 +122,10 @@ pub struct Sockets<'w, N: Network, E: Write + Drop> {
     /// The same in seconds, as in the settings.
     stall_seconds: u32,
     connect_time: Duration,
-    arrivals: Vec<PendingConnection<'w, N::Connection>>,
+    /// The bot at each place that was used, while its connect is under way.
+    arrivals: Vec<Option<PendingConnection<'w, N::Connection>>>,
+    /// How many connects are under way.
+    connecting: usize,
     closings: Closings<'w, N::Connection>,
     /// The ranges of addresses from which a bot may come.
     allow: &'w [AddressRange],
@@ -213,6 +204,7 @@ impl<'w, N: Network, E: Write + Drop> Sockets<'w, N, E> {
             stall_seconds: settings.stall_seconds,
             connect_time,
             arrivals,
+            connecting: 0,
             closings,
             allow: settings.allow.as_slice(),
             max_per_address: settings.max_per_address,
@@ -363,42 +355,18 @@ impl<'w, N: Network, E: Write + Drop> Sockets<'w, N, E> {
         self.closings.finish(&mut self.poller);
     }
 
-    /// Returns whether there is news for the session with this interest, after a poll if many turns began since the last
-    /// one. The next wait watches the session if there is none.
-    #[inline(never)]
-    fn look_for_news(&mut self, interest: &Interest) -> bool
-        ensures news { result ≡ (is_newly_stopped self.old.control.stops_now interest.now.is_stopped
-            || has_news_for self.new.poller.table interest.now) }
-        ensures looks { nat_le 32 self.old.poller.table.turns ≡ true → (time : Option Duration) × (polled : Table)
-            × IsNoTime time × PollsOnce N.transition time self.old.poller.network self.old.poller.table
-            self.new.poller.network polled × (self.new.poller.table ≡ after_question result polled interest.now) }
-        ensures rests { nat_le 32 self.old.poller.table.turns ≡ false →
-            (self.new.poller.network ≡ self.old.poller.network)
-            × (self.new.poller.table ≡ after_question result self.old.poller.table interest.now) }
-        ensures watched { (mid : Table) × KeepsWatched self.old.poller.table mid
-            × (self.new.poller.table ≡ after_question result mid interest.now) }
-        ensures rows { KeepsRows self.old.poller.table self.new.poller.table }
-        ensures same { self.new ≡ record self.old { poller = self.new.poller } }
-    {
-        self.poller.look_by_turns();
-        self.stops_newly(interest.is_stopped()) || self.poller.table.answer_question(interest)
+    /// Has the next poll watch the listener and each closing socket, beside the control socket.
+    fn watch_others(&mut self) {
+        self.acceptor.watch(&mut self.poller.table);
+        self.closings.watch(&mut self.poller.table);
     }
 
-    /// Waits, and watches the sessions that it was to watch, the listener, each connect and each closing socket
-    /// (`others_watched`). It only polls if something may be done at once for one of them.
-    fn rest(&mut self)
-        ensures rest { self.new ≡ record self.old { poller = self.new.poller } }
-        ensures rows { HandsRows self.old.poller.table (keys_of_run self.old.acceptor (control_keys self.old.control)
-            self.old.arrivals.items self.old.closings.streams) self.new.poller.table (keys_of_run self.new.acceptor
-            (control_keys self.new.control) self.new.arrivals.items self.new.closings.streams) }
-        ensures polls { RestsOnce N.transition (others_watched self.old.poller.table
-            (listener_watched self.old.poller.table self.old.acceptor) self.old.arrivals.items
-            self.old.closings.streams) self.old.poller.network self.old.poller.table self.new.poller.network
-            self.new.poller.table }
-    {
-        self.acceptor.watch(&mut self.poller.table);
-        watch_arrivals(self.arrivals.as_slice(), &mut self.poller.table);
-        self.closings.rest(&mut self.poller);
+    /// Wakes each place, since an operator stops all sessions.
+    #[inline(never)]
+    fn wake_all<A: Allocator>(&self, ready: &mut ReadyQueue<A>) {
+        for place in 0..self.poller.table.places() {
+            ready.wake(place);
+        }
     }
 }
 
@@ -410,29 +378,20 @@ impl<'w, N: Network, E: Write + Drop> System<SocketPorts<'w, N::Connection>> for
         (run_state (new.poller.network, new.poller.table) (new.idle_time, new.stall_time) new.acceptor new.control
         (vec_capacity new.arrivals) new.arrivals.items new.closings) };
 
-    fn begin_round(&mut self) -> Orders
-        ensures transition { RunEvolves N.transition N.Connection.to_give N.Connection.taken N.Connection.calls
-            (λ (ports : PortsOf N.Connection). ports)
-            (run_state (self.old.poller.network, self.old.poller.table) (self.old.idle_time, self.old.stall_time) self.old.acceptor
-            self.old.control (vec_capacity self.old.arrivals) self.old.arrivals.items self.old.closings) (Begins result)
-            (run_state (self.new.poller.network, self.new.poller.table) (self.new.idle_time, self.new.stall_time) self.new.acceptor
-            self.new.control (vec_capacity self.new.arrivals) self.new.arrivals.items self.new.closings) }
-        ensures orders { result.stops_accepting ≡ self.new.control.stops_accepting }
-        ensures kept { self.old.control.stops_accepting ≡ true → self.new.control.stops_accepting ≡ true }
-        ensures now_kept { self.old.control.stops_now ≡ true → self.new.control.stops_now ≡ true }
-        ensures watched { (before : Table) × (self.new.poller.table ≡ watching_control before self.new.control) }
-        ensures same { self.new ≡ record self.old {
-          poller = self.new.poller;
-          acceptor = self.new.acceptor;
-          closings = self.new.closings;
-          control = self.new.control;
-        } }
-    {
-        // Only what this round watches counts.
+    fn poll<A: Allocator>(&mut self, may_block: bool, ready: &mut ReadyQueue<A>) -> Orders {
+        self.note_capacity();
+        if may_block {
+            self.watch_others();
+        }
+        self.poller.poll_for(may_block, ready);
         self.poller.table.unwatch();
-        self.poller.look_by_turns();
         self.tidy();
-        self.take_orders()
+        let was_stopped = self.control.stops_now();
+        let orders = self.take_orders();
+        if self.control.stops_now() && !was_stopped {
+            self.wake_all(ready);
+        }
+        orders
     }
 
     fn show(&mut self, ports: &SocketPorts<'w, N::Connection>, status: SessionStatus)
@@ -455,44 +414,7 @@ impl<'w, N: Network, E: Write + Drop> System<SocketPorts<'w, N::Connection>> for
         }
     }
 
-    #[inline(always)]
-    fn is_at_rest(&self, interest: &Interest) -> bool {
-        !self.control.stops_now() && self.poller.table.is_watched_at_rest(interest)
-    }
-
-    #[inline(always)]
-    fn are_at_rest(&self, group: &GroupInterest) -> bool {
-        !self.control.stops_now() && self.poller.table.are_watched_at_rest(group)
-    }
-
-    #[inline(always)]
-    fn has_news(&mut self, interest: &Interest) -> bool
-        ensures transition { (ports : PortsOf N.Connection) → interest.now ≡ interest_of ports →
-            RunEvolves N.transition N.Connection.to_give N.Connection.taken N.Connection.calls
-            (λ (ports : PortsOf N.Connection). ports)
-            (run_state (self.old.poller.network, self.old.poller.table) (self.old.idle_time, self.old.stall_time) self.old.acceptor
-            self.old.control (vec_capacity self.old.arrivals) self.old.arrivals.items self.old.closings) (ReportsNews ports result)
-            (run_state (self.new.poller.network, self.new.poller.table) (self.new.idle_time, self.new.stall_time) self.new.acceptor
-            self.new.control (vec_capacity self.new.arrivals) self.new.arrivals.items self.new.closings) }
-        ensures news { (ports : PortsOf N.Connection) → interest.now ≡ interest_of ports →
-            result ≡ (is_newly_stopped self.old.control.stops_now ports.is_stopped
-            || has_session_news self.new.poller.table (timers_of ports).sockets) }
-        ensures looks { nat_le 32 self.old.poller.table.turns ≡ true → (time : Option Duration) × (polled : Table)
-            × IsNoTime time × PollsOnce N.transition time self.old.poller.network self.old.poller.table
-            self.new.poller.network polled × (self.new.poller.table ≡ after_question result polled interest.now) }
-        ensures rests { nat_le 32 self.old.poller.table.turns ≡ false →
-            (self.new.poller.network ≡ self.old.poller.network)
-            × (self.new.poller.table ≡ after_question result self.old.poller.table interest.now) }
-        ensures same { self.new ≡ record self.old { poller = self.new.poller } }
-    {
-        // Most questions for a calm session that is visited again end here.
-        if !self.control.stops_now() && self.poller.table.is_watched_at_rest(interest) {
-            return false;
-        }
-        self.look_for_news(interest)
-    }
-
-    fn begin_turn(&mut self, ports: &mut SocketPorts<'w, N::Connection>)
+    fn begin_turn(&mut self, _place: usize, ports: &mut SocketPorts<'w, N::Connection>)
         ensures ports { Transfers N.Connection.to_give N.Connection.taken
             (ports.old.bot.stream, ports.old.server.stream) TurnBegins (ports.new.bot.stream, ports.new.server.stream)
             × Settles N.Connection.calls TurnBegins (ports.old.bot, ports.old.server) (ports.new.bot, ports.new.server)
@@ -523,23 +445,24 @@ impl<'w, N: Network, E: Write + Drop> System<SocketPorts<'w, N::Connection>> for
     }
 
     #[inline(always)]
-    fn watch(&mut self, interest: &Interest)
-        ensures transition { (ports : PortsOf N.Connection) → interest.now ≡ interest_of ports →
-            RunEvolves N.transition N.Connection.to_give N.Connection.taken N.Connection.calls
-            (λ (ports : PortsOf N.Connection). ports)
-            (run_state (self.old.poller.network, self.old.poller.table) (self.old.idle_time, self.old.stall_time) self.old.acceptor
-            self.old.control (vec_capacity self.old.arrivals) self.old.arrivals.items self.old.closings) (Watches ports)
-            (run_state (self.new.poller.network, self.new.poller.table) (self.new.idle_time, self.new.stall_time) self.new.acceptor
-            self.new.control (vec_capacity self.new.arrivals) self.new.arrivals.items self.new.closings) }
-        ensures watched { self.new.poller.table ≡ watching self.old.poller.table
-            (may_go_on_for self.old.poller.table interest.now) interest.now.due }
-        ensures network { self.new.poller.network ≡ self.old.poller.network }
-        ensures same { self.new ≡ record self.old { poller = self.new.poller } }
+    fn rest(&mut self, place: usize, ports: &SocketPorts<'w, N::Connection>) -> bool
+        ensures rest { self.new ≡ record self.old { poller = self.new.poller } }
+        ensures rows { HandsRows self.old.poller.table (keys_of_run self.old.acceptor (control_keys self.old.control)
+            self.old.arrivals.items self.old.closings.streams) self.new.poller.table (keys_of_run self.new.acceptor
+            (control_keys self.new.control) self.new.arrivals.items self.new.closings.streams) }
+        ensures polls { RestsOnce N.transition (others_watched self.old.poller.table
+            (listener_watched self.old.poller.table self.old.acceptor) self.old.arrivals.items
+            self.old.closings.streams) self.old.poller.network self.old.poller.table self.new.poller.network
+            self.new.poller.table }
     {
-        self.poller.table.watch_for(interest)
+        if ports.has_work() {
+            return false;
+        }
+        self.poller.table.rest(place, ports.due());
+        true
     }
 
-    fn accept(&mut self) -> bool
+    fn accept(&mut self, place: usize) -> bool
         ensures transition { RunEvolves N.transition N.Connection.to_give N.Connection.taken N.Connection.calls
             (λ (ports : PortsOf N.Connection). ports)
             (run_state (self.old.poller.network, self.old.poller.table) (self.old.idle_time, self.old.stall_time) self.old.acceptor
@@ -559,10 +482,10 @@ impl<'w, N: Network, E: Write + Drop> System<SocketPorts<'w, N::Connection>> for
             self.acceptor.await_bots();
             return false;
         }
-        self.accept_due()
+        self.accept_due(place)
     }
 
-    fn connected(&mut self) -> Connect<SocketPorts<'w, N::Connection>>
+    fn connected(&mut self, place: usize) -> Connect<SocketPorts<'w, N::Connection>>
         ensures transition { RunEvolves N.transition N.Connection.to_give N.Connection.taken N.Connection.calls
             (λ (ports : PortsOf N.Connection). ports)
             (run_state (self.old.poller.network, self.old.poller.table) (self.old.idle_time, self.old.stall_time) self.old.acceptor
@@ -582,18 +505,10 @@ impl<'w, N: Network, E: Write + Drop> System<SocketPorts<'w, N::Connection>> for
           errors = self.new.errors;
         } }
     {
-        // A pending arrival moves to the end, so after a check of each the order is as before.
-        for _look in 0..self.arrivals.len() {
-            match self.look_at_first() {
-                Connect::Ready(ports) => return Connect::Ready(ports),
-                Connect::Failed => return Connect::Failed,
-                Connect::Pending => {}
-            }
-        }
-        Connect::Pending
+        self.look_at(place)
     }
 
-    fn retire(&mut self, ports: SocketPorts<'w, N::Connection>, end: SessionEnd)
+    fn retire(&mut self, place: usize, ports: SocketPorts<'w, N::Connection>, end: SessionEnd)
         ensures transition { RunEvolves N.transition N.Connection.to_give N.Connection.taken N.Connection.calls
             (λ (ports : PortsOf N.Connection). ports)
             (run_state (self.old.poller.network, self.old.poller.table) (self.old.idle_time, self.old.stall_time) self.old.acceptor
@@ -627,7 +542,8 @@ impl<'w, N: Network, E: Write + Drop> System<SocketPorts<'w, N::Connection>> for
         self.present.remove(ports.number());
         let notice = SessionNotice::of_end(session, end, ports.timed(), self.stall_seconds);
         self.tell_of_session(notice);
-        self.closings.begin_both(&mut self.poller.table, ports);
+        self.poller.table.forget(place);
+        self.closings.begin_both(&mut self.poller, ports);
     }
 
     fn tell(&mut self, notice: Notice)
@@ -645,29 +561,5 @@ impl<'w, N: Network, E: Write + Drop> System<SocketPorts<'w, N::Connection>> for
         }
         // The run goes on if the line cannot be written.
         let _ = writeln!(self.errors, "daide-gate: {notice}");
-    }
-
-    fn wait(&mut self)
-        ensures transition { RunEvolves N.transition N.Connection.to_give N.Connection.taken N.Connection.calls
-            (λ (ports : PortsOf N.Connection). ports)
-            (run_state (self.old.poller.network, self.old.poller.table) (self.old.idle_time, self.old.stall_time) self.old.acceptor
-            self.old.control (vec_capacity self.old.arrivals) self.old.arrivals.items self.old.closings) Waits
-            (run_state (self.new.poller.network, self.new.poller.table) (self.new.idle_time, self.new.stall_time) self.new.acceptor
-            self.new.control (vec_capacity self.new.arrivals) self.new.arrivals.items self.new.closings) }
-        ensures polls { RestsOnce N.transition (others_watched self.old.poller.table
-            (listener_watched self.old.poller.table self.old.acceptor) self.old.arrivals.items
-            self.old.closings.streams) self.old.poller.network self.old.poller.table self.new.poller.network
-            self.new.poller.table }
-        ensures capacity { self.new.capacity ≡ capacity_after self.old.capacity
-            (length self.old.present.numbers.items) self.old.max_sessions (is_some self.old.acceptor.resumes_at)
-            self.old.acceptor.came }
-        ensures same { self.new ≡ record self.old {
-          poller = self.new.poller;
-          errors = self.new.errors;
-          capacity = self.new.capacity;
-        } }
-    {
-        self.note_capacity();
-        self.rest();
     }
 }

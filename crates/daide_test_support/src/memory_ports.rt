@@ -9,7 +9,6 @@ ghost use Rattle.daide_test_support.specs.MemoryPorts.{answer_stored, answers_st
 ghost use Rattle.daide_test_support.specs.declared.memory_ports.Call.{Call};
 
 use daide_frame::side::Side;
-use daide_io::interest::Interest;
 use daide_io::ports::{ClockEvent, Ports, Pull, Put};
 use std::alloc::{AllocError, Allocator, Global};
 
@@ -222,8 +221,6 @@ impl<'a, A: Allocator + Copy> Ports for MemoryPorts<'a, A> {
 
     ghost transition = { λ old answer new. AppendsTo (answers_stored old.calls) (answer ∷ []) (answers_stored new.calls) };
 
-    ghost interest = { λ _ _. Unit {0} };
-
     fn pull(&mut self, side: Side, buffer: &mut [u8]) -> Pull {
         let pull = match side {
             Side::Bot => self.bot.pull(buffer),
@@ -254,9 +251,5 @@ impl<'a, A: Allocator + Copy> Ports for MemoryPorts<'a, A> {
         let calls = self.calls.take();
         self.calls = with_call(calls, Ok(Call::Clock(event)));
         event
-    }
-
-    fn interest(&self) -> Interest {
-        Interest::NONE
     }
 }

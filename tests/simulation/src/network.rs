@@ -330,12 +330,17 @@ fn followed(state: &mut State, index: usize, key: usize) -> bool {
     if state.live > most {
         state.fail("more wires than rows", index);
     }
+    moved(state, index, key)
+}
+
+/// Follows a wire under a key from now on. What is ready already is reported again.
+fn moved(state: &mut State, index: usize, key: usize) -> bool {
     if let Some(wire) = state.wire(index) {
         wire.key = Some(key);
         wire.due = Due {
             read: wire.is_readable(),
             write: wire.room() > 0,
-            end: wire.is_ended || wire.is_reset,
+            end: wire.due.end || wire.stops_at > 0 || wire.is_ended || wire.is_reset,
         };
     }
     state.list(index);
@@ -421,6 +426,13 @@ impl<'n> Network for MemoryNetwork<'n> {
     fn follow(&mut self, connection: &mut MemoryConnection<'n>, key: usize) -> bool {
         match self.world.state.try_borrow_mut() {
             Ok(mut state) => followed(&mut state, connection.wire, key),
+            Err(_) => false,
+        }
+    }
+
+    fn refollow(&mut self, connection: &mut MemoryConnection<'n>, key: usize) -> bool {
+        match self.world.state.try_borrow_mut() {
+            Ok(mut state) => moved(&mut state, connection.wire, key),
             Err(_) => false,
         }
     }

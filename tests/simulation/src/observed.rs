@@ -7,16 +7,16 @@ use crate::network::{MemoryConnection, MemoryNetwork, World};
 use crate::state::{RunTimes, State};
 use crate::wire::Place;
 use daide_frame::side::Side;
-use daide_io::interest::{GroupInterest, Interest};
 use daide_io::network::ConnectStatus;
 use daide_io::ports::{ClockEvent, Ports, Pull, Put};
+use daide_io::ready_queue::ReadyQueue;
 use daide_io::system::{Cause, Connect, Notice, Orders, SessionEnd, SessionStatus, System};
 use daide_protocol::config::Config;
 use daide_session::session::Session;
 use daide_settings::Settings;
 use daide_sockets::ports::SocketPorts;
 use daide_sockets::system::Sockets;
-use std::alloc::Global;
+use std::alloc::{Allocator, Global};
 use std::io;
 use std::io::{ErrorKind, Write};
 
@@ -256,8 +256,6 @@ impl<'w, 'n> ObservedPorts<'w, 'n> {
 impl Ports for ObservedPorts<'_, '_> {
     ghost transition = { λ _ _ _. Unit {0} };
 
-    ghost interest = { λ _ _. Unit {0} };
-
     fn pull(&mut self, side: Side, buffer: &mut [u8]) -> Pull {
         let pull = self.ports.pull(side, buffer);
         match pull {
@@ -326,9 +324,6 @@ impl Ports for ObservedPorts<'_, '_> {
         event
     }
 
-    fn interest(&self) -> Interest {
-        self.ports.interest()
-    }
 }
 
 /// The lines of a run. Now and then one is refused.
@@ -622,8 +617,16 @@ impl<'w, 'n> ObservedSockets<'w, 'n> {
 impl<'w, 'n> System<ObservedPorts<'w, 'n>> for ObservedSockets<'w, 'n> {
     ghost transition = { λ _ _ _. Unit {0} };
 
-    fn begin_round(&mut self) -> Orders {
-        let orders = self.sockets.begin_round();
+    fn poll<A: Allocator>(&mut self, may_block: bool, ready: &mut ReadyQueue<A>) -> Orders {
+        let (max_sessions, sessions) = self.limits;
+        let accepts = self.came < sessions && self.held < max_sessions && !self.has_stopped;
+        if may_block {
+            self.check_stops();
+            if let Ok(mut state) = self.world.state.try_borrow_mut() {
+                state.accepts = accepts;
+            }
+        }
+        let orders = self.sockets.poll(may_block, ready);
         self.has_stopped = orders.stops_accepting;
         if let Ok(mut state) = self.world.state.try_borrow_mut() {
             if state.operator.has_stopped != self.has_stopped {
@@ -637,20 +640,8 @@ impl<'w, 'n> System<ObservedPorts<'w, 'n>> for ObservedSockets<'w, 'n> {
         self.sockets.show(&ports.ports, status);
     }
 
-    fn is_at_rest(&self, interest: &Interest) -> bool {
-        self.sockets.is_at_rest(interest)
-    }
-
-    fn are_at_rest(&self, group: &GroupInterest) -> bool {
-        self.sockets.are_at_rest(group)
-    }
-
-    fn has_news(&mut self, interest: &Interest) -> bool {
-        self.sockets.has_news(interest)
-    }
-
-    fn begin_turn(&mut self, ports: &mut ObservedPorts<'w, 'n>) {
-        self.sockets.begin_turn(&mut ports.ports);
+    fn begin_turn(&mut self, place: usize, ports: &mut ObservedPorts<'w, 'n>) {
+        self.sockets.begin_turn(place, &mut ports.ports);
         if let Ok(mut state) = self.world.state.try_borrow_mut() {
             for side in [ports.bot, ports.server] {
                 if let Some(wire) = state.wire(side) {
@@ -660,13 +651,13 @@ impl<'w, 'n> System<ObservedPorts<'w, 'n>> for ObservedSockets<'w, 'n> {
         }
     }
 
-    fn watch(&mut self, interest: &Interest) {
-        self.sockets.watch(interest);
+    fn rest(&mut self, place: usize, ports: &ObservedPorts<'w, 'n>) -> bool {
+        self.sockets.rest(place, &ports.ports)
     }
 
-    fn accept(&mut self) -> bool {
+    fn accept(&mut self, place: usize) -> bool {
         let before = self.sockets.errors.count;
-        let came = self.sockets.accept();
+        let came = self.sockets.accept(place);
         if came && self.has_stopped {
             fail(self.world, "a bot is accepted after a stop", 0);
         }
@@ -681,9 +672,9 @@ impl<'w, 'n> System<ObservedPorts<'w, 'n>> for ObservedSockets<'w, 'n> {
         came
     }
 
-    fn connected(&mut self) -> Connect<ObservedPorts<'w, 'n>> {
+    fn connected(&mut self, place: usize) -> Connect<ObservedPorts<'w, 'n>> {
         let before = self.sockets.errors.count;
-        let connect = match self.sockets.connected() {
+        let connect = match self.sockets.connected(place) {
             Connect::Ready(ports) => match self.observe(ports) {
                 Some(ports) => Connect::Ready(ports),
                 None => Connect::Failed,
@@ -700,7 +691,7 @@ impl<'w, 'n> System<ObservedPorts<'w, 'n>> for ObservedSockets<'w, 'n> {
         connect
     }
 
-    fn retire(&mut self, ports: ObservedPorts<'w, 'n>, end: SessionEnd) {
+    fn retire(&mut self, place: usize, ports: ObservedPorts<'w, 'n>, end: SessionEnd) {
         self.check_end(&ports, end);
         self.is_spent = false;
         self.held = self.held.saturating_sub(1);
@@ -721,22 +712,12 @@ impl<'w, 'n> System<ObservedPorts<'w, 'n>> for ObservedSockets<'w, 'n> {
             self.stopped_and_retired = self.stopped_and_retired.saturating_add(1);
         }
         let before = self.sockets.errors.count;
-        self.sockets.retire(ports, end);
+        self.sockets.retire(place, ports, end);
         self.check_line(before, number, "ended", bot);
     }
 
     fn tell(&mut self, notice: Notice) {
         self.is_spent = self.is_spent || notice == Notice::TurnsSpent;
         self.sockets.tell(notice);
-    }
-
-    fn wait(&mut self) {
-        self.check_stops();
-        let (max_sessions, sessions) = self.limits;
-        let accepts = self.came < sessions && self.held < max_sessions && !self.has_stopped;
-        if let Ok(mut state) = self.world.state.try_borrow_mut() {
-            state.accepts = accepts;
-        }
-        self.sockets.wait();
     }
 }

@@ -12,7 +12,6 @@ use daide_event_loop::serve;
 use daide_event_loop::serving::ServeFault;
 use daide_settings::{Settings, read_settings};
 use daide_sockets::bound_sockets::sockets_on;
-use daide_sockets::system::most_sockets;
 use daide_sockets::table::SocketTable;
 use linked_list_allocator::LocalHeap;
 use std::alloc::Global;
@@ -141,8 +140,7 @@ fn run(alloc: Global, seed: u64, limit: u64) -> io::Result<(u64, Tally, Option<F
     let world = World {
         state: RefCell::new(state),
     };
-    let rows = most_sockets(settings.max_sessions);
-    let table = SocketTable::new(alloc, rows)?;
+    let table = SocketTable::new(alloc, settings.max_sessions, 256)?;
     let pool = Pool::new(alloc);
     let one = SocketAddr::from(([127, 0, 0, 1], 1));
     let other = SocketAddr::from(([127, 0, 0, 1], 2));

@@ -73,7 +73,7 @@ pub struct Wire {
     /// The bytes of the peer that arrived.
     pub inbound: Bytes,
     /// The number of these at which a read stops, since an urgent byte follows; 0 if there is none.
-    stops_at: usize,
+    pub stops_at: usize,
     /// Whether the peer's end arrived.
     pub is_ended: bool,
     pub is_reset: bool,

@@ -45,7 +45,7 @@ impl<'w, N: Network, E: Write + Drop> Sockets<'w, N, E> {
     }
 
     /// Ends the session of a bot whose server was unreachable, and starts the close of its socket.
-    fn let_go(&mut self, left: Unreached<'w, N::Connection>)
+    fn let_go(&mut self, place: usize, left: Unreached<'w, N::Connection>)
         ensures closes { ClosesAt N.Connection.to_give N.Connection.taken N.Connection.calls
             self.old.poller.table.reading self.old.closings left.entry.bot.key left.entry.bot.stream self.new.closings }
         ensures numbers { self.new.present.numbers.items
@@ -68,79 +68,44 @@ impl<'w, N: Network, E: Write + Drop> Sockets<'w, N, E> {
           errors = self.new.errors;
         } }
     {
+        self.connecting = self.connecting.saturating_sub(1);
+        self.poller.table.forget(place);
         let lasted = self.lasted(left.number);
         self.present.remove(left.number);
         self.unreached = self.unreached.saturating_add(1);
         self.tell_of_session(SessionNotice::of_no_server(left.number, lasted));
-        self.closings.begin(&mut self.poller.table, left.bot);
+        self.closings.begin(&mut self.poller, left.bot);
     }
 
-    /// Checks the first arrival. Returns its ports if its connect completed, and `Failed` if its session is over and
-    /// its socket closes. Otherwise the connect is still under way, and the arrival moves to the end.
-    ///
-    /// `given_up`: after a request that sessions end now, the connect is given up.
-    ///
-    /// `unreached`: without one it is given up only if its deadline is past or each of the server's addresses was tried.
-    ///
-    /// `closes`: the socket of a bot that is given up begins to close at the table's reading of the clock.
-    ///
-    /// `begins`: ports begin at the table's reading of the clock, with the timeouts of the run.
-    pub(super) fn look_at_first(&mut self) -> Connect<SocketPorts<'w, N::Connection>>
-        requires { 0 < length self.old.arrivals.items }
-        ensures given_up { self.old.control.stops_now ≡ true → result ≡ Connect.Failed }
-        ensures unreached { result ≡ Connect.Failed → self.old.control.stops_now ≡ false →
-            (arrival : Arriving N.Connection) × (others : List (Arriving N.Connection))
-            × (self.old.arrivals.items ≡ arrival ∷ others) × IsUnreached N.transition self.old.servers.now
-            self.old.poller.table.reading arrival.gives_up arrival.tried self.old.poller.network self.new.poller.network }
-        ensures evolves { FirstArrivalEvolves N.Connection.to_give N.Connection.taken
-            N.Connection.calls
-            (λ ports. record {
-              number = ports.number;
-              bot = ports.bot.stream;
-              server = ports.server.stream;
-              bot_key = ports.bot.key;
-              server_key = ports.server.key;
-            })
-            (record { came = self.old.acceptor.came; arrivals = self.old.arrivals.items; closing = self.old.closings })
-            result (record { came = self.new.acceptor.came; arrivals = self.new.arrivals.items; closing = self.new.closings }) }
-        ensures closes { result ≡ Connect.Failed → (key : ℕ) × (bot : Buffer N.Connection)
-            × ClosesAt N.Connection.to_give N.Connection.taken N.Connection.calls self.old.poller.table.reading
-            self.old.closings key bot self.new.closings }
-        ensures begins { (ports : PortsOf N.Connection) → result ≡ Connect.Ready ports →
-            BeginsAt self.old.poller.table.reading (self.old.idle_time, self.old.stall_time) (timers_of ports) }
-        ensures clock { self.new.poller.table.reading ≡ self.old.poller.table.reading }
-        ensures rows { HandsRows self.old.poller.table (keys_of_run self.old.acceptor (control_keys self.old.control)
-            self.old.arrivals.items self.old.closings.streams) self.new.poller.table (connected_keys (λ ports.
-            ports.bot.key ∷ ports.server.key ∷ []) result ++ keys_of_run self.new.acceptor (control_keys self.new.control)
-            self.new.arrivals.items self.new.closings.streams) }
-        ensures same { self.new ≡ record self.old {
-          poller = self.new.poller;
-          arrivals = self.new.arrivals;
-          closings = self.new.closings;
-          present = self.new.present;
-          unreached = self.new.unreached;
-          errors = self.new.errors;
-        } }
-    {
-        let mut arrival = self.arrivals.remove(0);
-        let is_given_up = self.control.stops_now();
-        if is_given_up {
-            let left = arrival.give_up(&mut self.poller.table);
-            self.let_go(left);
+    /// Returns the result of the connect for the bot at a place, if it has one. Otherwise the place rests, until something is
+    /// reported of the connect, or until its deadline. After a request that sessions end now, the connect is given up.
+    #[inline(never)]
+    pub(super) fn look_at(&mut self, place: usize) -> Connect<SocketPorts<'w, N::Connection>> {
+        if place >= self.arrivals.len() {
+            return Connect::Pending;
+        }
+        let Some(arrival) = self.arrivals[place].take() else {
+            return Connect::Pending;
+        };
+        let mut arrival = arrival;
+        if self.control.stops_now() {
+            self.let_go(place, arrival.give_up());
             return Connect::Failed;
         }
         if arrival.advances(&mut self.poller, self.servers) {
-            self.arrivals.push_reserved(arrival);
+            self.poller.table.rest(place, arrival.due());
+            self.arrivals[place] = Some(arrival);
             return Connect::Pending;
         }
         let now = self.poller.table.now();
         match arrival.join(now, (self.idle_time, self.stall_time)) {
             Ok(ports) => {
+                self.connecting = self.connecting.saturating_sub(1);
                 self.tell_of_server(&ports);
                 Connect::Ready(ports)
             }
             Err(left) => {
-                self.let_go(left);
+                self.let_go(place, left);
                 Connect::Failed
             }
         }
@@ -167,7 +132,7 @@ impl<'w, N: Network, E: Write + Drop> Sockets<'w, N, E> {
     ///
     /// `present`: it is the last of those, with the number and the host of its session's line, and with the table's
     /// reading of the clock as its time.
-    pub(super) fn accept_next(&mut self) -> Option<SessionNotice>
+    pub(super) fn accept_next(&mut self, place: usize) -> Option<SessionNotice>
         ensures comes { IfSome result (λ _. Comes
             (record { came = self.old.acceptor.came; arrivals = self.old.arrivals.items; closing = self.old.closings })
             (record { came = self.new.acceptor.came; arrivals = self.new.arrivals.items; closing = self.new.closings })) }
@@ -211,13 +176,17 @@ impl<'w, N: Network, E: Write + Drop> Sockets<'w, N, E> {
         } }
     {
         self.acceptor.await_bots();
-        if self.arrivals.len() >= self.arrivals.capacity() {
+        if place >= self.poller.table.places() {
             return None;
         }
         let rules = (self.allow, self.max_per_address);
-        let next = self
-            .acceptor
-            .next_bot(&mut self.poller, self.pool, rules, &mut self.present);
+        let next = self.acceptor.next_bot(
+            place,
+            &mut self.poller,
+            self.pool,
+            rules,
+            &mut self.present,
+        );
         let (number, bot, address) = match next {
             Ok(next) => next,
             Err(declined) => {
@@ -226,9 +195,13 @@ impl<'w, N: Network, E: Write + Drop> Sockets<'w, N, E> {
             }
         };
         let times = (self.im_time, self.connect_time);
-        let came = (number, bot);
+        let came = (number, place, bot);
         let arrival = PendingConnection::new(&mut self.poller, self.servers, came, times);
-        self.arrivals.push_reserved(arrival);
+        while self.arrivals.len() <= place && self.arrivals.len() < self.arrivals.capacity() {
+            self.arrivals.push_reserved(None);
+        }
+        self.arrivals[place] = Some(arrival);
+        self.connecting += 1;
         Some(SessionNotice::Began {
             number,
             bot: address,
@@ -238,7 +211,7 @@ impl<'w, N: Network, E: Write + Drop> Sockets<'w, N, E> {
     /// Accepts the next bot, if there is one, and logs that its session begins. It is apart from `accept`, which each round
     /// calls, since a call clears its locals.
     #[inline(never)]
-    pub(super) fn accept_due(&mut self) -> bool
+    pub(super) fn accept_due(&mut self, place: usize) -> bool
         ensures transition { RunEvolves N.transition N.Connection.to_give N.Connection.taken N.Connection.calls
             (λ (ports : PortsOf N.Connection). ports)
             (run_state (self.old.poller.network, self.old.poller.table) (self.old.idle_time, self.old.stall_time) self.old.acceptor
@@ -253,7 +226,7 @@ impl<'w, N: Network, E: Write + Drop> Sockets<'w, N, E> {
           errors = self.new.errors;
         } }
     {
-        let Some(began) = self.accept_next() else {
+        let Some(began) = self.accept_next(place) else {
             return false;
         };
         self.tell_of_session(began);

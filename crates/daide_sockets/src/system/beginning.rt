@@ -18,7 +18,7 @@ use std::time::Duration;
 /// The bots and the sockets of a run, of which there are none yet.
 pub(super) struct RunLists<'w, S: Duplex + Drop> {
     /// The bots whose connects are under way.
-    pub arrivals: Vec<PendingConnection<'w, S>>,
+    pub arrivals: Vec<Option<PendingConnection<'w, S>>>,
     /// The bots that are there.
     pub present: Present,
     /// The sockets that close.

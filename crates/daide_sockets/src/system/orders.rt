@@ -24,14 +24,6 @@ fn counted(count: usize) -> u32
 }
 
 impl<'w, N: Network, E: Write + Drop> Sockets<'w, N, E> {
-    /// Returns whether a session is to be stopped in its next turn: an operator requested it, and no turn has stopped it
-    /// before (`is_stopped`).
-    pub(super) fn stops_newly(&self, is_stopped: bool) -> bool
-        ensures { result ≡ is_newly_stopped self.now.control.stops_now is_stopped }
-    {
-        self.control.stops_now() && !is_stopped
-    }
-
     /// Returns the status of the run.
     fn run_status(&self) -> RunStatus
         ensures { IsRunStatus self.now.acceptor.came (length self.now.present.numbers.items)
@@ -42,7 +34,7 @@ impl<'w, N: Network, E: Write + Drop> Sockets<'w, N, E> {
             self.now.acceptor.resumes_at)) self.now.control.stops_accepting
             (or_zero (seconds_between self.now.control.started_at self.now.poller.table.reading)) result }
     {
-        let connecting = counted(self.arrivals.len());
+        let connecting = counted(self.connecting);
         let present = counted(self.present.len());
         let is_full = self.present.len() >= self.max_sessions;
         RunStatus {
