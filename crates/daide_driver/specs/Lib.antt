@@ -5,6 +5,7 @@ pub mod Totals
 pub mod Whole
 pub mod Relay
 pub mod Hub
+pub mod Slab
 pub mod HubRuns
 pub mod Due
 pub mod Laws

@@ -1,7 +1,16 @@
 //! Sessions with their ports at places that they keep until they end.
 //!
 //! A place is free, or kept for a session that is to come, or has a session. A session never moves, so its place is its
-//! name in a run. The most places are reserved at once, so a new session allocates only its two bodies.
+//! name in a run. All places are reserved at once, so a new session allocates only its two bodies.
+
+ghost use Rattle.std.specs.Prelude.{◌≡◌, IfOk, IfErr, IfSome, IfNone, OnOk, OnErr, true, length};
+ghost use Rattle.daide_protocol.specs.Config.{limits_with};
+ghost use Rattle.daide_protocol.specs.Wires.{is_closed};
+ghost use Rattle.daide_words.specs.Words.{words_of};
+ghost use Rattle.daide_driver.specs.Hub.{IsTurned, IsReportedOf};
+ghost use Rattle.daide_driver.specs.Slab.{SlabView, Free, Kept, all_free, IsAt, IsSlabFull, is_free, is_kept, is_held, IfHeld};
+ghost use Rattle.daide_driver.specs.Slab.{with_place, with_held_ports, OpensAt, ChangesAt};
+ghost use Rattle.std.specs.Borrow.{Lends, sem};
 
 use crate::hub::Removed;
 use crate::status::fault_field;
@@ -31,13 +40,9 @@ pub struct Slab<P: Ports, A: Allocator = Global> {
     alloc: A,
     limits: SessionLimits,
     words: Words,
-    max: usize,
-    /// The places that were ever used.
     places: Vec<Place<P, A>, A>,
-    /// The next place that is kept; `max` if none is free.
+    /// A free place; the number of places if none is free.
     next: usize,
-    /// The number of places that are not free.
-    used: usize,
     buffer: [u8; BUFFER],
 }
 
@@ -48,22 +53,34 @@ impl<P: Ports, A: Memory + Copy> Slab<P, A> {
         limits: SessionLimits,
         max: usize,
         words: Words,
-    ) -> Result<Slab<P, A>, AllocError> {
-        let places = alloc.with_capacity(max)?;
+    ) -> Result<Slab<P, A>, AllocError>
+        ensures opening { IfOk result (λ slab. slab
+            ≡ record { limits = limits_with limits.config (words_of words); places = all_free max }) }
+        ensures refused { OnErr result (A.Refuses max) }
+    {
+        let mut places = alloc.with_capacity(max)?;
+        for _place in 0..max {
+            places.push_reserved(Place::Free);
+        }
         Ok(Slab {
             alloc,
             limits,
             words,
-            max,
             places,
             next: 0,
-            used: 0,
             buffer: [0; BUFFER],
         })
     }
 
-    /// Begins a session with these ports at a place that was kept. If the allocator refuses a body, the ports come back.
-    pub fn open(&mut self, place: usize, ports: P) -> Result<(), P> {
+    /// Begins a session with these ports at a place that was kept. If the allocator refuses a body, nothing changes and the
+    /// ports come back.
+    pub fn open(&mut self, place: usize, ports: P) -> Result<(), P>
+        requires { IsAt self.old place Kept }
+        ensures opens { OnOk result (OpensAt self.old place ports self.new) }
+        ensures refused { OnErr result (A.Refuses self.old.limits.cap) }
+        ensures unchanged { OnErr result (self.new ≡ self.old) }
+        ensures ports_back { IfErr result (λ back. back ≡ ports) }
+    {
         let Ok(session) = Session::with_limits(self.alloc, self.limits, self.words) else {
             return Err(ports);
         };
@@ -83,62 +100,71 @@ fn first_free<P: Ports, A: Allocator>(places: &[Place<P, A>]) -> usize {
 }
 
 impl<P: Ports, A: Allocator + Copy> Slab<P, A> {
-    /// Returns the place that is kept next; `None` if none is free.
-    pub fn next_free(&self) -> Option<usize> {
-        if self.next < self.max {
+    /// Returns the number of places.
+    pub fn len(&self) -> usize
+        ensures { result ≡ length self.now.places }
+    {
+        self.places.len()
+    }
+
+    /// Returns a free place; `None` if there is none.
+    pub fn next_free(&self) -> Option<usize>
+        ensures free { IfSome result (λ place. IsAt self.now place Free) }
+        ensures full { IfNone result (IsSlabFull self.now) }
+    {
+        if self.next < self.places.len() {
             Some(self.next)
         } else {
             None
         }
     }
 
-    /// Keeps the next free place for a session that is to come.
-    pub fn keep_next(&mut self) {
-        if self.next < self.places.len() {
-            self.places[self.next] = Place::Kept;
-        } else {
-            self.places.push_reserved(Place::Kept);
-        }
-        self.used += 1;
-        self.next = first_free(&self.places);
-    }
-
-    /// Frees a place, and returns what it was.
-    fn free(&mut self, place: usize) -> Place<P, A> {
-        self.next = place;
-        self.used -= 1;
-        mem::replace(&mut self.places[place], Place::Free)
-    }
-
-    /// Frees a place that was kept for a session that does not come.
-    pub fn give_up(&mut self, place: usize) {
-        self.free(place);
-    }
-
-    /// Returns a number above each place that was ever used.
-    pub fn end(&self) -> usize {
-        self.places.len()
-    }
-
-    /// Returns whether each place is free.
-    pub fn is_empty(&self) -> bool {
-        self.used == 0
+    /// Returns whether every place is free.
+    pub fn is_empty(&self) -> bool
+        ensures { result ≡ list_all is_free self.now.places }
+    {
+        self.places.iter().all(|place| matches!(place, Place::Free))
     }
 
     /// Returns whether a place is kept for a session that is to come.
-    pub fn is_kept(&self, place: usize) -> bool {
+    pub fn is_kept(&self, place: usize) -> bool
+        ensures { result ≡ is_kept (slice_get self.now.places place) }
+    {
         matches!(self.places.get(place), Some(Place::Kept))
     }
 
     /// Returns whether there is a session at a place.
     #[inline(always)]
-    pub fn has(&self, place: usize) -> bool {
+    pub fn has(&self, place: usize) -> bool
+        ensures { result ≡ is_held (slice_get self.now.places place) }
+    {
         matches!(self.places.get(place), Some(Place::Held { .. }))
+    }
+
+    /// Keeps a free place for a session that is to come.
+    pub fn keep(&mut self, place: usize)
+        requires { IsAt self.old place Free }
+        ensures { self.new ≡ with_place self.old place Kept }
+    {
+        self.places[place] = Place::Kept;
+        self.next = first_free(&self.places);
+    }
+
+    /// Frees a place that was kept for a session that does not come.
+    pub fn give_up(&mut self, place: usize)
+        requires { IsAt self.old place Kept }
+        ensures { self.new ≡ with_place self.old place Free }
+    {
+        self.places[place] = Place::Free;
+        self.next = place;
     }
 
     /// Returns the session at a place.
     #[inline(always)]
-    pub fn session(&self, place: usize) -> &Session<A> {
+    pub fn session(&self, place: usize) -> &Session<A>
+        requires { is_held (slice_get self.now.places place) ≡ true }
+        ensures { IfHeld (slice_get self.now.places place) (λ session ports. result.now ≡ session) }
+    {
         match &self.places[place] {
             Place::Held { session, .. } => session,
             _ => unreachable!(),
@@ -147,7 +173,10 @@ impl<P: Ports, A: Allocator + Copy> Slab<P, A> {
 
     /// Returns the ports of the session at a place.
     #[inline(always)]
-    pub fn ports(&self, place: usize) -> &P {
+    pub fn ports(&self, place: usize) -> &P
+        requires { is_held (slice_get self.now.places place) ≡ true }
+        ensures { IfHeld (slice_get self.now.places place) (λ session ports. result.now ≡ ports) }
+    {
         match &self.places[place] {
             Place::Held { ports, .. } => ports,
             _ => unreachable!(),
@@ -155,17 +184,28 @@ impl<P: Ports, A: Allocator + Copy> Slab<P, A> {
     }
 
     /// Lends the ports of the session at a place, to begin a turn with them.
+    ///
+    /// `writes_back`: when the loan ends, the place has the ports as they were left. Its session, the other places and
+    /// the limits are unchanged.
     #[inline(always)]
-    pub fn ports_mut(&mut self, place: usize) -> &mut P {
+    pub fn ports_mut(&mut self, place: usize) -> &mut P
+        requires { is_held (slice_get self.old.places place) ≡ true }
+        ensures* writes_back { sem 𝓛 (Lends (the_row P.row A.row P.Ports A.Allocator) P.row self.entry result
+            (with_held_ports self.old place)) }
+        ensures value { IfHeld (slice_get self.old.places place) (λ session ports. result.now ≡ ports) }
+    {
         match &mut self.places[place] {
             Place::Held { ports, .. } => ports,
             _ => unreachable!(),
         }
     }
 
-    /// Makes one turn of the session at a place with its ports.
+    /// Makes one turn of the session at a place with its ports, by the clauses of `turn`. Every other place is unchanged.
     #[inline(always)]
-    pub fn turn(&mut self, place: usize) {
+    pub fn turn(&mut self, place: usize)
+        requires { is_held (slice_get self.old.places place) ≡ true }
+        ensures { ChangesAt (IsTurned P.transition) self.old place self.new }
+    {
         match &mut self.places[place] {
             Place::Held { session, ports } => turn_through(session, ports, &mut self.buffer),
             _ => unreachable!(),
@@ -173,16 +213,27 @@ impl<P: Ports, A: Allocator + Copy> Slab<P, A> {
     }
 
     /// Takes out the closed session at a place, and frees the place.
+    ///
+    /// `reported`: it returns the session's ports, its counts by side, its last level, what ended it, and the field that its
+    /// fault is about.
     #[inline(never)]
-    pub fn remove(&mut self, place: usize) -> Removed<P> {
-        let Place::Held { session, ports } = self.free(place) else {
-            unreachable!();
-        };
-        Removed {
-            ports,
-            account: session.account(),
-            ending: session.ending().unwrap(),
-            fault_field: fault_field(&session),
+    pub fn remove(&mut self, place: usize) -> Removed<P>
+        requires closed { IfHeld (slice_get self.old.places place) (λ session ports. is_closed session ≡ true) }
+        requires held { is_held (slice_get self.old.places place) ≡ true }
+        ensures frees { self.new ≡ with_place self.old place Free }
+        ensures reported { IfHeld (slice_get self.old.places place) (λ session ports. (result.ports ≡ ports)
+            × IsReportedOf session result.account result.ending result.fault_field) }
+    {
+        let taken = mem::replace(&mut self.places[place], Place::Free);
+        self.next = place;
+        match taken {
+            Place::Held { session, ports } => Removed {
+                ports,
+                account: session.account(),
+                ending: session.ending().unwrap(),
+                fault_field: fault_field(&session),
+            },
+            _ => unreachable!(),
         }
     }
 }

@@ -90,7 +90,7 @@ fn show_sessions<P: Ports, A: Allocator + Copy, S: System<P>>(
     if !orders.shows_sessions {
         return;
     }
-    for place in 0..slab.end() {
+    for place in 0..slab.len() {
         if slab.has(place) {
             let ports = slab.ports(place);
             let status = session_status(slab.session(place), ports.bytes());
@@ -180,7 +180,7 @@ impl<P: Ports, A: Memory + Copy> Service<P, A> {
             return;
         };
         if system.accept(place) {
-            self.slab.keep_next();
+            self.slab.keep(place);
             self.counters.accepted += 1;
             self.ready.wake(place);
         }

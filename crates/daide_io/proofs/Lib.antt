@@ -1,2 +1,3 @@
 mod FaultFieldFacts
 pub mod TraceLemmas
+pub mod ReadyLemmas

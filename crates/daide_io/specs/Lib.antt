@@ -4,4 +4,5 @@ pub mod FaultField
 pub mod System
 pub mod Streams
 pub mod Network
-pub mod Interest
+pub mod Deadline
+pub mod ReadyQueue

@@ -1,7 +1,7 @@
 //! Deadlines, some of which may be missing.
 
 ghost use Rattle.std.specs.Prelude.{◌≡◌};
-ghost use Rattle.daide_io.specs.Interest.{earlier};
+ghost use Rattle.daide_io.specs.Deadline.{earlier};
 
 use std::time::Instant;
 

@@ -19,7 +19,7 @@ use Rattle.daide_io.specs.Ports.{PortCall, TurnBegins, Clock, Pulled, Offered, E
 use Rattle.daide_event_loop.specs.Waiting.{MakesNoProgress, IsOfTurn}
 use Rattle.daide_sockets.specs.declared.socket.Socket.{Socket}
 use Rattle.daide_sockets.specs.Sockets.{due_after, next_deadline}
-use Rattle.daide_io.specs.Interest.{earlier}
+use Rattle.daide_io.specs.Deadline.{earlier}
 use Rattle.daide_sockets.specs.Timers.{SessionTimers, StallGoesOn, PullsInTime, PutsInTime, SetsTimers, SameClock}
 use Rattle.daide_sockets.specs.Times.{IsStallEnd, StallsNext, has_stalled, is_past}
 use Rattle.daide_sockets.specs.Wakeups.{IsOffered, session_due}

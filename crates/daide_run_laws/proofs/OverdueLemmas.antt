@@ -17,7 +17,7 @@ use Rattle.daide_event_loop.specs.QuotaPorts.{QuotaPortsView, Meters, EvolvesWhi
 use Rattle.daide_event_loop.specs.Serving.{fresh}
 use Rattle.daide_sockets.specs.declared.socket.Socket.{Socket}
 use Rattle.daide_sockets.specs.Sockets.{due_after, next_deadline}
-use Rattle.daide_io.specs.Interest.{earlier}
+use Rattle.daide_io.specs.Deadline.{earlier}
 use Rattle.daide_sockets.specs.Timers.{SessionTimers, BeginsAt, BeginsInTime, PullsInTime, KeepsTimers, SetsTimers, is_got}
 use Rattle.daide_sockets.specs.Times.{IsStallEnd, has_stalled, is_past}
 use Rattle.daide_sockets.specs.Wakeups.{session_due}

@@ -23,7 +23,7 @@ use Rattle.daide_sockets.specs.Lingering.{begins_closing, with_report, end_time,
 use Rattle.daide_sockets.specs.Pairing.{Paired, ClosesAt, with_room}
 use Rattle.daide_sockets.specs.Scheduling.{RunState, ClosesByClock}
 use Rattle.daide_sockets.specs.Sockets.{is_some_byte}
-use Rattle.daide_io.specs.Interest.{earlier}
+use Rattle.daide_io.specs.Deadline.{earlier}
 use Rattle.daide_sockets.specs.Times.{IsAfter, IsStallEnd, StallsNext, has_stalled, is_past, is_time_over}
 
 pub later_contains : {A : Type 0} (first : A) (rest : List A) (one : A) → Contains rest one → Contains (first ∷ rest) one

@@ -5,7 +5,7 @@ use Rattle.std.proofs.lemmas.List.Elements.{All-nil, All-cons}
 use Rattle.std.specs.Time.{instant_nanos}
 use Rattle.std.specs.declared.time.Duration.{Duration}
 use Rattle.std.specs.declared.time.Instant.{Instant}
-use Rattle.daide_io.specs.Interest.{earlier}
+use Rattle.daide_io.specs.Deadline.{earlier}
 use Rattle.daide_sockets.specs.Table.{Table, watching, has_pending, IsUntil, IsNoTime, IsWaitTime}
 use Rattle.daide_sockets.specs.Table.{IsWaitTimeIf}
 use Rattle.daide_sockets.specs.InTime.{IsAtMost, IsInTimeFor, watching_all, WaitsAreInTime}

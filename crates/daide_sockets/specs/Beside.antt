@@ -10,7 +10,7 @@ use Rattle.daide_sockets.specs.InTime.{IsInTimeFor, watching_all}
 use Rattle.daide_sockets.specs.Lingering.{ClosingStream}
 use Rattle.daide_sockets.specs.Pairing.{Arriving, ConnectRow}
 use Rattle.daide_sockets.specs.Sockets.{is_some_byte}
-use Rattle.daide_io.specs.Interest.{earlier}
+use Rattle.daide_io.specs.Deadline.{earlier}
 use Rattle.daide_sockets.specs.Table.{Table, IsWaitTime, merged, report_at}
 
 -- ---- a closing stream

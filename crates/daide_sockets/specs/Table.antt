@@ -7,7 +7,7 @@ use Rattle.std.specs.declared.time.Duration.{Duration}
 use Rattle.std.specs.declared.time.Instant.{Instant}
 use Rattle.daide_buffered_io.specs.declared.readiness.Readiness.{Readiness}
 use Rattle.daide_io.specs.declared.network.SocketEvent.{SocketEvent}
-use Rattle.daide_io.specs.Interest.{earlier}
+use Rattle.daide_io.specs.Deadline.{earlier}
 use Rattle.daide_io.specs.Network.{NetworkCall, Polls, ReadsClock}
 
 -- One row: whether a socket has it, and what polls reported of the socket since it last took the report.

@@ -19,7 +19,7 @@ use Rattle.daide_sockets.specs.declared.socket.Socket.{Socket}
 use Rattle.daide_sockets.specs.Sockets.{has_socket_work, next_deadline}
 use Rattle.daide_sockets.specs.Times.{is_past}
 use Rattle.daide_sockets.specs.InTime.{watching_all}
-use Rattle.daide_io.specs.Interest.{earlier}
+use Rattle.daide_io.specs.Deadline.{earlier}
 use Rattle.daide_sockets.specs.Table.{Table, merged, is_reported_at, watching, unwatched, PollsOnce, IsWaitTime}
 
 -- Nothing was read from a socket. What is known of reads is unchanged. A socket that is not writable stays so, one that is

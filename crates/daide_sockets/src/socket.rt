@@ -15,7 +15,7 @@ ghost use Rattle.daide_sockets.specs.Lingering.{IsWriting, IsWritingOver};
 ghost use Rattle.daide_sockets.specs.Pairing.{IsFresh};
 ghost use Rattle.daide_sockets.specs.Rows.{HandsRows, key_in};
 ghost use Rattle.daide_sockets.specs.Sockets.{has_socket_work, next_deadline};
-ghost use Rattle.daide_io.specs.Interest.{earlier};
+ghost use Rattle.daide_io.specs.Deadline.{earlier};
 ghost use Rattle.daide_sockets.specs.Table.{IsFull, merged, report_at, without_report};
 ghost use Rattle.daide_sockets.specs.Timers.{IsStallKept, FlushesInTime, BeginsInTime, PutsInTime};
 ghost use Rattle.daide_sockets.specs.Times.{StallsNext, has_stalled, is_past};

@@ -11,7 +11,7 @@ ghost use Rattle.daide_sockets.specs.Table.{AreReportsWithin, first_free, IsFull
 ghost use Rattle.daide_sockets.specs.Table.{merged, no_report, report_at, has_report, is_reported_at, has_pending};
 ghost use Rattle.daide_sockets.specs.Table.{without_report, watching, unwatched, freed, with_event, with_news, latest};
 ghost use Rattle.daide_sockets.specs.Table.{IsUntil};
-ghost use Rattle.daide_io.specs.Interest.{InterestView, IsOfGroup, earlier};
+ghost use Rattle.daide_io.specs.Deadline.{earlier};
 ghost use Rattle.daide_sockets.specs.Interests.{may_go_on_for, has_news_for, after_question};
 ghost use Rattle.daide_sockets.specs.Times.{IsAfter, IsStallEnd, StallsNext, is_past, is_time_over};
 
